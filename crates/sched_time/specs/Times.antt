@@ -1,0 +1,27 @@
+-- Units of time, and the greatest moment.
+-- All moments and spans are whole nanoseconds. The limit is this project's rule.
+use Rattle.std.specs.Prelude.{ℕ, ◌^◌, ◌*◌, ℤ, pos, negsuc}
+use Rattle.sched_time.specs.declared.unit.Unit.{Unit}
+use Rattle.sched_time.specs.declared.unit.Unit.TheVariants.{Ns, Us, Ms, S}
+
+-- the greatest moment and the longest span, in nanoseconds
+abbrev pub longest : ℕ
+longest = 2 ^ 62
+
+-- how many nanoseconds a unit has
+abbrev pub nanos_of : Unit → ℕ
+nanos_of Ns = 1
+nanos_of Us = 1000
+nanos_of Ms = 1000000
+nanos_of S = 1000000000
+
+-- how many units a value asks for: a negative one counts as 0
+-- (ScheduledExecutorService: "Zero and negative delays (but not periods) are also allowed
+-- in schedule methods, and are treated as requests for immediate execution.")
+abbrev pub delay_units : ℤ → ℕ
+delay_units (pos n) = n
+delay_units (negsuc n) = 0
+
+-- the nanoseconds that a value in a unit asks for
+abbrev pub span_of : ℤ → Unit → ℕ
+span_of value unit = delay_units value * nanos_of unit

@@ -1,0 +1,23 @@
+//! Moments and spans of time, in whole nanoseconds.
+//!
+//! ```text
+//! let delay = span(5, Unit::Ms)?;               // 5,000,000 nanoseconds
+//! let due = moment(submitted, delay.nanos())?;  // refused past 2^62
+//! ```
+//!
+//! Nothing here reads a clock: each moment is handed in by the caller. A moment
+//! and a span are 0 to 2^62 nanoseconds, and what would pass that limit is
+//! [`TimeError::TooLarge`].
+#![tactic(auto)]
+
+mod conversions;
+mod error;
+mod spans;
+mod timing;
+mod unit;
+
+pub use conversions::{moment, span};
+pub use error::TimeError;
+pub use spans::Span;
+pub use timing::{Ending, Timing};
+pub use unit::Unit;
