@@ -1,0 +1,4 @@
+pub mod Order
+pub mod Table
+pub mod Counts
+pub mod Steps

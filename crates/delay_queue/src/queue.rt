@@ -1,0 +1,142 @@
+//! The queue: entries in a list that descends, with room for one of each task.
+ghost use Rattle.std.specs.Prelude.{◌≡◌, ◌<◌, ◌≤◌, ◌==◌, false, Some, None, length, replicate, slice_set, is_some, count_by, IfOk, IsOk, IfSome, IfNone};
+ghost use Rattle.delay_queue.specs.Queues.{due_in, IsLeast, IsEmpty, NoneIsDue};
+
+use crate::entry::Entry;
+use crate::sorted::{place_for, place_of};
+use std::alloc::Allocator;
+use std::marker::Model;
+
+/// Why a queue was not made.
+#[derive(Clone, Copy, Debug, PartialEq, Eq)]
+pub enum QueueError {
+    /// The allocator refused the memory for the entries.
+    Memory,
+}
+
+/// The entries of tasks, at most one for each task below a fixed count.
+///
+/// A contract sees it as a table by task number, with the due moment of each task that has an entry.
+#[derive(Drop)]
+pub struct DelayQueue<A: Allocator> {
+    entries: Vec<Entry, A>,
+    tasks: u32,
+}
+
+impl<A: Allocator> Model for DelayQueue<A> {
+    ghost use Rattle.std.specs.Prelude.{ℕ, List, Option, vec_capacity};
+    ghost use Rattle.delay_queue.specs.Sorted.{table, IsKept};
+
+    ghost Value = { List (Option ℕ) };
+
+    ghost view = { λ q. table q.tasks q.entries.items };
+
+    ghost invariant = { λ q. IsKept q.tasks q.entries.items (vec_capacity q.entries) };
+}
+
+impl<A: Allocator> DelayQueue<A> {
+    /// Makes an empty queue for the tasks from 0 to `tasks - 1`, and takes the memory for an entry of each from `alloc`.
+    ///
+    /// # Errors
+    ///
+    /// [`QueueError::Memory`] where `alloc` refuses that memory. For no task at all it takes none, and succeeds.
+    pub fn new(alloc: A, tasks: u32) -> Result<DelayQueue<A>, QueueError>
+        ensures empty { IfOk result (λ q. q ≡ replicate tasks None) }
+        ensures no_room { tasks ≡ 0 → IsOk result }
+    {
+        match Vec::with_capacity(alloc, tasks as usize) {
+            Ok(entries) => Ok(DelayQueue { entries, tasks }),
+            Err(_) => Err(QueueError::Memory),
+        }
+    }
+
+    /// Adds an entry, whose task is below the count of tasks and has no entry yet.
+    pub fn insert(&mut self, entry: Entry)
+        requires known { entry.task < length self.old }
+        requires absent { due_in self.old entry.task ≡ None }
+        ensures { self.new ≡ slice_set self.old entry.task (Some entry.due) }
+    {
+        let place = place_for(&self.entries, entry);
+        let Ok(()) = self.entries.insert(place, entry) else {
+            unreachable!()
+        };
+    }
+
+    /// The least entry, due or not, or `None` where the queue is empty. The entry stays.
+    pub fn peek(&self) -> Option<Entry>
+        ensures least { IfSome result (λ e. IsLeast self.now e.due e.task) }
+        ensures empty { IfNone result (IsEmpty self.now) }
+    {
+        match self.entries.last() {
+            Some(entry) => Some(*entry),
+            None => None,
+        }
+    }
+
+    /// Takes out the least entry, if it is due at the moment `now`, in nanoseconds.
+    ///
+    /// `None` says that no entry is due at `now`; the queue is then unchanged.
+    pub fn poll(&mut self, now: u64) -> Option<Entry>
+        ensures least { IfSome result (λ e. IsLeast self.old e.due e.task) }
+        ensures due { IfSome result (λ e. e.due ≤ now) }
+        ensures removed { IfSome result (λ e. self.new ≡ slice_set self.old e.task None) }
+        ensures none_due { IfNone result (NoneIsDue self.old now) }
+        ensures unchanged { IfNone result (self.new ≡ self.old) }
+    {
+        let Some(last) = self.entries.last() else {
+            return None;
+        };
+        let least = *last;
+        if now < least.due {
+            return None;
+        }
+        self.entries.pop();
+        Some(least)
+    }
+
+    /// Takes out the entry of a task, and says whether there was one. Where there was none the queue is unchanged.
+    pub fn remove(&mut self, task: u32) -> bool
+        ensures there { result ≡ is_some (due_in self.old task) }
+        ensures removed { self.new ≡ slice_set self.old task None }
+        ensures unchanged { result ≡ false → self.new ≡ self.old }
+    {
+        match place_of(&self.entries, task) {
+            Some(place) => {
+                self.entries.remove(place);
+                true
+            }
+            None => false,
+        }
+    }
+
+    /// The moment at which a task is due, in nanoseconds, or `None` where it has no entry, as a task past the count.
+    pub fn due_of(&self, task: u32) -> Option<u64>
+        ensures { result ≡ due_in self.now task }
+    {
+        match place_of(&self.entries, task) {
+            Some(place) => Some(self.entries[place].due),
+            None => None,
+        }
+    }
+
+    /// Whether a task has an entry. A task past the count has none.
+    pub fn contains(&self, task: u32) -> bool
+        ensures { result ≡ is_some (due_in self.now task) }
+    {
+        self.due_of(task).is_some()
+    }
+
+    /// How many entries there are.
+    pub fn len(&self) -> usize
+        ensures { result ≡ count_by is_some self.now }
+    {
+        self.entries.len()
+    }
+
+    /// Whether there is no entry.
+    pub fn is_empty(&self) -> bool
+        ensures { result ≡ (count_by is_some self.now == 0) }
+    {
+        self.len() == 0
+    }
+}
