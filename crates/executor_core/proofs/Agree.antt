@@ -1,0 +1,48 @@
+-- The state that steps lead to agrees with the history.
+use Rattle.std.proofs.Common.{◌≡◌, ℕ, List, [], ◌∷◌, refl, sym, ap, ◌∙◌, subst}
+use Rattle.std.proofs.lemmas.Option.{none-some}
+use Rattle.executor_core.specs.declared.words.Happening.{Happening}
+use Rattle.executor_core.specs.Calls.{Planned}
+use Rattle.executor_core.specs.Answers.{reply}
+use Rattle.executor_core.specs.Histories.{Entry, entry_of, happenings, Means, look, answer}
+use Rattle.executor_core.specs.State.{State, seen, next, after, opening, reply_of}
+use Rattle.executor_core.specs.Machine.{IsSound}
+use Rattle.executor_core.proofs.Views.{seen_moves, look_moves, view_after}
+use Rattle.executor_core.proofs.Sound.{finds, fits_all, stays}
+
+pub record Agrees (calls : List Planned) (s : State) (past : List Entry) : Type 0 where
+  pub view : seen calls s ≡ look calls past
+  pub sound : IsSound s
+
+pub opening_sound : IsSound opening
+opening_sound = record { at_work = λ w k q. absurd (none-some k q); apart = λ v w k p q. absurd (none-some k p) }
+
+opening_agrees : (calls : List Planned) → Agrees calls opening []
+opening_agrees calls = record { view = refl; sound = opening_sound }
+
+pub next_sound : (calls : List Planned) (workers : ℕ) (s : State) (happening : Happening) → IsSound s → IsSound (next calls workers s happening)
+next_sound calls workers s happening sound = stays calls s happening (reply_of calls workers s happening) sound (finds calls workers s happening sound)
+
+-- a state that agrees answers as the equations do
+pub answers_alike : (calls : List Planned) (workers : ℕ) (s : State) (past : List Entry) (happening : Happening) → Agrees calls s past →
+    reply_of calls workers s happening ≡ answer calls workers past happening
+answers_alike calls workers s past happening agrees = ap (λ v. reply calls workers v happening) agrees.view
+
+-- and after it agrees with the longer history
+pub next_agrees : (calls : List Planned) (workers : ℕ) (s : State) (past : List Entry) (happening : Happening) → Agrees calls s past →
+    Agrees calls (next calls workers s happening) (entry_of happening (answer calls workers past happening) ∷ past)
+next_agrees calls workers s past happening agrees =
+    let r = reply_of calls workers s happening in
+    let f = finds calls workers s happening agrees.sound in
+    record {
+      view = seen_moves calls s happening r (fits_all calls s r.answer agrees.sound f)
+          ∙ (ap (λ v. view_after calls v happening (reply calls workers v happening)) agrees.view ∙ look_moves calls past happening (answer calls workers past happening));
+      sound = stays calls s happening r agrees.sound f;
+    }
+
+pub after_agrees : (calls : List Planned) (workers : ℕ) (past : List Entry) → Means calls workers past → Agrees calls (after calls workers (happenings past)) past
+after_agrees calls workers [] m = opening_agrees calls
+after_agrees calls workers (e ∷ past) m =
+    subst (λ x. Agrees calls (after calls workers (e.happening ∷ happenings past)) (x ∷ past))
+    (λ i. record { happening = e.happening; answer = sym m.2 i; ends = sym m.3 i })
+    (next_agrees calls workers (after calls workers (happenings past)) past e.happening (after_agrees calls workers past m.0))

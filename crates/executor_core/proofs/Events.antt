@@ -1,0 +1,56 @@
+-- The steps of an event.
+use Rattle.std.proofs.Common.{suc, ◌≡◌, ℕ, ◌+◌, List, [], ◌∷◌, ◌++◌, sym, ◌∙◌, arith, subst}
+use Rattle.std.specs.Prelude.{replicate}
+use Rattle.executor_core.specs.declared.words.Event.{Event}
+use Rattle.executor_core.specs.declared.words.Happening.{Happening}
+use Rattle.executor_core.specs.declared.words.Happening.TheVariants as h
+use Rattle.executor_core.specs.declared.words.Answer.{Answer}
+use Rattle.executor_core.specs.declared.words.Line.{Line}
+use Rattle.executor_core.specs.Calls.{IsOrderly}
+use Rattle.executor_core.specs.Histories.{Entry, Means}
+use Rattle.executor_core.specs.Flows.{happening_of, part_of, reached, ReachesNext}
+use Rattle.executor_core.specs.Machine.{Machine, workers_of, Takes, Steps, Stands, Continues}
+use Rattle.executor_core.proofs.Flowing.{then, continues}
+
+abbrev pub counted : Machine → Machine
+counted m = record m { taken = m.taken + 1 }
+
+-- one step with its line
+pub one_step : (old new : Machine) (before lines : List Line) (happening : Happening) (answer : Answer) → Takes old new happening answer → lines ≡ before ++ record { moment = new.moment; answer = answer } ∷ [] →
+    Steps old new before lines (happening ∷ [])
+one_step old new before lines happening answer takes put = record {
+  calls = takes.calls;
+  limit = takes.limit;
+  workers = takes.workers;
+  state = takes.state;
+  lines = put ∙ (λ i. before ++ record { moment = (takes.state i).moment; answer = takes.said i } ∷ []);
+}
+
+-- it counts as an event
+counts : (old new : Machine) (before lines : List Line) (hs : List Happening) → Steps old new before lines hs → Steps old (counted new) before lines hs
+counts old new before lines hs steps = record { calls = steps.calls; limit = steps.limit; workers = steps.workers; state = steps.state; lines = steps.lines }
+
+-- the calls before an event, and then the event
+pub event_steps : (old mid answered seen : Machine) (a start b c : List Line) (event : Event) (answer : Answer) (n : ℕ) → start ≡ a → Steps old mid start b (replicate n h.Call) → Takes mid answered (happening_of event) answer →
+    seen ≡ answered → c ≡ b ++ record { moment = seen.moment; answer = answer } ∷ [] → Steps old (counted seen) a c (happening_of event ∷ replicate n h.Call)
+event_steps old mid answered seen a start b c event answer n same calls takes is put =
+    let last : Takes mid seen (happening_of event) answer = subst (λ m. Takes mid m (happening_of event) answer) (sym is) takes in
+    let whole = then old mid seen start b c (replicate n h.Call) (happening_of event ∷ []) calls (one_step mid seen b c (happening_of event) answer last put) in
+    subst (λ l. Steps old (counted seen) l c (happening_of event ∷ replicate n h.Call)) same (counts old seen start c (happening_of event ∷ replicate n h.Call) whole)
+
+pub event_continues : (old inside new : Machine) (before lines : List Line) (event : Event) → IsOrderly inside.calls → inside ≡ old → Steps old new before lines (part_of old.calls old.made old.moment event) →
+    (past : List Entry) → Means old.calls (workers_of old) past → Stands old past → Continues old new before lines event past
+event_continues old inside new before lines event orderly is steps past means stands =
+    continues old new before lines event (subst (λ (m : Machine). IsOrderly m.calls) is orderly) steps past means stands
+
+-- one call more
+pub one_more : (first old new : Machine) (a b c : List Line) (n moment : ℕ) → Steps first old a b (replicate n h.Call) → Steps old new b c (h.Call ∷ []) → Steps first new a c (replicate (n + 1) h.Call)
+one_more first old new a b c n moment before one =
+    let same : n + 1 ≡ suc n = omega arith in
+    subst (λ k. Steps first new a c (replicate k h.Call)) (sym same) (then first old new a b c (replicate n h.Call) (h.Call ∷ []) before one)
+
+pub reached_after : (first old new : Machine) (n moment : ℕ) → ReachesNext old.calls old.made moment → new.calls ≡ old.calls → new.made ≡ old.made + 1 →
+    reached first.calls first.made moment ≡ n + reached old.calls old.made moment → reached first.calls first.made moment ≡ n + 1 + reached new.calls new.made moment
+reached_after first old new n moment next calls made is =
+    let there : reached new.calls new.made moment ≡ reached old.calls (old.made + 1) moment = λ i. reached (calls i) (made i) moment in
+    omega (arith, next.1, there, is)

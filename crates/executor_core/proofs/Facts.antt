@@ -1,0 +1,78 @@
+-- What holds of each history that means some calls.
+use Rattle.std.proofs.Common.{◌≡◌, ℕ, nat_le, Bool, true, false, cond, List, [], ◌∷◌, ◌++◌, Option, Some, None, refl, sym, ap, ◌∙◌, arith}
+use Rattle.std.specs.Prelude.{slice_get, max}
+use Rattle.std.specs.Option.{option_map_or}
+use Rattle.std.proofs.lemmas.Bool.{and_parts, leb-true}
+use Rattle.executor_core.specs.declared.words.CodeCall.{CodeCall}
+use Rattle.executor_core.specs.declared.words.CodeCall.TheVariants as c
+use Rattle.executor_core.specs.declared.words.EventError.TheVariants as x
+use Rattle.executor_core.specs.declared.words.Happening.{Happening}
+use Rattle.executor_core.specs.declared.words.Happening.TheVariants as h
+use Rattle.executor_core.specs.declared.words.Answer.TheVariants as a
+use Rattle.executor_core.specs.Calls.{Planned, numbers, task_count}
+use Rattle.executor_core.specs.View.{View, is_waiting, first_enabled}
+use Rattle.executor_core.specs.Answers.{plain, reply, called, started, finished, moment_after}
+use Rattle.executor_core.specs.Histories.{Entry, Means, look, now_of, happenings, made}
+use Rattle.executor_core.specs.Laws.{Starts, NoStartIsEarly, StartsAreInOrder, AnswersByPosition}
+use Rattle.executor_core.proofs.Sound.{first_is_enabled}
+use Rattle.executor_core.proofs.First.{first_is_least, in_range}
+
+-- what an answer that starts a task says of the view that it was given on, and of what happened
+pub record StartsFirst (calls : List Planned) (v : View) (happening : Happening) (k n d : ℕ) : Type 0 where
+  pub first : first_enabled v (numbers calls) ≡ Some k
+  pub run : n ≡ (v.fate k).starts
+  pub due : d ≡ (v.fate k).due
+  pub still : (now : ℕ) (next : Option Planned) → moment_after now next happening ≡ now
+
+no_call_starts : (calls : List Planned) (v : View) (call : CodeCall) (w k n d : ℕ) → (called calls v call).answer ≡ a.Start w k n d → ⊥
+no_call_starts calls v (c.Submit task timing delay) w k n d q = cc
+
+pub start_says : (calls : List Planned) (workers : ℕ) (v : View) (y : Happening) (w k n d : ℕ) → (reply calls workers v y).answer ≡ a.Start w k n d → StartsFirst calls v y k n d
+start_says calls workers v h.Call w k n d q =
+    let pick : (o : Option Planned) → (option_map_or (λ p. called calls (record v { moment = max v.moment p.0 }) p.1) o (plain a.Clock)).answer ≡ a.Start w k n d → ⊥ =
+    elim [ None ↦ λ q. cc | Some p ↦ λ q. no_call_starts calls (record v { moment = max v.moment p.0 }) p.1 w k n d q ]
+    in
+    absurd (pick (slice_get calls v.made) q)
+start_says calls workers v (h.Clock t) w k n d q =
+    let other : (b c : Bool) → cond b (a.Error x.Backward) (cond c (a.Error x.TooFar) a.Clock) ≡ a.Start w k n d → ⊥ = elim [ true ↦ λ c q. cc | false ↦ elim [ true ↦ λ q. cc | false ↦ λ q. cc ] ] in
+    absurd (other _ _ q)
+start_says calls workers v (h.Start u) w k n d q =
+    let from : (o : Option ℕ) → first_enabled v (numbers calls) ≡ o → started v u o ≡ a.Start w k n d → StartsFirst calls v (h.Start u) k n d =
+    elim [
+      | None ↦ λ is q. absurd cc
+      | Some j ↦ λ is q.
+          let same : j ≡ k = cc in
+          let run : (v.fate j).starts ≡ n = cc in
+          let due : (v.fate j).due ≡ d = cc in
+          record { first = is ∙ ap Some same; run = sym run ∙ ap (λ i. (v.fate i).starts) same; due = sym due ∙ ap (λ i. (v.fate i).due) same; still = λ now next. refl }
+    ]
+    in
+    let pick : (b : Bool) (o : Option ℕ) → cond b (option_map_or (λ _. a.Error x.Busy) o (started v u (first_enabled v (numbers calls)))) (a.Error x.NoWorker) ≡ a.Start w k n d → StartsFirst calls v (h.Start u) k n d =
+    elim [ true ↦ elim [ None ↦ λ q. from (first_enabled v (numbers calls)) refl q | Some j ↦ λ q. absurd cc ] | false ↦ λ o q. absurd cc ]
+    in
+    pick _ _ q
+start_says calls workers v (h.Finish u ending) w k n d q =
+    let other : (b : Bool) (o : Option ℕ) → cond b (finished calls v u ending o) (a.Error x.NoWorker) ≡ a.Start w k n d → ⊥ = elim [ true ↦ elim [ None ↦ λ q. cc | Some j ↦ λ q. cc ] | false ↦ λ o q. cc ] in
+    absurd (other _ _ q)
+
+pub means_front : (calls : List Planned) (workers : ℕ) (later past : List Entry) → Means calls workers (later ++ past) → Means calls workers past
+means_front calls workers [] past m = m
+means_front calls workers (e ∷ later) past m = means_front calls workers later past m.0
+
+pub answers_by_position : AnswersByPosition
+answers_by_position calls workers later past e m = let here = means_front calls workers later (e ∷ past) m in (here.2, here.3)
+
+-- what a start in a history says
+pub says : (calls : List Planned) (workers : ℕ) (past : List Entry) (e : Entry) (w k n d : ℕ) → Starts calls workers past e w k n d → StartsFirst calls (look calls past) e.happening k n d
+says calls workers past e w k n d s = start_says calls workers (look calls past) e.happening w k n d (sym (means_front calls workers s.later (e ∷ past) s.means).2 ∙ s.start)
+
+pub no_start_is_early : NoStartIsEarly
+no_start_is_early calls workers past e w k n d s =
+    let said = says calls workers past e w k n d s in
+    let v = look calls past in
+    let enabled = and_parts (is_waiting (v.fate k)) (nat_le (v.fate k).due v.moment) (first_is_enabled v (numbers calls) k said.first) in
+    omega (arith, said.due, leb-true (v.fate k).due v.moment enabled.1, said.still (now_of calls (happenings past)) (slice_get calls (made (happenings past))))
+
+pub starts_are_in_order : StartsAreInOrder
+starts_are_in_order calls workers past e w k n d j s below enabled =
+    first_is_least (look calls past) (numbers calls) k j (says calls workers past e w k n d s).first (in_range 0 (task_count calls) j (omega arith) (omega arith)) enabled

@@ -1,0 +1,186 @@
+-- What stays true of a core over a start and a finish, and the steps that these are.
+use Rattle.std.proofs.Common.{zero, suc, take, ◌≡◌, ◌≢◌, ℕ, ◌<◌, ◌≤◌, ◌==◌, Bool, true, false, cond, List, [], ◌∷◌, length, map, Option, Some, None, refl, sym, ap, ◌∙◌, arith, subst}
+use Rattle.std.specs.Prelude.{slice_index_or}
+use Rattle.std.proofs.Math.ListN.{set}
+use Rattle.std.proofs.lemmas.Bool.{eqb-true}
+use Rattle.std.proofs.lemmas.List.{length-set, map-set}
+use Rattle.sched_time.specs.declared.timing.Timing.{Timing}
+use Rattle.sched_time.specs.declared.timing.Timing.TheVariants as t
+use Rattle.sched_time.specs.declared.timing.Ending.{Ending}
+use Rattle.executor_core.specs.declared.words.Happening.{Happening}
+use Rattle.executor_core.specs.declared.words.Happening.TheVariants as h
+use Rattle.executor_core.specs.declared.words.Outcome.{Outcome}
+use Rattle.executor_core.specs.declared.words.Outcome.TheVariants as o
+use Rattle.executor_core.specs.declared.words.Answer.{Answer}
+use Rattle.executor_core.specs.declared.words.Answer.TheVariants as a
+use Rattle.executor_core.specs.declared.task.Phase.{Phase}
+use Rattle.executor_core.specs.declared.task.Phase.TheVariants as ph
+use Rattle.executor_core.specs.declared.task.Task.{Task}
+use Rattle.delay_queue.specs.Queues as queues
+use Rattle.executor_core.specs.Calls.{terms_of, task_count}
+use Rattle.executor_core.specs.Answers.{plain, outcome_of}
+use Rattle.executor_core.specs.State.{vacant, reply_of, state_after, finish_task}
+use Rattle.executor_core.specs.Machine.{Machine, workers_of, state_of, Takes, IsKept, IsSound, queued, queued_phase}
+use Rattle.executor_core.proofs.Agree.{next_sound}
+use Rattle.executor_core.proofs.Tables.{at_set}
+use Rattle.executor_core.proofs.Works.{queued_at, by_reply, in_queue, within, idle_starts, task_starts, none_is_first, running, start_state, task_finishes, finish_state}
+
+-- a step that leaves the state, by its reply
+pub leaves : (m : Machine) (happening : Happening) (answer : Answer) → reply_of m.calls (workers_of m) (state_of m) happening ≡ plain answer →
+    state_of m ≡ state_after m.calls (state_of m) happening (plain answer) → Takes m m happening answer
+leaves m happening answer is there =
+    let step = by_reply m.calls (workers_of m) (state_of m) (state_of m) happening answer is there in
+    record { calls = refl; limit = refl; taken = refl; workers = refl; state = step.0; said = step.1 }
+
+-- what a start finds
+
+pub start_idles : (m : Machine) (entries : List (Option ℕ)) (timings : List Timing) (w : ℕ) → IsKept m entries timings → w < workers_of m → slice_index_or m.work w None ≡ None →
+    queues.NoneIsDue entries m.moment → Takes m m (h.Start w) (a.Idle w)
+start_idles m entries timings w kept l free none =
+    leaves m (h.Start w) (a.Idle w)
+    (idle_starts m.calls (workers_of m) w (state_of m) l free (none_is_first m.calls m.made m.moment m.tasks m.work (subst (λ q. queues.NoneIsDue q m.moment) kept.queue none))) refl
+
+abbrev pub started : Machine → ℕ → ℕ → Task → Machine
+started m w k task = record m { tasks = set m.tasks k (running task); work = set m.work w (Some k) }
+
+-- the table of the queue, where a task that leaves it is written
+unqueued : (entries : List (Option ℕ)) (tasks : List Task) (k : ℕ) (task : Task) → entries ≡ map queued tasks → queued task ≡ None → set entries k None ≡ map queued (set tasks k task)
+unqueued entries tasks k task q none = ap (λ l. set l k None) q ∙ (ap (λ e. set (map queued tasks) k e) (sym none) ∙ sym (map-set queued tasks k task))
+
+-- a task that was not vacant is written: the tables of timings and of vacant tasks still fit
+timing_stays : (m : Machine) (entries : List (Option ℕ)) (timings : List Timing) (k : ℕ) (task : Task) → IsKept m entries timings → k < length m.tasks → (slice_index_or m.tasks k vacant).phase ≢ ph.Vacant →
+    (j : ℕ) → (slice_index_or (set m.tasks k task) j vacant).phase ≢ ph.Vacant → slice_index_or timings j t.Once ≡ (terms_of m.calls j).timing
+timing_stays m entries timings k task kept low busy j used =
+    by (k == j) refl (subst (λ x. x.phase ≢ ph.Vacant) (at_set m.tasks k j task vacant low) used)
+  where
+    by : (b : Bool) → (k == j) ≡ b → (cond b task (slice_index_or m.tasks j vacant)).phase ≢ ph.Vacant → slice_index_or timings j t.Once ≡ (terms_of m.calls j).timing
+    by true same used = kept.timing j (subst (λ i. (slice_index_or m.tasks i vacant).phase ≢ ph.Vacant) (eqb-true k j same) busy)
+    by false apart used = kept.timing j used
+
+fresh_stays : (m : Machine) (entries : List (Option ℕ)) (timings : List Timing) (k : ℕ) (task : Task) → IsKept m entries timings → k < length m.tasks → (slice_index_or m.tasks k vacant).phase ≢ ph.Vacant →
+    (j : ℕ) → task_count (take m.made m.calls) ≤ j → slice_index_or (set m.tasks k task) j vacant ≡ vacant
+fresh_stays m entries timings k task kept low busy j above = at_set m.tasks k j task vacant low ∙ by (k == j) refl
+  where
+    by : (b : Bool) → (k == j) ≡ b → cond b task (slice_index_or m.tasks j vacant) ≡ vacant
+    by true same = absurd (busy (ap (λ x. x.phase) (ap (λ i. slice_index_or m.tasks i vacant) (eqb-true k j same) ∙ kept.fresh j above)))
+    by false apart = kept.fresh j above
+
+not_vacant : (p q : Phase) → p ≡ q → (q ≡ ph.Vacant → ⊥) → p ≢ ph.Vacant
+not_vacant p q e no_vacancy f = no_vacancy (sym e ∙ f)
+
+pub start_takes : (m : Machine) (entries : List (Option ℕ)) (timings : List Timing) (w k d : ℕ) (task : Task) → IsKept m entries timings → w < workers_of m → slice_index_or m.work w None ≡ None →
+    queues.IsLeast entries d k → d ≤ m.moment → task ≡ slice_index_or m.tasks k vacant → Takes m (started m w k task) (h.Start w) (a.Start w k task.run d)
+start_takes m entries timings w k d task kept l free least due is =
+    let there = subst (λ q. queues.IsLeast q d k) kept.queue least in
+    let low = within m.tasks k d there.there in
+    let step = by_reply m.calls (workers_of m) (state_of m) (state_of (started m w k task)) (h.Start w) (a.Start w k task.run d)
+    (task_starts m.calls (workers_of m) w m.made m.moment k d m.tasks m.work l free kept.count there due ∙ ap (λ x. plain (a.Start w k x.run d)) (sym is))
+    (ap (λ x. state_of (started m w k x)) is ∙ start_state m.calls m.made m.moment w k task.run d m.tasks m.work l low)
+    in
+    record { calls = refl; limit = refl; taken = refl; workers = length-set m.work w (Some k); state = step.0; said = step.1 }
+
+pub start_kept : (m : Machine) (entries : List (Option ℕ)) (timings : List Timing) (w k d : ℕ) (task : Task) → IsKept m entries timings → w < workers_of m → slice_index_or m.work w None ≡ None →
+    queues.IsLeast entries d k → d ≤ m.moment → task ≡ slice_index_or m.tasks k vacant → IsKept (started m w k task) (set entries k None) timings
+start_kept m entries timings w k d task kept l free least due is =
+    let there = subst (λ q. queues.IsLeast q d k) kept.queue least in
+    let low = within m.tasks k d there.there in
+    let waits = (in_queue m.tasks k d there.there).0 in
+    let busy : (slice_index_or m.tasks k vacant).phase ≢ ph.Vacant = not_vacant _ ph.Waiting waits (λ q. cc) in
+    let takes = start_takes m entries timings w k d task kept l free least due is in
+    record {
+      orderly = kept.orderly;
+      made = kept.made;
+      some = omega (arith, kept.some, length-set m.work w (Some k));
+      few = omega (arith, kept.few, length-set m.work w (Some k));
+      taken = kept.taken;
+      moment = kept.moment;
+      count = length-set m.tasks k (running task) ∙ kept.count;
+      queue = unqueued entries m.tasks k (running task) kept.queue refl;
+      timed = kept.timed;
+      timing = timing_stays m entries timings k (running task) kept low busy;
+      fresh = fresh_stays m entries timings k (running task) kept low busy;
+      sound = subst IsSound (sym takes.state) (next_sound m.calls (workers_of m) (state_of m) (h.Start w) kept.sound);
+    }
+
+-- what a finish finds
+
+abbrev pub finished : Machine → ℕ → ℕ → Task → Machine
+finished m w k task = record m { tasks = set m.tasks k task; work = set m.work w None }
+
+at_work : (m : Machine) (entries : List (Option ℕ)) (timings : List Timing) (w k : ℕ) → IsKept m entries timings → slice_index_or m.work w None ≡ Some k → (slice_index_or m.tasks k vacant).phase ≡ ph.Running
+at_work m entries timings w k kept busy = kept.sound.at_work w k busy
+
+known : (tasks : List Task) (k : ℕ) → (slice_index_or tasks k vacant).phase ≢ ph.Vacant → k < length tasks
+known [] k busy = absurd (busy refl)
+known (x ∷ tasks) zero busy = omega arith
+known (x ∷ tasks) (suc k) busy = omega (arith, known tasks k busy)
+
+-- the task of a busy worker has its place in the tables
+pub work_within : (m : Machine) (entries : List (Option ℕ)) (timings : List Timing) (w k : ℕ) → IsKept m entries timings → slice_index_or m.work w None ≡ Some k → k < length m.tasks
+work_within m entries timings w k kept busy = known m.tasks k (not_vacant _ ph.Running (at_work m entries timings w k kept busy) (λ q. cc))
+
+pub work_timing : (m : Machine) (entries : List (Option ℕ)) (timings : List Timing) (w k : ℕ) → IsKept m entries timings → slice_index_or m.work w None ≡ Some k → slice_index_or timings k t.Once ≡ (terms_of m.calls k).timing
+work_timing m entries timings w k kept busy = kept.timing k (not_vacant _ ph.Running (at_work m entries timings w k kept busy) (λ q. cc))
+
+pub finish_takes : (m : Machine) (entries : List (Option ℕ)) (timings : List Timing) (w k : ℕ) (ending : Ending) (timing : Timing) (outcome : Outcome) (task new : Task) → IsKept m entries timings → w < workers_of m →
+    slice_index_or m.work w None ≡ Some k → task ≡ slice_index_or m.tasks k vacant → timing ≡ slice_index_or timings k t.Once → outcome ≡ outcome_of timing ending → new ≡ finish_task timing m.moment outcome task →
+    Takes m (finished m w k new) (h.Finish w ending) (a.Finish w k task.run outcome)
+finish_takes m entries timings w k ending timing outcome task new kept l busy is timed out moved =
+    let low = work_within m entries timings w k kept busy in
+    let same : timing ≡ (terms_of m.calls k).timing = timed ∙ work_timing m entries timings w k kept busy in
+    let to : new ≡ finish_task (terms_of m.calls k).timing m.moment outcome (slice_index_or m.tasks k vacant) = moved ∙ (λ i. finish_task (same i) m.moment outcome (is i)) in
+    let step = by_reply m.calls (workers_of m) (state_of m) (state_of (finished m w k new)) (h.Finish w ending) (a.Finish w k task.run outcome)
+    (task_finishes m.calls (workers_of m) w k ending outcome (state_of m) l busy (at_work m entries timings w k kept busy) (out ∙ ap (λ x. outcome_of x ending) same) ∙ ap (λ x. plain (a.Finish w k x.run outcome)) (sym is))
+    (ap (λ x. state_of (finished m w k x)) to ∙ finish_state m.calls m.made m.moment w k task.run ending outcome m.tasks m.work l low)
+    in
+    record { calls = refl; limit = refl; taken = refl; workers = length-set m.work w None; state = step.0; said = step.1 }
+
+running_unqueued : (p : Phase) (due : ℕ) → p ≡ ph.Running → queued_phase p due ≡ None
+running_unqueued p due e = ap (λ q. queued_phase q due) e
+
+finish_unqueued : (timing : Timing) (now : ℕ) (outcome : Outcome) (task : Task) → queued (finish_task timing now outcome task) ≡ None
+finish_unqueued timing now (o.Done value) task = refl
+
+-- nothing is written where the table has it already
+none_there : (entries : List (Option ℕ)) (k : ℕ) → slice_index_or entries k None ≡ None → set entries k None ≡ entries
+none_there [] k q = refl
+none_there (x ∷ entries) zero q = ap (λ y. y ∷ entries) (sym q)
+none_there (x ∷ entries) (suc k) q = ap (λ l. x ∷ l) (none_there entries k q)
+
+pub finish_kept : (m : Machine) (entries : List (Option ℕ)) (timings : List Timing) (w k : ℕ) (ending : Ending) (timing : Timing) (outcome : Outcome) (task new : Task) → IsKept m entries timings → w < workers_of m →
+    slice_index_or m.work w None ≡ Some k → task ≡ slice_index_or m.tasks k vacant → timing ≡ slice_index_or timings k t.Once → outcome ≡ outcome_of timing ending → new ≡ finish_task timing m.moment outcome task →
+    IsKept (finished m w k new) entries timings
+finish_kept m entries timings w k ending timing outcome task new kept l busy is timed out moved =
+    let low = work_within m entries timings w k kept busy in
+    let runs = at_work m entries timings w k kept busy in
+    let used : (slice_index_or m.tasks k vacant).phase ≢ ph.Vacant = not_vacant _ ph.Running runs (λ q. cc) in
+    let takes = finish_takes m entries timings w k ending timing outcome task new kept l busy is timed out moved in
+    let none : slice_index_or entries k None ≡ None = ap (λ q. slice_index_or q k None) kept.queue ∙ (queued_at m.tasks k ∙ running_unqueued _ (slice_index_or m.tasks k vacant).due runs) in
+    record {
+      orderly = kept.orderly;
+      made = kept.made;
+      some = omega (arith, kept.some, length-set m.work w None);
+      few = omega (arith, kept.few, length-set m.work w None);
+      taken = kept.taken;
+      moment = kept.moment;
+      count = length-set m.tasks k new ∙ kept.count;
+      queue = sym (none_there entries k none) ∙ unqueued entries m.tasks k new kept.queue (ap queued moved ∙ finish_unqueued timing m.moment outcome task);
+      timed = kept.timed;
+      timing = timing_stays m entries timings k new kept low used;
+      fresh = fresh_stays m entries timings k new kept low used;
+      sound = subst IsSound (sym takes.state) (next_sound m.calls (workers_of m) (state_of m) (h.Finish w ending) kept.sound);
+    }
+
+-- the same, with the entries as a call leaves them, and the core as it was
+
+pub start_keeps : (m : Machine) (entries left : List (Option ℕ)) (timings : List Timing) (w k d : ℕ) (task : Task) → IsKept m entries timings → w < workers_of m → slice_index_or m.work w None ≡ None →
+    queues.IsLeast entries d k → d ≤ m.moment → task ≡ slice_index_or m.tasks k vacant → left ≡ set entries k None → IsKept (started m w k task) left timings
+start_keeps m entries left timings w k d task kept l free least due is gone =
+    subst (λ q. IsKept (started m w k task) q timings) (sym gone) (start_kept m entries timings w k d task kept l free least due is)
+
+-- the least entry of the queue has its place in the tables
+pub least_within : (m : Machine) (entries : List (Option ℕ)) (timings : List Timing) (k d : ℕ) → IsKept m entries timings → queues.IsLeast entries d k → k < length m.tasks
+least_within m entries timings k d kept least = within m.tasks k d (subst (λ q. queues.IsLeast q d k) kept.queue least).there
+
+pub of_view : (m old new : Machine) (happening : Happening) (answer : Answer) → m ≡ old → Takes m new happening answer → Takes old new happening answer
+of_view m old new happening answer same takes = subst (λ x. Takes x new happening answer) same takes

@@ -1,0 +1,15 @@
+pub mod Moves
+pub mod Views
+pub mod Sound
+pub mod Agree
+pub mod First
+pub mod Facts
+pub mod Flowing
+pub mod Tables
+pub mod Submits
+pub mod Works
+pub mod Keeps
+pub mod Opens
+pub mod Events
+pub mod Plains
+pub mod Places

@@ -1,0 +1,190 @@
+-- What each reply finds in a sound state, and that the state stays sound.
+use Rattle.std.proofs.Common.{◌≡◌, ℕ, ◌+◌, ◌&&◌, ◌==◌, nat_lt, nat_le, Bool, true, false, cond, ◌⊎◌, inl, inr, List, [], ◌∷◌, Option, Some, None, refl, sym, ap, ◌∙◌, arith, subst}
+use Rattle.std.specs.Prelude.{slice_get, not, max}
+use Rattle.std.specs.Option.{option_map_or}
+use Rattle.std.proofs.lemmas.Bool.{false≢true, eqb-true, eq-eqb, and_parts}
+use Rattle.std.proofs.lemmas.Bool.Decides.{nat_tests}
+use Rattle.std.proofs.lemmas.Option.{none-some, same_Some}
+use Rattle.executor_core.specs.declared.words.CodeCall.{CodeCall}
+use Rattle.executor_core.specs.declared.words.CodeCall.TheVariants as c
+use Rattle.executor_core.specs.declared.words.Happening.{Happening}
+use Rattle.executor_core.specs.declared.words.Happening.TheVariants as h
+use Rattle.executor_core.specs.declared.words.EventError.TheVariants as x
+use Rattle.executor_core.specs.declared.words.Answer.{Answer}
+use Rattle.executor_core.specs.declared.words.Answer.TheVariants as a
+use Rattle.executor_core.specs.declared.task.Phase.{Phase}
+use Rattle.executor_core.specs.declared.task.Phase.TheVariants as ph
+use Rattle.executor_core.specs.declared.task.Task.{Task}
+use Rattle.sched_time.specs.declared.timing.Ending.{Ending}
+use Rattle.sched_time.specs.declared.timing.Ending.TheVariants as e
+use Rattle.sched_time.specs.declared.timing.Timing.{Timing}
+use Rattle.sched_time.specs.declared.timing.Timing.TheVariants as t
+use Rattle.executor_core.specs.Calls.{Planned, Terms, terms_of, due_at, numbers}
+use Rattle.executor_core.specs.View.{View, is_enabled, is_waiting, first_enabled, earlier, precedes}
+use Rattle.executor_core.specs.Answers.{Reply, plain, called, started, finished, outcome_of, ended_well}
+use Rattle.executor_core.specs.Histories.{work_after}
+use Rattle.executor_core.specs.State.{State, seen, seen_phase, reply_of, state_after, move_task, submit_phase, finish_task}
+use Rattle.executor_core.specs.Machine.{IsSound}
+use Rattle.executor_core.proofs.Moves.{Outcomes, Fits}
+
+-- what an answer says of the state that it finds
+abbrev pub Finds : List Planned → State → Answer → Type 0
+Finds calls s (a.Submit j kind due) = due ≡ due_at (terms_of calls j) 0 None
+Finds calls s (a.Start w j n due) = (s.workers w ≡ None) × ((s.tasks j).phase ≡ ph.Waiting)
+Finds calls s (a.Finish w j n outcome) = (s.workers w ≡ Some j) × Outcomes (terms_of calls j) s.moment (s.tasks j) outcome
+Finds calls s _ = Unit {0}
+
+-- of the first enabled task
+
+from_earlier : (v : View) (i k : ℕ) (q : Option ℕ) → earlier v i q ≡ k → (k ≡ i) ⊎ (q ≡ Some k)
+from_earlier v i k None e = inl (sym e)
+from_earlier v i k (Some j) e =
+    let pick : (b : Bool) → cond b j i ≡ k → (k ≡ i) ⊎ (Some j ≡ Some k) = elim [ true ↦ λ q. inr (ap Some q) | false ↦ λ q. inl (sym q) ] in
+    pick (precedes v j i) e
+
+pub first_is_enabled : (v : View) (ks : List ℕ) (k : ℕ) → first_enabled v ks ≡ Some k → is_enabled v k ≡ true
+first_is_enabled v [] k q = absurd (none-some k q)
+first_is_enabled v (j ∷ ks) k q =
+    let rest = first_is_enabled v ks k in
+    let pick : (b : Bool) → is_enabled v j ≡ b → cond b (Some (earlier v j (first_enabled v ks))) (first_enabled v ks) ≡ Some k → is_enabled v k ≡ true =
+    elim [
+      | true ↦ λ is q. elim (from_earlier v j k (first_enabled v ks) (same_Some (earlier v j (first_enabled v ks)) k q)) [ inl here ↦ ap (is_enabled v) here ∙ is | inr there ↦ rest there ]
+      | false ↦ λ is q. rest q
+    ]
+    in
+    pick (is_enabled v j) refl q
+
+next_eqb : (n : ℕ) → (1 + n == n) ≡ false
+next_eqb n = grind (arith, nat_tests)
+
+same_eqb : (n : ℕ) → (n == n) ≡ true
+same_eqb n = eq-eqb n n refl
+
+no_and : (x y : Bool) → y ≡ false → (x && y) ≡ false
+no_and true y e = e
+no_and false y e = refl
+
+-- a task that is seen to wait is in that phase
+pub waits : (terms : Terms) (p : Phase) (run due : ℕ) → is_waiting (seen_phase terms p run due) ≡ true → p ≡ ph.Waiting
+waits terms ph.Vacant run due q = absurd (false≢true q)
+waits terms ph.Waiting run due q = refl
+waits terms ph.Running run due q = absurd (false≢true (sym (ap (λ b. not (not b) && true) (next_eqb run)) ∙ q))
+waits terms ph.Done run due q = absurd (false≢true (sym (no_and (not (not (1 + run == 1 + run))) false refl) ∙ q))
+
+pub is_seen_waiting : (terms : Terms) (run due : ℕ) → is_waiting (seen_phase terms ph.Waiting run due) ≡ true
+is_seen_waiting terms run due = ap (λ b. not (not b) && true) (same_eqb run)
+
+pub waits_in : (calls : List Planned) (s : State) (k : ℕ) → is_waiting ((seen calls s).fate k) ≡ true → (s.tasks k).phase ≡ ph.Waiting
+waits_in calls s k q = waits (terms_of calls k) (s.tasks k).phase (s.tasks k).run (s.tasks k).due q
+
+-- what each reply finds
+
+call_finds : (calls : List Planned) (s : State) (moment : ℕ) (call : CodeCall) → Finds calls s (called calls (record (seen calls s) { moment = moment }) call).answer
+call_finds calls s moment (c.Submit task timing delay) = refl
+
+well_finds : (terms : Terms) (now : ℕ) (task : Task) (timing : Timing) (value : ℕ) → Outcomes terms now task (ended_well timing value)
+well_finds terms now task t.Once value = tt
+
+outcome_finds : (calls : List Planned) (s : State) (k : ℕ) (ending : Ending) → Outcomes (terms_of calls k) s.moment (s.tasks k) (outcome_of (terms_of calls k).timing ending)
+outcome_finds calls s k (e.Value value) = well_finds (terms_of calls k) s.moment (s.tasks k) (terms_of calls k).timing value
+
+pub finds : (calls : List Planned) (workers : ℕ) (s : State) (happening : Happening) → IsSound s → Finds calls s (reply_of calls workers s happening).answer
+finds calls workers s h.Call sound =
+    let pick : (q : Option Planned) → Finds calls s (option_map_or (λ p. called calls (record (seen calls s) { moment = max s.moment p.0 }) p.1) q (plain a.Clock)).answer =
+    elim [ None ↦ tt | Some p ↦ call_finds calls s (max s.moment p.0) p.1 ]
+    in
+    pick (slice_get calls s.made)
+finds calls workers s (h.Clock t) sound =
+    let pick : (b c : Bool) → Finds calls s (cond b (a.Error x.Backward) (cond c (a.Error x.TooFar) a.Clock)) = elim [ true ↦ λ c. tt | false ↦ elim [ true ↦ tt | false ↦ tt ] ] in
+    pick _ _
+finds calls workers s (h.Start w) sound =
+    let v = seen calls s in
+    let first : (q : Option ℕ) → s.workers w ≡ None → first_enabled v (numbers calls) ≡ q → Finds calls s (started v w q) =
+    elim [
+      | None ↦ λ free is. tt
+      | Some k ↦ λ free is. (free, waits_in calls s k (and_parts (is_waiting (v.fate k)) (nat_le (v.fate k).due v.moment) (first_is_enabled v (numbers calls) k is)).0)
+    ]
+    in
+    let pick : (b : Bool) (work : Option ℕ) → s.workers w ≡ work → Finds calls s (cond b (option_map_or (λ _. a.Error x.Busy) work (started v w (first_enabled v (numbers calls)))) (a.Error x.NoWorker)) =
+    elim [ true ↦ elim [ None ↦ λ free. first (first_enabled v (numbers calls)) free refl | Some k ↦ λ busy. tt ] | false ↦ λ work is. tt ]
+    in
+    pick (nat_lt w workers) (s.workers w) refl
+finds calls workers s (h.Finish w ending) sound =
+    let v = seen calls s in
+    let pick : (b : Bool) (work : Option ℕ) → s.workers w ≡ work → Finds calls s (cond b (finished calls v w ending work) (a.Error x.NoWorker)) =
+    elim [ true ↦ elim [ None ↦ λ is. tt | Some k ↦ λ is. (is, outcome_finds calls s k ending) ] | false ↦ λ work is. tt ]
+    in
+    pick (nat_lt w workers) (s.workers w) refl
+
+pub fits_all : (calls : List Planned) (s : State) (answer : Answer) → IsSound s → Finds calls s answer → (k : ℕ) → Fits (terms_of calls k) s.moment k (s.tasks k) answer
+fits_all calls s (a.Submit j kind due) sound f k = λ q. subst (λ k. due ≡ due_at (terms_of calls k) 0 None) (eqb-true j k q) f
+fits_all calls s (a.Start w j n due) sound f k = λ q. subst (λ k. (s.tasks k).phase ≡ ph.Waiting) (eqb-true j k q) f.1
+fits_all calls s (a.Finish w j n outcome) sound f k = λ q.
+    subst (λ k. ((s.tasks k).phase ≡ ph.Running) × Outcomes (terms_of calls k) s.moment (s.tasks k) outcome) (eqb-true j k q) (sound.at_work w j f.0, f.1)
+fits_all calls s _ sound f k = tt
+
+-- a sound state stays sound
+
+-- the phase after a move, where the test of the number is a variable
+running_stays : (b : Bool) (due : ℕ) (task : Task) → task.phase ≡ ph.Running → (cond b (submit_phase due task.phase task) task).phase ≡ ph.Running
+running_stays true due task q = subst (λ p. (submit_phase due p task).phase ≡ ph.Running) (sym q) q
+running_stays false due task q = q
+
+started_runs : (b : Bool) (task : Task) → task.phase ≡ ph.Running → (cond b (record task { phase = ph.Running }) task).phase ≡ ph.Running
+started_runs true task q = refl
+started_runs false task q = q
+
+abbrev phase_after : List Planned → State → Answer → ℕ → Phase
+phase_after calls s answer k = (move_task (terms_of calls k).timing s.moment k answer (s.tasks k)).phase
+
+at_work_after : (calls : List Planned) (s : State) (answer : Answer) → IsSound s → Finds calls s answer → (w k : ℕ) → work_after w answer (s.workers w) ≡ Some k → phase_after calls s answer k ≡ ph.Running
+at_work_after calls s (a.Submit j kind due) sound f w k q = running_stays (j == k) due (s.tasks k) (sound.at_work w k q)
+at_work_after calls s (a.Start v j n due) sound f w k q =
+    let pick : (b : Bool) → cond b (Some j) (s.workers w) ≡ Some k → phase_after calls s (a.Start v j n due) k ≡ ph.Running =
+    elim [
+      | true ↦ λ q. ap (λ b. (cond b (record (s.tasks k) { phase = ph.Running }) (s.tasks k)).phase) (eq-eqb j k (same_Some j k q))
+      | false ↦ λ q. started_runs (j == k) (s.tasks k) (sound.at_work w k q)
+    ]
+    in
+    pick (v == w) q
+at_work_after calls s (a.Finish v j n outcome) sound f w k q =
+    let runs : (c : Bool) → (j == k) ≡ c → (v == w) ≡ false → s.workers w ≡ Some k → (cond c (finish_task (terms_of calls k).timing s.moment outcome (s.tasks k)) (s.tasks k)).phase ≡ ph.Running =
+    elim [
+      | true ↦ λ same apart q. absurd (false≢true (sym apart ∙ eq-eqb v w (sound.apart v w k (f.0 ∙ ap Some (eqb-true j k same)) q)))
+      | false ↦ λ same apart q. sound.at_work w k q
+    ]
+    in
+    let pick : (b : Bool) → (v == w) ≡ b → cond b None (s.workers w) ≡ Some k → phase_after calls s (a.Finish v j n outcome) k ≡ ph.Running =
+    elim [ true ↦ λ is q. absurd (none-some k q) | false ↦ λ is q. runs (j == k) refl is q ]
+    in
+    pick (v == w) refl q
+at_work_after calls s _ sound f w k q = sound.at_work w k q
+
+apart_after : (calls : List Planned) (s : State) (answer : Answer) → IsSound s → Finds calls s answer → (v w k : ℕ) →
+    work_after v answer (s.workers v) ≡ Some k → work_after w answer (s.workers w) ≡ Some k → v ≡ w
+apart_after calls s (a.Start u j n due) sound f v w k p q =
+    let clash : (x : ℕ) → j ≡ k → s.workers x ≡ Some k → v ≡ w = λ x same busy.
+    let both : ph.Waiting ≡ ph.Running = sym f.1 ∙ (ap (λ i. (s.tasks i).phase) same ∙ sound.at_work x k busy) in absurd cc
+    in
+    let pick : (b c : Bool) → (u == v) ≡ b → (u == w) ≡ c → cond b (Some j) (s.workers v) ≡ Some k → cond c (Some j) (s.workers w) ≡ Some k → v ≡ w =
+    elim [
+      | true ↦ elim [ true ↦ λ x y p q. sym (eqb-true u v x) ∙ eqb-true u w y | false ↦ λ x y p q. clash w (same_Some j k p) q ]
+      | false ↦ elim [ true ↦ λ x y p q. clash v (same_Some j k q) p | false ↦ λ x y p q. sound.apart v w k p q ]
+    ]
+    in
+    pick (u == v) (u == w) refl refl p q
+apart_after calls s (a.Finish u j n outcome) sound f v w k p q =
+    let pick : (b c : Bool) → cond b None (s.workers v) ≡ Some k → cond c None (s.workers w) ≡ Some k → v ≡ w =
+    elim [
+      | true ↦ λ c p q. absurd (none-some k p)
+      | false ↦ elim [ true ↦ λ p q. absurd (none-some k q) | false ↦ λ p q. sound.apart v w k p q ]
+    ]
+    in
+    pick (u == v) (u == w) p q
+apart_after calls s _ sound f v w k p q = sound.apart v w k p q
+
+pub stays : (calls : List Planned) (s : State) (happening : Happening) (r : Reply) → IsSound s → Finds calls s r.answer → IsSound (state_after calls s happening r)
+stays calls s happening r sound f = record {
+  at_work = at_work_after calls s r.answer sound f;
+  apart = apart_after calls s r.answer sound f;
+}

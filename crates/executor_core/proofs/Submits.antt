@@ -1,0 +1,151 @@
+-- The step of a call.
+use Rattle.std.proofs.Common.{◌≡◌, ◌≢◌, ℕ, ◌+◌, ◌<◌, ◌==◌, max, Bool, true, false, cond, List, length, take, Option, Some, None, refl, sym, ap, ◌∙◌, arith, subst, add-one}
+use Rattle.std.specs.Prelude.{slice_get, slice_index_or}
+use Rattle.std.specs.Option.{option_map_or}
+use Rattle.std.proofs.Math.ListN.{set}
+use Rattle.std.proofs.lemmas.Bool.{eqb-true}
+use Rattle.std.proofs.lemmas.Bool.Decides.{nat_tests}
+use Rattle.std.proofs.lemmas.Option.{slice_get_within}
+use Rattle.std.proofs.lemmas.List.{length-set, map-set}
+use Rattle.executor_core.specs.declared.words.CodeCall.TheVariants as c
+use Rattle.executor_core.specs.declared.words.Happening.TheVariants as h
+use Rattle.executor_core.specs.declared.words.Kind.{Kind}
+use Rattle.executor_core.specs.declared.words.Answer.TheVariants as a
+use Rattle.executor_core.specs.declared.task.Phase.TheVariants as ph
+use Rattle.executor_core.specs.declared.task.Task.{Task}
+use Rattle.sched_time.specs.declared.timing.Timing.{Timing}
+use Rattle.sched_time.specs.declared.timing.Timing.TheVariants as t
+use Rattle.executor_core.specs.Calls.{Planned, Terms, terms_of, due_at, task_count}
+use Rattle.executor_core.specs.Answers.{Reply, plain, called, kind_of}
+use Rattle.executor_core.specs.State.{State, seen, next, reply_of, state_after, vacant, submit_phase}
+use Rattle.executor_core.specs.Machine.{Machine, workers_of, state_of, IsSound, IsKept, Takes, queued}
+use Rattle.executor_core.proofs.Agree.{next_sound}
+use Rattle.executor_core.proofs.Tables.{at_set, submission}
+
+abbrev pub state_at : ℕ → ℕ → List Task → List (Option ℕ) → State
+state_at made moment tasks work = record {
+  made = made;
+  moment = moment;
+  tasks = λ k. slice_index_or tasks k vacant;
+  workers = λ w. slice_index_or work w None;
+}
+
+-- the reply to a call, given the call
+abbrev reply_to : List Planned → State → Option Planned → Reply
+reply_to calls s call = option_map_or (λ p. called calls (record (seen calls s) { moment = max s.moment p.0 }) p.1) call (plain a.Clock)
+
+-- the state after it
+abbrev state_to : List Planned → State → Option Planned → State
+state_to calls s call = record (state_after calls s h.Call (reply_to calls s call)) { moment = option_map_or (λ p. max s.moment p.0) call s.moment }
+
+abbrev pub waiting : ℕ → Task
+waiting due = record { phase = ph.Waiting; run = 0; due = due }
+
+due_first : (terms : Terms) (timing : Timing) (first : ℕ) → terms ≡ record { timing = timing; first = first } → due_at terms 0 None ≡ first
+due_first terms timing first e = ap (λ x. due_at x 0 None) e ∙ by timing
+  where
+    by : (timing : Timing) → due_at (record { timing = timing; first = first }) 0 None ≡ first
+    by timing = elim timing as (λ timing. due_at (record { timing = timing; first = first }) 0 None ≡ first) [ t.Once ↦ refl ]
+
+pub submit_answer : (calls : List Planned) (workers made moment at task delay : ℕ) (timing : Timing) (tasks : List Task) (work : List (Option ℕ)) →
+    slice_get calls made ≡ Some (at, c.Submit task timing delay) → terms_of calls task ≡ record { timing = timing; first = at + delay } →
+    a.Submit task (kind_of timing) (at + delay) ≡ (reply_of calls workers (state_at made moment tasks work) h.Call).answer
+submit_answer calls workers made moment at task delay timing tasks work is terms =
+    ap (a.Submit task (kind_of timing)) (sym (due_first (terms_of calls task) timing (at + delay) terms))
+    ∙ sym (ap (λ o. (reply_to calls (state_at made moment tasks work) o).answer) is)
+
+submitted_at : (tasks : List Task) (task k due : ℕ) → task < length tasks → slice_index_or tasks task vacant ≡ vacant →
+    slice_index_or (set tasks task (waiting due)) k vacant ≡ cond (task == k) (submit_phase due (slice_index_or tasks k vacant).phase (slice_index_or tasks k vacant)) (slice_index_or tasks k vacant)
+submitted_at tasks task k due low fresh =
+    let pick : (b : Bool) → (task == k) ≡ b → cond b (waiting due) (slice_index_or tasks k vacant) ≡ cond b (submit_phase due (slice_index_or tasks k vacant).phase (slice_index_or tasks k vacant)) (slice_index_or tasks k vacant) =
+    elim [
+      | true ↦ λ same. sym (ap (λ (t : Task). submit_phase due t.phase t) (ap (λ j. slice_index_or tasks j vacant) (sym (eqb-true task k same)) ∙ fresh))
+      | false ↦ λ apart. refl
+    ]
+    in
+    at_set tasks task k (waiting due) vacant low ∙ pick (task == k) refl
+
+pub submit_state : (calls : List Planned) (workers made moment at task delay : ℕ) (timing : Timing) (tasks : List Task) (work : List (Option ℕ)) →
+    slice_get calls made ≡ Some (at, c.Submit task timing delay) → terms_of calls task ≡ record { timing = timing; first = at + delay } →
+    task < length tasks → slice_index_or tasks task vacant ≡ vacant →
+    state_at (made + 1) (max moment at) (set tasks task (waiting (at + delay))) work ≡ next calls workers (state_at made moment tasks work) h.Call
+submit_state calls workers made moment at task delay timing tasks work is terms low fresh =
+    let s = state_at made moment tasks work in
+    let one : made + 1 ≡ 1 + made = omega arith in
+    let due = due_first (terms_of calls task) timing (at + delay) terms in
+    let there : state_at (made + 1) (max moment at) (set tasks task (waiting (at + delay))) work ≡ state_to calls s (Some (at, c.Submit task timing delay)) =
+    λ i. record {
+      made = one i;
+      moment = max moment at;
+      tasks = λ k. (submitted_at tasks task k (at + delay) low fresh
+          ∙ ap (λ d. cond (task == k) (submit_phase d (slice_index_or tasks k vacant).phase (slice_index_or tasks k vacant)) (slice_index_or tasks k vacant)) (sym due)) i;
+      workers = λ w. slice_index_or work w None;
+    }
+    in
+    there ∙ ap (state_to calls s) (sym is)
+
+-- the step of a submission
+pub submit_takes : (m : Machine) (entries : List (Option ℕ)) (timings : List Timing) (at task delay : ℕ) (timing : Timing) (kind : Kind) → IsKept m entries timings → slice_get m.calls m.made ≡ Some (at, c.Submit task timing delay) →
+    kind ≡ kind_of timing →
+    Takes m (record m { made = m.made + 1; moment = max m.moment at; tasks = set m.tasks task (waiting (at + delay)) }) h.Call (a.Submit task kind (at + delay))
+submit_takes m entries timings at task delay timing kind kept is how =
+    let sub = submission m.calls 0 0 m.made at task timing delay kept.orderly.1 is in
+    record {
+      calls = refl;
+      limit = refl;
+      taken = refl;
+      workers = refl;
+      state = submit_state m.calls (workers_of m) m.made m.moment at task delay timing m.tasks m.work is sub.terms (omega (arith, sub.below, kept.count)) (kept.fresh task (omega (arith, sub.number)));
+      said = ap (λ x. a.Submit task x (at + delay)) how ∙ submit_answer m.calls (workers_of m) m.made m.moment at task delay timing m.tasks m.work is sub.terms;
+    }
+
+-- what stays true after a submission
+pub submit_kept : (m : Machine) (entries : List (Option ℕ)) (timings : List Timing) (at task delay : ℕ) (timing : Timing) → IsKept m entries timings → slice_get m.calls m.made ≡ Some (at, c.Submit task timing delay) →
+    IsKept (record m { made = m.made + 1; moment = max m.moment at; tasks = set m.tasks task (waiting (at + delay)) }) (set entries task (Some (at + delay))) (set timings task timing)
+submit_kept m entries timings at task delay timing kept is =
+    let sub = submission m.calls 0 0 m.made at task timing delay kept.orderly.1 is in
+    let low : task < length m.tasks = omega (arith, sub.below, kept.count) in
+    let fresh = kept.fresh task (omega (arith, sub.number)) in
+    record {
+      orderly = kept.orderly;
+      made = omega (arith, slice_get_within m.calls m.made (at, c.Submit task timing delay) is);
+      some = kept.some;
+      few = kept.few;
+      taken = kept.taken;
+      moment = grind (arith, kept.moment, sub.moment);
+      count = length-set m.tasks task (waiting (at + delay)) ∙ kept.count;
+      queue = ap (λ q. set q task (Some (at + delay))) kept.queue ∙ sym (map-set queued m.tasks task (waiting (at + delay)));
+      timed = length-set timings task timing ∙ kept.timed;
+      timing = λ k used.
+          at_set timings task k timing t.Once (omega (arith, sub.below, kept.timed))
+          ∙ timed (task == k) k refl (subst (λ x. x.phase ≢ ph.Vacant) (at_set m.tasks task k (waiting (at + delay)) vacant low) used) sub.terms kept;
+      fresh = λ k above.
+          let more : task_count (take (m.made + 1) m.calls) ≡ task + 1 = ap (λ n. task_count (take n m.calls)) (add-one m.made) ∙ (omega arith ∙ sub.more) in
+          at_set m.tasks task k (waiting (at + delay)) vacant low
+          ∙ (ap (λ b. cond b (waiting (at + delay)) (slice_index_or m.tasks k vacant)) (apart task k (omega (arith, above, more))) ∙ kept.fresh k (omega (arith, above, more, sub.number)));
+      sound = subst IsSound (sym (submit_state m.calls (workers_of m) m.made m.moment at task delay timing m.tasks m.work is sub.terms low fresh)) (next_sound m.calls (workers_of m) (state_of m) h.Call kept.sound);
+    }
+  where
+    timed : (b : Bool) (k : ℕ) → (task == k) ≡ b → (cond b (waiting (at + delay)) (slice_index_or m.tasks k vacant)).phase ≢ ph.Vacant →
+        terms_of m.calls task ≡ record { timing = timing; first = at + delay } → IsKept m entries timings → cond b timing (slice_index_or timings k t.Once) ≡ (terms_of m.calls k).timing
+    timed true k same used terms kept = sym (ap (λ x. x.timing) terms) ∙ ap (λ j. (terms_of m.calls j).timing) (eqb-true task k same)
+    timed false k other used terms kept = kept.timing k used
+
+    apart : (j k : ℕ) → j < k → (j == k) ≡ false
+    apart j k l = grind (arith, nat_tests)
+
+-- the same, with the moment and the entries as a call gives them
+pub submit_keeps : (m : Machine) (entries entries' : List (Option ℕ)) (timings : List Timing) (moment at task delay : ℕ) (timing : Timing) → IsKept m entries timings → slice_get m.calls m.made ≡ Some (at, c.Submit task timing delay) →
+    moment ≡ max m.moment at → entries' ≡ set entries task (Some (at + delay)) →
+    IsKept (record m { made = m.made + 1; moment = moment; tasks = set m.tasks task (waiting (at + delay)) }) entries' (set timings task timing)
+submit_keeps m entries entries' timings moment at task delay timing kept is greatest put =
+    subst (λ n. IsKept (record m { made = m.made + 1; moment = n; tasks = set m.tasks task (waiting (at + delay)) }) entries' (set timings task timing)) (sym greatest)
+    (subst (λ q. IsKept (record m { made = m.made + 1; moment = max m.moment at; tasks = set m.tasks task (waiting (at + delay)) }) q (set timings task timing)) (sym put) (submit_kept m entries timings at task delay timing kept is))
+
+pub submit_steps : (m old : Machine) (entries : List (Option ℕ)) (timings : List Timing) (moment at task delay : ℕ) (timing : Timing) (kind : Kind) → IsKept m entries timings → slice_get m.calls m.made ≡ Some (at, c.Submit task timing delay) →
+    kind ≡ kind_of timing → moment ≡ max m.moment at → m ≡ old →
+    Takes old (record m { made = m.made + 1; moment = moment; tasks = set m.tasks task (waiting (at + delay)) }) h.Call (a.Submit task kind (at + delay))
+submit_steps m old entries timings moment at task delay timing kind kept is how greatest same =
+    subst (λ x. Takes x (record m { made = m.made + 1; moment = moment; tasks = set m.tasks task (waiting (at + delay)) }) h.Call (a.Submit task kind (at + delay))) same
+    (subst (λ n. Takes m (record m { made = m.made + 1; moment = n; tasks = set m.tasks task (waiting (at + delay)) }) h.Call (a.Submit task kind (at + delay))) (sym greatest)
+    (submit_takes m entries timings at task delay timing kind kept is how))

@@ -1,0 +1,76 @@
+-- Tables of tasks and workers as lists, and the numbers of submissions.
+use Rattle.std.proofs.Common.{◌≡◌, ℕ, ◌+◌, ◌^◌, ◌<◌, ◌≤◌, ◌==◌, zero, suc, Bool, true, false, cond, List, [], ◌∷◌, length, take, Option, Some, None, refl, sym, ap, ◌∙◌, arith}
+use Rattle.std.specs.Prelude.{slice_get, slice_index_or, replicate, is_some}
+use Rattle.std.proofs.Math.ListN.{set}
+use Rattle.std.proofs.lemmas.Bool.{false≢true, eqb-true, eqb-false, eq-eqb, false_from_ne_true}
+use Rattle.std.proofs.lemmas.Option.{none-some, same_Some}
+use Rattle.std.proofs.lemmas.List.{get_or-set_same, get_or-set_other}
+use Rattle.executor_core.specs.declared.words.CodeCall.TheVariants as c
+use Rattle.sched_time.specs.declared.timing.Timing.{Timing}
+use Rattle.executor_core.specs.Calls.{Planned, IsOrderlyFrom, task_count, terms_of}
+
+-- a table after a write
+pub at_set : {X : Type 0} (xs : List X) (k j : ℕ) (x d : X) → k < length xs → slice_index_or (set xs k x) j d ≡ cond (k == j) x (slice_index_or xs j d)
+at_set xs k j x d low =
+    let pick : (b : Bool) → (k == j) ≡ b → slice_index_or (set xs k x) j d ≡ cond b x (slice_index_or xs j d) =
+    elim [
+      | true ↦ λ same. ap (λ i. slice_index_or (set xs k x) i d) (sym (eqb-true k j same)) ∙ get_or-set_same xs k x d low
+      | false ↦ λ apart. get_or-set_other xs k j x d (λ e. eqb-false k j apart (sym e))
+    ]
+    in
+    pick (k == j) refl
+
+-- a table of one item, past its end too
+pub at_replicate : {X : Type 0} (n j : ℕ) (x : X) → slice_index_or (replicate n x) j x ≡ x
+at_replicate zero j x = refl
+at_replicate (suc n) zero x = refl
+at_replicate (suc n) (suc j) x = at_replicate n j x
+
+-- submissions have their numbers
+
+submit_same : {at at' j j' d d' : ℕ} {how how' : Timing} → (let x : Planned = (at, c.Submit j how d) in let y : Planned = (at', c.Submit j' how' d') in x ≡ y) → (at ≡ at') × (j ≡ j') × (how ≡ how') × (d ≡ d')
+submit_same e = let call = ap (λ (p : Planned). p.1) e in (ap (λ (p : Planned). p.0) e, cc, cc, cc)
+
+-- what a submission says, where so many submissions stand before the calls
+pub record Submission (calls : List Planned) (count n at task : ℕ) (timing : Timing) (delay : ℕ) : Type 0 where
+  pub terms : terms_of calls task ≡ record { timing = timing; first = at + delay }
+  pub number : task ≡ count + task_count (take n calls)
+  pub more : count + task_count (take (suc n) calls) ≡ task + 1
+  pub below : task < count + task_count calls
+  pub moment : at ≤ 2 ^ 62
+  pub within : delay ≤ 2 ^ 62
+
+pub submission : (calls : List Planned) (count moment n at task : ℕ) (timing : Timing) (delay : ℕ) → IsOrderlyFrom count moment calls → slice_get calls n ≡ Some (at, c.Submit task timing delay) →
+    Submission calls count n at task timing delay
+submission [] count moment n at task timing delay o q = absurd (none-some _ q)
+submission ((at', c.Submit j how d) ∷ calls) count moment zero at task timing delay o q =
+    let same = submit_same (same_Some (at', c.Submit j how d) (at, c.Submit task timing delay) q) in
+    record {
+      terms = ap (λ b. cond b (record { timing = how; first = at' + d }) (terms_of calls task)) (eq-eqb j task same.1) ∙ (λ i. record { timing = same.2 i; first = same.0 i + same.3 i });
+      number = omega (arith, o.2.0, same.1);
+      more = omega (arith, o.2.0, same.1);
+      below = omega (arith, o.2.0, same.1);
+      moment = omega (arith, o.1, same.0);
+      within = omega (arith, o.2.1, same.3);
+    }
+submission ((at', c.Submit j how d) ∷ calls) count moment (suc n) at task timing delay o q =
+    let rest = submission calls (count + 1) at' n at task timing delay o.3 q in
+    let apart : (j == task) ≡ false = false_from_ne_true (j == task) (λ e. absurd (omega (arith, rest.number, o.2.0, eqb-true j task e))) in
+    record {
+      terms = ap (λ b. cond b (record { timing = how; first = at' + d }) (terms_of calls task)) apart ∙ rest.terms;
+      number = omega (arith, rest.number);
+      more = omega (arith, rest.more);
+      below = omega (arith, rest.below);
+      moment = rest.moment;
+      within = rest.within;
+    }
+
+-- what indexing reads
+pub read_at : {X : Type 0} (xs : List X) (i : ℕ) (x d : X) → i < length xs → x ≡ slice_index_or xs i x → x ≡ slice_index_or xs i d
+read_at [] i x d l q = absurd (omega arith)
+read_at (y ∷ xs) zero x d l q = q
+read_at (y ∷ xs) (suc i) x d l q = read_at xs i x d (omega arith) q
+
+pub none_of : (o : Option ℕ) → false ≡ is_some o → o ≡ None
+none_of None q = refl
+none_of (Some x) q = absurd (false≢true q)

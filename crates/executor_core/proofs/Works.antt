@@ -1,0 +1,182 @@
+-- The steps of workers: a start and a finish.
+use Rattle.std.proofs.Common.{zero, suc, ◌≡◌, ℕ, ◌+◌, ◌-◌, ◌<◌, ◌≤◌, ◌==◌, nat_le, Bool, true, false, cond, inl, inr, List, [], ◌∷◌, length, map, Option, Some, None, refl, sym, ap, ◌∙◌, arith}
+use Rattle.std.specs.Prelude.{slice_index_or}
+use Rattle.std.specs.Option.{option_map_or}
+use Rattle.std.proofs.Math.ListN.{set}
+use Rattle.std.proofs.lemmas.Bool.{eqb-true, and_parts, and_from, lt-ltb, le-ltb, le-leb, leb-true}
+use Rattle.std.proofs.lemmas.Option.{none-some, same_Some}
+use Rattle.executor_core.specs.declared.words.EventError.TheVariants as x
+use Rattle.executor_core.specs.declared.words.Happening.{Happening}
+use Rattle.executor_core.specs.declared.words.Happening.TheVariants as h
+use Rattle.executor_core.specs.declared.words.Outcome.{Outcome}
+use Rattle.executor_core.specs.declared.words.Answer.{Answer}
+use Rattle.executor_core.specs.declared.words.Answer.TheVariants as a
+use Rattle.executor_core.specs.declared.task.Phase.{Phase}
+use Rattle.executor_core.specs.declared.task.Phase.TheVariants as ph
+use Rattle.executor_core.specs.declared.task.Task.{Task}
+use Rattle.sched_time.specs.declared.timing.Ending.{Ending}
+use Rattle.delay_queue.specs.Queues as queues
+use Rattle.executor_core.specs.Calls.{Planned, Terms, terms_of, numbers, task_count}
+use Rattle.executor_core.specs.View.{is_waiting, is_enabled, first_enabled, comes_before}
+use Rattle.executor_core.specs.Answers.{plain, started, finished, outcome_of}
+use Rattle.executor_core.specs.State.{State, seen, seen_phase, due_seen, next, reply_of, state_after, vacant, finish_task}
+use Rattle.executor_core.specs.Machine.{queued, queued_phase}
+use Rattle.executor_core.proofs.Sound.{waits_in, is_seen_waiting}
+use Rattle.executor_core.proofs.First.{first_is, first_is_none, in_range}
+use Rattle.executor_core.proofs.Tables.{at_set}
+use Rattle.executor_core.proofs.Submits.{state_at}
+
+-- a step by its reply
+pub by_reply : (calls : List Planned) (workers : ℕ) (s new : State) (happening : Happening) (answer : Answer) → reply_of calls workers s happening ≡ plain answer →
+    new ≡ state_after calls s happening (plain answer) → (new ≡ next calls workers s happening) × (answer ≡ (reply_of calls workers s happening).answer)
+by_reply calls workers s new happening answer is there = (there ∙ ap (state_after calls s happening) (sym is), ap (λ r. r.answer) (sym is))
+
+-- entries of the queue are waiting tasks
+
+queued_is : (p : Phase) (due d : ℕ) → queued_phase p due ≡ Some d → (p ≡ ph.Waiting) × (due ≡ d)
+queued_is ph.Vacant due d q = absurd (none-some d q)
+queued_is ph.Waiting due d q = (refl, same_Some due d q)
+queued_is ph.Running due d q = absurd (none-some d q)
+queued_is ph.Done due d q = absurd (none-some d q)
+
+pub queued_at : (tasks : List Task) (k : ℕ) → slice_index_or (map queued tasks) k None ≡ queued (slice_index_or tasks k vacant)
+queued_at [] k = refl
+queued_at (t ∷ tasks) zero = refl
+queued_at (t ∷ tasks) (suc k) = queued_at tasks k
+
+pub in_queue : (tasks : List Task) (k d : ℕ) → slice_index_or (map queued tasks) k None ≡ Some d →
+    ((slice_index_or tasks k vacant).phase ≡ ph.Waiting) × ((slice_index_or tasks k vacant).due ≡ d)
+in_queue tasks k d q = queued_is (slice_index_or tasks k vacant).phase (slice_index_or tasks k vacant).due d (sym (queued_at tasks k) ∙ q)
+
+pub within : (tasks : List Task) (k d : ℕ) → slice_index_or (map queued tasks) k None ≡ Some d → k < length tasks
+within [] k d q = absurd (none-some d q)
+within (t ∷ tasks) zero d q = omega arith
+within (t ∷ tasks) (suc k) d q = omega (arith, within tasks k d q)
+
+-- the due moment that is seen of a waiting task
+seen_due : (terms : Terms) (t : Task) → t.phase ≡ ph.Waiting → due_seen terms t.phase t.due ≡ t.due
+seen_due terms t q = ap (λ p. due_seen terms p t.due) q
+
+-- an enabled task stands in the queue with its due moment, which is reached
+pub enabled_queued : (calls : List Planned) (made moment : ℕ) (tasks : List Task) (work : List (Option ℕ)) (j : ℕ) → is_enabled (seen calls (state_at made moment tasks work)) j ≡ true →
+    (slice_index_or (map queued tasks) j None ≡ Some (slice_index_or tasks j vacant).due) × ((slice_index_or tasks j vacant).due ≤ moment)
+enabled_queued calls made moment tasks work j e =
+    let s = state_at made moment tasks work in
+    let v = seen calls s in
+    let t = slice_index_or tasks j vacant in
+    let parts = and_parts (is_waiting (v.fate j)) (nat_le (v.fate j).due v.moment) e in
+    let waits = waits_in calls s j parts.0 in
+    (queued_at tasks j ∙ ap (λ p. queued_phase p t.due) waits, omega (arith, leb-true (v.fate j).due moment parts.1, seen_due (terms_of calls j) t waits))
+
+-- the least entry of the queue, where it is due, is the first enabled task
+pub least_is_first : (calls : List Planned) (made moment : ℕ) (tasks : List Task) (work : List (Option ℕ)) (k d : ℕ) → length tasks ≡ task_count calls →
+    queues.IsLeast (map queued tasks) d k → d ≤ moment → first_enabled (seen calls (state_at made moment tasks work)) (numbers calls) ≡ Some k
+least_is_first calls made moment tasks work k d count least due =
+    let s = state_at made moment tasks work in
+    let v = seen calls s in
+    let t = slice_index_or tasks k vacant in
+    let here = in_queue tasks k d least.there in
+    let seen_here : (v.fate k).due ≡ d = seen_due (terms_of calls k) t here.0 ∙ here.1 in
+    let waiting : is_waiting (v.fate k) ≡ true = ap (λ p. is_waiting (seen_phase (terms_of calls k) p t.run t.due)) here.0 ∙ is_seen_waiting (terms_of calls k) t.run t.due in
+    let enabled = and_from (is_waiting (v.fate k)) (nat_le (v.fate k).due moment) waiting (le-leb (v.fate k).due moment (omega (arith, seen_here, due))) in
+    first_is v (numbers calls) k (in_range 0 (task_count calls) k (omega arith) (omega (arith, within tasks k d least.there, count))) enabled
+    (λ j member e.
+    let other = enabled_queued calls made moment tasks work j e in
+    let waits = (in_queue tasks j (slice_index_or tasks j vacant).due other.0).0 in
+    elim (least.least j (slice_index_or tasks j vacant).due other.0) [
+      | inl same ↦ inl same
+      | inr less ↦ inr (ap (λ n. comes_before n k (v.fate j).due j) seen_here
+          ∙ (ap (λ n. comes_before d k n j) (seen_due (terms_of calls j) (slice_index_or tasks j vacant) waits) ∙ less))
+    ])
+
+-- where no entry of the queue is due, no task is enabled
+pub none_is_first : (calls : List Planned) (made moment : ℕ) (tasks : List Task) (work : List (Option ℕ)) → queues.NoneIsDue (map queued tasks) moment →
+    first_enabled (seen calls (state_at made moment tasks work)) (numbers calls) ≡ None
+none_is_first calls made moment tasks work none =
+    first_is_none (seen calls (state_at made moment tasks work)) (numbers calls)
+    (λ j member e. let other = enabled_queued calls made moment tasks work j e in absurd (omega (arith, none j (slice_index_or tasks j vacant).due other.0, other.1)))
+
+-- the replies to a start
+
+pub no_worker_starts : (calls : List Planned) (workers w : ℕ) (s : State) → workers ≤ w → reply_of calls workers s (h.Start w) ≡ plain (a.Error x.NoWorker)
+no_worker_starts calls workers w s l =
+    ap (λ b. plain (cond b (option_map_or (λ _. a.Error x.Busy) (s.workers w) (started (seen calls s) w (first_enabled (seen calls s) (numbers calls)))) (a.Error x.NoWorker))) (le-ltb w workers l)
+
+start_reply : (calls : List Planned) (workers w : ℕ) (s : State) (work first : Option ℕ) → w < workers → s.workers w ≡ work → first_enabled (seen calls s) (numbers calls) ≡ first →
+    reply_of calls workers s (h.Start w) ≡ plain (option_map_or (λ _. a.Error x.Busy) work (started (seen calls s) w first))
+start_reply calls workers w s work first l e f =
+    ap (λ b. plain (cond b (option_map_or (λ _. a.Error x.Busy) (s.workers w) (started (seen calls s) w (first_enabled (seen calls s) (numbers calls)))) (a.Error x.NoWorker))) (lt-ltb w workers l)
+    ∙ (λ i. plain (option_map_or (λ _. a.Error x.Busy) (e i) (started (seen calls s) w (f i))))
+
+pub busy_starts : (calls : List Planned) (workers w k : ℕ) (s : State) → w < workers → s.workers w ≡ Some k → reply_of calls workers s (h.Start w) ≡ plain (a.Error x.Busy)
+busy_starts calls workers w k s l e = start_reply calls workers w s (Some k) (first_enabled (seen calls s) (numbers calls)) l e refl
+
+pub idle_starts : (calls : List Planned) (workers w : ℕ) (s : State) → w < workers → s.workers w ≡ None → first_enabled (seen calls s) (numbers calls) ≡ None → reply_of calls workers s (h.Start w) ≡ plain (a.Idle w)
+idle_starts calls workers w s l e f = start_reply calls workers w s None None l e f
+
+pub task_starts : (calls : List Planned) (workers w made moment k d : ℕ) (tasks : List Task) (work : List (Option ℕ)) → w < workers → slice_index_or work w None ≡ None →
+    length tasks ≡ task_count calls → queues.IsLeast (map queued tasks) d k → d ≤ moment →
+    reply_of calls workers (state_at made moment tasks work) (h.Start w) ≡ plain (a.Start w k (slice_index_or tasks k vacant).run d)
+task_starts calls workers w made moment k d tasks work l free count least due =
+    let t = slice_index_or tasks k vacant in
+    let here = in_queue tasks k d least.there in
+    start_reply calls workers w (state_at made moment tasks work) None (Some k) l free (least_is_first calls made moment tasks work k d count least due)
+    ∙ (ap (λ p. plain (a.Start w k (seen_phase (terms_of calls k) p t.run t.due).starts (seen_phase (terms_of calls k) p t.run t.due).due)) here.0 ∙ ap (λ n. plain (a.Start w k t.run n)) here.1)
+
+abbrev pub running : Task → Task
+running t = record t { phase = ph.Running }
+
+pub start_state : (calls : List Planned) (made moment w k n d : ℕ) (tasks : List Task) (work : List (Option ℕ)) → w < length work → k < length tasks →
+    state_at made moment (set tasks k (running (slice_index_or tasks k vacant))) (set work w (Some k)) ≡ state_after calls (state_at made moment tasks work) (h.Start w) (plain (a.Start w k n d))
+start_state calls made moment w k n d tasks work l low = λ i. record {
+  made = made;
+  moment = moment;
+  tasks = λ j. (at_set tasks k j (running (slice_index_or tasks k vacant)) vacant low ∙ moved (k == j) j refl) i;
+  workers = λ u. at_set work w u (Some k) None l i;
+}
+  where
+    moved : (b : Bool) (j : ℕ) → (k == j) ≡ b → cond b (running (slice_index_or tasks k vacant)) (slice_index_or tasks j vacant) ≡ cond b (running (slice_index_or tasks j vacant)) (slice_index_or tasks j vacant)
+    moved true j same = ap (λ e. running (slice_index_or tasks e vacant)) (eqb-true k j same)
+    moved false j same = refl
+
+-- the replies to a finish
+
+pub no_worker_finishes : (calls : List Planned) (workers w : ℕ) (ending : Ending) (s : State) → workers ≤ w → reply_of calls workers s (h.Finish w ending) ≡ plain (a.Error x.NoWorker)
+no_worker_finishes calls workers w ending s l = ap (λ b. plain (cond b (finished calls (seen calls s) w ending (s.workers w)) (a.Error x.NoWorker))) (le-ltb w workers l)
+
+finish_reply : (calls : List Planned) (workers w : ℕ) (ending : Ending) (s : State) (work : Option ℕ) → w < workers → s.workers w ≡ work →
+    reply_of calls workers s (h.Finish w ending) ≡ plain (finished calls (seen calls s) w ending work)
+finish_reply calls workers w ending s work l e =
+    ap (λ b. plain (cond b (finished calls (seen calls s) w ending (s.workers w)) (a.Error x.NoWorker))) (lt-ltb w workers l)
+    ∙ ap (λ o. plain (finished calls (seen calls s) w ending o)) e
+
+pub idle_finishes : (calls : List Planned) (workers w : ℕ) (ending : Ending) (s : State) → w < workers → s.workers w ≡ None → reply_of calls workers s (h.Finish w ending) ≡ plain (a.Error x.NotRunning)
+idle_finishes calls workers w ending s l e = finish_reply calls workers w ending s None l e
+
+pub task_finishes : (calls : List Planned) (workers w k : ℕ) (ending : Ending) (outcome : Outcome) (s : State) → w < workers → s.workers w ≡ Some k → (s.tasks k).phase ≡ ph.Running →
+    outcome ≡ outcome_of (terms_of calls k).timing ending →
+    reply_of calls workers s (h.Finish w ending) ≡ plain (a.Finish w k (s.tasks k).run outcome)
+task_finishes calls workers w k ending outcome s l e running is =
+    let t = s.tasks k in
+    finish_reply calls workers w ending s (Some k) l e
+    ∙ (ap (λ p. plain (a.Finish w k ((seen_phase (terms_of calls k) p t.run t.due).starts - 1) (outcome_of (terms_of calls k).timing ending))) running
+    ∙ (λ i. plain (a.Finish w k (less t.run i) (sym is i))))
+  where
+    less : (n : ℕ) → 1 + n - 1 ≡ n
+    less n = omega arith
+
+pub finish_state : (calls : List Planned) (made moment w k n : ℕ) (ending : Ending) (outcome : Outcome) (tasks : List Task) (work : List (Option ℕ)) → w < length work → k < length tasks →
+    state_at made moment (set tasks k (finish_task (terms_of calls k).timing moment outcome (slice_index_or tasks k vacant))) (set work w None)
+    ≡ state_after calls (state_at made moment tasks work) (h.Finish w ending) (plain (a.Finish w k n outcome))
+finish_state calls made moment w k n ending outcome tasks work l low = λ i. record {
+  made = made;
+  moment = moment;
+  tasks = λ j. (at_set tasks k j (finish_task (terms_of calls k).timing moment outcome (slice_index_or tasks k vacant)) vacant low ∙ moved (k == j) j refl) i;
+  workers = λ u. at_set work w u None None l i;
+}
+  where
+    moved : (b : Bool) (j : ℕ) → (k == j) ≡ b →
+        cond b (finish_task (terms_of calls k).timing moment outcome (slice_index_or tasks k vacant)) (slice_index_or tasks j vacant)
+        ≡ cond b (finish_task (terms_of calls j).timing moment outcome (slice_index_or tasks j vacant)) (slice_index_or tasks j vacant)
+    moved true j same = ap (λ e. finish_task (terms_of calls e).timing moment outcome (slice_index_or tasks e vacant)) (eqb-true k j same)
+    moved false j same = refl

@@ -1,0 +1,15 @@
+use Rattle.std.proofs.Common.{sym, ap, ◌∙◌}
+use Rattle.executor_core.specs.declared.words.Happening.{Happening}
+use Rattle.executor_core.specs.Histories.{answer}
+use Rattle.executor_core.specs.Plain.{history}
+use Rattle.executor_core.proofs.Plains.{call_answers}
+use Rattle.executor_core.proofs.plain.table.answer_after.Goals as goal
+
+pub returns-in-Some : goal.returns-in-Some
+returns-in-Some c =
+    call_answers c.args.calls.now c.args.workers c.made.result c.in-Some.field-0-0 (history c.args.past.now) c.args.happening c.in-Some.call c.answer_call.result
+    c.in-Call.is c.made.ensures c.in-Some.ensures c.answer_call.ensures
+
+pub returns-in-Clock : goal.returns-in-Clock
+returns-in-Clock c =
+    c.answer_clock.ensures c.args.workers ∙ ap (λ (x : Happening). (answer c.args.calls.now c.args.workers (history c.args.past.now) x).answer) (sym c.in-Clock.is)

@@ -1,0 +1,74 @@
+-- The table of the answers, read on a view.
+-- The order of the cases, and the answers to a wrong event, are this project's rule.
+use Rattle.std.specs.Prelude.{ℕ, ◌-◌, ◌^◌, ◌&&◌, max, nat_lt, nat_le, Bool, if◌then◌else◌, List, [], Option, Some, None, slice_get}
+use Rattle.std.specs.Option.{option_map_or}
+use Rattle.sched_time.specs.declared.timing.Timing.{Timing}
+use Rattle.sched_time.specs.declared.timing.Timing.TheVariants as t
+use Rattle.sched_time.specs.declared.timing.Ending.{Ending}
+use Rattle.sched_time.specs.declared.timing.Ending.TheVariants as e
+use Rattle.executor_core.specs.declared.words.CodeCall.{CodeCall}
+use Rattle.executor_core.specs.declared.words.CodeCall.TheVariants as c
+use Rattle.executor_core.specs.declared.words.Happening.{Happening}
+use Rattle.executor_core.specs.declared.words.Happening.TheVariants as h
+use Rattle.executor_core.specs.declared.words.Kind.{Kind}
+use Rattle.executor_core.specs.declared.words.Kind.TheVariants as kind
+use Rattle.executor_core.specs.declared.words.EventError.TheVariants as x
+use Rattle.executor_core.specs.declared.words.Outcome.{Outcome}
+use Rattle.executor_core.specs.declared.words.Outcome.TheVariants as o
+use Rattle.executor_core.specs.declared.words.Answer.{Answer}
+use Rattle.executor_core.specs.declared.words.Answer.TheVariants as a
+use Rattle.executor_core.specs.Calls.{Planned, terms_of, due_at, numbers}
+use Rattle.executor_core.specs.View.{View, first_enabled}
+
+-- a main answer, and the tasks that it ends, each by a line of its own
+pub record Reply : Type 0 where
+  pub answer : Answer
+  pub ends : List ℕ
+
+-- an answer that ends no task
+abbrev pub plain : Answer → Reply
+plain answer = record { answer = answer; ends = [] }
+
+abbrev pub kind_of : Timing → Kind
+kind_of t.Once = kind.Schedule
+
+-- the answer to a call, in a view whose moment is the call's
+abbrev pub called : List Planned → View → CodeCall → Reply
+called calls v (c.Submit task timing delay) = plain (a.Submit task (kind_of timing) (due_at (terms_of calls task) 0 None))
+
+-- a worker that has no work gets the first enabled task
+abbrev pub started : View → ℕ → Option ℕ → Answer
+started v w None = a.Idle w
+started v w (Some k) = a.Start w k (v.fate k).starts (v.fate k).due
+
+-- a run that ended well
+abbrev pub ended_well : Timing → ℕ → Outcome
+ended_well t.Once value = o.Done value
+
+abbrev pub outcome_of : Timing → Ending → Outcome
+outcome_of timing (e.Value value) = ended_well timing value
+
+abbrev pub finished : List Planned → View → ℕ → Ending → Option ℕ → Answer
+finished calls v w ending None = a.Error x.NotRunning
+finished calls v w ending (Some k) = a.Finish w k ((v.fate k).starts - 1) (outcome_of (terms_of calls k).timing ending)
+
+-- a clock is accepted where it does not go back and is within the limit
+abbrev pub is_accepted : ℕ → ℕ → Bool
+is_accepted now moment = nat_le now moment && nat_le moment (2 ^ 62)
+
+-- the moment after a happening, given the next call: the greatest of the accepted clocks and the calls made
+abbrev pub moment_after : ℕ → Option Planned → Happening → ℕ
+moment_after now call h.Call = option_map_or (λ p. max now p.0) call now
+moment_after now call (h.Clock moment) = if is_accepted now moment then moment else now
+moment_after now call _ = now
+
+-- the answer to a happening; a call past the last one never comes
+abbrev pub reply : List Planned → ℕ → View → Happening → Reply
+reply calls workers v h.Call =
+    option_map_or (λ p. called calls (record v { moment = max v.moment p.0 }) p.1) (slice_get calls v.made) (plain a.Clock)
+reply calls workers v (h.Clock moment) =
+    plain (if nat_lt moment v.moment then a.Error x.Backward else (if nat_lt (2 ^ 62) moment then a.Error x.TooFar else a.Clock))
+reply calls workers v (h.Start w) =
+    plain (if nat_lt w workers then option_map_or (λ _. a.Error x.Busy) (v.work w) (started v w (first_enabled v (numbers calls))) else a.Error x.NoWorker)
+reply calls workers v (h.Finish w ending) =
+    plain (if nat_lt w workers then finished calls v w ending (v.work w) else a.Error x.NoWorker)

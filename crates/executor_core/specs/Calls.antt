@@ -1,0 +1,66 @@
+-- The calls of a plan, what they say of each task, and when its runs are due.
+use Rattle.std.specs.Prelude.{◌≡◌, ℕ, ◌+◌, ◌^◌, ◌≤◌, ◌==◌, Bool, true, if◌then◌else◌, List, [], ◌∷◌, length, Option}
+use Rattle.std.specs.List.{range_with_len}
+use Rattle.sched_time.specs.declared.timing.Timing.{Timing}
+use Rattle.sched_time.specs.declared.timing.Timing.TheVariants as t
+use Rattle.executor_core.specs.declared.words.CodeCall.{CodeCall}
+use Rattle.executor_core.specs.declared.words.CodeCall.TheVariants as c
+
+-- a call with the moment at which it is made
+-- (this project's rule: a plan call is made at its own moment, even where the clock jumps past it)
+abbrev pub Planned : Type 0
+Planned = ℕ × CodeCall
+
+-- how many items of a list pass a test
+abbrev pub how_many : {X : Type 0} → (X → Bool) → List X → ℕ
+how_many test [] = 0
+how_many test (x ∷ xs) = if test x then 1 + how_many test xs else how_many test xs
+
+abbrev pub is_submission : CodeCall → Bool
+is_submission (c.Submit task timing delay) = true
+
+-- submissions are numbered 0, 1, .. in the order of their calls, and each is a task
+-- (this project's rule)
+abbrev pub task_count : List Planned → ℕ
+task_count calls = how_many (λ p. is_submission p.1) calls
+
+-- the numbers of the tasks, ascending
+abbrev pub numbers : List Planned → List ℕ
+numbers calls = range_with_len 0 (task_count calls)
+
+-- how many submissions there are after a call
+abbrev pub count_after : ℕ → CodeCall → ℕ
+count_after count (c.Submit task timing delay) = count + 1
+
+-- a submission has the next number, and its delay is within the limit
+abbrev pub IsOrderlyCall : ℕ → CodeCall → Type 0
+IsOrderlyCall count (c.Submit task timing delay) = (task ≡ count) × (delay ≤ 2 ^ 62)
+
+-- after so many submissions and this moment: moments do not fall and are within the limit, and each call is in order
+abbrev pub IsOrderlyFrom : ℕ → ℕ → List Planned → Type 0
+IsOrderlyFrom count moment [] = Unit {0}
+IsOrderlyFrom count moment (p ∷ calls) =
+    (moment ≤ p.0) × (p.0 ≤ 2 ^ 62) × IsOrderlyCall count p.1 × IsOrderlyFrom (count_after count p.1) p.0 calls
+
+-- the calls are in the order in which they are made, and few enough (this project's limits)
+abbrev pub IsOrderly : List Planned → Type 0
+IsOrderly calls = (length calls ≤ 65536) × IsOrderlyFrom 0 0 calls
+
+-- how a task is timed, and when its first run is due
+pub record Terms : Type 0 where
+  pub timing : Timing
+  pub first : ℕ
+
+abbrev pub terms_in : ℕ → ℕ → CodeCall → Terms → Terms
+terms_in k moment (c.Submit task timing delay) rest =
+    if task == k then record { timing = timing; first = moment + delay } else rest
+
+-- the terms of task k, by its submission
+abbrev pub terms_of : List Planned → ℕ → Terms
+terms_of [] k = record { timing = t.Once; first = 0 }
+terms_of (p ∷ calls) k = terms_in k p.0 p.1 (terms_of calls k)
+
+-- the due moment of the run after n starts, where the last finish was at some moment
+-- (ScheduledExecutorService.schedule: "Submits a value-returning one-shot task that becomes enabled after the given delay.")
+abbrev pub due_at : Terms → ℕ → Option ℕ → ℕ
+due_at terms n last = elim (terms.timing) [ t.Once ↦ terms.first ]

@@ -1,0 +1,68 @@
+-- Which happenings some events make, and the lines of a history.
+use Rattle.std.specs.Prelude.{◌≡◌, ℕ, ◌+◌, ◌<◌, length, nat_le, if◌then◌else◌, List, [], ◌∷◌, ◌++◌, replicate, drop}
+use Rattle.executor_core.specs.declared.words.Event.{Event}
+use Rattle.executor_core.specs.declared.words.Event.TheVariants as v
+use Rattle.executor_core.specs.declared.words.Happening.{Happening}
+use Rattle.executor_core.specs.declared.words.Happening.TheVariants as h
+use Rattle.executor_core.specs.declared.words.Line.{Line}
+use Rattle.executor_core.specs.Calls.{Planned, how_many}
+use Rattle.executor_core.specs.Answers.{Reply, is_accepted}
+use Rattle.executor_core.specs.Histories.{Entry, happenings, made, now_of, answer, entry_of}
+use Rattle.executor_core.specs.State.{State, after_from, next, reply_of}
+
+abbrev pub happening_of : Event → Happening
+happening_of (v.Clock moment) = h.Clock moment
+happening_of (v.Start worker) = h.Start worker
+happening_of (v.Finish worker ending) = h.Finish worker ending
+
+-- how many of the calls that are not made yet have a moment of at most this one
+abbrev pub reached : List Planned → ℕ → ℕ → ℕ
+reached calls made moment = how_many (λ p. nat_le p.0 moment) (drop made calls)
+
+-- the next call is reached, and is one of them
+abbrev pub ReachesNext : List Planned → ℕ → ℕ → Type 0
+ReachesNext calls made moment = (made < length calls) × (reached calls made moment ≡ 1 + reached calls (made + 1) moment)
+
+-- how many calls are made just before an event: those that an accepted clock reaches
+-- (this project's rule: before an accepted clock all calls with a moment of at most its own are made in order)
+abbrev pub calls_before : List Planned → ℕ → ℕ → Event → ℕ
+calls_before calls made now (v.Clock moment) = if is_accepted now moment then reached calls made moment else 0
+calls_before calls made now _ = 0
+
+-- the happenings of one event, the newest first
+abbrev pub part_of : List Planned → ℕ → ℕ → Event → List Happening
+part_of calls made now event = happening_of event ∷ replicate (calls_before calls made now event) h.Call
+
+-- the happenings of some events, the newest first
+abbrev pub flow : List Planned → List Event → List Happening
+flow calls [] = []
+flow calls (event ∷ before) =
+    part_of calls (made (flow calls before)) (now_of calls (flow calls before)) event ++ flow calls before
+
+-- a history, made longer by some happenings, each with its answer
+abbrev pub history_from : List Planned → ℕ → List Entry → List Happening → List Entry
+history_from calls workers past [] = past
+history_from calls workers past (happening ∷ before) =
+    entry_of happening (answer calls workers (history_from calls workers past before) happening) ∷ history_from calls workers past before
+
+-- the history of some events: the calls and the events in their order, each with its answer
+abbrev pub history_of : List Planned → ℕ → List Event → List Entry
+history_of calls workers events = history_from calls workers [] (flow calls events)
+
+-- the lines of one answer: its own, and one for each task that it ends
+abbrev pub lines_at : ℕ → Reply → List Line
+lines_at moment r = record { moment = moment; answer = r.answer } ∷ []
+
+abbrev pub reply_in : Entry → Reply
+reply_in e = record { answer = e.answer; ends = e.ends }
+
+-- the lines of a history, the oldest first
+abbrev pub lines_of : List Planned → List Entry → List Line
+lines_of calls [] = []
+lines_of calls (e ∷ past) = lines_of calls past ++ lines_at (now_of calls (happenings (e ∷ past))) (reply_in e)
+
+-- the lines of steps from a state, the oldest first
+abbrev pub lines_from : List Planned → ℕ → State → List Happening → List Line
+lines_from calls workers s [] = []
+lines_from calls workers s (happening ∷ before) = lines_from calls workers s before
+    ++ lines_at (next calls workers (after_from calls workers s before) happening).moment (reply_of calls workers (after_from calls workers s before) happening)

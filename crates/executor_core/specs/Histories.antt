@@ -1,0 +1,131 @@
+-- What the happenings of a history are answered, by counting in what stands before each of them.
+-- A history is a list of entries, the newest first: what stands before an entry is the rest of the list behind it.
+use Rattle.std.specs.Prelude.{◌≡◌, ℕ, ◌<◌, ◌≤◌, ◌==◌, ◌&&◌, Bool, true, false, if◌then◌else◌, List, [], ◌∷◌, length, map, Option, Some, None, slice_get}
+use Rattle.std.specs.List.{list_any}
+use Rattle.executor_core.specs.declared.words.Happening.{Happening}
+use Rattle.executor_core.specs.declared.words.Happening.TheVariants as h
+use Rattle.executor_core.specs.declared.words.Outcome.{Outcome}
+use Rattle.executor_core.specs.declared.words.Outcome.TheVariants as o
+use Rattle.executor_core.specs.declared.words.Answer.{Answer}
+use Rattle.executor_core.specs.declared.words.Answer.TheVariants as a
+use Rattle.executor_core.specs.Calls.{Planned, how_many, terms_of, due_at}
+use Rattle.executor_core.specs.View.{Fate, View}
+use Rattle.executor_core.specs.Answers.{Reply, reply, moment_after, is_accepted}
+
+-- a happening with its answer
+pub record Entry : Type 0 where
+  pub happening : Happening
+  pub answer : Answer
+  pub ends : List ℕ
+
+abbrev pub entry_of : Happening → Reply → Entry
+entry_of happening r = record { happening = happening; answer = r.answer; ends = r.ends }
+
+-- the happenings of a history, the newest first
+abbrev pub happenings : List Entry → List Happening
+happenings past = map (λ e. e.happening) past
+
+-- what is told by the happenings alone
+
+abbrev pub is_call : Happening → Bool
+is_call h.Call = true
+is_call _ = false
+
+abbrev pub made : List Happening → ℕ
+made past = how_many is_call past
+
+-- now: the greatest moment of the calls made and the accepted clocks, 0 before any
+abbrev pub now_of : List Planned → List Happening → ℕ
+now_of calls [] = 0
+now_of calls (happening ∷ past) = moment_after (now_of calls past) (slice_get calls (made past)) happening
+
+-- what is told by an answer
+
+abbrev pub is_submit : ℕ → Answer → Bool
+is_submit k (a.Submit task kind due) = task == k
+is_submit k _ = false
+
+abbrev pub is_start : ℕ → Answer → Bool
+is_start k (a.Start worker task run due) = task == k
+is_start k _ = false
+
+abbrev pub is_finish : ℕ → Answer → Bool
+is_finish k (a.Finish worker task run outcome) = task == k
+is_finish k _ = false
+
+-- a finish with such an outcome
+abbrev pub is_finish_with : (Outcome → Bool) → ℕ → Answer → Bool
+is_finish_with test k (a.Finish worker task run outcome) = (task == k) && test outcome
+is_finish_with test k _ = false
+
+abbrev pub is_done : Outcome → Bool
+is_done (o.Done value) = true
+
+-- the task of a worker after an answer
+abbrev pub work_after : ℕ → Answer → Option ℕ → Option ℕ
+work_after w (a.Start worker task run due) before = if worker == w then Some task else before
+work_after w (a.Finish worker task run outcome) before = if worker == w then None else before
+work_after w _ before = before
+
+-- what is told by counting in a history
+
+abbrev pub starts : ℕ → List Entry → ℕ
+starts k past = how_many (λ e. is_start k e.answer) past
+
+abbrev pub finishes : ℕ → List Entry → ℕ
+finishes k past = how_many (λ e. is_finish k e.answer) past
+
+-- the moment of the last finish of a task
+abbrev pub last_finish : List Planned → ℕ → List Entry → Option ℕ
+last_finish calls k [] = None
+last_finish calls k (e ∷ past) = if is_finish k e.answer then Some (now_of calls (happenings past)) else last_finish calls k past
+
+abbrev pub was_accepted : ℕ → List Entry → Bool
+was_accepted k past = list_any (λ e. is_submit k e.answer) past
+
+abbrev pub was_done : ℕ → List Entry → Bool
+was_done k past = list_any (λ e. is_finish_with is_done k e.answer) past
+
+-- the task that a worker started and has not finished
+abbrev pub work_of : ℕ → List Entry → Option ℕ
+work_of w [] = None
+work_of w (e ∷ past) = work_after w e.answer (work_of w past)
+
+-- the due moment of the next run
+abbrev pub due_of : List Planned → List Entry → ℕ → ℕ
+due_of calls past k = due_at (terms_of calls k) (starts k past) (last_finish calls k past)
+
+abbrev pub fate_of : List Planned → List Entry → ℕ → Fate
+fate_of calls past k = record {
+  accepted = was_accepted k past;
+  done = was_done k past;
+  starts = starts k past;
+  finishes = finishes k past;
+  due = due_of calls past k;
+}
+
+-- what the answer after a history looks at
+abbrev pub look : List Planned → List Entry → View
+look calls past = record {
+  made = made (happenings past);
+  moment = now_of calls (happenings past);
+  fate = λ k. fate_of calls past k;
+  work = λ w. work_of w past;
+}
+
+-- the answer to what happens after a history
+abbrev pub answer : List Planned → ℕ → List Entry → Happening → Reply
+answer calls workers past happening = reply calls workers (look calls past) happening
+
+-- an accepted clock finds each call made whose moment it has reached, and a call needs one that is not made yet
+abbrev pub MayCome : List Planned → List Happening → Happening → Type 0
+MayCome calls past h.Call = made past < length calls
+MayCome calls past (h.Clock moment) = is_accepted (now_of calls past) moment ≡ true
+    → (n : ℕ) (p : Planned) → slice_get calls n ≡ Some p → p.0 ≤ moment → n < made past
+MayCome calls past _ = Unit {0}
+
+-- the happenings are a flow of the calls, and each answer is the one that it has to be
+abbrev pub Means : List Planned → ℕ → List Entry → Type 0
+Means calls workers [] = Unit {0}
+Means calls workers (e ∷ past) = Means calls workers past × MayCome calls (happenings past) e.happening
+    × (e.answer ≡ (answer calls workers past e.happening).answer) × (e.ends ≡ (answer calls workers past e.happening).ends)

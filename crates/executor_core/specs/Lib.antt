@@ -1,0 +1,12 @@
+pub use Rattle.sched_time.specs.Times
+pub mod Counts
+pub mod Calls
+pub mod View
+pub mod Answers
+pub mod Histories
+pub mod State
+pub mod Flows
+pub mod Machine
+pub mod Plain
+pub mod Laws
+pub mod Positions

@@ -1,0 +1,106 @@
+-- What contracts see of an executor's core, and the state and history in which it stands.
+use Rattle.std.specs.Prelude.{◌≡◌, ◌≢◌, ℕ, ◌^◌, ◌<◌, ◌≤◌, List, [], ◌++◌, length, map, take, Option, Some, None, slice_index_or}
+use Rattle.sched_time.specs.declared.timing.Timing.{Timing}
+use Rattle.sched_time.specs.declared.timing.Timing.TheVariants as t
+use Rattle.executor_core.specs.declared.words.Event.{Event}
+use Rattle.executor_core.specs.declared.words.Happening.{Happening}
+use Rattle.executor_core.specs.declared.words.Line.{Line}
+use Rattle.executor_core.specs.declared.words.Answer.{Answer}
+use Rattle.executor_core.specs.declared.task.Phase.{Phase}
+use Rattle.executor_core.specs.declared.task.Phase.TheVariants as ph
+use Rattle.executor_core.specs.declared.task.Task.{Task}
+use Rattle.executor_core.specs.Calls.{Planned, IsOrderly, task_count, terms_of}
+use Rattle.executor_core.specs.Histories.{Entry, happenings, Means}
+use Rattle.executor_core.specs.State.{State, vacant, after, after_from, next, reply_of}
+use Rattle.executor_core.specs.Flows.{part_of, history_from, lines_of, lines_from}
+
+pub record Machine : Type 0 where
+  pub calls : List Planned
+  -- how many events it takes, and how many it took
+  pub limit : ℕ
+  pub taken : ℕ
+  pub made : ℕ
+  pub moment : ℕ
+  -- a task by its number
+  pub tasks : List Task
+  -- the task of a worker by the worker's number
+  pub work : List (Option ℕ)
+
+abbrev pub workers_of : Machine → ℕ
+workers_of m = length m.work
+
+abbrev pub state_of : Machine → State
+state_of m = record {
+  made = m.made;
+  moment = m.moment;
+  tasks = λ k. slice_index_or m.tasks k vacant;
+  workers = λ w. slice_index_or m.work w None;
+}
+
+-- the core is where the happenings of a history lead
+abbrev pub Stands : Machine → List Entry → Type 0
+Stands m past = state_of m ≡ after m.calls (workers_of m) (happenings past)
+
+-- the core of some calls before anything happened
+pub record IsOpening (m : Machine) (planned : List Planned) (workers most : ℕ) : Type 0 where
+  pub calls : m.calls ≡ planned
+  pub limit : m.limit ≡ most
+  pub taken : m.taken ≡ 0
+  pub count : workers_of m ≡ workers
+  pub stands : Stands m []
+
+-- the core took the steps of some happenings, the newest first, and gave their lines
+pub record Steps (old new : Machine) (before after_lines : List Line) (happened : List Happening) : Type 0 where
+  pub calls : new.calls ≡ old.calls
+  pub limit : new.limit ≡ old.limit
+  pub workers : workers_of new ≡ workers_of old
+  pub state : state_of new ≡ after_from old.calls (workers_of old) (state_of old) happened
+  pub lines : after_lines ≡ before ++ lines_from old.calls (workers_of old) (state_of old) happened
+
+-- the core took the step of one happening, and this is its answer
+pub record Takes (old new : Machine) (happening : Happening) (answer : Answer) : Type 0 where
+  pub calls : new.calls ≡ old.calls
+  pub limit : new.limit ≡ old.limit
+  pub taken : new.taken ≡ old.taken
+  pub workers : workers_of new ≡ workers_of old
+  pub state : state_of new ≡ next old.calls (workers_of old) (state_of old) happening
+  pub said : answer ≡ (reply_of old.calls (workers_of old) (state_of old) happening).answer
+
+-- after any history in which the core stood, the event's part of the flow is answered as the equations say
+pub record Continues (old new : Machine) (before after_lines : List Line) (event : Event) (past : List Entry) : Type 0 where
+  pub means : Means old.calls (workers_of old) (history_from old.calls (workers_of old) past (part_of old.calls old.made old.moment event))
+  pub stands : Stands new (history_from old.calls (workers_of old) past (part_of old.calls old.made old.moment event))
+  pub added : List Line
+  pub given : after_lines ≡ before ++ added
+  pub spoken : lines_of old.calls (history_from old.calls (workers_of old) past (part_of old.calls old.made old.moment event)) ≡ lines_of old.calls past ++ added
+
+-- what stays true of each core
+
+-- the due moment of a waiting task, which stands in the queue
+abbrev pub queued_phase : Phase → ℕ → Option ℕ
+queued_phase ph.Waiting due = Some due
+queued_phase _ due = None
+
+abbrev pub queued : Task → Option ℕ
+queued task = queued_phase task.phase task.due
+
+-- a busy worker's task runs, and no two workers have one task
+pub record IsSound (s : State) : Type 0 where
+  pub at_work : (w k : ℕ) → s.workers w ≡ Some k → (s.tasks k).phase ≡ ph.Running
+  pub apart : (v w k : ℕ) → s.workers v ≡ Some k → s.workers w ≡ Some k → v ≡ w
+
+pub record IsKept (m : Machine) (entries : List (Option ℕ)) (timings : List Timing) : Type 0 where
+  pub orderly : IsOrderly m.calls
+  pub made : m.made ≤ length m.calls
+  pub some : 0 < workers_of m
+  pub few : workers_of m ≤ 64
+  pub taken : m.taken ≤ m.limit
+  pub moment : m.moment ≤ 2 ^ 62
+  pub count : length m.tasks ≡ task_count m.calls
+  pub queue : entries ≡ map queued m.tasks
+  -- a table has the timing of each task that was submitted
+  pub timed : length timings ≡ task_count m.calls
+  pub timing : (k : ℕ) → (slice_index_or m.tasks k vacant).phase ≢ ph.Vacant → slice_index_or timings k t.Once ≡ (terms_of m.calls k).timing
+  -- what no call made submits is vacant
+  pub fresh : (k : ℕ) → task_count (take m.made m.calls) ≤ k → slice_index_or m.tasks k vacant ≡ vacant
+  pub sound : IsSound (state_of m)

@@ -1,0 +1,18 @@
+-- A history as the plain program holds it.
+use Rattle.std.specs.Prelude.{ℕ, List, map}
+use Rattle.executor_core.specs.declared.plain.history.Past.{Past}
+use Rattle.executor_core.specs.Calls.{Planned, IsOrderlyFrom}
+use Rattle.executor_core.specs.Answers.{plain}
+use Rattle.executor_core.specs.Histories.{Entry, entry_of}
+
+-- what the plain program holds of one entry; no answer ends a task by a line of its own
+abbrev pub entry : Past → Entry
+entry past = entry_of past.happening (plain past.answer)
+
+-- the newest first
+abbrev pub history : List Past → List Entry
+history past = map entry past
+
+-- the calls are in order after some others
+abbrev pub IsOrderlyPart : List Planned → Type 0
+IsOrderlyPart calls = (count : ℕ) × (moment : ℕ) × IsOrderlyFrom count moment calls

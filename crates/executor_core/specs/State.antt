@@ -1,0 +1,129 @@
+-- A state that looks at no past answer, and the steps that it takes.
+use Rattle.std.specs.Prelude.{ℕ, ◌+◌, ◌==◌, Bool, true, false, if◌then◌else◌, List, [], ◌∷◌, Option, None, slice_get}
+use Rattle.sched_time.specs.declared.timing.Timing.{Timing}
+use Rattle.sched_time.specs.declared.timing.Timing.TheVariants as t
+use Rattle.executor_core.specs.declared.words.Happening.{Happening}
+use Rattle.executor_core.specs.declared.words.Outcome.{Outcome}
+use Rattle.executor_core.specs.declared.words.Outcome.TheVariants as o
+use Rattle.executor_core.specs.declared.words.Answer.{Answer}
+use Rattle.executor_core.specs.declared.words.Answer.TheVariants as a
+use Rattle.executor_core.specs.declared.task.Phase.{Phase}
+use Rattle.executor_core.specs.declared.task.Phase.TheVariants as ph
+use Rattle.executor_core.specs.declared.task.Task.{Task}
+use Rattle.executor_core.specs.Calls.{Planned, Terms, terms_of, due_at}
+use Rattle.executor_core.specs.View.{Fate, View}
+use Rattle.executor_core.specs.Answers.{Reply, reply, moment_after}
+use Rattle.executor_core.specs.Histories.{is_call, work_after}
+
+pub record State : Type 0 where
+  pub made : ℕ
+  pub moment : ℕ
+  pub tasks : ℕ → Task
+  pub workers : ℕ → Option ℕ
+
+-- a task that was not submitted
+abbrev pub vacant : Task
+vacant = record { phase = ph.Vacant; run = 0; due = 0 }
+
+-- before anything happened
+abbrev pub opening : State
+opening = record { made = 0; moment = 0; tasks = λ _. vacant; workers = λ _. None }
+
+-- what is seen of a task
+
+abbrev pub was_submitted : Phase → Bool
+was_submitted ph.Vacant = false
+was_submitted _ = true
+
+abbrev pub is_done_phase : Phase → Bool
+is_done_phase ph.Done = true
+is_done_phase _ = false
+
+-- the runs before run n have started and finished, and so has run n where its phase says so
+abbrev pub starts_of : Phase → ℕ → ℕ
+starts_of ph.Vacant run = 0
+starts_of ph.Waiting run = run
+starts_of _ run = 1 + run
+
+abbrev pub finishes_of : Phase → ℕ → ℕ
+finishes_of ph.Done run = 1 + run
+finishes_of ph.Vacant run = 0
+finishes_of _ run = run
+
+-- the due moment of the run after the one under way
+abbrev pub due_ahead : Timing → ℕ → ℕ
+due_ahead t.Once due = due
+
+abbrev pub due_seen : Terms → Phase → ℕ → ℕ
+due_seen terms ph.Vacant due = due_at terms 0 None
+due_seen terms ph.Running due = due_ahead terms.timing due
+due_seen terms _ due = due
+
+abbrev pub seen_phase : Terms → Phase → ℕ → ℕ → Fate
+seen_phase terms phase run due = record {
+  accepted = was_submitted phase;
+  done = is_done_phase phase;
+  starts = starts_of phase run;
+  finishes = finishes_of phase run;
+  due = due_seen terms phase due;
+}
+
+abbrev pub seen_task : Terms → Task → Fate
+seen_task terms task = seen_phase terms task.phase task.run task.due
+
+-- what an answer looks at, in a state
+abbrev pub seen : List Planned → State → View
+seen calls s = record {
+  made = s.made;
+  moment = s.moment;
+  fate = λ k. seen_task (terms_of calls k) (s.tasks k);
+  work = s.workers;
+}
+
+-- what a happening does to a state
+
+-- the due moment that a finish leaves
+abbrev pub due_past : Timing → ℕ → ℕ → ℕ
+due_past t.Once due now = due
+
+abbrev pub finish_task : Timing → ℕ → Outcome → Task → Task
+finish_task timing now (o.Done value) task = record task { phase = ph.Done; due = due_past timing task.due now }
+
+-- only a vacant task is submitted
+abbrev pub submit_phase : ℕ → Phase → Task → Task
+submit_phase due ph.Vacant task = record { phase = ph.Waiting; run = 0; due = due }
+submit_phase due _ task = task
+
+-- what an answer does to one task
+abbrev pub move_task : Timing → ℕ → ℕ → Answer → Task → Task
+move_task timing now k (a.Submit j kind due) task = if j == k then submit_phase due task.phase task else task
+move_task timing now k (a.Start w j run due) task = if j == k then record task { phase = ph.Running } else task
+move_task timing now k (a.Finish w j run outcome) task = if j == k then finish_task timing now outcome task else task
+move_task timing now k _ task = task
+
+abbrev pub task_after : List Planned → State → Reply → ℕ → Task
+task_after calls s r k = move_task (terms_of calls k).timing s.moment k r.answer (s.tasks k)
+
+abbrev pub state_after : List Planned → State → Happening → Reply → State
+state_after calls s happening r = record {
+  made = if is_call happening then 1 + s.made else s.made;
+  moment = moment_after s.moment (slice_get calls s.made) happening;
+  tasks = λ k. task_after calls s r k;
+  workers = λ w. work_after w r.answer (s.workers w);
+}
+
+-- the table of the answers, read on a state
+abbrev pub reply_of : List Planned → ℕ → State → Happening → Reply
+reply_of calls workers s happening = reply calls workers (seen calls s) happening
+
+abbrev pub next : List Planned → ℕ → State → Happening → State
+next calls workers s happening = state_after calls s happening (reply_of calls workers s happening)
+
+-- where steps lead from a state, the newest first
+abbrev pub after_from : List Planned → ℕ → State → List Happening → State
+after_from calls workers s [] = s
+after_from calls workers s (happening ∷ before) = next calls workers (after_from calls workers s before) happening
+
+-- where steps lead from the opening state
+abbrev pub after : List Planned → ℕ → List Happening → State
+after calls workers happened = after_from calls workers opening happened

@@ -1,0 +1,59 @@
+-- What an answer looks at: the moment, what is known of each task, and the work of each worker.
+use Rattle.std.specs.Prelude.{ℕ, ◌==◌, ◌&&◌, ◌||◌, Bool, not, nat_lt, nat_le, if◌then◌else◌, List, [], ◌∷◌, Option, Some, None}
+
+-- what is known of one task
+pub record Fate : Type 0 where
+  -- its submission was accepted
+  pub accepted : Bool
+  -- its one run ended well
+  pub done : Bool
+  -- how often it started and finished
+  pub starts : ℕ
+  pub finishes : ℕ
+  -- the due moment of its next run
+  pub due : ℕ
+
+pub record View : Type 0 where
+  -- how many calls were made
+  pub made : ℕ
+  pub moment : ℕ
+  pub fate : ℕ → Fate
+  -- the task of a busy worker
+  pub work : ℕ → Option ℕ
+
+-- a run is under way
+abbrev pub is_running : Fate → Bool
+is_running f = not (f.starts == f.finishes)
+
+-- no further run comes
+abbrev pub is_over : Fate → Bool
+is_over f = f.done
+
+-- accepted, not running and not over
+abbrev pub is_waiting : Fate → Bool
+is_waiting f = f.accepted && (not (is_running f) && not (is_over f))
+
+-- it waits, and its due moment is reached
+-- (ScheduledThreadPoolExecutor: "Delayed tasks execute no sooner than they are enabled, but without any real-time guarantees
+-- about when, after they are enabled, they will commence.")
+abbrev pub is_enabled : View → ℕ → Bool
+is_enabled v k = is_waiting (v.fate k) && nat_le (v.fate k).due v.moment
+
+-- a due moment and a number come before others
+abbrev pub comes_before : ℕ → ℕ → ℕ → ℕ → Bool
+comes_before due j other k = nat_lt due other || ((due == other) && nat_lt j k)
+
+-- tasks are ordered by due moment, then by number
+-- (ScheduledThreadPoolExecutor: "Tasks scheduled for exactly the same execution time are enabled in first-in-first-out (FIFO)
+-- order of submission.")
+abbrev pub precedes : View → ℕ → ℕ → Bool
+precedes v j k = comes_before (v.fate j).due j (v.fate k).due k
+
+abbrev pub earlier : View → ℕ → Option ℕ → ℕ
+earlier v k None = k
+earlier v k (Some j) = if precedes v j k then j else k
+
+-- the first enabled task among some
+abbrev pub first_enabled : View → List ℕ → Option ℕ
+first_enabled v [] = None
+first_enabled v (k ∷ ks) = if is_enabled v k then Some (earlier v k (first_enabled v ks)) else first_enabled v ks

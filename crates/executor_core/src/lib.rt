@@ -1,0 +1,27 @@
+//! The executor: what happens to it, and what it answers.
+#![tactic(auto)]
+
+mod error;
+mod laws;
+mod limits;
+mod machine;
+mod order;
+pub mod plain;
+mod positions;
+mod task;
+#[cfg(test)]
+mod tests;
+mod words;
+
+pub use error::CoreError;
+pub use laws::{
+    answers_by_position, no_start_is_early, one_history, starts_are_in_order, states_answer,
+};
+pub use machine::Core;
+pub use order::orderly;
+pub use positions::{
+    first_is_the_least, none_is_enabled, now_is_the_greatest, starts_exceed_finishes,
+    work_is_the_last_start,
+};
+pub use task::{Phase, Task};
+pub use words::{Answer, CodeCall, Event, EventError, Happening, Kind, Line, Outcome};

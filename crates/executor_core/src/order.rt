@@ -1,0 +1,53 @@
+ghost use Rattle.std.specs.Prelude.{◌≡◌, ◌+◌, ◌<◌, ◌≤◌, ◌^◌, ◌↔◌, IsTrue};
+ghost use Rattle.executor_core.specs.Calls.{IsOrderly, IsOrderlyCall, count_after};
+
+use crate::limits::{LATEST, MOST_CALLS};
+use crate::words::CodeCall;
+
+/// Whether the calls are in the order in which they are made, and few enough.
+///
+/// There are at most 65,536 of them. Their moments do not fall and are at most 2^62 nanoseconds,
+/// and so is each delay. The submissions are numbered 0, 1, .. in their order.
+pub fn orderly(calls: &[(u64, CodeCall)]) -> bool
+    ensures { IsTrue result ↔ IsOrderly calls.now }
+{
+    if calls.len() > MOST_CALLS {
+        return false;
+    }
+    let mut count = 0;
+    let mut moment = 0;
+    for planned in calls {
+        if !follows(count, moment, planned) {
+            return false;
+        }
+        count = count_after(count, &planned.1);
+        moment = planned.0;
+    }
+    true
+}
+
+/// Whether a call may come after so many submissions and this moment.
+fn follows(count: u32, moment: u64, planned: &(u64, CodeCall)) -> bool
+    ensures { IsTrue result ↔ ((moment ≤ planned.now.0) × (planned.now.0 ≤ 2 ^ 62) × IsOrderlyCall count planned.now.1) }
+{
+    moment <= planned.0 && planned.0 <= LATEST && is_orderly_call(count, &planned.1)
+}
+
+/// Whether a call may come after so many submissions.
+fn is_orderly_call(count: u32, call: &CodeCall) -> bool
+    ensures { IsTrue result ↔ IsOrderlyCall count call.now }
+{
+    match call {
+        CodeCall::Submit { task, delay, .. } => *task == count && *delay <= LATEST,
+    }
+}
+
+/// How many submissions there are after a call.
+fn count_after(count: u32, call: &CodeCall) -> u32
+    requires { count < 65536 }
+    ensures { result ≡ count_after count call.now }
+{
+    match call {
+        CodeCall::Submit { .. } => count + 1,
+    }
+}

@@ -1,0 +1,127 @@
+ghost use Rattle.std.specs.Prelude.{◌≡◌, ℕ};
+ghost use Rattle.executor_core.specs.declared.words.Happening.TheVariants as happening;
+ghost use Rattle.executor_core.specs.Calls.{IsOrderly};
+ghost use Rattle.executor_core.specs.View.{View};
+ghost use Rattle.executor_core.specs.Answers as answers;
+ghost use Rattle.executor_core.specs.Histories as histories;
+ghost use Rattle.executor_core.specs.Plain.{history};
+
+use crate::limits::LATEST;
+use crate::plain::history::{Past, call_at, made, now_of, starts, work_of};
+use crate::plain::tasks::{count_tasks, due_at, due_of, first_enabled, timing_of};
+use crate::words::{Answer, CodeCall, EventError, Happening, Kind, Outcome};
+use sched_time::{Ending, Timing};
+
+/// The answer to a happening after a history, the newest entry first.
+///
+/// A call past the last one never comes in a history; it is answered as a clock is.
+pub fn answer_after(
+    calls: &[(u64, CodeCall)],
+    workers: u8,
+    past: &[Past],
+    happening: Happening,
+) -> Answer
+    requires { IsOrderly calls.now }
+    ensures { result ≡ (histories.answer calls.now workers (history past.now) happening).answer }
+{
+    match happening {
+        Happening::Call => match call_at(calls, made(past)) {
+            Some((_, call)) => answer_call(calls, call),
+            None => Answer::Clock,
+        },
+        Happening::Clock(moment) => answer_clock(calls, past, moment),
+        Happening::Start(worker) => answer_start(calls, workers, past, worker),
+        Happening::Finish(worker, ending) => answer_finish(calls, workers, past, worker, ending),
+    }
+}
+
+/// The answer to a call.
+fn answer_call(calls: &[(u64, CodeCall)], call: CodeCall) -> Answer
+    requires { IsOrderly calls.now }
+    ensures { (v : View) → result ≡ (answers.called calls.now v call).answer }
+{
+    match call {
+        CodeCall::Submit { task, timing, .. } => Answer::Submit {
+            task,
+            kind: kind_of(timing),
+            due: due_at(calls, task, 0, None),
+        },
+    }
+}
+
+/// The answer to a clock.
+fn answer_clock(calls: &[(u64, CodeCall)], past: &[Past], moment: u64) -> Answer
+    ensures { (workers : ℕ) → result ≡ (histories.answer calls.now workers (history past.now) (happening.Clock moment)).answer }
+{
+    if moment < now_of(calls, past) {
+        Answer::Error(EventError::Backward)
+    } else if LATEST < moment {
+        Answer::Error(EventError::TooFar)
+    } else {
+        Answer::Clock
+    }
+}
+
+/// The answer to a worker that asks for work.
+fn answer_start(calls: &[(u64, CodeCall)], workers: u8, past: &[Past], worker: u8) -> Answer
+    requires { IsOrderly calls.now }
+    ensures { result ≡ (histories.answer calls.now workers (history past.now) (happening.Start worker)).answer }
+{
+    if worker >= workers {
+        return Answer::Error(EventError::NoWorker);
+    }
+    if work_of(worker, past).is_some() {
+        return Answer::Error(EventError::Busy);
+    }
+    match first_enabled(calls, past, 0, count_tasks(calls)) {
+        None => Answer::Idle { worker },
+        Some(task) => Answer::Start {
+            worker,
+            task,
+            run: starts(task, past),
+            due: due_of(calls, past, task),
+        },
+    }
+}
+
+/// The answer to the end of a worker's run.
+fn answer_finish(
+    calls: &[(u64, CodeCall)],
+    workers: u8,
+    past: &[Past],
+    worker: u8,
+    ending: Ending,
+) -> Answer
+    ensures { result ≡ (histories.answer calls.now workers (history past.now) (happening.Finish worker ending)).answer }
+{
+    if worker >= workers {
+        return Answer::Error(EventError::NoWorker);
+    }
+    match work_of(worker, past) {
+        None => Answer::Error(EventError::NotRunning),
+        Some(task) => Answer::Finish {
+            worker,
+            task,
+            run: starts(task, past).saturating_sub(1),
+            outcome: outcome_of(timing_of(calls, task), ending),
+        },
+    }
+}
+
+/// The kind of a task of this timing.
+fn kind_of(timing: Timing) -> Kind
+    ensures { result ≡ answers.kind_of timing }
+{
+    match timing {
+        Timing::Once => Kind::Schedule,
+    }
+}
+
+/// What a run of a task of this timing leads to.
+fn outcome_of(timing: Timing, ending: Ending) -> Outcome
+    ensures { result ≡ answers.outcome_of timing ending }
+{
+    match (timing, ending) {
+        (Timing::Once, Ending::Value(value)) => Outcome::Done(value),
+    }
+}

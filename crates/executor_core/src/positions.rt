@@ -1,0 +1,27 @@
+//! What the definitions by recursion say of the positions in a history.
+ghost use Rattle.executor_core.specs.Positions.{WorkIsTheLastStart, StartsExceedFinishes, NowIsTheGreatest, FirstIsTheLeast, NoneIsEnabled};
+
+/// The work of a worker is the task of its last start, where no finish came after it.
+pub fn work_is_the_last_start()
+    ensures { WorkIsTheLastStart }
+{}
+
+/// A worker that works has started once more than it finished, and any other one as often.
+pub fn starts_exceed_finishes()
+    ensures { StartsExceedFinishes }
+{}
+
+/// The moment is the greatest one of the calls made and the accepted clocks, and 0 before any.
+pub fn now_is_the_greatest()
+    ensures { NowIsTheGreatest }
+{}
+
+/// The first enabled task is the enabled one that every other enabled one comes after.
+pub fn first_is_the_least()
+    ensures { FirstIsTheLeast }
+{}
+
+/// There is no first enabled task just where none is enabled.
+pub fn none_is_enabled()
+    ensures { NoneIsEnabled }
+{}

@@ -1,0 +1,113 @@
+use sched_time::{Ending, Timing};
+
+/// A call that a plan makes at its own moment.
+#[derive(Clone, Copy, Debug, PartialEq, Eq)]
+pub enum CodeCall {
+    /// A task is submitted.
+    Submit {
+        /// The number of the task: submissions are numbered 0, 1, .. in their order.
+        task: u32,
+        /// How often it runs.
+        timing: Timing,
+        /// From the call's moment to its first run, 0 to 2^62 nanoseconds.
+        delay: u64,
+    },
+}
+
+/// What the outside reports to the executor.
+#[derive(Clone, Copy, Debug, PartialEq, Eq)]
+pub enum Event {
+    /// The clock shows this moment, in nanoseconds.
+    Clock(u64),
+    /// This worker asks for work.
+    Start(u8),
+    /// The run of this worker ended.
+    Finish(u8, Ending),
+}
+
+/// One happening of the executor: an event, or the next call of the plan.
+#[derive(Clone, Copy, Debug, PartialEq, Eq)]
+pub enum Happening {
+    /// The next call of the plan is made.
+    Call,
+    /// The clock shows this moment, in nanoseconds.
+    Clock(u64),
+    /// This worker asks for work.
+    Start(u8),
+    /// The run of this worker ended.
+    Finish(u8, Ending),
+}
+
+/// The kind of a task.
+#[derive(Clone, Copy, Debug, PartialEq, Eq)]
+pub enum Kind {
+    /// One run after a delay.
+    Schedule,
+}
+
+/// Why an event had no effect.
+#[derive(Clone, Copy, Debug, PartialEq, Eq)]
+pub enum EventError {
+    /// The clock would go back.
+    Backward,
+    /// The clock would pass 2^62 nanoseconds.
+    TooFar,
+    /// There is no worker of this number.
+    NoWorker,
+    /// The worker has a run under way.
+    Busy,
+    /// The worker has no run under way.
+    NotRunning,
+}
+
+/// What a finished run leads to.
+#[derive(Clone, Copy, Debug, PartialEq, Eq)]
+pub enum Outcome {
+    /// The task is done, with this value.
+    Done(u64),
+}
+
+/// What a happening is answered.
+#[derive(Clone, Copy, Debug, PartialEq, Eq)]
+pub enum Answer {
+    /// The task was accepted.
+    Submit {
+        task: u32,
+        kind: Kind,
+        /// The due moment of its first run, at most 2^63 nanoseconds.
+        due: u64,
+    },
+    /// The clock was moved.
+    Clock,
+    /// The worker starts a run of a task.
+    Start {
+        worker: u8,
+        task: u32,
+        /// The number of the run, from 0.
+        run: u64,
+        /// The due moment of the run, at most 2^63 nanoseconds.
+        due: u64,
+    },
+    /// The worker gets no work.
+    Idle {
+        worker: u8,
+    },
+    /// The run of the worker ended.
+    Finish {
+        worker: u8,
+        task: u32,
+        /// The number of the run, from 0.
+        run: u64,
+        outcome: Outcome,
+    },
+    /// The event had no effect.
+    Error(EventError),
+}
+
+/// A line of a trace: an answer, and the moment at which it was given.
+#[derive(Clone, Copy, Debug, PartialEq, Eq)]
+pub struct Line {
+    /// The moment, 0 to 2^62 nanoseconds.
+    pub moment: u64,
+    pub answer: Answer,
+}
