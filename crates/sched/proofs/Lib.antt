@@ -1,0 +1,16 @@
+pub mod Digits
+pub mod EventTexts
+pub mod Numbers
+pub mod Puts
+pub mod Ranges
+pub mod Refusals
+pub mod Runs
+pub mod Texts
+pub mod Tables
+pub mod Offsets
+pub mod Reading
+pub mod Ordering
+pub mod Trees
+pub mod Listing
+pub mod Inputs
+pub mod Pieces

@@ -1,0 +1,11 @@
+pub use Rattle.executor_core.specs.Calls
+pub use Rattle.executor_core.specs.Histories
+pub use Rattle.executor_core.specs.Flows
+pub mod Ends
+pub mod Lines
+pub mod Spelling
+pub mod Names
+pub mod Plans
+pub mod PlanReading
+pub mod PlanCalls
+pub mod Running

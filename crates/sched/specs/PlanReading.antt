@@ -1,0 +1,255 @@
+-- Which plan a text writes, and the first fault of a text that writes none. All of it is this project's rule.
+-- The search goes through the places in order: text, top, then the block: its header, then its calls. At each place the
+-- checks are made in the order in which they stand here, and the first that fails is the answer.
+use Rattle.std.specs.Prelude.{◌≡◌, ℕ, ◌+◌, ℤ, pos, negsuc, Bool, true, false, not, ◌&&◌, ◌||◌, nat_le, ◌==◌, if◌then◌else◌, List, [], ◌∷◌, ◌++◌, length, Option, Some, None, is_some, option_and_then, Result, Ok, Err, codes, bytes_eq, int_lt}
+use Rattle.std.specs.List.{list_any}
+use Rattle.std.specs.Str.{is_utf8}
+use Rattle.toml.specs.Parse.{parse_document}
+use Rattle.toml.specs.Data.{Data, Items, no_items, item, Members, no_members, member, get_member, as_integer, as_str, as_array, as_table}
+use Rattle.sched_time.specs.declared.unit.Unit.{Unit as TimeUnit}
+use Rattle.sched_time.specs.declared.unit.Unit.TheVariants.{Ns}
+use Rattle.sched_time.specs.Times.{longest, span_of}
+use Rattle.sched.specs.declared.plan_read.faults.Place.{Place}
+use Rattle.sched.specs.declared.plan_read.faults.PlanFault.{PlanFault}
+use Rattle.sched.specs.declared.plan_read.faults.PlanFaultKind.{PlanFaultKind}
+use Rattle.sched.specs.declared.plan_read.faults.PlanFaultKind.TheVariants.{TooLong, Toml, Version, UnknownKey, Missing, WrongType, TooMany, BadName, DuplicateName, Negative, TooLarge, OutOfOrder}
+use Rattle.sched.specs.declared.plan_read.faults.Stop.{Stop}
+use Rattle.sched.specs.declared.plan_read.faults.Stop.TheVariants as stops
+use Rattle.sched.specs.declared.plan_read.plans.Call.{Call}
+use Rattle.sched.specs.declared.plan_read.plans.Op.{Op}
+use Rattle.sched.specs.declared.plan_read.plans.Op.TheVariants.{Schedule}
+use Rattle.sched.specs.declared.plan_read.reading.Fields.{Fields}
+use Rattle.sched.specs.Names.{is_name}
+use Rattle.sched.specs.Plans.{BlockTree, PlanTree}
+
+-- ---- steps of a reading
+
+-- what is read: a value, or the first fault
+abbrev pub Read : Type 0 → Type 0
+Read A = Result A PlanFault
+
+infixl 10 ◌>>=◌
+abbrev pub ◌>>=◌ : {A B : Type 0} → Result A PlanFault → (A → Result B PlanFault) → Result B PlanFault
+(Ok x) >>= f = f x
+(Err e) >>= f = Err e
+
+-- the text as a whole and its top: block 0, call 0
+abbrev pub top : Place
+top = record { block = 0; call = 0 }
+
+-- the header of a block, numbered from 1
+abbrev pub header : ℕ → Place
+header block = record { block = block; call = 0 }
+
+-- a call of a block, both numbered from 1
+abbrev pub call_place : ℕ → ℕ → Place
+call_place block call = record { block = block; call = call }
+
+-- a fault of a kind at a place
+abbrev pub fault : Place → PlanFaultKind → PlanFault
+fault place kind = record { kind = kind; block = place.block; call = place.call }
+
+-- a check, and the fault where it fails
+abbrev pub check : Place → Bool → PlanFaultKind → Read Bool
+check place true kind = Ok true
+check place false kind = Err (fault place kind)
+
+-- a value that has to be there, and the fault where there is none
+abbrev pub expect : {A : Type 0} → Place → Option A → PlanFaultKind → Read A
+expect place None kind = Err (fault place kind)
+expect place (Some x) kind = Ok x
+
+-- ---- what the code answers
+
+-- why a function stopped is the fault that is read, unless memory ran out
+abbrev pub Stops : {Y : Type 0} → Stop → Read Y → Type 0
+Stops stops.Memory read = Unit {0}
+Stops (stops.Fault e) read = read ≡ Err e
+
+-- what a function returned, seen by `seen`, is what is read, unless memory ran out
+abbrev pub Gives : {X Y : Type 0} → (X → Y) → Result X Stop → Read Y → Type 0
+Gives seen (Ok x) read = read ≡ Ok (seen x)
+Gives seen (Err e) read = Stops e read
+
+-- ---- what a tree holds
+
+-- each key passes the test
+abbrev pub has_only : (List ℕ → Bool) → Members → Bool
+has_only known no_members = true
+has_only known (member key d ms) = known key && has_only known ms
+
+-- how many items there are
+abbrev pub count_items : Items → ℕ
+count_items no_items = 0
+count_items (item d ds) = 1 + count_items ds
+
+-- each item is a table
+abbrev pub are_tables : Items → Bool
+are_tables no_items = true
+are_tables (item d ds) = is_some (as_table d) && are_tables ds
+
+-- an array of tables, with no items where there is no value
+unfoldable pub tables_of : Place → Option Data → Read Items
+tables_of place None = Ok no_items
+tables_of place (Some d) = do
+  items ← expect place (as_array d) WrongType
+  tables ← check place (are_tables items) WrongType
+  Ok items
+
+-- an integer, with 0 where there is no value
+abbrev pub integer_or_zero : Place → Option Data → Read ℤ
+integer_or_zero place None = Ok (pos 0)
+integer_or_zero place (Some d) = expect place (as_integer d) WrongType
+
+-- the nanoseconds of a number of units, at most 2^62
+abbrev pub nanos_at : Place → ℤ → TimeUnit → Read ℕ
+nanos_at place value unit = if nat_le (span_of value unit) longest then Ok (span_of value unit) else Err (fault place TooLarge)
+
+-- ---- a call
+
+-- an operation is a submission of this name
+abbrev pub has_name : List ℕ → Op → Bool
+has_name text (Schedule name delay) = bytes_eq name text
+
+-- one of the calls is a submission of this name
+abbrev pub is_taken : List ℕ → List Call → Bool
+is_taken text calls = list_any (λ c. has_name text c.op) calls
+
+-- the offset of the last of some calls, and one that is given where there is none
+abbrev pub last_from : ℕ → List Call → ℕ
+last_from offset [] = offset
+last_from offset (c ∷ cs) = last_from c.at cs
+
+-- the offset of the last call, 0 where there is none
+abbrev pub last_offset : List Call → ℕ
+last_offset calls = last_from 0 calls
+
+-- the keys of a `schedule`
+abbrev pub is_schedule_key : List ℕ → Bool
+is_schedule_key key = bytes_eq key (codes "op") || bytes_eq key (codes "at") || bytes_eq key (codes "name") || bytes_eq key (codes "delay")
+
+-- the values of its keys, each of its type
+pub record FieldValues : Type 0 where
+  pub name : List ℕ
+  pub delay : ℤ
+  pub at : ℤ
+
+-- the code's record of them, seen so
+abbrev pub field_values : Fields → FieldValues
+field_values f = record { name = f.name.now; delay = f.delay; at = f.at }
+
+-- the operation has to be there, and to be `schedule`
+unfoldable pub op_of : Place → Members → Read Bool
+op_of place ms = do
+  op ← expect place (get_member (codes "op") ms) Missing
+  word ← expect place (as_str op) WrongType
+  check place (bytes_eq word (codes "schedule")) WrongType
+
+-- no other keys, then the keys that have to be there, then their types
+unfoldable pub fields_of : Place → Members → Read FieldValues
+fields_of place ms = do
+  known ← check place (has_only is_schedule_key ms) UnknownKey
+  name ← expect place (get_member (codes "name") ms) Missing
+  delay ← expect place (get_member (codes "delay") ms) Missing
+  text ← expect place (as_str name) WrongType
+  wait ← expect place (as_integer delay) WrongType
+  at ← integer_or_zero place (get_member (codes "at") ms)
+  Ok (record { name = text; delay = wait; at = at })
+
+-- the call that a table writes, after the calls `before` of its block
+unfoldable pub call_of : Place → List Call → Members → Read Call
+call_of place before ms = do
+  op ← op_of place ms
+  fields ← fields_of place ms
+  named ← check place (is_name fields.name) BadName
+  fresh ← check place (not (is_taken fields.name before)) DuplicateName
+  forward ← check place (not (int_lt fields.at (pos 0))) Negative
+  offset ← nanos_at place fields.at Ns
+  delay ← nanos_at place fields.delay Ns
+  ordered ← check place (nat_le (last_offset before) offset) OutOfOrder
+  Ok (record { at = offset; op = Schedule fields.name delay })
+
+-- ---- a block
+
+-- the calls that the rest of a block's tables writes, after the calls `before`
+-- (that an item is no table cannot come here, since the header's check has seen to it)
+unfoldable pub calls_after : ℕ → List Call → Items → Read (List Call)
+calls_after block before no_items = Ok before
+calls_after block before (item d ds) = do
+  ms ← expect (header block) (as_table d) WrongType
+  call ← call_of (call_place block (length before + 1)) before ms
+  calls_after block (before ++ call ∷ []) ds
+
+-- the one key of a block
+abbrev pub is_block_key : List ℕ → Bool
+is_block_key key = bytes_eq key (codes "call")
+
+-- the tables of a block's calls, at most 256
+unfoldable pub header_of : ℕ → Members → Read Items
+header_of block ms = do
+  known ← check (header block) (has_only is_block_key ms) UnknownKey
+  calls ← tables_of (header block) (get_member (codes "call") ms)
+  few ← check (header block) (nat_le (count_items calls) 256) TooMany
+  Ok calls
+
+-- the block that a table writes: its header, then its calls. It is at the moment 0.
+-- (that the value is no table cannot come here, since the top's check has seen to it)
+unfoldable pub block_of : ℕ → Data → Read BlockTree
+block_of block d = do
+  ms ← expect top (as_table d) WrongType
+  tables ← header_of block ms
+  calls ← calls_after block [] tables
+  Ok (record { at = 0; calls = calls })
+
+-- ---- a plan
+
+-- the keys of a plan
+abbrev pub is_plan_key : List ℕ → Bool
+is_plan_key key = bytes_eq key (codes "version") || bytes_eq key (codes "block")
+
+-- the integer is 1
+abbrev pub is_one : ℤ → Bool
+is_one (pos n) = n == 1
+is_one (negsuc n) = false
+
+-- the tables of the blocks, at most one: a version, no unknown key, an array of tables, not too many
+unfoldable pub top_of : Members → Read Items
+top_of ms = do
+  version ← expect top (option_and_then as_integer (get_member (codes "version") ms)) Version
+  first ← check top (is_one version) Version
+  known ← check top (has_only is_plan_key ms) UnknownKey
+  blocks ← tables_of top (get_member (codes "block") ms)
+  few ← check top (nat_le (count_items blocks) 1) TooMany
+  Ok blocks
+
+-- the blocks that the tables write, of which there is at most one
+unfoldable pub blocks_of : Items → Read PlanTree
+blocks_of no_items = Ok []
+blocks_of (item d ds) = do
+  block ← block_of 1 d
+  Ok (block ∷ [])
+
+-- the plan that a tree writes
+unfoldable pub plan_of_tree : Members → Read PlanTree
+plan_of_tree ms = do
+  tables ← top_of ms
+  blocks_of tables
+
+-- some tree writes the plan
+abbrev pub IsPlan : PlanTree → Type 0
+IsPlan plan = (ms : Members) × (plan_of_tree ms ≡ Ok plan)
+
+-- the greatest length of a text, in bytes
+abbrev pub longest_text : ℕ
+longest_text = 1048576
+
+-- the tree of a text, where the text is UTF-8 and a TOML document
+abbrev pub tree_of : List ℕ → Option Members
+tree_of text = if is_utf8 text then parse_document text else None
+
+-- the plan that a text writes, or the first fault of the text
+unfoldable pub plan_of_text : List ℕ → Read PlanTree
+plan_of_text text = do
+  short ← check top (nat_le (length text) longest_text) TooLong
+  ms ← expect top (tree_of text) Toml
+  plan_of_tree ms

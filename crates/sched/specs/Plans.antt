@@ -1,0 +1,28 @@
+-- What contracts see of a plan.
+use Rattle.std.specs.Prelude.{ℕ, ◌≤◌, List, [], ◌∷◌}
+use Rattle.sched_time.specs.Times.{longest}
+use Rattle.sched.specs.declared.plan_read.plans.Call.{Call}
+use Rattle.sched.specs.declared.plan_read.plans.Op.{Op}
+use Rattle.sched.specs.declared.plan_read.plans.Op.TheVariants.{Schedule}
+
+-- a block: its moment, and its calls in the order of the text
+pub record BlockTree : Type 0 where
+  pub at : ℕ
+  pub calls : List Call
+
+-- a plan: its blocks in the order of the text
+abbrev pub PlanTree : Type 0
+PlanTree = List BlockTree
+
+-- the operation asks for no span above 2^62 nanoseconds
+abbrev pub IsShort : Op → Type 0
+IsShort (Schedule name delay) = delay ≤ longest
+
+-- the call may come after an offset
+abbrev pub IsCallFrom : ℕ → Call → Type 0
+IsCallFrom offset c = (offset ≤ c.at) × (c.at ≤ longest) × IsShort c.op
+
+-- the calls from some offset on: the offsets do not fall
+abbrev pub AreCallsFrom : ℕ → List Call → Type 0
+AreCallsFrom offset [] = Unit {0}
+AreCallsFrom offset (c ∷ cs) = IsCallFrom offset c × AreCallsFrom c.at cs

@@ -1,0 +1,89 @@
+-- Spelling: the text of events and of answers (this project's rule).
+-- Numbers are decimals with no leading zero, one space stands between two words, and a text is grouped to the right.
+use Rattle.std.specs.Prelude.{◌≡◌, ◌≢◌, ℕ, ◌^◌, ◌<◌, List, ◌++◌, Option, Some, None, codes, flat_map, slice_index}
+use Rattle.std.specs.Fmt.{decimal}
+use Rattle.std.specs.Int.{IsInRange}
+use Rattle.sched_time.specs.declared.timing.Ending.{Ending}
+use Rattle.sched_time.specs.declared.timing.Ending.TheVariants as ending
+use Rattle.executor_core.specs.declared.Event.{Event}
+use Rattle.executor_core.specs.declared.Event.TheVariants as event
+use Rattle.executor_core.specs.declared.Kind.{Kind}
+use Rattle.executor_core.specs.declared.Kind.TheVariants as kind
+use Rattle.executor_core.specs.declared.EventError.{EventError}
+use Rattle.executor_core.specs.declared.EventError.TheVariants as error
+use Rattle.executor_core.specs.declared.Outcome.{Outcome}
+use Rattle.executor_core.specs.declared.Outcome.TheVariants as outcome
+use Rattle.executor_core.specs.declared.Answer.{Answer}
+use Rattle.executor_core.specs.declared.Answer.TheVariants as answer
+use Rattle.executor_core.specs.declared.Line.{Line}
+
+-- a text was put behind the old one
+pub record Puts (old new text : List ℕ) : Type 0 where
+  pub is : new ≡ old ++ text
+
+-- no digit stands in front, so that a number before these bytes ends there: past the last byte stands 0, which is no digit
+abbrev pub EndsNumber : List ℕ → Type 0
+EndsNumber rest = IsInRange 48 57 (slice_index rest 0) → ⊥
+
+-- how a run ended: `ok V`
+abbrev pub ending_text : Ending → List ℕ
+ending_text (ending.Value v) = codes "ok " ++ decimal v
+
+-- an event's line, without its newline
+abbrev pub event_text : Event → List ℕ
+event_text (event.Clock t) = codes "clock " ++ decimal t
+event_text (event.Start w) = codes "start " ++ decimal w
+event_text (event.Finish w e) = codes "finish " ++ (decimal w ++ (codes " " ++ ending_text e))
+
+-- a value below 2^64
+abbrev pub FitsEnding : Ending → Type 0
+FitsEnding (ending.Value v) = v < 2 ^ 64
+
+-- a moment below 2^64, a worker below 256
+abbrev pub FitsEvent : Event → Type 0
+FitsEvent (event.Clock t) = t < 2 ^ 64
+FitsEvent (event.Start w) = w < 2 ^ 8
+FitsEvent (event.Finish w e) = (w < 2 ^ 8) × FitsEnding e
+
+-- the word of a kind of task
+abbrev pub kind_text : Kind → List ℕ
+kind_text kind.Schedule = codes "schedule"
+
+-- the words of a refusal
+abbrev pub error_text : EventError → List ℕ
+error_text error.Backward = codes "backward"
+error_text error.TooFar = codes "too far"
+error_text error.NoWorker = codes "no worker"
+error_text error.Busy = codes "busy"
+error_text error.NotRunning = codes "not running"
+
+-- what a finished run led to, and the newline
+abbrev pub outcome_text : Outcome → List ℕ
+outcome_text (outcome.Done v) = codes " done " ++ (decimal v ++ codes "\n")
+
+-- an answer behind its moment, and the newline
+abbrev pub answer_text : Answer → List ℕ
+answer_text (answer.Submit k kind d) = codes " submit " ++ (decimal k ++ (codes " " ++ (kind_text kind ++ (codes " due " ++ (decimal d ++ codes "\n")))))
+answer_text answer.Clock = codes " clock\n"
+answer_text (answer.Start w k n d) = codes " start " ++ (decimal w ++ (codes " task " ++ (decimal k ++ (codes " run " ++ (decimal n ++ (codes " due " ++ (decimal d ++ codes "\n")))))))
+answer_text (answer.Idle w) = codes " start " ++ (decimal w ++ codes " idle\n")
+answer_text (answer.Finish w k n o) = codes " finish " ++ (decimal w ++ (codes " task " ++ (decimal k ++ (codes " run " ++ (decimal n ++ outcome_text o)))))
+answer_text (answer.Error e) = codes " error " ++ (error_text e ++ codes "\n")
+
+-- a line of the trace, with its newline: the moment, and the answer
+abbrev pub line_text : Line → List ℕ
+line_text line = decimal line.moment ++ answer_text line.answer
+
+-- the text of lines, one after another
+abbrev pub lines_text : List Line → List ℕ
+lines_text lines = flat_map line_text lines
+
+-- how a run ended, as some words say: `Some e`: this ending, which fits; `None`: no ending that fits
+abbrev pub ReadsEnding : List ℕ → Option Ending → Type 0
+ReadsEnding words (Some e) = (words ≡ ending_text e) × FitsEnding e
+ReadsEnding words None = (e : Ending) → FitsEnding e → words ≢ ending_text e
+
+-- what a line, without its newline, spells: `Some e`: this event, which fits; `None`: no event that fits
+abbrev pub Spells : List ℕ → Option Event → Type 0
+Spells line (Some e) = (line ≡ event_text e) × FitsEvent e
+Spells line None = (e : Event) → FitsEvent e → line ≢ event_text e

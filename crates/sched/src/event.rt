@@ -1,0 +1,91 @@
+ghost use Rattle.std.specs.Prelude.{◌≡◌, ◌≢◌, ℕ, ◌^◌, ◌<◌, ◌≤◌, ◌++◌, MatchOption, codes};
+ghost use Rattle.std.specs.Fmt.{decimal};
+ghost use Rattle.sched.specs.Spelling.{ReadsEnding, Spells};
+
+use crate::number::read_number;
+use crate::words::{split_number, strip};
+use executor_core::Event;
+use sched_time::Ending;
+
+/// The event that a line spells, given without its newline. `None` where it
+/// spells none whose moment and value are below 2^64 and whose worker is below
+/// 256.
+pub fn read_event(line: &[u8]) -> Option<Event>
+    ensures { Spells line.now result }
+{
+    if let Some(rest) = strip(line, b"clock ") {
+        return read_clock(rest);
+    }
+    if let Some(rest) = strip(line, b"start ") {
+        return read_start(rest);
+    }
+    if let Some(rest) = strip(line, b"finish ") {
+        return read_finish(rest);
+    }
+    None
+}
+
+/// The event of a line that begins with `clock`.
+fn read_clock(rest: &[u8]) -> Option<Event>
+    ensures { Spells (codes "clock " ++ rest.now) result }
+{
+    let Some(moment) = read_number(rest) else {
+        return None;
+    };
+    Some(Event::Clock(moment))
+}
+
+/// The event of a line that begins with `start`.
+fn read_start(rest: &[u8]) -> Option<Event>
+    ensures { Spells (codes "start " ++ rest.now) result }
+{
+    let Some(number) = read_number(rest) else {
+        return None;
+    };
+    let Some(worker) = worker_of(number) else {
+        return None;
+    };
+    Some(Event::Start(worker))
+}
+
+/// The event of a line that begins with `finish`.
+fn read_finish(rest: &[u8]) -> Option<Event>
+    ensures { Spells (codes "finish " ++ rest.now) result }
+{
+    let Some((number, rest)) = split_number(rest) else {
+        return None;
+    };
+    let Some(worker) = worker_of(number) else {
+        return None;
+    };
+    let Some(rest) = strip(rest, b" ") else {
+        return None;
+    };
+    let Some(ending) = read_ending(rest) else {
+        return None;
+    };
+    Some(Event::Finish(worker, ending))
+}
+
+/// How a run ended, as these words say: `ok V`.
+fn read_ending(words: &[u8]) -> Option<Ending>
+    ensures { ReadsEnding words.now result }
+{
+    let Some(rest) = strip(words, b"ok ") else {
+        return None;
+    };
+    let Some(value) = read_number(rest) else {
+        return None;
+    };
+    Some(Ending::Value(value))
+}
+
+/// The worker of this number, below 256.
+fn worker_of(number: u64) -> Option<u8>
+    ensures { MatchOption result (2 ^ 8 ≤ number) (λ w. w ≡ number) }
+{
+    if number > 255 {
+        return None;
+    }
+    Some(number as u8)
+}

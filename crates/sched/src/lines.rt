@@ -1,0 +1,26 @@
+ghost use Rattle.std.specs.Prelude.{◌≡◌};
+ghost use Rattle.sched.specs.Lines.{IsFront};
+
+/// What stands at the front of some bytes.
+#[derive(Clone, Copy, Debug, PartialEq, Eq)]
+pub enum Front {
+    /// A line: how many bytes it has before its newline, 0 to 62.
+    Line(usize),
+    /// Less than a line.
+    Part,
+    /// A line of 64 bytes or more with its newline.
+    Long,
+}
+
+/// What stands at the front of the bytes that are held.
+pub fn front_line(held: &[u8]) -> Front
+    ensures { IsFront result held.now }
+{
+    let most = held.len().min(63);
+    for i in 0..most {
+        if held[i] == b'\n' {
+            return Front::Line(i);
+        }
+    }
+    if most < 63 { Front::Part } else { Front::Long }
+}

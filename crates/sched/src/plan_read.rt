@@ -1,0 +1,17 @@
+//! Plan texts, and the plans that they write.
+
+mod faults;
+mod listing;
+mod names;
+mod plans;
+mod reading;
+mod tables;
+
+pub use faults::{PlanFault, PlanFaultKind};
+pub use listing::written_out;
+pub use names::Name;
+pub use plans::{Block, Call, Op, Plan};
+pub use reading::read_plan;
+
+#[cfg(test)]
+mod tests;

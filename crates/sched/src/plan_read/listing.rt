@@ -1,0 +1,77 @@
+//! The calls of a plan.
+
+ghost use Rattle.std.specs.Prelude.{◌≡◌, ℕ, ◌+◌, ◌≤◌, ◌<◌, ◌++◌, length, IfOk};
+ghost use Rattle.sched.specs.PlanCalls.{code_call, tasks_after, tasks_after_calls, calls_of_block, calls_of};
+ghost use Rattle.executor_core.specs.Calls.{IsOrderly, IsOrderlyFrom};
+
+use crate::plan_read::plans::{Block, Call, Op, Plan};
+use executor_core::CodeCall;
+use sched_time::Timing;
+use std::alloc::{AllocError, Allocator};
+
+/// The calls of a plan with their moments, in the order in which they are made.
+///
+/// Submissions are numbered 0, 1, .. in this list. There are at most 65,536
+/// calls, and moments, which do not fall, and delays are at most 2^62
+/// nanoseconds. The only error is want of memory.
+pub fn written_out<A: Allocator>(
+    alloc: A,
+    plan: &Plan,
+) -> Result<Vec<(u64, CodeCall), A>, AllocError>
+    ensures calls { IfOk result (λ v. v.items ≡ calls_of plan.now) }
+    ensures orderly { IfOk result (λ v. IsOrderly v.items) }
+{
+    let mut out = Vec::new(alloc);
+    let blocks = plan.blocks();
+    let mut task = 0;
+    for block in blocks {
+        task = write_block(&mut out, task, block)?;
+    }
+    Ok(out)
+}
+
+/// Appends the calls of a block, where `task` submissions stand before them.
+///
+/// The answer is how many submissions there are then.
+fn write_block<A: Allocator>(
+    out: &mut Vec<(u64, CodeCall), A>,
+    task: u32,
+    block: &Block,
+) -> Result<u32, AllocError>
+    requires moments { (moment : ℕ) × IsOrderlyFrom task moment (calls_of_block block.now.at task block.now.calls) }
+    requires room { task + length block.now.calls ≤ 65536 }
+    ensures calls { IfOk result (λ _. out.new.items ≡ out.old.items ++ calls_of_block block.now.at task block.now.calls) }
+    ensures tasks { IfOk result (λ t. t ≡ tasks_after_calls task block.now.calls) }
+{
+    let at = block.at();
+    let calls = block.calls();
+    let mut task = task;
+    for call in calls {
+        out.push((at + call.at, code_call(task, &call.op)))?;
+        task = tasks_after(task, &call.op);
+    }
+    Ok(task)
+}
+
+/// The call that an operation asks for, where `task` submissions stand before it.
+fn code_call(task: u32, op: &Op) -> CodeCall
+    ensures { result ≡ code_call task op.now }
+{
+    match op {
+        Op::Schedule { delay, .. } => CodeCall::Submit {
+            task,
+            timing: Timing::Once,
+            delay: delay.nanos(),
+        },
+    }
+}
+
+/// How many submissions there are up to and with an operation.
+fn tasks_after(task: u32, op: &Op) -> u32
+    requires { task < 65536 }
+    ensures { result ≡ tasks_after task op.now }
+{
+    match op {
+        Op::Schedule { .. } => task + 1,
+    }
+}

@@ -1,0 +1,107 @@
+//! Plans, as they were read.
+
+ghost use Rattle.std.specs.Prelude.{◌≡◌};
+ghost use Rattle.sched.specs.PlanCalls.{calls_of};
+ghost use Rattle.sched.specs.PlanReading.{IsPlan};
+ghost use Rattle.executor_core.specs.Calls.{IsOrderly};
+
+use crate::plan_read::names::Name;
+use sched_time::Span;
+use std::marker::Model;
+
+/// What a call asks for.
+#[derive(Debug, Drop)]
+pub enum Op {
+    /// A task runs once, after a delay.
+    Schedule {
+        /// Its name, which no other submission of the plan has.
+        name: Name,
+        /// From the call's moment to the task's due moment.
+        delay: Span,
+    },
+}
+
+/// A call of a block.
+#[derive(Debug, Drop)]
+pub struct Call {
+    /// Its offset in the block, 0 to 2^62 nanoseconds.
+    pub at: u64,
+    pub op: Op,
+}
+
+/// A block of calls.
+#[derive(Debug, Drop)]
+pub struct Block {
+    at: u64,
+    calls: Vec<Call>,
+}
+
+impl Model for Block {
+    ghost use Rattle.sched.specs.Plans.{BlockTree};
+
+    ghost Value = { BlockTree };
+
+    ghost view = { λ b. record { at = b.at; calls = b.calls.items } };
+}
+
+impl Block {
+    /// A block at a moment.
+    pub(crate) fn new(at: u64, calls: Vec<Call>) -> Block
+        ensures { result ≡ record { at = at; calls = calls.items } }
+    {
+        Block { at, calls }
+    }
+
+    /// The moment from which its calls are counted, in nanoseconds.
+    pub fn at(&self) -> u64
+        ensures { result ≡ self.now.at }
+    {
+        self.at
+    }
+
+    /// Its calls in the order of the text.
+    pub fn calls(&self) -> &[Call]
+        ensures { result.now ≡ self.now.calls }
+    {
+        self.calls.as_slice()
+    }
+}
+
+/// What a plan text writes: blocks of calls, which are made in order.
+#[derive(Debug, Drop)]
+pub struct Plan {
+    blocks: Vec<Block>,
+}
+
+impl Model for Plan {
+    ghost use Rattle.sched.specs.Plans.{PlanTree};
+    ghost use Rattle.sched.specs.PlanReading.{IsPlan};
+    ghost use Rattle.sched.specs.PlanCalls.{calls_of};
+    ghost use Rattle.executor_core.specs.Calls.{IsOrderly};
+
+    ghost Value = { PlanTree };
+
+    ghost view = { λ p. p.blocks.items };
+
+    ghost invariant = { λ p. IsPlan p.blocks.items × IsOrderly (calls_of p.blocks.items) };
+}
+
+impl Plan {
+    /// A plan of these blocks.
+    pub(crate) fn new(blocks: Vec<Block>) -> Plan
+        requires written { IsPlan blocks.items }
+        requires orderly { IsOrderly (calls_of blocks.items) }
+        ensures { result ≡ blocks.items }
+    {
+        Plan { blocks }
+    }
+
+    /// Its blocks in the order of the text.
+    pub fn blocks(&self) -> &[Block]
+        ensures blocks { result.now ≡ self.now }
+        ensures written { IsPlan self.now }
+        ensures orderly { IsOrderly (calls_of self.now) }
+    {
+        self.blocks.as_slice()
+    }
+}

@@ -1,0 +1,305 @@
+//! Plans from their texts.
+
+ghost use Rattle.std.specs.Prelude.{◌≡◌, ◌≢◌, ◌≤◌, true, length, [], ◌∷◌, option_map, IfOk, IfErr, Ok, Err};
+ghost use Rattle.toml.specs.View.{view, table_view, items_view};
+ghost use Rattle.sched_time.specs.Times.{longest};
+ghost use Rattle.sched.specs.Plans.{IsCallFrom, AreCallsFrom};
+ghost use Rattle.sched.specs.PlanCalls.{calls_of};
+ghost use Rattle.executor_core.specs.Calls.{IsOrderly};
+ghost use Rattle.sched.specs.PlanReading.{expect, top, tree_of, Gives, plan_of_text, top_of, blocks_of, block_of, header_of, calls_after, call_of, fields_of, op_of, nanos_at, tables_of, integer_or_zero, last_offset, is_taken, has_name, field_values};
+ghost use Rattle.sched.specs.declared.plan_read.faults.PlanFaultKind.TheVariants as kinds;
+
+use crate::plan_read::faults::{Place, PlanFault, PlanFaultKind, Stop};
+use crate::plan_read::names::{Name, is_name};
+use crate::plan_read::plans::{Block, Call, Op, Plan};
+use crate::plan_read::tables::{
+    are_tables, has_block_keys, has_plan_keys, has_schedule_keys, member,
+};
+use sched_time::{Span, Unit, span};
+use std::alloc::Global;
+use toml::value::Array;
+use toml::{Table, Value};
+
+/// The values of a `schedule`'s keys.
+#[derive(Clone, Copy)]
+pub struct Fields<'a> {
+    pub name: &'a str,
+    pub delay: i64,
+    pub at: i64,
+}
+
+/// The operation is there, and it is `schedule`.
+#[tactic(auto, unfolding(crate::specs::PlanReading::op_of))]
+fn read_op(place: Place, table: &Table) -> Result<(), Stop>
+    ensures { Gives (λ _. true) result (op_of place (table_view table.now)) }
+{
+    let Some(op) = member(table, "op") else {
+        return Err(place.stop(PlanFaultKind::Missing));
+    };
+    match op.as_str() {
+        Some("schedule") => Ok(()),
+        _ => Err(place.stop(PlanFaultKind::WrongType)),
+    }
+}
+
+/// The values of a `schedule`'s keys.
+#[tactic(auto, unfolding(crate::specs::PlanReading::fields_of))]
+fn read_fields<'a>(place: Place, table: &'a Table) -> Result<Fields<'a>, Stop>
+    ensures { Gives field_values result (fields_of place (table_view table.now)) }
+{
+    if !has_schedule_keys(table) {
+        return Err(place.stop(PlanFaultKind::UnknownKey));
+    }
+    let Some(name) = member(table, "name") else {
+        return Err(place.stop(PlanFaultKind::Missing));
+    };
+    let Some(delay) = member(table, "delay") else {
+        return Err(place.stop(PlanFaultKind::Missing));
+    };
+    let Some(name) = name.as_str() else {
+        return Err(place.stop(PlanFaultKind::WrongType));
+    };
+    let Some(delay) = delay.as_integer() else {
+        return Err(place.stop(PlanFaultKind::WrongType));
+    };
+    let at = integer_or_zero(place, member(table, "at"))?;
+    Ok(Fields { name, delay, at })
+}
+
+/// The integer, or 0 where there is no value.
+fn integer_or_zero(place: Place, value: Option<&Value>) -> Result<i64, Stop>
+    ensures { Gives (λ z. z) result (integer_or_zero place (option_map (λ v. view v.now) value.entry)) }
+{
+    let Some(value) = value else {
+        return Ok(0);
+    };
+    match value.as_integer() {
+        Some(number) => Ok(number),
+        None => Err(place.stop(PlanFaultKind::WrongType)),
+    }
+}
+
+/// The nanoseconds of a number of units.
+fn read_nanos(place: Place, value: i64, unit: Unit) -> Result<Span, Stop>
+    ensures span { Gives (λ s. s) result (nanos_at place value unit) }
+    ensures short { IfOk result (λ s. s ≤ longest) }
+{
+    match span(value, unit) {
+        Ok(span) => Ok(span),
+        Err(_) => Err(place.stop(PlanFaultKind::TooLarge)),
+    }
+}
+
+/// The tables of an array, where the value is one; no tables where there is no value.
+#[tactic(auto, unfolding(crate::specs::PlanReading::tables_of))]
+fn read_tables<'a>(place: Place, value: Option<&'a Value>) -> Result<&'a [Value], Stop>
+    ensures { Gives (λ vs. items_view vs.now) result (tables_of place (option_map (λ v. view v.now) value.entry)) }
+{
+    let Some(value) = value else {
+        return Ok(&[]);
+    };
+    match value.as_array() {
+        Some(array) if are_tables(array) => Ok(array.as_slice()),
+        _ => Err(place.stop(PlanFaultKind::WrongType)),
+    }
+}
+
+/// Whether one of the calls is a submission of this name.
+fn is_taken(name: &str, calls: &[Call]) -> bool
+    ensures { result ≡ is_taken name.now calls.now }
+{
+    calls.iter().any(|call| has_name(name, &call.op))
+}
+
+fn has_name(text: &str, op: &Op) -> bool
+    ensures { result ≡ has_name text.now op.now }
+{
+    match op {
+        Op::Schedule { name, .. } => name.as_str() == text,
+    }
+}
+
+/// The offset of the last call, 0 where there is none.
+fn last_offset(calls: &[Call]) -> u64
+    ensures { result ≡ last_offset calls.now }
+{
+    match calls {
+        [] => 0,
+        [.., last] => last.at,
+    }
+}
+
+/// The call that a table writes, after the calls before it in its block.
+#[tactic(auto, unfolding(crate::specs::PlanReading::call_of))]
+fn read_call(alloc: Global, place: Place, before: &[Call], table: &Table) -> Result<Call, Stop>
+    ensures call { Gives (λ c. c) result (call_of place before.now (table_view table.now)) }
+    ensures after { IfOk result (λ c. IsCallFrom (last_offset before.now) c) }
+{
+    read_op(place, table)?;
+    let fields = read_fields(place, table)?;
+    if !is_name(fields.name) {
+        return Err(place.stop(PlanFaultKind::BadName));
+    }
+    if is_taken(fields.name, before) {
+        return Err(place.stop(PlanFaultKind::DuplicateName));
+    }
+    if fields.at < 0 {
+        return Err(place.stop(PlanFaultKind::Negative));
+    }
+    let at = read_nanos(place, fields.at, Unit::Ns)?.nanos();
+    let delay = read_nanos(place, fields.delay, Unit::Ns)?;
+    if at < last_offset(before) {
+        return Err(place.stop(PlanFaultKind::OutOfOrder));
+    }
+    let name = Name::new(alloc, fields.name)?;
+    Ok(Call {
+        at,
+        op: Op::Schedule { name, delay },
+    })
+}
+
+/// The tables of a block's calls.
+#[tactic(auto, using(crate::proofs::Tables::count_is_length), unfolding(crate::specs::PlanReading::header_of))]
+fn read_header<'a>(block: u32, table: &'a Table) -> Result<&'a [Value], Stop>
+    ensures tables { Gives (λ vs. items_view vs.now) result (header_of block (table_view table.now)) }
+    ensures few { IfOk result (λ vs. length vs.now ≤ 256) }
+{
+    let place = Place::header(block);
+    if !has_block_keys(table) {
+        return Err(place.stop(PlanFaultKind::UnknownKey));
+    }
+    let calls = read_tables(place, member(table, "call"))?;
+    if calls.len() > 256 {
+        return Err(place.stop(PlanFaultKind::TooMany));
+    }
+    Ok(calls)
+}
+
+/// The calls that the tables of a block write.
+fn read_calls(alloc: Global, block: u32, tables: &[Value]) -> Result<Vec<Call>, Stop>
+    requires { length tables.now ≤ 256 }
+    ensures calls { Gives (λ v. v.items) result (calls_after block [] (items_view tables.now)) }
+    ensures few { IfOk result (λ v. length v.items ≤ 256) }
+    ensures ordered { IfOk result (λ v. AreCallsFrom 0 v.items) }
+{
+    let mut calls = Vec::new(alloc);
+    for (index, value) in tables.iter().enumerate() {
+        let Some(table) = value.as_table() else {
+            return Err(Place::header(block).stop(PlanFaultKind::WrongType));
+        };
+        let place = Place {
+            block,
+            call: index as u32 + 1,
+        };
+        let call = read_call(alloc, place, calls.as_slice(), table)?;
+        calls.push(call)?;
+    }
+    Ok(calls)
+}
+
+/// The block that a table writes.
+#[tactic(auto, unfolding(crate::specs::PlanReading::block_of))]
+fn read_block(alloc: Global, block: u32, value: &Value) -> Result<Block, Stop>
+    ensures block { Gives (λ b. b) result (block_of block (view value.now)) }
+    ensures orderly { IfOk result (λ b. IsOrderly (calls_of (b ∷ []))) }
+{
+    let Some(table) = value.as_table() else {
+        return Err(Place::top().stop(PlanFaultKind::WrongType));
+    };
+    let tables = read_header(block, table)?;
+    let calls = read_calls(alloc, block, tables)?;
+    Ok(Block::new(0, calls))
+}
+
+/// The blocks that the tables write.
+#[tactic(auto, unfolding(crate::specs::PlanReading::blocks_of))]
+fn read_blocks(alloc: Global, tables: &[Value]) -> Result<Vec<Block>, Stop>
+    requires { length tables.now ≤ 1 }
+    ensures plan { Gives (λ v. v.items) result (blocks_of (items_view tables.now)) }
+    ensures orderly { IfOk result (λ v. IsOrderly (calls_of v.items)) }
+{
+    let mut blocks = Vec::new(alloc);
+    if let [value, ..] = tables {
+        let block = read_block(alloc, 1, value)?;
+        blocks.push(block)?;
+    }
+    Ok(blocks)
+}
+
+/// The tables of the blocks.
+#[tactic(auto, using(crate::proofs::Tables::count_is_length), unfolding(crate::specs::PlanReading::top_of))]
+fn read_top(table: &Table) -> Result<&[Value], Stop>
+    ensures tables { Gives (λ vs. items_view vs.now) result (top_of (table_view table.now)) }
+    ensures few { IfOk result (λ vs. length vs.now ≤ 1) }
+{
+    let place = Place::top();
+    let Some(version) = member(table, "version") else {
+        return Err(place.stop(PlanFaultKind::Version));
+    };
+    match version.as_integer() {
+        Some(number) if number == 1 => {}
+        _ => return Err(place.stop(PlanFaultKind::Version)),
+    }
+    if !has_plan_keys(table) {
+        return Err(place.stop(PlanFaultKind::UnknownKey));
+    }
+    let blocks = read_tables(place, member(table, "block"))?;
+    if blocks.len() > 1 {
+        return Err(place.stop(PlanFaultKind::TooMany));
+    }
+    Ok(blocks)
+}
+
+/// The tree of a text.
+fn read_tree(alloc: Global, text: &[u8]) -> Result<Table, Stop>
+    ensures { Gives (λ t. table_view t) result (expect top (tree_of text.now) kinds.Toml) }
+{
+    match toml::table_from_slice(alloc, text) {
+        Ok(table) => Ok(table),
+        Err(error) => {
+            if error.is_memory() {
+                return Err(Stop::Memory);
+            }
+            Err(Place::top().stop(PlanFaultKind::Toml))
+        }
+    }
+}
+
+/// The plan that a text writes.
+#[tactic(auto, unfolding(crate::specs::PlanReading::plan_of_text, crate::specs::PlanReading::plan_of_tree))]
+fn read_text(alloc: Global, text: &[u8]) -> Result<Plan, Stop>
+    ensures { Gives (λ p. p) result (plan_of_text text.now) }
+{
+    if text.len() > 1_048_576 {
+        return Err(Place::top().stop(PlanFaultKind::TooLong));
+    }
+    let tree = read_tree(alloc, text)?;
+    let tables = read_top(&tree)?;
+    let blocks = read_blocks(alloc, tables)?;
+    Ok(Plan::new(blocks))
+}
+
+/// The plan that a text writes, or the first fault of the text.
+///
+/// A plan is a TOML document in UTF-8 of at most 1,048,576 bytes with the key
+/// `version`, which is 1, and at most one table `block`. Its `call` is an array
+/// of at most 256 tables, each with `op = "schedule"`, a `name`, a `delay` and
+/// an offset `at` (0 if it is left out), both in nanoseconds.
+///
+/// The fault is the first one that is met, text, top, header, then call by call.
+/// [`PlanFaultKind::Memory`] may come in place of any other answer, and says
+/// nothing of the text; it has block 0 and call 0.
+pub fn read_plan(alloc: Global, text: &[u8]) -> Result<Plan, PlanFault>
+    ensures plan { IfOk result (λ p. plan_of_text text.now ≡ Ok p) }
+    ensures fault { IfErr result (λ e. e.kind ≢ kinds.Memory → plan_of_text text.now ≡ Err e) }
+{
+    match read_text(alloc, text) {
+        Ok(plan) => Ok(plan),
+        Err(Stop::Fault(fault)) => Err(fault),
+        Err(Stop::Memory) => Err(PlanFault {
+            kind: PlanFaultKind::Memory,
+            block: 0,
+            call: 0,
+        }),
+    }
+}

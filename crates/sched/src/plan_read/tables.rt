@@ -1,0 +1,88 @@
+//! What a TOML table holds.
+
+ghost use Rattle.std.specs.List.{list_all};
+ghost use Rattle.std.specs.BTreeMap.{keys};
+ghost use Rattle.std.specs.Prelude.{◌≡◌, string_bytes, option_map, is_some};
+ghost use Rattle.toml.specs.Data.{get_member, as_table};
+ghost use Rattle.toml.specs.View.{view, table_view, array_view};
+ghost use Rattle.sched.specs.PlanReading.{has_only, is_plan_key, is_block_key, is_schedule_key, are_tables};
+
+use toml::value::Array;
+use toml::{Table, Value};
+
+/// The value at a key.
+pub fn member<'a>(table: &'a Table, key: &str) -> Option<&'a Value>
+    ensures { option_map (λ v. view v.now) result ≡ get_member key.now (table_view table.now) }
+{
+    table.get(key)
+}
+
+/// Whether a plan's top has no other keys than its own.
+pub fn has_plan_keys(table: &Table) -> bool
+    ensures { result ≡ has_only is_plan_key (table_view table.now) }
+{
+    each_is_plan_key(table)
+}
+
+fn each_is_plan_key(table: &Table) -> bool
+    ensures { result ≡ list_all (λ key. is_plan_key (string_bytes key)) (keys table.now) }
+{
+    table.keys().all(|key| is_plan_key(key.as_str()))
+}
+
+/// Whether a block's header has no other keys than its own.
+pub fn has_block_keys(table: &Table) -> bool
+    ensures { result ≡ has_only is_block_key (table_view table.now) }
+{
+    each_is_block_key(table)
+}
+
+fn each_is_block_key(table: &Table) -> bool
+    ensures { result ≡ list_all (λ key. is_block_key (string_bytes key)) (keys table.now) }
+{
+    table.keys().all(|key| is_block_key(key.as_str()))
+}
+
+/// Whether a `schedule` has no other keys than its own.
+pub fn has_schedule_keys(table: &Table) -> bool
+    ensures { result ≡ has_only is_schedule_key (table_view table.now) }
+{
+    each_is_schedule_key(table)
+}
+
+fn each_is_schedule_key(table: &Table) -> bool
+    ensures { result ≡ list_all (λ key. is_schedule_key (string_bytes key)) (keys table.now) }
+{
+    table.keys().all(|key| is_schedule_key(key.as_str()))
+}
+
+fn is_plan_key(key: &str) -> bool
+    ensures { result ≡ is_plan_key key.now }
+{
+    key == "version" || key == "block"
+}
+
+fn is_block_key(key: &str) -> bool
+    ensures { result ≡ is_block_key key.now }
+{
+    key == "call"
+}
+
+fn is_schedule_key(key: &str) -> bool
+    ensures { result ≡ is_schedule_key key.now }
+{
+    key == "op" || key == "at" || key == "name" || key == "delay"
+}
+
+/// Whether each item of an array is a table.
+pub fn are_tables(array: &Array) -> bool
+    ensures { result ≡ are_tables (array_view array.now) }
+{
+    each_is_table(array.as_slice())
+}
+
+fn each_is_table(values: &[Value]) -> bool
+    ensures { result ≡ list_all (λ value. is_some (as_table (view value))) values.now }
+{
+    values.iter().all(|value| value.is_table())
+}
