@@ -1,0 +1,286 @@
+-- The steps of the core's seat keep the rule.
+use Rattle.std.proofs.Common.{◌≡◌, ℕ, ◌+◌, ◌<◌, ◌≤◌, ◌≢◌, ◌==◌, suc, Bool, true, false, ◌&&◌, ◌⊎◌, inl, inr, List, [], ◌∷◌, length, set, slice_index, refl, sym, ap, subst, ◌∙◌, arith, length-set, bit_or}
+use Rattle.std.proofs.lemmas.List.Sums.{sum_by-cons}
+use mathlib.Core.Option.{some, some-injective, some-ne-none}
+use lib.ListN.{get_elem?}
+use prog.Atomic.{either}
+use Rattle.atomic_table.specs.Table.{State, Act, keeps, Allows, Valid, stepped, carried_after}
+use Rattle.atomic_table.proofs.Lists.{at_set, set_here, exchanged}
+use Rattle.task_word.specs.Words.{Parts, IsWord, bit, value, marked, is_live, is_cancelled, rank, rank_in, new_in}
+use Rattle.task_word.specs.Views.{entry, times, wins, and_if, core_of, with_entry, core_cancelled, MeetsEntry}
+use Rattle.task_word.specs.Rule.{word_of, word_at, Matches, flag, taken_by, is_handle, EntriesFit, HasMet, taken_in_all, handles, IsKept}
+use Rattle.task_word.specs.Steps.{Holder, AtTask, CoreIs, Submitted, Moved, Tells, CoreMeets, CoreCancelled, CoreLooked}
+use Rattle.task_word.specs.declared.phases.Phase.TheVariants.{Vacant}
+use Rattle.task_word.specs.declared.views.CoreView.{CoreView}
+use Rattle.task_word.specs.declared.views.View.{View}
+use Rattle.task_word.specs.declared.views.View.TheVariants.{Core, Handle, Spent}
+use Rattle.task_word.proofs.Numbers.{reads_back, marked_word, meets, reads_word, reads_number, or_marks}
+use Rattle.task_word.proofs.Lists.{sum_set, sum_part}
+use Rattle.task_word.proofs.Keeping.{met_after, once_after, entries_after, and_if_same, and_if_other, times_append, wins_count, marked_stays}
+
+-- the view that a core's view is
+pub core_same : (v w : CoreView) → some (Core v) ≡ some (Core w) → v ≡ w
+core_same v w e = ap core_of (some-injective _ _ e)
+
+-- a seat whose view is the core's is the core's
+abbrev pub is_core : View → Bool
+is_core (Core v) = true
+is_core (Handle h) = false
+is_core Spent = false
+
+pub not_core : (v : View) (w : CoreView) → is_core v ≡ false → v ≢ Core w
+not_core v w e same = let f : true ≡ false = sym (ap is_core same) ∙ e in grind (arith)
+
+-- what the rule says of the core's entries
+pub fits : (n : ℕ) (words : List ℕ) (views : List View) (v : CoreView) → IsKept n words views → get_elem? views 0 ≡ some (Core v) → EntriesFit n words v.entries
+fits n words views v kept at = subst (λ (u : CoreView). EntriesFit n words u.entries) (core_same _ _ (sym kept.core.1 ∙ at)) kept.core.2
+
+pub out_is : (n : ℕ) (words : List ℕ) (views : List View) (v : CoreView) → IsKept n words views → get_elem? views 0 ≡ some (Core v) → v.out ≡ handles views
+out_is n words views v kept at = subst (λ (u : CoreView). u.out ≡ handles views) (core_same _ _ (sym kept.core.1 ∙ at)) kept.core.3
+
+pub out_most : (n : ℕ) (words : List ℕ) (views : List View) (v : CoreView) → IsKept n words views → get_elem? views 0 ≡ some (Core v) → v.out ≤ 63
+out_most n words views v kept at = subst (λ (u : CoreView). u.out ≤ 63) (core_same _ _ (sym kept.core.1 ∙ at)) kept.core.4
+
+pub in_views : (views : List View) (v : View) → get_elem? views 0 ≡ some v → 0 < length views
+in_views [] v at = absurd (some-ne-none v (sym at))
+in_views (u ∷ us) v at = omega arith
+
+-- a step of the core keeps the rule: the word of the task k becomes x, its entry e, and the core's own list goes along
+pub core_keeps : (n k x : ℕ) (words : List ℕ) (views : List View) (v : CoreView) (e : Parts) (own : List ℕ) → IsKept n words views → get_elem? views 0 ≡ some (Core v) → k < n
+    → IsWord e → Matches x e
+    → times k own + flag (is_cancelled (word_at words k)) ≡ times k v.own + flag (is_cancelled (word_of x))
+    → ((j : ℕ) → j ≢ k → times j own ≡ times j v.own)
+    → rank (word_at words k) ≤ rank (word_of x) → (is_cancelled (word_at words k) ≡ true → is_cancelled (word_of x) ≡ true)
+    → IsKept n (set words (k + 1) x) (set views 0 (Core record { entries = set v.entries k e; own = own; joined = v.joined; ranks = v.ranks; out = v.out }))
+core_keeps n k x words views v e own kept at in_n is fit here there up stays =
+    let w : CoreView = record { entries = set v.entries k e; own = own; joined = v.joined; ranks = v.ranks; out = v.out } in
+    let lt : k + 1 < length words = omega (arith, kept.count) in
+    let met : HasMet n words (Core v) = kept.met 0 (Core v) at in
+    record {
+      count = length-set words (k + 1) x ∙ kept.count;
+      core = (
+        w,
+        set_here views 0 (Core w) (in_views views (Core v) at),
+        entries_after n k x words v.entries e lt in_n is fit (fits n words views v kept at),
+        (let s = sum_set is_handle views 0 (Core v) (Core w) at in omega (arith, s, out_is n words views v kept at)),
+        out_most n words views v kept at,
+      );
+      only = λ id u there'. elim (at_set views 0 id (Core w) (Core u) there') [ inl same ↦ same.0 | inr other ↦ kept.only id u other.1 ];
+      once = once_after n k x 0 words views (Core v) (Core w) lt in_n at
+          (omega (arith, times_append k own v.joined, times_append k v.own v.joined, here))
+          (λ j other. let t = there j other in omega (arith, times_append j own v.joined, times_append j v.own v.joined, t))
+          kept.once;
+      met = λ id u there'. elim (at_set views 0 id (Core w) u there') [
+        | inl same ↦ subst (HasMet n (set words (k + 1) x)) same.1 (met_after n k x words (Core w) lt in_n up stays record { ranks = met.ranks; seen = met.seen })
+        | inr other ↦ met_after n k x words u lt in_n up stays (kept.met id u other.1)
+      ];
+    }
+
+-- a fact about the seat 0 with the view v is one about the seat whose number and view these are
+pub seat_is : (P : ℕ → Holder → Type 0) (id : ℕ) (me : Holder) → id ≡ 0 → me.0 ≡ Core (core_of me.0) → P 0 (Core (core_of me.0), me.1) → P id me
+seat_is P id me zero_id core p = subst (λ (i : ℕ). P i me) (sym zero_id) (subst (P 0) (λ i. (sym core i, me.1)) p)
+
+pub at_task : (k : ℕ) (P : ℕ → Type 0) → P k → AtTask (k + 1) P
+at_task k P p = λ j e. let same : k ≡ j = omega arith in subst P same p
+
+-- the rule of n tasks
+abbrev pub Rule : ℕ → State (Unit {0}) View → Type 0
+Rule n s = IsKept n s.words s.views
+
+vacant_free : (w : Parts) → w.phase ≡ Vacant → is_cancelled w ≡ false
+vacant_free w e = ap (λ p. is_live p && w.marked) e
+
+vacant_rank : (w : Parts) → w.phase ≡ Vacant → rank w ≡ 0
+vacant_rank w e = ap (λ p. rank_in p w.run) e
+
+met_phase : (e w : Parts) → MeetsEntry e w → w.phase ≡ e.phase
+met_phase e w (inl same) = ap (λ p. p.phase) same
+met_phase e w (inr cut) = ap (λ p. p.phase) cut
+
+met_run : (e w : Parts) → MeetsEntry e w → w.run ≡ e.run
+met_run e w (inl same) = ap (λ p. p.run) same
+met_run e w (inr cut) = ap (λ p. p.run) cut
+
+-- a submission keeps the rule
+pub submits : (n slots id k : ℕ) (me : Holder) → id ≡ 0 → me.0 ≡ Core (core_of me.0) → k < n → (entry (core_of me.0) k).phase ≡ Vacant
+    → Allows {S = Unit {0}} (Rule n) slots id me (k + 1) (λ _. value (new_in 0)) (λ _ next. Submitted (k + 1) me next)
+submits n slots id k me zero_id core in_n phase =
+    seat_is (λ i m. Allows {S = Unit {0}} (Rule n) slots i m (k + 1) (λ _. value (new_in 0)) (λ _ next. Submitted (k + 1) m next)) id me zero_id core
+    (λ s kept homes at bound. (
+      Core (with_entry (core_of me.0) k (new_in 0)),
+      keeps,
+      tt,
+      submit_keeps n k s.words s.views (core_of me.0) kept at in_n phase,
+      at_task k (λ j. CoreIs (with_entry (core_of me.0) j (new_in 0)) (Core (core_of me.0), me.1) (Core (with_entry (core_of me.0) k (new_in 0)), me.1)) refl,
+    ))
+  where
+    submit_keeps : (n k : ℕ) (words : List ℕ) (views : List View) (v : CoreView) → IsKept n words views → get_elem? views 0 ≡ some (Core v) → k < n → (entry v k).phase ≡ Vacant
+        → IsKept n (set words (k + 1) (value (new_in 0))) (set views 0 (Core (with_entry v k (new_in 0))))
+    submit_keeps n k words views v kept at in_n phase =
+        let f = fits n words views v kept at in
+        let is = f.word k in_n in
+        let w : Parts = word_at words k in
+        let m : MeetsEntry (entry v k) w = meets _ (entry v k) is (f.each k in_n) in
+        let was : w.phase ≡ Vacant = met_phase (entry v k) w m ∙ phase in
+        let free : is_cancelled w ≡ false = vacant_free w was in
+        let low : rank w ≡ 0 = vacant_rank w was in
+        let fresh : IsWord (new_in 0) = record { vacant = λ e. refl; run = omega arith } in
+        let read : word_of (value (new_in 0)) ≡ new_in 0 = reads_back (new_in 0) fresh in
+        let live : is_cancelled (word_of (value (new_in 0))) ≡ false = ap is_cancelled read in
+        core_keeps n k (value (new_in 0)) words views v (new_in 0) v.own kept at in_n fresh (inl refl)
+        (ap (λ b. times k v.own + flag b) (free ∙ sym live))
+        (λ j other. refl)
+        (omega (arith, low))
+        (λ e. let f' : true ≡ false = sym e ∙ free in grind (arith))
+
+-- the exchange that finds what it expected keeps the rule
+exchange_keeps : (n k new : ℕ) (next : Parts) (words : List ℕ) (views : List View) (v : CoreView) → IsKept n words views → get_elem? views 0 ≡ some (Core v) → k < n
+    → is_cancelled (entry v k) ≡ false → slice_index words (k + 1) ≡ value (entry v k) → new ≡ value next → (IsWord (entry v k) → IsWord next)
+    → rank (entry v k) ≤ rank next → is_cancelled next ≡ false
+    → IsKept n (set words (k + 1) new) (set views 0 (Core (with_entry v k (word_of new))))
+exchange_keeps n k new next words views v kept at in_n live found is_new word up free =
+    let f = fits n words views v kept at in
+    let is = f.word k in_n in
+    let read : word_of new ≡ next = ap word_of is_new ∙ reads_back next (word is) in
+    let was : word_at words k ≡ entry v k = ap word_of found ∙ reads_back (entry v k) is in
+    let still : is_cancelled (word_at words k) ≡ false = ap is_cancelled was ∙ live in
+    let after : is_cancelled (word_of new) ≡ false = ap is_cancelled read ∙ free in
+    core_keeps n k new words views v (word_of new) v.own kept at in_n (subst IsWord (sym read) (word is)) (inl (is_new ∙ ap value (sym read)))
+    (ap (λ b. times k v.own + flag b) (still ∙ sym after))
+    (λ j other. refl)
+    (omega (arith, ap rank was, ap rank read, up))
+    (λ e. let f' : true ≡ false = sym e ∙ still in grind (arith))
+
+-- a load of the core's keeps the rule, whatever word of the entry's it takes over
+load_keeps : (n k : ℕ) (words : List ℕ) (views : List View) (v : CoreView) (e : Parts) → IsKept n words views → get_elem? views 0 ≡ some (Core v) → k < n
+    → IsWord e → Matches (slice_index words (k + 1)) e
+    → IsKept n (set words (k + 1) (slice_index words (k + 1))) (set views 0 (Core (with_entry v k e)))
+load_keeps n k words views v e kept at in_n is fit =
+    core_keeps n k (slice_index words (k + 1)) words views v e v.own kept at in_n is fit refl (λ j other. refl) (omega arith) (λ e. e)
+
+-- a failed exchange met the bit
+met_bit : (x : ℕ) (e : Parts) → Matches x e → x ≢ value e → x ≡ value (marked e)
+met_bit x e (inl same) other = absurd (other same)
+met_bit x e (inr cut) other = cut
+
+move_either : (n slots k old new : ℕ) (next : Parts) (v : CoreView) (xs : List (ℕ × Unit {0})) → k < n
+    → is_cancelled (entry v k) ≡ false → old ≡ value (entry v k) → new ≡ value next → (IsWord (entry v k) → IsWord next)
+    → rank (entry v k) ≤ rank next → is_cancelled next ≡ false
+    → Allows {S = Unit {0}} (Rule n) slots 0 (Core v, xs) (k + 1) (λ x. either (x == old) new x) (Moved (k + 1) old new (Core v, xs))
+move_either n slots k old new next v xs in_n live is_old is_new word up free s kept homes at bound =
+    let x : ℕ = slice_index s.words (k + 1) in
+    let f = fits n s.words s.views v kept at in
+    let is = f.word k in_n in
+    exchanged x old new
+    (λ y. (w : View) × (a : Act (Unit {0})) × Valid s.homes xs a × Rule n (stepped s (k + 1) y 0 xs w a) × Moved (k + 1) old new (Core v, xs) x (w, carried_after xs a))
+    (λ hit. (
+      Core (with_entry v k (word_of new)),
+      keeps,
+      tt,
+      exchange_keeps n k new next s.words s.views v kept at in_n live (hit ∙ is_old) is_new word up free,
+      at_task k (λ j. ((x ≡ old) × CoreIs (with_entry v j (word_of new)) (Core v, xs) (Core (with_entry v k (word_of new)), xs)) ⊎ ((x ≢ old) × CoreIs (with_entry v j (marked (entry v j))) (Core v, xs) (Core (with_entry v k (word_of new)), xs))) (inl (hit, refl)),
+    ))
+    (λ miss. (
+      Core (with_entry v k (marked (entry v k))),
+      keeps,
+      tt,
+      load_keeps n k s.words s.views v (marked (entry v k)) kept at in_n (marked_word (entry v k) is) (inl (met_bit x (entry v k) (f.each k in_n) (λ e. miss (e ∙ sym is_old)))),
+      at_task k (λ j. ((x ≡ old) × CoreIs (with_entry v j (word_of new)) (Core v, xs) (Core (with_entry v k (marked (entry v k))), xs)) ⊎ ((x ≢ old) × CoreIs (with_entry v j (marked (entry v j))) (Core v, xs) (Core (with_entry v k (marked (entry v k))), xs))) (inr (miss, refl)),
+    ))
+
+-- an exchange of the core's keeps the rule, and where it fails it met the bit
+pub moves : (n slots id k old new : ℕ) (next : Parts) (me : Holder) → id ≡ 0 → me.0 ≡ Core (core_of me.0) → k < n
+    → is_cancelled (entry (core_of me.0) k) ≡ false → old ≡ value (entry (core_of me.0) k) → new ≡ value next
+    → (IsWord (entry (core_of me.0) k) → IsWord next) → rank (entry (core_of me.0) k) ≤ rank next → is_cancelled next ≡ false
+    → Allows {S = Unit {0}} (Rule n) slots id me (k + 1) (λ x. either (x == old) new x) (Moved (k + 1) old new me)
+moves n slots id k old new next me zero_id core in_n live is_old is_new word up free =
+    seat_is (λ i m. Allows {S = Unit {0}} (Rule n) slots i m (k + 1) (λ x. either (x == old) new x) (Moved (k + 1) old new m)) id me zero_id core
+    (move_either n slots k old new next (core_of me.0) me.1 in_n live is_old is_new word up free)
+
+-- while no handle is out, what is taken is the core's
+none_taken : (k : ℕ) (views : List View) → handles views ≡ 0 → ((id : ℕ) (u : CoreView) → get_elem? views id ≢ some (Core u)) → taken_in_all k views ≡ 0
+none_taken k [] none others = refl
+none_taken k (Core u ∷ us) none others = absurd (others 0 u refl)
+none_taken k (Handle h ∷ us) none others = absurd (omega (arith, none, sum_by-cons is_handle (Handle h) us))
+none_taken k (Spent ∷ us) none others =
+    let rest = none_taken k us (omega (arith, none, sum_by-cons is_handle Spent us)) (λ id u e. others (suc id) u e) in
+    omega (arith, sum_by-cons (λ v. times k (taken_by v)) Spent us, rest)
+
+alone_taken : (k : ℕ) (views : List View) (v : CoreView) → get_elem? views 0 ≡ some (Core v) → handles views ≡ 0 → ((id : ℕ) (u : CoreView) → get_elem? views id ≡ some (Core u) → id ≡ 0)
+    → taken_in_all k views ≡ times k (taken_by (Core v))
+alone_taken k [] v at none only = absurd (some-ne-none _ (sym at))
+alone_taken k (u ∷ us) v at none only =
+    let same : u ≡ Core v = some-injective _ _ at in
+    let rest = none_taken k us (omega (arith, none, sum_by-cons is_handle u us)) (λ id w e. absurd (let z : suc id ≡ 0 = only (suc id) w e in omega arith)) in
+    omega (arith, sum_by-cons (λ w. times k (taken_by w)) u us, rest, ap (λ w. times k (taken_by w)) same)
+
+-- what the rule tells the core of a word that it met
+pub tells : (n k : ℕ) (words : List ℕ) (views : List View) (v : CoreView) → IsKept n words views → get_elem? views 0 ≡ some (Core v) → k < n → Tells v k (word_at words k)
+tells n k words views v kept at in_n =
+    let all = kept.once k in_n in
+    let both = times_append k v.own v.joined in
+    record {
+      once = (let part = sum_part (λ u. times k (taken_by u)) views 0 (Core v) at in omega (arith, all, both, part));
+      alone = λ none. omega (arith, all, both, alone_taken k views v at (sym (out_is n words views v kept at) ∙ none) kept.only);
+      met = (kept.met 0 (Core v) at).ranks k in_n;
+    }
+
+core_meets : (n k : ℕ) (words : List ℕ) (views : List View) (v : CoreView) → IsKept n words views → get_elem? views 0 ≡ some (Core v) → k < n → CoreMeets v k (slice_index words (k + 1))
+core_meets n k words views v kept at in_n =
+    let f = fits n words views v kept at in
+    let is = f.word k in_n in
+    record {
+      word = reads_word _ (entry v k) is (f.each k in_n);
+      number = reads_number _ (entry v k) is (f.each k in_n);
+      meets = meets _ (entry v k) is (f.each k in_n);
+      tells = tells n k words views v kept at in_n;
+    }
+
+-- a load of the core's keeps the rule
+pub core_looks : (n slots id k : ℕ) (me : Holder) → id ≡ 0 → me.0 ≡ Core (core_of me.0) → k < n
+    → Allows {S = Unit {0}} (Rule n) slots id me (k + 1) (λ x. x) (CoreLooked (k + 1) me)
+core_looks n slots id k me zero_id core in_n =
+    seat_is (λ i m. Allows {S = Unit {0}} (Rule n) slots i m (k + 1) (λ x. x) (CoreLooked (k + 1) m)) id me zero_id core
+    (λ s kept homes at bound.
+    let v : CoreView = core_of me.0 in
+    let x : ℕ = slice_index s.words (k + 1) in
+    let m : CoreMeets v k x = core_meets n k s.words s.views v kept at in_n in (
+      Core (with_entry v k (word_of x)),
+      keeps,
+      tt,
+      load_keeps n k s.words s.views v (word_of x) kept at in_n m.word (inl (sym m.number)),
+      at_task k (λ j. CoreMeets v j x × CoreIs (with_entry v j (word_of x)) (Core v, me.1) (Core (with_entry v k (word_of x)), me.1)) (m, refl),
+    ))
+
+-- the setting of the bit by the core keeps the rule
+bit_keeps : (n k : ℕ) (words : List ℕ) (views : List View) (v : CoreView) → IsKept n words views → get_elem? views 0 ≡ some (Core v) → k < n
+    → IsKept n (set words (k + 1) (bit_or (slice_index words (k + 1)) bit)) (set views 0 (Core (core_cancelled v k (word_at words k))))
+bit_keeps n k words views v kept at in_n =
+    let f = fits n words views v kept at in
+    let is = f.word k in_n in
+    let x : ℕ = slice_index words (k + 1) in
+    let w : Parts = word_of x in
+    let word : IsWord w = reads_word x (entry v k) is (f.each k in_n) in
+    let number : value w ≡ x = reads_number x (entry v k) is (f.each k in_n) in
+    let cut : bit_or x bit ≡ value (marked w) = or_marks x w word (inl (sym number)) in
+    let read : word_of (bit_or x bit) ≡ marked w = ap word_of cut ∙ reads_back (marked w) (marked_word w word) in
+    core_keeps n k (bit_or x bit) words views v (marked w) (and_if (wins w) k v.own) kept at in_n (marked_word w word) (inl cut)
+    (let a = and_if_same (wins w) k v.own in let b = wins_count w in let c = ap (λ u. flag (is_cancelled u)) read in omega (arith, a, b, c))
+    (λ j other. and_if_other (wins w) k j v.own other)
+    (let c = ap rank read in omega (arith, c))
+    (λ e. ap is_cancelled read ∙ marked_stays w e)
+
+pub core_cancels : (n slots id k : ℕ) (me : Holder) → id ≡ 0 → me.0 ≡ Core (core_of me.0) → k < n
+    → Allows {S = Unit {0}} (Rule n) slots id me (k + 1) (λ x. bit_or x bit) (CoreCancelled (k + 1) me)
+core_cancels n slots id k me zero_id core in_n =
+    seat_is (λ i m. Allows {S = Unit {0}} (Rule n) slots i m (k + 1) (λ x. bit_or x bit) (CoreCancelled (k + 1) m)) id me zero_id core
+    (λ s kept homes at bound.
+    let v : CoreView = core_of me.0 in
+    let x : ℕ = slice_index s.words (k + 1) in
+    let m : CoreMeets v k x = core_meets n k s.words s.views v kept at in_n in (
+      Core (core_cancelled v k (word_of x)),
+      keeps,
+      tt,
+      bit_keeps n k s.words s.views v kept at in_n,
+      at_task k (λ j. CoreMeets v j x × CoreIs (core_cancelled v j (word_of x)) (Core v, me.1) (Core (core_cancelled v k (word_of x)), me.1)) (m, refl),
+    ))

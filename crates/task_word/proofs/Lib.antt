@@ -1,0 +1,11 @@
+pub mod Numbers
+pub mod Lists
+pub mod Keeping
+pub mod CoreSteps
+pub mod HandleSteps
+pub mod Handing
+pub mod Opening
+pub mod Sitting
+pub mod Closing
+pub mod Ruling
+pub mod Uses

@@ -1,0 +1,112 @@
+-- What the calls on a table of words answer, and what their callers know of a table and its seats.
+-- Java SE 17 documentation of Future, method cancel: a cancel has no effect on a task that is completed
+-- or was cancelled before, and where more threads cancel a task, at least one of them is told that it
+-- did. That it is just one, and all else, is this project's rule.
+use Rattle.std.specs.Prelude.{◌≡◌, ℕ, ◌<◌, Bool, true, false, List, slice_index, if◌then◌else◌}
+use Rattle.atomic_table.specs.Seated.{TableId}
+use Rattle.task_word.specs.Words.{Parts, IsWord, marked, is_cancelled, rank}
+use Rattle.task_word.specs.Views.{entry, with_entry, core_cancelled, handle_looked, handle_cancelled, seen_at, MeetsEntry, MeetsHandle}
+use Rattle.task_word.specs.Rule.{word_of, Matches}
+use Rattle.task_word.specs.Steps.{Tells}
+use Rattle.task_word.specs.declared.phases.Phase.{Phase}
+use Rattle.task_word.specs.declared.phases.Phase.TheVariants.{Vacant, New, Running, Done, Failed}
+use Rattle.task_word.specs.declared.views.CoreView.{CoreView}
+use Rattle.task_word.specs.declared.views.HandleView.{HandleView}
+use Rattle.task_word.specs.declared.answers.Moved.{Moved}
+use Rattle.task_word.specs.declared.answers.Moved.TheVariants as move
+use Rattle.task_word.specs.declared.answers.CoreCancel.{CoreCancel}
+use Rattle.task_word.specs.declared.answers.CoreCancel.TheVariants as core
+use Rattle.task_word.specs.declared.answers.CancelAnswer.{CancelAnswer}
+use Rattle.task_word.specs.declared.answers.CancelAnswer.TheVariants as cancel
+use Rattle.task_word.specs.declared.answers.TaskState.{TaskState}
+use Rattle.task_word.specs.declared.answers.TaskState.TheVariants as state
+
+-- a table of words: which it is, and how many tasks it has
+pub record TableOf : Type 0 where
+  pub table : TableId
+  pub tasks : ℕ
+
+-- the core's seat: its table, and what it knows
+pub record CoreKnows : Type 0 where
+  pub table : TableId
+  pub view : CoreView
+
+-- a handle's seat: its table, and what it knows
+pub record HandleKnows : Type 0 where
+  pub table : TableId
+  pub view : HandleView
+
+-- the core's view after a move of the task k to the word w. Where the move met the bit, the core's word
+-- has it now, and nothing else changed
+abbrev pub after_move : CoreView → ℕ → Moved → Parts → CoreView
+after_move v k move.Yes w = with_entry v k w
+after_move v k move.Cancelled w = with_entry v k (marked (entry v k))
+
+-- the answer of the core's cancel, by the word that it met
+abbrev pub core_answer_in : Phase → Bool → CoreCancel
+core_answer_in Vacant bit = core.Vacant
+core_answer_in New bit = if bit then core.Late else core.Won
+core_answer_in Running bit = if bit then core.Late else core.Won
+core_answer_in Done bit = core.Over
+core_answer_in Failed bit = core.Over
+
+abbrev pub core_answer : Parts → CoreCancel
+core_answer w = core_answer_in w.phase w.marked
+
+-- whether the core's cancel cancelled the task
+abbrev pub is_won : CoreCancel → Bool
+is_won core.Won = true
+is_won core.Late = false
+is_won core.Over = false
+is_won core.Vacant = false
+
+-- the answer of a handle's cancel, by the word that it met
+abbrev pub cancel_answer_in : Phase → Bool → CancelAnswer
+cancel_answer_in Vacant bit = cancel.Absent
+cancel_answer_in New bit = if bit then cancel.No else cancel.Yes
+cancel_answer_in Running bit = if bit then cancel.No else cancel.Yes
+cancel_answer_in Done bit = cancel.No
+cancel_answer_in Failed bit = cancel.No
+
+abbrev pub cancel_answer : Parts → CancelAnswer
+cancel_answer w = cancel_answer_in w.phase w.marked
+
+-- whether a handle's cancel cancelled the task
+abbrev pub is_yes : CancelAnswer → Bool
+is_yes cancel.Yes = true
+is_yes cancel.No = false
+is_yes cancel.Absent = false
+is_yes cancel.NoTask = false
+
+-- the state that a word shows
+abbrev pub state_in : Phase → Bool → TaskState
+state_in Vacant bit = state.Unsubmitted
+state_in New bit = if bit then state.Cancelled else state.Waiting
+state_in Running bit = if bit then state.Cancelled else state.Running
+state_in Done bit = state.Done
+state_in Failed bit = state.Failed
+
+abbrev pub state_of : Parts → TaskState
+state_of w = state_in w.phase w.marked
+
+-- the core's cancel met some word, answered by it, and knows the word with the bit
+abbrev pub CoreCancels : CoreView → ℕ → CoreCancel → CoreView → Type 0
+CoreCancels v k answer next = (w : Parts) × MeetsEntry (entry v k) w × Tells v k w × (answer ≡ core_answer w) × (next ≡ core_cancelled v k w)
+
+-- what a handle keeps of the word that it met: its rank, and whether it was cancelled
+abbrev pub Keeps : HandleView → ℕ → Parts → Type 0
+Keeps h k w = (slice_index h.ranks k ≡ rank w) × (seen_at h k ≡ is_cancelled w)
+
+-- a handle's cancel met some word, answered by it, and keeps it
+abbrev pub HandleCancels : HandleView → ℕ → CancelAnswer → HandleView → Type 0
+HandleCancels h k answer next = (w : Parts) × MeetsHandle h k w × (answer ≡ cancel_answer w) × (next ≡ handle_cancelled h k w) × Keeps next k w
+
+-- a handle's look met some word, answered by it, and keeps it
+abbrev pub HandleLooks : HandleView → ℕ → TaskState → HandleView → Type 0
+HandleLooks h k answer next = (w : Parts) × MeetsHandle h k w × (answer ≡ state_of w) × (next ≡ handle_looked h k w) × Keeps next k w
+
+-- the words with which a table of n tasks was closed: each is the core's, as it is or with the bit
+pub record Closes (n : ℕ) (v : CoreView) (words : List ℕ) : Type 0 where
+  pub word : (k : ℕ) → k < n → IsWord (word_of (slice_index words k))
+  pub each : (k : ℕ) → k < n → Matches (slice_index words k) (entry v k)
+  pub tells : (k : ℕ) → k < n → Tells v k (word_of (slice_index words k))

@@ -1,0 +1,29 @@
+-- Two laws of the words, which no one call shows. This project's rule.
+use Rattle.std.specs.Prelude.{◌≡◌, ◌≢◌, ℕ, ◌+◌, ◌<◌, ◌≤◌, List}
+use mathlib.Core.Option.{some}
+use lib.ListN.{get_elem?}
+use Rattle.task_word.specs.Words.{Parts, rank, submitted, started, rearmed, ended_well, ended_badly, marked}
+use Rattle.task_word.specs.Views.{times}
+use Rattle.task_word.specs.Rule.{IsKept, taken_by}
+use Rattle.task_word.specs.declared.phases.Phase.TheVariants.{Vacant, New, Running}
+use Rattle.task_word.specs.declared.views.View.{View}
+
+-- whatever a table's words and views are between two steps: of two seats at most one has cancelled a
+-- task, or has it from a handle that did, and it has it once
+abbrev pub OneWinner : Type 0
+OneWinner =
+    (n : ℕ) (words : List ℕ) (views : List View) → IsKept n words views
+    → (i j : ℕ) (v w : View) → i ≢ j → get_elem? views i ≡ some v → get_elem? views j ≡ some w
+    → (k : ℕ) → k < n → times k (taken_by v) + times k (taken_by w) ≤ 1
+
+-- each move raises the rank, and the bit leaves it
+pub record MovesRaise (w : Parts) : Type 0 where
+  pub submitted : w.phase ≡ Vacant → rank w < rank (submitted w)
+  pub started : w.phase ≡ New → rank w < rank (started w)
+  pub rearmed : w.phase ≡ Running → rank w < rank (rearmed w)
+  pub ended_well : w.phase ≡ Running → rank w < rank (ended_well w)
+  pub ended_badly : w.phase ≡ Running → rank w < rank (ended_badly w)
+  pub marked : rank (marked w) ≡ rank w
+
+abbrev pub NoMoveLowersRank : Type 0
+NoMoveLowersRank = (w : Parts) → MovesRaise w

@@ -1,0 +1,89 @@
+-- The rule of a table of words, which is so between any two steps. Word 0 belongs to no task, and the
+-- word of task k is word k + 1. This project's rule.
+use Rattle.std.specs.Prelude.{◌≡◌, ℕ, ◌+◌, ◌/◌, ◌%◌, ◌<◌, ◌≤◌, Bool, true, false, List, ◌++◌, [], length, slice_index, slice_index_or, ◌⊎◌, nat_le, ◌==◌, if◌then◌else◌}
+use Rattle.std.specs.List.{sum_by}
+use mathlib.Core.Option.{some}
+use lib.ListN.{get_elem?}
+use Rattle.task_word.specs.Words.{Parts, IsWord, bit, value, vacant, marked, is_cancelled, rank}
+use Rattle.task_word.specs.Views.{times}
+use Rattle.task_word.specs.declared.phases.Phase.{Phase}
+use Rattle.task_word.specs.declared.phases.Phase.TheVariants.{Vacant, New, Running, Done, Failed}
+use Rattle.task_word.specs.declared.views.CoreView.{CoreView}
+use Rattle.task_word.specs.declared.views.View.{View}
+use Rattle.task_word.specs.declared.views.View.TheVariants.{Core, Handle, Spent}
+
+-- the phase of a number
+abbrev pub phase_of : ℕ → Phase
+phase_of n = if n == 0 then Vacant else if n == 1 then New else if n == 2 then Running else if n == 3 then Done else Failed
+
+-- what a number says as a word
+abbrev pub word_of : ℕ → Parts
+word_of n = record { phase = phase_of (n % 8); run = n % bit / 8; marked = nat_le bit n }
+
+-- the word of task k
+abbrev pub word_at : List ℕ → ℕ → Parts
+word_at words k = word_of (slice_index words (k + 1))
+
+-- the number is the word, as it is or with the bit
+abbrev pub Matches : ℕ → Parts → Type 0
+Matches n w = (n ≡ value w) ⊎ (n ≡ value (marked w))
+
+-- 1 where it is so, else 0
+abbrev pub flag : Bool → ℕ
+flag true = 1
+flag false = 0
+
+-- the tasks that a seat has cancelled, or has taken over from those that did
+abbrev pub taken_by : View → List ℕ
+taken_by (Core v) = v.own ++ v.joined
+taken_by (Handle h) = h.won
+taken_by Spent = []
+
+-- for each task the greatest rank that the seat met, or that a joined handle met
+abbrev pub ranks_of : View → List ℕ
+ranks_of (Core v) = v.ranks
+ranks_of (Handle h) = h.ranks
+ranks_of Spent = []
+
+-- for each task whether a handle met it cancelled
+abbrev pub seen_of : View → List Bool
+seen_of (Core v) = []
+seen_of (Handle h) = h.seen
+seen_of Spent = []
+
+-- 1 for a handle, else 0
+abbrev pub is_handle : View → ℕ
+is_handle (Core v) = 0
+is_handle (Handle h) = 1
+is_handle Spent = 0
+
+-- each of n words is the core's entry, as it is or with the bit
+pub record EntriesFit (n : ℕ) (words : List ℕ) (entries : List Parts) : Type 0 where
+  pub count : length entries ≡ n
+  pub word : (k : ℕ) → k < n → IsWord (slice_index_or entries k vacant)
+  pub each : (k : ℕ) → k < n → Matches (slice_index words (k + 1)) (slice_index_or entries k vacant)
+
+-- no word has a lower rank than the seat met, and what the seat met cancelled is cancelled
+pub record HasMet (n : ℕ) (words : List ℕ) (v : View) : Type 0 where
+  pub ranks : (k : ℕ) → k < n → slice_index (ranks_of v) k ≤ rank (word_at words k)
+  pub seen : (k : ℕ) → k < n → slice_index_or (seen_of v) k false ≡ true → is_cancelled (word_at words k) ≡ true
+
+-- how often the task stands in what the seats took, added up
+abbrev pub taken_in_all : ℕ → List View → ℕ
+taken_in_all k views = sum_by (λ v. times k (taken_by v)) views
+
+-- how many handles are out
+abbrev pub handles : List View → ℕ
+handles views = sum_by is_handle views
+
+-- the words of n tasks and the views of the seats
+pub record IsKept (n : ℕ) (words : List ℕ) (views : List View) : Type 0 where
+  -- one word for each task, and one more
+  pub count : length words ≡ n + 1
+  -- the first seat is the core's, and no other
+  pub core : (v : CoreView) × (get_elem? views 0 ≡ some (Core v)) × EntriesFit n words v.entries × (v.out ≡ handles views) × (v.out ≤ 63)
+  pub only : (id : ℕ) (v : CoreView) → get_elem? views id ≡ some (Core v) → id ≡ 0
+  -- each cancelled task stands in what one seat took, once, and no other task stands in any
+  pub once : (k : ℕ) → k < n → taken_in_all k views ≡ flag (is_cancelled (word_at words k))
+  -- what the seats met is so
+  pub met : (id : ℕ) (v : View) → get_elem? views id ≡ some v → HasMet n words v

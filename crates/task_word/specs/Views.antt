@@ -1,0 +1,110 @@
+-- What the seats of a table of words know, and how each step changes it. Tasks are numbered from 0.
+-- This project's rule.
+use Rattle.std.specs.Prelude.{◌≡◌, ℕ, ◌+◌, ◌-◌, ◌<◌, ◌≤◌, ◌==◌, ◌&&◌, max, Bool, true, false, not, List, [], ◌∷◌, ◌++◌, length, slice_index, slice_index_or, slice_set, replicate, ◌⊎◌}
+use Rattle.std.specs.List.{count_by}
+use Rattle.task_word.specs.Words.{Parts, IsWord, vacant, marked, is_live, is_cancelled, rank}
+use Rattle.task_word.specs.declared.views.CoreView.{CoreView}
+use Rattle.task_word.specs.declared.views.HandleView.{HandleView}
+use Rattle.task_word.specs.declared.views.View.{View}
+use Rattle.task_word.specs.declared.views.View.TheVariants.{Core, Handle, Spent}
+
+-- the core's word of a task
+abbrev pub entry : CoreView → ℕ → Parts
+entry v k = slice_index_or v.entries k vacant
+
+-- how often a task stands in a list
+abbrev pub times : ℕ → List ℕ → ℕ
+times k tasks = count_by (λ j. j == k) tasks
+
+-- the step that sets the bit cancels the task: it met it live, and without the bit
+abbrev pub wins : Parts → Bool
+wins w = is_live w.phase && not w.marked
+
+-- the list with the task at its head, if so
+abbrev pub and_if : Bool → ℕ → List ℕ → List ℕ
+and_if true k tasks = k ∷ tasks
+and_if false k tasks = tasks
+
+-- a core that knows n vacant tasks, and no handle
+abbrev pub new_core : ℕ → CoreView
+new_core n = record { entries = replicate n vacant; own = []; joined = []; ranks = replicate n 0; out = 0 }
+
+-- a handle that met none of n tasks
+abbrev pub new_handle : ℕ → HandleView
+new_handle n = record { won = []; ranks = replicate n 0; seen = replicate n false; last = (0, vacant) }
+
+-- the core's word of the task k is w, and nothing else changed
+abbrev pub with_entry : CoreView → ℕ → Parts → CoreView
+with_entry v k w = record { entries = slice_set v.entries k w; own = v.own; joined = v.joined; ranks = v.ranks; out = v.out }
+
+-- the core set the bit of the task k, and met w
+abbrev pub core_cancelled : CoreView → ℕ → Parts → CoreView
+core_cancelled v k w = record { entries = slice_set v.entries k (marked w); own = and_if (wins w) k v.own; joined = v.joined; ranks = v.ranks; out = v.out }
+
+-- one more handle is out
+abbrev pub one_out : CoreView → CoreView
+one_out v = record { entries = v.entries; own = v.own; joined = v.joined; ranks = v.ranks; out = v.out + 1 }
+
+-- of two lists, the greater number at each place
+abbrev pub greater : List ℕ → List ℕ → List ℕ
+greater [] ys = ys
+greater (x ∷ xs) [] = x ∷ xs
+greater (x ∷ xs) (y ∷ ys) = max x y ∷ greater xs ys
+
+-- a handle is back: what it won is joined, and the greater ranks that it met are the core's
+abbrev pub joined_with : CoreView → HandleView → CoreView
+joined_with v h = record { entries = v.entries; own = v.own; joined = v.joined ++ h.won; ranks = greater v.ranks h.ranks; out = v.out - 1 }
+
+-- the handle met the word w of the task k
+abbrev pub handle_looked : HandleView → ℕ → Parts → HandleView
+handle_looked h k w = record { won = h.won; ranks = slice_set h.ranks k (rank w); seen = slice_set h.seen k (is_cancelled w); last = (k, w) }
+
+-- the handle set the bit of the task k, and met w
+abbrev pub handle_cancelled : HandleView → ℕ → Parts → HandleView
+handle_cancelled h k w = record { won = and_if (wins w) k h.won; ranks = slice_set h.ranks k (rank w); seen = slice_set h.seen k (is_cancelled w); last = (k, w) }
+
+-- whether the handle met the task k cancelled
+abbrev pub seen_at : HandleView → ℕ → Bool
+seen_at h k = slice_index_or h.seen k false
+
+-- what a core's word lets a step meet: the word, or the word with the bit
+abbrev pub MeetsEntry : Parts → Parts → Type 0
+MeetsEntry e w = (w ≡ e) ⊎ (w ≡ marked e)
+
+-- what a handle knows lets a step meet: no lower rank than it met, and what it met cancelled or
+-- cancelled itself is cancelled
+pub record MeetsHandle (h : HandleView) (k : ℕ) (w : Parts) : Type 0 where
+  pub word : IsWord w
+  pub met : slice_index h.ranks k ≤ rank w
+  pub seen : seen_at h k ≡ true → is_cancelled w ≡ true
+  pub won : 0 < times k h.won → is_cancelled w ≡ true
+
+-- what the core's seat knows
+abbrev pub core_of : View → CoreView
+core_of (Core v) = v
+core_of (Handle h) = new_core 0
+core_of Spent = new_core 0
+
+-- what a handle's seat knows
+abbrev pub handle_of : View → HandleView
+handle_of (Core v) = new_handle 0
+handle_of (Handle h) = h
+handle_of Spent = new_handle 0
+
+-- the first seat is the core's
+abbrev pub first_view : ℕ → View
+first_view n = Core (new_core n)
+
+-- the core's view once a handle is cut off, and the handle's
+abbrev pub lender : View → View
+lender v = Core (one_out (core_of v))
+
+abbrev pub lent : View → View
+lent v = Handle (new_handle (length (core_of v).entries))
+
+-- the core's view once the handle is back, and what is left of the handle's
+abbrev pub together : View → View → View
+together v w = Core (joined_with (core_of v) (handle_of w))
+
+abbrev pub spent : View
+spent = Spent

@@ -1,0 +1,33 @@
+use crate::views::View;
+use atomic_table::{Join, Split, TableRule};
+
+/// The rule of the words, which is so between any two steps.
+pub struct WordRule;
+
+impl TableRule<(), View, u32> for WordRule {
+    ghost use Rattle.task_word.specs.Rule.{IsKept};
+    ghost use Rattle.task_word.specs.Views.{first_view};
+
+    ghost holds = { λ n s. IsKept n s.words s.views };
+
+    ghost first = { first_view };
+}
+
+/// How a handle is cut off from the core's seat, and put back.
+pub struct Handing;
+
+impl Split<View> for Handing {
+    ghost use Rattle.task_word.specs.Views.{lender, lent};
+
+    ghost left = { lender };
+
+    ghost right = { lent };
+}
+
+impl Join<View> for Handing {
+    ghost use Rattle.task_word.specs.Views.{together, spent};
+
+    ghost both = { together };
+
+    ghost spent = { spent };
+}
