@@ -14,3 +14,4 @@ pub mod Trees
 pub mod Listing
 pub mod Inputs
 pub mod Pieces
+pub mod Ones

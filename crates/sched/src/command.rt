@@ -1,0 +1,112 @@
+//! The command line.
+
+use clap::{Arg, ArgAction, Command, value_parser};
+use std::alloc::{AllocError, Global};
+
+/// What the help says below the commands.
+const ENDS: &str = "\
+'sched run --help' tells what a plan, an event and a trace look like.
+
+Exit status:
+  0  done
+  1  a fault, told by a line on standard error
+  2  a fault of the command line";
+
+/// What the help of `run` says below the options.
+const FORMS: &str = "\
+The plan is a TOML file of at most 1,048,576 bytes: 'version = 1', and at most
+one [[block]] with a [[block.call]] for each call that is made. A call has
+  op     \"schedule\": a task that runs once
+  name   the task's name: 1 to 32 letters, digits, '-' and '_'
+  delay  when the task is due, in nanoseconds after the call
+  at     when the call is made, in nanoseconds, 0 where it is left out;
+         no call has a smaller one than the call before it
+Tasks are numbered from 0 in the order of their calls, workers from 0 to N - 1.
+
+An event is a line on standard input, of at most 63 bytes with its newline:
+  clock T        the time is now T nanoseconds; calls made by then come first
+  start W        worker W takes the first task that is due, if there is one
+  finish W ok V  worker W has run its task, and the task's value is V
+
+The trace goes to standard output, a line for each call and each event, with
+the time in front. All events that were read are answered before more are read.
+
+Example, with the plan
+  version = 1
+  [[block]]
+  [[block.call]]
+  op = \"schedule\"
+  name = \"a\"
+  delay = 5
+in the file plan.toml:
+  $ printf 'clock 5\\nstart 0\\nfinish 0 ok 7\\n' | sched run plan.toml --workers 1
+  0 submit 0 schedule due 5
+  5 clock
+  5 start 0 task 0 run 0 due 5
+  5 finish 0 task 0 run 0 done 7
+
+Exit status:
+  0  all events were answered
+  1  a fault, told by one of these lines on standard error:
+       sched: plan file not read
+       sched: plan: KIND block B call C   no plan; KIND tells what is wrong
+       sched: event line N                line N, counted from 1, is no event
+       sched: full                        more events than the limit
+       sched: read fault
+       sched: write fault
+       sched: out of memory
+     The events before a bad line, the limit or a read fault were answered.
+  2  a fault of the command line";
+
+/// The command line of the program: `sched run PLAN --workers N [--limit N]`.
+pub fn command<'a>(alloc: Global) -> Result<Command<'a>, AllocError> {
+    Ok(
+        Command::new(alloc, "sched")
+            .bin_name("sched")?
+            .about("Runs plans of scheduled tasks over lines of events, and writes what happens.")
+            .after_help(ENDS)
+            .subcommand_required(true)
+            .subcommand(run_command(alloc)?)?,
+    )
+}
+
+fn run_command<'a>(alloc: Global) -> Result<Command<'a>, AllocError> {
+    Ok(
+        Command::new(alloc, "run")
+            .about(
+                "Runs a plan over the events on standard input, and writes the trace to standard output.",
+            )
+            .after_help(FORMS)
+            .arg(plan(alloc))?
+            .arg(workers(alloc))?
+            .arg(limit(alloc))?,
+    )
+}
+
+fn plan<'a>(alloc: Global) -> Arg<'a> {
+    Arg::new(alloc, "plan")
+        .value_name("PLAN")
+        .help("The file of the plan: which tasks are submitted, and when")
+        .required(true)
+        .action(ArgAction::Set)
+}
+
+fn workers<'a>(alloc: Global) -> Arg<'a> {
+    Arg::new(alloc, "workers")
+        .long("workers")
+        .value_name("N")
+        .help("How many workers there are, 1 to 64")
+        .required(true)
+        .action(ArgAction::Set)
+        .value_parser(value_parser!(u8).range(1..65))
+}
+
+fn limit<'a>(alloc: Global) -> Arg<'a> {
+    Arg::new(alloc, "limit")
+        .long("limit")
+        .value_name("N")
+        .help("How many events are taken at most, 1 to 4,294,967,295")
+        .action(ArgAction::Set)
+        .default_value("1000000")
+        .value_parser(value_parser!(u32).range(1..))
+}

@@ -1,0 +1,265 @@
+ghost use Rattle.std.specs.Prelude.{◌≡◌, ◌≤◌, ◌++◌, ℕ, List, take, IfOk, IfSome};
+
+use crate::ends::{read_some, write_text};
+use crate::event::read_event;
+use crate::held::{Filled, Held};
+use crate::line_text::{TextError, write_line, write_lines};
+use crate::lines::{Front, front_line};
+use crate::memory::Pieces;
+use crate::readers::Reading;
+use crate::writers::Writing;
+use executor_core::{Answer, Event, EventError, Kind, Line, Outcome};
+use linked_list_allocator::LocalHeap;
+use sched_time::Ending;
+use std::alloc::Global;
+use std::io;
+use std::io::{ErrorKind, Read, Write};
+use std::test::Fail;
+
+/// A text through a fresh sink: its contents are known from the start.
+fn through(alloc: Global, text: &[u8]) -> Option<Vec<u8>>
+    ensures { IfSome result (λ v. v.items ≡ text.now) }
+{
+    let mut sink = Writing::new(Vec::new(alloc));
+    if !write_text(&mut sink, text) {
+        return None;
+    }
+    Some(sink.into_inner())
+}
+
+/// The first bytes of a fresh source: what it has left is known from the start.
+fn front_of(bytes: &[u8], most: usize, buf: &mut [u8]) -> Option<usize>
+    ensures { IfSome result (λ n. (rest : List ℕ) × (bytes.now ≡ take n buf.new ++ rest)) }
+{
+    let mut source = Pieces::new(bytes, most);
+    read_some(&mut source, buf)
+}
+
+/// The first bytes of a fresh source out of a reader.
+fn front_of_reader(bytes: &[u8], buf: &mut [u8]) -> Option<usize>
+    ensures { IfSome result (λ n. (rest : List ℕ) × (bytes.now ≡ take n buf.new ++ rest)) }
+{
+    let mut source = Reading::new(bytes);
+    read_some(&mut source, buf)
+}
+
+/// A reader and writer that is at fault at its second call, and takes nothing at
+/// its third.
+#[derive(Drop)]
+struct Faulty {
+    calls: u32,
+    kind: ErrorKind,
+}
+
+impl Faulty {
+    fn call(&mut self, len: usize) -> io::Result<usize>
+        ensures { IfOk result (λ n. n ≤ len) }
+    {
+        self.calls = self.calls.saturating_add(1);
+        if self.calls == 2 {
+            return Err(io::Error::from(self.kind));
+        }
+        if self.calls == 3 {
+            return Ok(0);
+        }
+        Ok(len.min(2))
+    }
+}
+
+impl Write for Faulty {
+    fn write(&mut self, buf: &[u8]) -> io::Result<usize> {
+        self.call(buf.len())
+    }
+
+    fn flush(&mut self) -> io::Result<()> {
+        Ok(())
+    }
+}
+
+impl Read for Faulty {
+    fn read(&mut self, buf: &mut [u8]) -> io::Result<usize> {
+        self.call(buf.len())
+    }
+}
+
+#[test]
+fn passes_bytes(rt: HostRuntime) -> Result<(), Fail> {
+    let text = through(rt.alloc(), b"5 clock\n");
+    assert!(rt; text.is_some_and(|text| text.as_slice() == b"5 clock\n".as_slice()));
+    let mut buf = [0u8; 4];
+    assert_eq!(rt; front_of(b"abcdef", 3, &mut buf), Some(3));
+    assert_eq!(rt; front_of(b"abcdef", 0, &mut buf), Some(1));
+    assert_eq!(rt; front_of_reader(b"abcdef", &mut buf), Some(4));
+    assert_eq!(rt; front_of(b"", 3, &mut buf), Some(0));
+    Ok(())
+}
+
+#[test]
+fn answers_each_fault_at_once(rt: HostRuntime) -> Result<(), Fail> {
+    for kind in [ErrorKind::Interrupted, ErrorKind::Other] {
+        let mut buf = [0u8; 4];
+        let mut source = Reading::new(Faulty { calls: 0, kind });
+        assert_eq!(rt; read_some(&mut source, &mut buf), Some(2));
+        assert_eq!(rt; read_some(&mut source, &mut buf), None);
+        assert_eq!(rt; read_some(&mut source, &mut buf), Some(0));
+
+        let mut sink = Writing::new(Faulty { calls: 0, kind });
+        assert!(rt; write_text(&mut sink, b"ab"));
+        assert!(rt; !write_text(&mut sink, b"ab"));
+        assert!(rt; !write_text(&mut sink, b"ab"));
+        assert!(rt; write_text(&mut sink, b"abcdef"));
+    }
+    Ok(())
+}
+
+#[test]
+fn cuts_lines(rt: HostRuntime) -> Result<(), Fail> {
+    let long = [b'a'; 63];
+    assert_eq!(rt; front_line(b""), Front::Part);
+    assert_eq!(rt; front_line(b"clock 5"), Front::Part);
+    assert_eq!(rt; front_line(b"\nclock 5"), Front::Line(0));
+    assert_eq!(rt; front_line(b"clock 5\nclock"), Front::Line(7));
+    assert_eq!(rt; front_line(&long[..62]), Front::Part);
+    assert_eq!(rt; front_line(&long), Front::Long);
+    Ok(())
+}
+
+#[test]
+fn holds_pieces(rt: HostRuntime) -> Result<(), Fail> {
+    for most in 1..9usize {
+        let mut source = Pieces::new(b"ab\ncdef\n", most);
+        let mut held = Held::new(rt.alloc())?;
+        let mut lines = Vec::new(rt.alloc());
+        for _ in 0..20u32 {
+            if let Front::Line(n) = front_line(held.bytes()) {
+                lines.push(n)?;
+                held.skip(n + 1);
+            } else if held.bytes().len() < 64 && held.fill(&mut source) == Filled::End {
+                break;
+            }
+        }
+        assert!(rt; lines.as_slice() == [2, 4].as_slice());
+        assert!(rt; held.bytes().is_empty());
+    }
+    Ok(())
+}
+
+#[test]
+fn reads_events(rt: HostRuntime) -> Result<(), Fail> {
+    assert_eq!(rt; read_event(b"clock 0"), Some(Event::Clock(0)));
+    assert_eq!(rt;
+        read_event(b"clock 18446744073709551615"),
+        Some(Event::Clock(u64::MAX))
+    );
+    assert_eq!(rt; read_event(b"start 255"), Some(Event::Start(255)));
+    assert_eq!(rt;
+        read_event(b"finish 255 ok 18446744073709551615"),
+        Some(Event::Finish(255, Ending::Value(u64::MAX)))
+    );
+    let refused: [&[u8]; 20] = [
+        b"",
+        b"clock",
+        b"clock ",
+        b"clock 05",
+        b"clock +5",
+        b"clock 5 ",
+        b"clock  5",
+        b" clock 5",
+        b"clock 5\n",
+        b"Clock 5",
+        b"clock 18446744073709551616",
+        b"start 256",
+        b"start -1",
+        b"finish 3",
+        b"finish 3 ok",
+        b"finish 3 ok ",
+        b"finish 256 ok 1",
+        b"finish 03 ok 1",
+        b"finish 3  ok 1",
+        b"finish 3 ok 1 ",
+    ];
+    for line in refused {
+        assert_eq!(rt; read_event(line), None);
+    }
+    Ok(())
+}
+
+/// The text of one line.
+fn text_of(alloc: Global, moment: u64, answer: Answer) -> Result<Vec<u8>, TextError> {
+    let mut out = Vec::new(alloc);
+    write_line(&mut out, &Line { moment, answer })?;
+    Ok(out)
+}
+
+#[test]
+fn writes_answers(rt: HostRuntime) -> Result<(), Fail> {
+    let answers: [(Answer, &[u8]); 10] = [
+        (
+            Answer::Submit {
+                task: 4_294_967_295,
+                kind: Kind::Schedule,
+                due: 12,
+            },
+            b"7 submit 4294967295 schedule due 12\n",
+        ),
+        (Answer::Clock, b"7 clock\n"),
+        (
+            Answer::Start {
+                worker: 255,
+                task: 3,
+                run: 0,
+                due: 9,
+            },
+            b"7 start 255 task 3 run 0 due 9\n",
+        ),
+        (Answer::Idle { worker: 2 }, b"7 start 2 idle\n"),
+        (
+            Answer::Finish {
+                worker: 1,
+                task: 3,
+                run: 0,
+                outcome: Outcome::Done(18_446_744_073_709_551_615),
+            },
+            b"7 finish 1 task 3 run 0 done 18446744073709551615\n",
+        ),
+        (Answer::Error(EventError::Backward), b"7 error backward\n"),
+        (Answer::Error(EventError::TooFar), b"7 error too far\n"),
+        (Answer::Error(EventError::NoWorker), b"7 error no worker\n"),
+        (Answer::Error(EventError::Busy), b"7 error busy\n"),
+        (
+            Answer::Error(EventError::NotRunning),
+            b"7 error not running\n",
+        ),
+    ];
+    for (answer, want) in answers {
+        match text_of(rt.alloc(), 7, answer) {
+            Ok(text) => assert!(rt; text.as_slice() == want),
+            Err(TextError::Memory) => assert!(rt; false, "out of memory"),
+        }
+    }
+    Ok(())
+}
+
+#[test]
+fn refused_memory_changes_nothing(rt: HostRuntime) -> Result<(), Fail> {
+    let line = Line {
+        moment: 7,
+        answer: Answer::Clock,
+    };
+    let heap = LocalHeap::new(rt.alloc(), 64)?;
+    let mut out = Vec::from_slice(&heap, b"old")?;
+    assert_eq!(rt; write_line(&mut out, &line), Err(TextError::Memory));
+    assert_eq!(rt;
+        write_lines(&mut out, &[line, line]),
+        Err(TextError::Memory)
+    );
+    assert!(rt; out.as_slice() == b"old".as_slice());
+    assert!(rt; Held::new(&heap).is_err());
+
+    let wide = LocalHeap::new(rt.alloc(), 1_000_000)?;
+    let mut out = Vec::from_slice(&wide, b"old")?;
+    assert_eq!(rt; write_lines(&mut out, &[line, line]), Ok(()));
+    assert!(rt; out.as_slice() == b"old7 clock\n7 clock\n".as_slice());
+    assert!(rt; Held::new(&wide).is_ok());
+    Ok(())
+}

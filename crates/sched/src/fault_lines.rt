@@ -1,0 +1,69 @@
+//! Why the program gives up, and the line that says so.
+
+ghost use Rattle.std.specs.Prelude.{◌≡◌};
+ghost use Rattle.sched.specs.declared.fault_lines.Fault.TheVariants.{Run};
+ghost use Rattle.sched.specs.declared.report.RunError.TheVariants.{Memory};
+
+use crate::plan_read::{PlanFault, PlanFaultKind};
+use crate::report::RunError;
+use std::alloc::AllocError;
+use std::io;
+use std::io::ErrorKind;
+use thiserror::Error;
+
+/// Why the program gives up. Its text is what the program's line on standard error says after
+/// `sched: `.
+#[derive(Clone, Copy, Debug, PartialEq, Eq, Error)]
+pub enum Fault {
+    /// A word of the command line is not UTF-8.
+    #[error("command line not UTF-8")]
+    Words,
+    /// The plan file can't be read.
+    #[error("plan file not read")]
+    PlanFile,
+    /// The run, or what the program did besides, ended so.
+    #[error("{0}")]
+    Run(RunError),
+}
+
+impl Fault {
+    /// The exit status that goes with the fault: 2 for the command line, else 1.
+    pub fn status(self) -> u8 {
+        match self {
+            Fault::Words => 2,
+            Fault::PlanFile | Fault::Run(_) => 1,
+        }
+    }
+
+    /// What a fault of the system comes to: memory where memory ran out, else `other`.
+    pub fn of_system(error: io::Error, other: Fault) -> Fault {
+        if error.kind() == ErrorKind::OutOfMemory {
+            Fault::Run(RunError::Memory)
+        } else {
+            other
+        }
+    }
+}
+
+impl From<AllocError> for Fault {
+    ghost from_gives = { λ _ e. e ≡ Run Memory };
+
+    fn from(_error: AllocError) -> Fault {
+        Fault::Run(RunError::Memory)
+    }
+}
+
+impl From<RunError> for Fault {
+    /// Want of memory while the plan is read is want of memory, and says nothing of the plan.
+    fn from(error: RunError) -> Fault {
+        match error {
+            RunError::Plan(
+                PlanFault {
+                    kind: PlanFaultKind::Memory,
+                    ..
+                },
+            ) => Fault::Run(RunError::Memory),
+            other => Fault::Run(other),
+        }
+    }
+}

@@ -1,0 +1,76 @@
+//! The program: its command line, its plan file, and a run over standard input and output.
+
+use crate::command::command;
+use crate::engine::run;
+use crate::fault_lines::Fault;
+use crate::plan_file::plan_text;
+use crate::readers::Reading;
+use crate::report::RunError;
+use crate::writers::Writing;
+use clap::error::ErrorKind;
+use clap::{ArgMatches, Error};
+use std::process::ExitCode;
+use std::rt::{Env, Files};
+use std::{env, io};
+
+/// Does what the command line says, and answers the exit status: 0, 1 after a fault that a line
+/// on standard error tells, or 2 for a fault of the command line.
+pub fn program<R: Env + Files + Input + Print + Eprint + AllocGlobal>(rt: &R) -> ExitCode {
+    match answer(rt) {
+        Ok(status) => ExitCode::from(status),
+        Err(fault) => {
+            // Where standard error is closed, the status alone tells the fault.
+            let _ = eprintln!(rt; "sched: {fault}");
+            ExitCode::from(fault.status())
+        }
+    }
+}
+
+fn answer<R: Env + Files + Input + Print + Eprint + AllocGlobal>(rt: &R) -> Result<u8, Fault> {
+    let words = words(rt)?;
+    let command = command(rt.alloc())?;
+    match command.try_get_matches_from(words.as_slice()) {
+        Ok(matches) => {
+            match matches.subcommand() {
+                Some((_, run)) => run_plan(rt, run),
+                None => Ok(2),
+            }
+        }
+        Err(error) => show(rt, &error),
+    }
+}
+
+/// The words of the command line, the program's name first.
+fn words<R: Env + AllocGlobal>(rt: &R) -> Result<Vec<String>, Fault> {
+    match env::args(rt) {
+        Ok(words) => Ok(words.collect(rt.alloc())?),
+        Err(error) => Err(Fault::of_system(error, Fault::Words)),
+    }
+}
+
+/// Prints the text of help, or of a fault of the command line.
+fn show<R: Print + Eprint>(rt: &R, error: &Error) -> Result<u8, Fault> {
+    if error.kind() == ErrorKind::OutOfMemory {
+        return Err(Fault::Run(RunError::Memory));
+    }
+    if error.print(rt).is_err() {
+        return Err(Fault::Run(RunError::Write));
+    }
+    Ok(if error.use_stderr() { 2 } else { 0 })
+}
+
+/// `sched run`: events on standard input, the trace on standard output. No buffer stands between
+/// the run and the two, since the run reads and writes large pieces itself.
+fn run_plan<R: Files + Input + Print + AllocGlobal>(
+    rt: &R,
+    matches: &ArgMatches<'_>,
+) -> Result<u8, Fault> {
+    let path = matches.get_str("plan").unwrap_or("");
+    let workers = matches.get_one::<u8>("workers").unwrap_or(0);
+    let limit = matches.get_one::<u32>("limit").unwrap_or(0);
+    let text = plan_text(rt, path)?;
+    let mut reader = Reading::new(rt.reader());
+    let mut writer = Writing::new(io::writer(rt));
+    run(rt.alloc(), &text, workers, limit, &mut reader, &mut writer)?;
+    Ok(0)
+}
