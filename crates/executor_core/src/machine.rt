@@ -1,4 +1,4 @@
-ghost use Rattle.std.specs.Prelude.{◌≡◌, ◌≢◌, ℕ, ◌+◌, ◌-◌, ◌<◌, ◌≤◌, ◌↔◌, List, [], ◌∷◌, ◌++◌, length, replicate, None, Some, slice_get, Option, OnOk, OnErr, IfOk, IsErrOf, IsTrue, false, vec_len, vec_capacity};
+ghost use Rattle.std.specs.Prelude.{◌≡◌, ◌≢◌, ℕ, ◌+◌, ◌-◌, ◌<◌, ◌≤◌, ◌↔◌, ◌⊎◌, List, [], ◌∷◌, ◌++◌, length, replicate, None, Some, slice_get, Option, OnOk, OnErr, IfOk, IfErr, IsErrOf, IsTrue, false, vec_len, vec_capacity};
 ghost use Rattle.executor_core.specs.declared.words.Happening.TheVariants as happening;
 ghost use Rattle.executor_core.specs.declared.words.CodeCall.TheVariants as call;
 ghost use Rattle.executor_core.specs.Calls.{IsOrderly, task_count, is_submission};
@@ -112,6 +112,7 @@ impl<A: Allocator> Core<A> {
         out: &mut Vec<Line, B>,
     ) -> Result<(), CoreError>
         ensures full { IsErrOf result CoreError.Full ↔ (self.old.taken ≡ self.old.limit) }
+        ensures others { IfErr result (λ e. (e ≡ CoreError.Full) ⊎ (e ≡ CoreError.Memory)) }
         ensures refused { OnErr result ((self.new ≡ self.old) × (out.new.items ≡ out.old.items)) }
         ensures taken { OnOk result (self.new.taken ≡ self.old.taken + 1) }
         ensures steps { OnOk result (Steps self.old self.new out.old.items out.new.items (part_of self.old.calls self.old.made self.old.moment event)) }

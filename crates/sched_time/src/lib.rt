@@ -13,6 +13,8 @@
 mod conversions;
 mod error;
 mod spans;
+#[cfg(test)]
+mod tests;
 mod timing;
 mod unit;
 
