@@ -1,5 +1,5 @@
--- How the entries are kept: a list that descends in the order of entries, so that the least entry is the last, with at most one
--- entry of each task.
+-- How the entries are kept: a list that descends in the order of entries, so that the least entry is the
+-- last, with at most one entry of each task. All of it is this project's rule.
 use Rattle.std.specs.Prelude.{◌≡◌, ℕ, ◌<◌, ◌≤◌, ◌≢◌, true, List, [], ◌∷◌, Option, Some, None, replicate, slice_set}
 use Rattle.delay_queue.specs.Queues.{comes_before}
 use Rattle.delay_queue.specs.declared.entry.Entry.{Entry}

@@ -1,5 +1,7 @@
 -- The table of the answers, read on a view.
 -- The order of the cases, and the answers to a wrong event, are this project's rule.
+-- Where a definition names a class, its source is the Java SE 17 documentation of that class.
+-- Where it names no source, it is this project's rule.
 use Rattle.std.specs.Prelude.{ℕ, ◌-◌, ◌^◌, ◌&&◌, max, nat_lt, nat_le, Bool, if◌then◌else◌, List, [], Option, Some, None, slice_get}
 use Rattle.std.specs.Option.{option_map_or}
 use Rattle.sched_time.specs.declared.timing.Timing.{Timing}
@@ -20,7 +22,7 @@ use Rattle.executor_core.specs.declared.words.Answer.TheVariants as a
 use Rattle.executor_core.specs.Calls.{Planned, terms_of, due_at, numbers}
 use Rattle.executor_core.specs.View.{View, first_enabled}
 
--- a main answer, and the tasks that it ends, each by a line of its own
+-- an answer, and the tasks that it ends; no answer ends a task yet
 pub record Reply : Type 0 where
   pub answer : Answer
   pub ends : List ℕ
@@ -29,6 +31,8 @@ pub record Reply : Type 0 where
 abbrev pub plain : Answer → Reply
 plain answer = record { answer = answer; ends = [] }
 
+-- the kind of task that a submission's answer names, by how the task is timed
+-- (once: ScheduledExecutorService.schedule, "a value-returning one-shot task")
 abbrev pub kind_of : Timing → Kind
 kind_of t.Once = kind.Schedule
 
@@ -36,18 +40,22 @@ kind_of t.Once = kind.Schedule
 abbrev pub called : List Planned → View → CodeCall → Reply
 called calls v (c.Submit task timing delay) = plain (a.Submit task (kind_of timing) (due_at (terms_of calls task) 0 None))
 
--- a worker that has no work gets the first enabled task
+-- the answer to a worker without work that asks for a task: the first enabled one, or idle where none is
 abbrev pub started : View → ℕ → Option ℕ → Answer
 started v w None = a.Idle w
 started v w (Some k) = a.Start w k (v.fate k).starts (v.fate k).due
 
--- a run that ended well
+-- the outcome of a run that ended with a value: the one run of a one-shot task is its last
+-- (ScheduledExecutorService.schedule: "a value-returning one-shot task")
 abbrev pub ended_well : Timing → ℕ → Outcome
 ended_well t.Once value = o.Done value
 
+-- the outcome of a run, by how its task is timed and how the run ended
 abbrev pub outcome_of : Timing → Ending → Outcome
 outcome_of timing (e.Value value) = ended_well timing value
 
+-- the answer to a worker that finishes: an error where it has no work, and else the run that it started
+-- last, with its outcome
 abbrev pub finished : List Planned → View → ℕ → Ending → Option ℕ → Answer
 finished calls v w ending None = a.Error x.NotRunning
 finished calls v w ending (Some k) = a.Finish w k ((v.fate k).starts - 1) (outcome_of (terms_of calls k).timing ending)

@@ -1,4 +1,6 @@
 -- The calls of a plan, what they say of each task, and when its runs are due.
+-- Where a definition names a class, its source is the Java SE 17 documentation of that class.
+-- Where it names no source, it is this project's rule.
 use Rattle.std.specs.Prelude.{◌≡◌, ℕ, ◌+◌, ◌^◌, ◌≤◌, ◌==◌, Bool, true, if◌then◌else◌, List, [], ◌∷◌, length, Option}
 use Rattle.std.specs.List.{range_with_len}
 use Rattle.sched_time.specs.declared.timing.Timing.{Timing}
@@ -16,10 +18,12 @@ abbrev pub how_many : {X : Type 0} → (X → Bool) → List X → ℕ
 how_many test [] = 0
 how_many test (x ∷ xs) = if test x then 1 + how_many test xs else how_many test xs
 
+-- a call submits a task
 abbrev pub is_submission : CodeCall → Bool
 is_submission (c.Submit task timing delay) = true
 
--- submissions are numbered 0, 1, .. in the order of their calls, and each is a task
+-- how many tasks some calls submit: submissions are numbered 0, 1, .. in the order of their
+-- calls, and each is a task
 -- (this project's rule)
 abbrev pub task_count : List Planned → ℕ
 task_count calls = how_many (λ p. is_submission p.1) calls
@@ -36,7 +40,8 @@ count_after count (c.Submit task timing delay) = count + 1
 abbrev pub IsOrderlyCall : ℕ → CodeCall → Type 0
 IsOrderlyCall count (c.Submit task timing delay) = (task ≡ count) × (delay ≤ 2 ^ 62)
 
--- after so many submissions and this moment: moments do not fall and are within the limit, and each call is in order
+-- after so many submissions and this moment: moments do not fall and are within the limit,
+-- and each call is in order
 abbrev pub IsOrderlyFrom : ℕ → ℕ → List Planned → Type 0
 IsOrderlyFrom count moment [] = Unit {0}
 IsOrderlyFrom count moment (p ∷ calls) =
@@ -51,6 +56,8 @@ pub record Terms : Type 0 where
   pub timing : Timing
   pub first : ℕ
 
+-- the terms of task k where this call, made at this moment, comes before calls that give it the terms
+-- `rest`: the call's own where it submits task k, and then it is first due its delay after the call
 abbrev pub terms_in : ℕ → ℕ → CodeCall → Terms → Terms
 terms_in k moment (c.Submit task timing delay) rest =
     if task == k then record { timing = timing; first = moment + delay } else rest
@@ -61,6 +68,7 @@ terms_of [] k = record { timing = t.Once; first = 0 }
 terms_of (p ∷ calls) k = terms_in k p.0 p.1 (terms_of calls k)
 
 -- the due moment of the run after n starts, where the last finish was at some moment
--- (ScheduledExecutorService.schedule: "Submits a value-returning one-shot task that becomes enabled after the given delay.")
+-- (ScheduledExecutorService.schedule: "Submits a value-returning one-shot task that becomes enabled after
+-- the given delay.")
 abbrev pub due_at : Terms → ℕ → Option ℕ → ℕ
 due_at terms n last = elim (terms.timing) [ t.Once ↦ terms.first ]

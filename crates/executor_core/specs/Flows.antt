@@ -1,4 +1,5 @@
 -- Which happenings some events make, and the lines of a history.
+-- All of it is this project's rule.
 use Rattle.std.specs.Prelude.{◌≡◌, ℕ, ◌+◌, ◌<◌, length, nat_le, if◌then◌else◌, List, [], ◌∷◌, ◌++◌, replicate, drop}
 use Rattle.executor_core.specs.declared.words.Event.{Event}
 use Rattle.executor_core.specs.declared.words.Event.TheVariants as v
@@ -10,6 +11,7 @@ use Rattle.executor_core.specs.Answers.{Reply, is_accepted}
 use Rattle.executor_core.specs.Histories.{Entry, happenings, made, now_of, answer, entry_of}
 use Rattle.executor_core.specs.State.{State, after_from, next, reply_of}
 
+-- an event as a happening: the clock shows a moment, a worker asks for work, or a worker has run its task
 abbrev pub happening_of : Event → Happening
 happening_of (v.Clock moment) = h.Clock moment
 happening_of (v.Start worker) = h.Start worker
@@ -24,7 +26,8 @@ abbrev pub ReachesNext : List Planned → ℕ → ℕ → Type 0
 ReachesNext calls made moment = (made < length calls) × (reached calls made moment ≡ 1 + reached calls (made + 1) moment)
 
 -- how many calls are made just before an event: those that an accepted clock reaches
--- (this project's rule: before an accepted clock all calls with a moment of at most its own are made in order)
+-- (this project's rule: before an accepted clock all calls with a moment of at most its own are made,
+-- in their order)
 abbrev pub calls_before : List Planned → ℕ → ℕ → Event → ℕ
 calls_before calls made now (v.Clock moment) = if is_accepted now moment then reached calls made moment else 0
 calls_before calls made now _ = 0
@@ -49,10 +52,11 @@ history_from calls workers past (happening ∷ before) =
 abbrev pub history_of : List Planned → ℕ → List Event → List Entry
 history_of calls workers events = history_from calls workers [] (flow calls events)
 
--- the lines of one answer: its own, and one for each task that it ends
+-- the lines of one answer: its own; no answer ends a task yet
 abbrev pub lines_at : ℕ → Reply → List Line
 lines_at moment r = record { moment = moment; answer = r.answer } ∷ []
 
+-- the reply that an entry of a history holds
 abbrev pub reply_in : Entry → Reply
 reply_in e = record { answer = e.answer; ends = e.ends }
 

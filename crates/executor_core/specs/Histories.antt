@@ -1,5 +1,6 @@
 -- What the happenings of a history are answered, by counting in what stands before each of them.
--- A history is a list of entries, the newest first: what stands before an entry is the rest of the list behind it.
+-- A history is a list of entries, the newest first: what stands before an entry is the rest of the list
+-- behind it. Counting in a history is this project's rule, and so is all that is said here.
 use Rattle.std.specs.Prelude.{◌≡◌, ℕ, ◌<◌, ◌≤◌, ◌==◌, ◌&&◌, Bool, true, false, if◌then◌else◌, List, [], ◌∷◌, length, map, Option, Some, None, slice_get}
 use Rattle.std.specs.List.{list_any}
 use Rattle.executor_core.specs.declared.words.Happening.{Happening}
@@ -12,12 +13,13 @@ use Rattle.executor_core.specs.Calls.{Planned, how_many, terms_of, due_at}
 use Rattle.executor_core.specs.View.{Fate, View}
 use Rattle.executor_core.specs.Answers.{Reply, reply, moment_after, is_accepted}
 
--- a happening with its answer
+-- a happening with its answer, and the tasks that the answer ends
 pub record Entry : Type 0 where
   pub happening : Happening
   pub answer : Answer
   pub ends : List ℕ
 
+-- the entry of a happening that has such a reply
 abbrev pub entry_of : Happening → Reply → Entry
 entry_of happening r = record { happening = happening; answer = r.answer; ends = r.ends }
 
@@ -27,10 +29,12 @@ happenings past = map (λ e. e.happening) past
 
 -- what is told by the happenings alone
 
+-- a happening is a call of the plan, and no event
 abbrev pub is_call : Happening → Bool
 is_call h.Call = true
 is_call _ = false
 
+-- how many calls were made
 abbrev pub made : List Happening → ℕ
 made past = how_many is_call past
 
@@ -41,23 +45,27 @@ now_of calls (happening ∷ past) = moment_after (now_of calls past) (slice_get 
 
 -- what is told by an answer
 
+-- an answer says that task k was submitted
 abbrev pub is_submit : ℕ → Answer → Bool
 is_submit k (a.Submit task kind due) = task == k
 is_submit k _ = false
 
+-- an answer says that a run of task k was started
 abbrev pub is_start : ℕ → Answer → Bool
 is_start k (a.Start worker task run due) = task == k
 is_start k _ = false
 
+-- an answer says that a run of task k was finished
 abbrev pub is_finish : ℕ → Answer → Bool
 is_finish k (a.Finish worker task run outcome) = task == k
 is_finish k _ = false
 
--- a finish with such an outcome
+-- an answer says that a run of task k was finished, with an outcome that passes a test
 abbrev pub is_finish_with : (Outcome → Bool) → ℕ → Answer → Bool
 is_finish_with test k (a.Finish worker task run outcome) = (task == k) && test outcome
 is_finish_with test k _ = false
 
+-- an outcome says that the task's one run gave a value
 abbrev pub is_done : Outcome → Bool
 is_done (o.Done value) = true
 
@@ -69,20 +77,24 @@ work_after w _ before = before
 
 -- what is told by counting in a history
 
+-- how often task k was started
 abbrev pub starts : ℕ → List Entry → ℕ
 starts k past = how_many (λ e. is_start k e.answer) past
 
+-- how often task k was finished
 abbrev pub finishes : ℕ → List Entry → ℕ
 finishes k past = how_many (λ e. is_finish k e.answer) past
 
--- the moment of the last finish of a task
+-- the moment of the last finish of task k, and none before any
 abbrev pub last_finish : List Planned → ℕ → List Entry → Option ℕ
 last_finish calls k [] = None
 last_finish calls k (e ∷ past) = if is_finish k e.answer then Some (now_of calls (happenings past)) else last_finish calls k past
 
+-- the submission of task k was accepted
 abbrev pub was_accepted : ℕ → List Entry → Bool
 was_accepted k past = list_any (λ e. is_submit k e.answer) past
 
+-- a run of task k was finished with a value
 abbrev pub was_done : ℕ → List Entry → Bool
 was_done k past = list_any (λ e. is_finish_with is_done k e.answer) past
 
@@ -91,10 +103,11 @@ abbrev pub work_of : ℕ → List Entry → Option ℕ
 work_of w [] = None
 work_of w (e ∷ past) = work_after w e.answer (work_of w past)
 
--- the due moment of the next run
+-- the due moment of the next run of task k
 abbrev pub due_of : List Planned → List Entry → ℕ → ℕ
 due_of calls past k = due_at (terms_of calls k) (starts k past) (last_finish calls k past)
 
+-- what a history tells of task k
 abbrev pub fate_of : List Planned → List Entry → ℕ → Fate
 fate_of calls past k = record {
   accepted = was_accepted k past;
@@ -117,7 +130,8 @@ look calls past = record {
 abbrev pub answer : List Planned → ℕ → List Entry → Happening → Reply
 answer calls workers past happening = reply calls workers (look calls past) happening
 
--- an accepted clock finds each call made whose moment it has reached, and a call needs one that is not made yet
+-- what may happen after a history: an accepted clock finds each call made whose moment it has reached,
+-- and a call needs one that is not made yet
 abbrev pub MayCome : List Planned → List Happening → Happening → Type 0
 MayCome calls past h.Call = made past < length calls
 MayCome calls past (h.Clock moment) = is_accepted (now_of calls past) moment ≡ true

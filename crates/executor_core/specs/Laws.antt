@@ -1,4 +1,6 @@
 -- What holds of each history that means some calls.
+-- Where a definition names a class, its source is the Java SE 17 documentation of that class.
+-- Where it names no source, it is this project's rule.
 use Rattle.std.specs.Prelude.{◌≡◌, ℕ, ◌<◌, ◌≤◌, true, List, ◌∷◌, ◌++◌, ◌⊎◌}
 use Rattle.executor_core.specs.declared.words.Event.{Event}
 use Rattle.executor_core.specs.declared.words.Answer.TheVariants as a
@@ -21,7 +23,8 @@ NoStartIsEarly = (calls : List Planned) (workers : ℕ) (past : List Entry) (e :
     → Starts calls workers past e w k n d → d ≤ now_of calls (happenings (e ∷ past))
 
 -- where a task starts, each other one of the plan that is enabled comes after it
--- (ScheduledThreadPoolExecutor: ties go "in first-in-first-out (FIFO) order of submission")
+-- (this project's rule; at the same due moment as in ScheduledThreadPoolExecutor: "in first-in-first-out
+-- (FIFO) order of submission")
 abbrev pub StartsAreInOrder : Type 0
 StartsAreInOrder = (calls : List Planned) (workers : ℕ) (past : List Entry) (e : Entry) (w k n d j : ℕ)
     → Starts calls workers past e w k n d → j < task_count calls → is_enabled (look calls past) j ≡ true
@@ -37,6 +40,11 @@ abbrev pub OneHistory : Type 0
 OneHistory = (calls : List Planned) (workers : ℕ) (events : List Event) → IsOrderly calls
     → Means calls workers (history_of calls workers events) × (happenings (history_of calls workers events) ≡ flow calls events)
     × ((past : List Entry) → Means calls workers past → happenings past ≡ flow calls events → past ≡ history_of calls workers events)
+
+-- some happenings, in whatever order they came, have at most one history that means the calls
+abbrev pub HistoriesAreOne : Type 0
+HistoriesAreOne = (calls : List Planned) (workers : ℕ) (past other : List Entry) → Means calls workers past → Means calls workers other
+    → happenings past ≡ happenings other → past ≡ other
 
 -- a state answers as the history that led to it
 abbrev pub StatesAnswer : Type 0

@@ -1,4 +1,5 @@
 -- What contracts see of an executor's core, and the state and history in which it stands.
+-- All of it is this project's rule.
 use Rattle.std.specs.Prelude.{◌≡◌, ◌≢◌, ℕ, ◌^◌, ◌<◌, ◌≤◌, List, [], ◌++◌, length, map, take, Option, Some, None, slice_index_or}
 use Rattle.sched_time.specs.declared.timing.Timing.{Timing}
 use Rattle.sched_time.specs.declared.timing.Timing.TheVariants as t
@@ -14,6 +15,7 @@ use Rattle.executor_core.specs.Histories.{Entry, happenings, Means}
 use Rattle.executor_core.specs.State.{State, vacant, after, after_from, next, reply_of}
 use Rattle.executor_core.specs.Flows.{part_of, history_from, lines_of, lines_from}
 
+-- what contracts see of a core: its plan's calls, how many of them it made, the moment, and its two tables
 pub record Machine : Type 0 where
   pub calls : List Planned
   -- how many events it takes, and how many it took
@@ -26,9 +28,11 @@ pub record Machine : Type 0 where
   -- the task of a worker by the worker's number
   pub work : List (Option ℕ)
 
+-- how many workers a core has
 abbrev pub workers_of : Machine → ℕ
 workers_of m = length m.work
 
+-- the state of a core: what its tables say; past their ends a task is vacant, and a worker has no work
 abbrev pub state_of : Machine → State
 state_of m = record {
   made = m.made;
@@ -81,6 +85,7 @@ abbrev pub queued_phase : Phase → ℕ → Option ℕ
 queued_phase ph.Waiting due = Some due
 queued_phase _ due = None
 
+-- the due moment at which a task stands in the queue, where it waits
 abbrev pub queued : Task → Option ℕ
 queued task = queued_phase task.phase task.due
 
@@ -89,6 +94,7 @@ pub record IsSound (s : State) : Type 0 where
   pub at_work : (w k : ℕ) → s.workers w ≡ Some k → (s.tasks k).phase ≡ ph.Running
   pub apart : (v w k : ℕ) → s.workers v ≡ Some k → s.workers w ≡ Some k → v ≡ w
 
+-- what stays true of a core, with its queue's entries by task number and its table of timings
 pub record IsKept (m : Machine) (entries : List (Option ℕ)) (timings : List Timing) : Type 0 where
   pub orderly : IsOrderly m.calls
   pub made : m.made ≤ length m.calls

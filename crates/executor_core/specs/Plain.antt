@@ -1,4 +1,5 @@
 -- A history as the plain program holds it.
+-- All of it is this project's rule.
 use Rattle.std.specs.Prelude.{ℕ, List, map}
 use Rattle.executor_core.specs.declared.plain.history.Past.{Past}
 use Rattle.executor_core.specs.Calls.{Planned, IsOrderlyFrom}

@@ -1,4 +1,5 @@
 -- What the definitions by recursion say of the positions in a history.
+-- All of it is this project's rule.
 use Rattle.std.specs.Prelude.{◌≡◌, ℕ, ◌+◌, ◌<◌, ◌≤◌, ◌==◌, Bool, true, false, List, ◌∷◌, ◌++◌, ◌⊎◌, Option, Some, None, slice_get}
 use Rattle.std.specs.List.{list_any}
 use Rattle.executor_core.specs.declared.words.Happening.TheVariants as h
@@ -10,10 +11,12 @@ use Rattle.executor_core.specs.Histories.{Entry, Means, happenings, made, now_of
 
 -- the work of a worker
 
+-- an answer says that worker w was given a task to run
 abbrev pub starts_by : ℕ → Answer → Bool
 starts_by w (a.Start worker task run due) = worker == w
 starts_by w _ = false
 
+-- an answer says that worker w finished its task
 abbrev pub finishes_by : ℕ → Answer → Bool
 finishes_by w (a.Finish worker task run outcome) = worker == w
 finishes_by w _ = false
@@ -74,6 +77,7 @@ pub record IsFirst (calls : List Planned) (v : View) (k : ℕ) : Type 0 where
   pub enabled : is_enabled v k ≡ true
   pub least : (j : ℕ) → j < task_count calls → is_enabled v j ≡ true → (j ≡ k) ⊎ (precedes v k j ≡ true)
 
+-- the first enabled task is the one that is enabled and precedes each other enabled task of the plan
 abbrev pub FirstIsTheLeast : Type 0
 FirstIsTheLeast = (calls : List Planned) (v : View) (k : ℕ)
     → (first_enabled v (numbers calls) ≡ Some k → IsFirst calls v k) × (IsFirst calls v k → first_enabled v (numbers calls) ≡ Some k)

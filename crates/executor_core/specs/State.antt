@@ -1,4 +1,5 @@
 -- A state that looks at no past answer, and the steps that it takes.
+-- All of it is this project's rule.
 use Rattle.std.specs.Prelude.{ℕ, ◌+◌, ◌==◌, Bool, true, false, if◌then◌else◌, List, [], ◌∷◌, Option, None, slice_get}
 use Rattle.sched_time.specs.declared.timing.Timing.{Timing}
 use Rattle.sched_time.specs.declared.timing.Timing.TheVariants as t
@@ -15,6 +16,7 @@ use Rattle.executor_core.specs.View.{Fate, View}
 use Rattle.executor_core.specs.Answers.{Reply, reply, moment_after}
 use Rattle.executor_core.specs.Histories.{is_call, work_after}
 
+-- how many calls were made, the moment, each task by its number, and the task of each worker that works
 pub record State : Type 0 where
   pub made : ℕ
   pub moment : ℕ
@@ -31,20 +33,25 @@ opening = record { made = 0; moment = 0; tasks = λ _. vacant; workers = λ _. N
 
 -- what is seen of a task
 
+-- a task in this phase was submitted
 abbrev pub was_submitted : Phase → Bool
 was_submitted ph.Vacant = false
 was_submitted _ = true
 
+-- a task in this phase ended its one run with a value
 abbrev pub is_done_phase : Phase → Bool
 is_done_phase ph.Done = true
 is_done_phase _ = false
 
--- the runs before run n have started and finished, and so has run n where its phase says so
+-- how often a task in this phase has started: never before its submission, and else the runs before `run`,
+-- and that one where it is under way or done
 abbrev pub starts_of : Phase → ℕ → ℕ
 starts_of ph.Vacant run = 0
 starts_of ph.Waiting run = run
 starts_of _ run = 1 + run
 
+-- how often a task in this phase has finished: never before its submission, and else the runs before `run`,
+-- and that one where the task is done
 abbrev pub finishes_of : Phase → ℕ → ℕ
 finishes_of ph.Done run = 1 + run
 finishes_of ph.Vacant run = 0
@@ -54,11 +61,14 @@ finishes_of _ run = run
 abbrev pub due_ahead : Timing → ℕ → ℕ
 due_ahead t.Once due = due
 
+-- the due moment of a task's next run: before its submission that of the first, during a run that of the
+-- one after, and else the one that the task holds
 abbrev pub due_seen : Terms → Phase → ℕ → ℕ
 due_seen terms ph.Vacant due = due_at terms 0 None
 due_seen terms ph.Running due = due_ahead terms.timing due
 due_seen terms _ due = due
 
+-- what is known of a task with these terms, by its phase, its run and the due moment that it holds
 abbrev pub seen_phase : Terms → Phase → ℕ → ℕ → Fate
 seen_phase terms phase run due = record {
   accepted = was_submitted phase;
@@ -68,6 +78,7 @@ seen_phase terms phase run due = record {
   due = due_seen terms phase due;
 }
 
+-- what is known of a task with these terms
 abbrev pub seen_task : Terms → Task → Fate
 seen_task terms task = seen_phase terms task.phase task.run task.due
 
@@ -86,6 +97,7 @@ seen calls s = record {
 abbrev pub due_past : Timing → ℕ → ℕ → ℕ
 due_past t.Once due now = due
 
+-- a task after the finish of its run, at this moment and with this outcome
 abbrev pub finish_task : Timing → ℕ → Outcome → Task → Task
 finish_task timing now (o.Done value) task = record task { phase = ph.Done; due = due_past timing task.due now }
 
@@ -101,9 +113,11 @@ move_task timing now k (a.Start w j run due) task = if j == k then record task {
 move_task timing now k (a.Finish w j run outcome) task = if j == k then finish_task timing now outcome task else task
 move_task timing now k _ task = task
 
+-- task k after a reply
 abbrev pub task_after : List Planned → State → Reply → ℕ → Task
 task_after calls s r k = move_task (terms_of calls k).timing s.moment k r.answer (s.tasks k)
 
+-- the state after a happening that has such a reply
 abbrev pub state_after : List Planned → State → Happening → Reply → State
 state_after calls s happening r = record {
   made = if is_call happening then 1 + s.made else s.made;
@@ -116,6 +130,7 @@ state_after calls s happening r = record {
 abbrev pub reply_of : List Planned → ℕ → State → Happening → Reply
 reply_of calls workers s happening = reply calls workers (seen calls s) happening
 
+-- the step that a happening makes: the state after it, with the reply that the table gives
 abbrev pub next : List Planned → ℕ → State → Happening → State
 next calls workers s happening = state_after calls s happening (reply_of calls workers s happening)
 

@@ -1,4 +1,6 @@
 -- What an answer looks at: the moment, what is known of each task, and the work of each worker.
+-- Where a definition names a class, its source is the Java SE 17 documentation of that class.
+-- Where it names no source, it is this project's rule.
 use Rattle.std.specs.Prelude.{ℕ, ◌==◌, ◌&&◌, ◌||◌, Bool, not, nat_lt, nat_le, if◌then◌else◌, List, [], ◌∷◌, Option, Some, None}
 
 -- what is known of one task
@@ -13,6 +15,8 @@ pub record Fate : Type 0 where
   -- the due moment of its next run
   pub due : ℕ
 
+-- what an answer looks at: the calls made, the moment, each task by its number, and each worker's work
+-- (this project's rule)
 pub record View : Type 0 where
   -- how many calls were made
   pub made : ℕ
@@ -21,39 +25,43 @@ pub record View : Type 0 where
   -- the task of a busy worker
   pub work : ℕ → Option ℕ
 
--- a run is under way
+-- a run is under way: the task started once more than it finished (this project's rule)
 abbrev pub is_running : Fate → Bool
 is_running f = not (f.starts == f.finishes)
 
--- no further run comes
+-- no further run comes: the one run of a one-shot task ended (this project's rule, as in
+-- ScheduledExecutorService.schedule: "a value-returning one-shot task")
 abbrev pub is_over : Fate → Bool
 is_over f = f.done
 
--- accepted, not running and not over
+-- a run is still to come and none is under way: accepted, not running and not over (this project's rule)
 abbrev pub is_waiting : Fate → Bool
 is_waiting f = f.accepted && (not (is_running f) && not (is_over f))
 
 -- it waits, and its due moment is reached
--- (ScheduledThreadPoolExecutor: "Delayed tasks execute no sooner than they are enabled, but without any real-time guarantees
--- about when, after they are enabled, they will commence.")
+-- (ScheduledThreadPoolExecutor: "Delayed tasks execute no sooner than they are enabled, but without any
+-- real-time guarantees about when, after they are enabled, they will commence.")
 abbrev pub is_enabled : View → ℕ → Bool
 is_enabled v k = is_waiting (v.fate k) && nat_le (v.fate k).due v.moment
 
--- a due moment and a number come before others
+-- a due moment and a task number come before others: the earlier due moment first, and at the same one
+-- the smaller number (this project's rule)
 abbrev pub comes_before : ℕ → ℕ → ℕ → ℕ → Bool
 comes_before due j other k = nat_lt due other || ((due == other) && nat_lt j k)
 
--- tasks are ordered by due moment, then by number
--- (ScheduledThreadPoolExecutor: "Tasks scheduled for exactly the same execution time are enabled in first-in-first-out (FIFO)
--- order of submission.")
+-- tasks are ordered by due moment, and tasks with the same due moment by number: this project's rule
+-- (by due moment as in DelayQueue: "The head of the queue is that Delayed element whose delay expired
+-- furthest in the past."; at the same one as in ScheduledThreadPoolExecutor: "Tasks scheduled for exactly
+-- the same execution time are enabled in first-in-first-out (FIFO) order of submission.")
 abbrev pub precedes : View → ℕ → ℕ → Bool
 precedes v j k = comes_before (v.fate j).due j (v.fate k).due k
 
+-- of a task and maybe another, the one that precedes (this project's rule)
 abbrev pub earlier : View → ℕ → Option ℕ → ℕ
 earlier v k None = k
 earlier v k (Some j) = if precedes v j k then j else k
 
--- the first enabled task among some
+-- the first enabled task among some, and none where none is enabled (this project's rule)
 abbrev pub first_enabled : View → List ℕ → Option ℕ
 first_enabled v [] = None
 first_enabled v (k ∷ ks) = if is_enabled v k then Some (earlier v k (first_enabled v ks)) else first_enabled v ks

@@ -1,5 +1,5 @@
 //! What holds of each history, whatever the events: laws over the definitions alone.
-ghost use Rattle.executor_core.specs.Laws.{NoStartIsEarly, StartsAreInOrder, AnswersByPosition, OneHistory, StatesAnswer};
+ghost use Rattle.executor_core.specs.Laws.{NoStartIsEarly, StartsAreInOrder, AnswersByPosition, OneHistory, HistoriesAreOne, StatesAnswer};
 
 /// No task starts before its due moment.
 pub fn no_start_is_early()
@@ -19,6 +19,11 @@ pub fn answers_by_position()
 /// The happenings of some events have one history and no other.
 pub fn one_history()
     ensures { OneHistory }
+{}
+
+/// No two histories that mean the same calls have the same happenings.
+pub fn histories_are_one()
+    ensures { HistoriesAreOne }
 {}
 
 /// The state that the happenings lead to is what the history shows by counting.

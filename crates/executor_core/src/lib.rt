@@ -15,7 +15,8 @@ mod words;
 
 pub use error::CoreError;
 pub use laws::{
-    answers_by_position, no_start_is_early, one_history, starts_are_in_order, states_answer,
+    answers_by_position, histories_are_one, no_start_is_early, one_history, starts_are_in_order,
+    states_answer,
 };
 pub use machine::Core;
 pub use order::orderly;

@@ -1,4 +1,4 @@
-ghost use Rattle.std.specs.Prelude.{◌≡◌, ◌≢◌, ℕ, ◌+◌, ◌-◌, ◌<◌, ◌≤◌, ◌↔◌, ◌⊎◌, List, [], ◌∷◌, ◌++◌, length, replicate, None, Some, slice_get, Option, OnOk, OnErr, IfOk, IfErr, IsErrOf, IsTrue, false, vec_len, vec_capacity};
+ghost use Rattle.std.specs.Prelude.{◌≡◌, ◌≢◌, ℕ, ◌+◌, ◌-◌, ◌^◌, ◌<◌, ◌≤◌, ◌↔◌, ◌⊎◌, List, [], ◌∷◌, ◌++◌, length, replicate, None, Some, slice_get, Option, OnOk, OnErr, IfOk, IfErr, IsErrOf, IsTrue, false, vec_len, vec_capacity};
 ghost use Rattle.executor_core.specs.declared.words.Happening.TheVariants as happening;
 ghost use Rattle.executor_core.specs.declared.words.CodeCall.TheVariants as call;
 ghost use Rattle.executor_core.specs.Calls.{IsOrderly, task_count, is_submission};
@@ -81,7 +81,8 @@ impl<A: Allocator> Core<A> {
 
     /// The moment, 0 to 2^62 nanoseconds: the greatest of the accepted clocks and the calls made.
     pub fn now(&self) -> u64
-        ensures { result ≡ self.now.moment }
+        ensures value { result ≡ self.now.moment }
+        ensures limit { result ≤ 2 ^ 62 }
     {
         self.moment
     }

@@ -1,4 +1,5 @@
 -- The calls that a plan makes.
+-- All of it is this project's rule.
 use Rattle.std.specs.Prelude.{ℕ, ◌+◌, List, [], ◌∷◌, ◌++◌}
 use Rattle.sched_time.specs.declared.timing.Timing.TheVariants.{Once}
 use Rattle.executor_core.specs.declared.words.CodeCall.{CodeCall}

@@ -29,6 +29,7 @@ abbrev pub Read : Type 0 → Type 0
 Read A = Result A PlanFault
 
 infixl 10 ◌>>=◌
+-- one step of a reading and then the next, which gets the value; the first fault ends the reading
 abbrev pub ◌>>=◌ : {A B : Type 0} → Result A PlanFault → (A → Result B PlanFault) → Result B PlanFault
 (Ok x) >>= f = f x
 (Err e) >>= f = Err e

@@ -1,4 +1,5 @@
 -- What contracts see of a plan.
+-- All of it is this project's rule.
 use Rattle.std.specs.Prelude.{ℕ, ◌≤◌, List, [], ◌∷◌}
 use Rattle.sched_time.specs.Times.{longest}
 use Rattle.sched.specs.declared.plan_read.plans.Call.{Call}

@@ -1,4 +1,5 @@
 -- What a run reads and writes.
+-- All of it is this project's rule.
 use Rattle.std.specs.Prelude.{◌≡◌, ◌≢◌, ℕ, ◌+◌, ◌^◌, ◌<◌, ◌≤◌, List, [], ◌∷◌, ◌++◌, ◌⊎◌, Option, Result, Ok, Err, IfSome, All, length, take}
 use Rattle.std.specs.Io.KnownBytes.{Appends, Consumes, Keeps, prepend_known}
 use Rattle.executor_core.specs.declared.Event.{Event}
@@ -32,6 +33,7 @@ abbrev pub input_of : List Event → List ℕ
 input_of [] = []
 input_of (e ∷ before) = input_of before ++ event_line e
 
+-- each of some events fits a line of the input
 abbrev pub AreEvents : List Event → Type 0
 AreEvents events = All FitsEvent events
 
@@ -55,6 +57,11 @@ BeginsWithEvent rest = (e : Event) × (tail : List ℕ) × FitsEvent e × (rest 
 -- a text is the lines of one list of events and no other
 abbrev pub EventsAreOne : Type 0
 EventsAreOne = (events other : List Event) → AreEvents events → AreEvents other → input_of events ≡ input_of other → events ≡ other
+
+-- bytes are in one way the lines of some events and a rest that does not begin with one
+abbrev pub FrontIsOne : Type 0
+FrontIsOne = (events other : List Event) (rest tail : List ℕ) → AreEvents events → AreEvents other → IsRefused rest → IsRefused tail
+    → input_of events ++ rest ≡ input_of other ++ tail → (events ≡ other) × (rest ≡ tail)
 
 -- ---- a run
 

@@ -15,10 +15,13 @@ Exit status:
 /// What the help of `run` says below the options.
 const FORMS: &str = "\
 The plan is a TOML file of at most 1,048,576 bytes: 'version = 1', and at most
-one [[block]] with a [[block.call]] for each call that is made. A call has
+one [[block]] with a [[block.call]] for each call that is made, at most 256.
+A call has
   op     \"schedule\": a task that runs once
-  name   the task's name: 1 to 32 letters, digits, '-' and '_'
-  delay  when the task is due, in nanoseconds after the call
+  name   the task's name: 1 to 32 ASCII letters, digits, '-' and '_';
+         no other task has it
+  delay  when the task is due, in nanoseconds after the call;
+         a negative one counts as 0
   at     when the call is made, in nanoseconds, 0 where it is left out;
          no call has a smaller one than the call before it
 Tasks are numbered from 0 in the order of their calls, workers from 0 to N - 1.

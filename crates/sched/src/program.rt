@@ -48,15 +48,20 @@ fn words<R: Env + AllocGlobal>(rt: &R) -> Result<Vec<String>, Fault> {
     }
 }
 
-/// Prints the text of help, or of a fault of the command line.
+/// Prints the text of help, or of a fault of the command line. Where standard error is closed, the
+/// status alone tells such a fault.
 fn show<R: Print + Eprint>(rt: &R, error: &Error) -> Result<u8, Fault> {
     if error.kind() == ErrorKind::OutOfMemory {
         return Err(Fault::Run(RunError::Memory));
     }
-    if error.print(rt).is_err() {
-        return Err(Fault::Run(RunError::Write));
+    let printed = error.print(rt);
+    if error.use_stderr() {
+        return Ok(2);
     }
-    Ok(if error.use_stderr() { 2 } else { 0 })
+    match printed {
+        Ok(()) => Ok(0),
+        Err(_) => Err(Fault::Run(RunError::Write)),
+    }
 }
 
 /// `sched run`: events on standard input, the trace on standard output. No buffer stands between

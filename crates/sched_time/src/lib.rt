@@ -1,8 +1,8 @@
 //! Moments and spans of time, in whole nanoseconds.
 //!
 //! ```text
-//! let delay = span(5, Unit::Ms)?;               // 5,000,000 nanoseconds
-//! let due = moment(submitted, delay.nanos())?;  // refused past 2^62
+//! let offset = span(5, Unit::Ms)?;         // 5,000,000 nanoseconds
+//! let at = moment(base, offset.nanos())?;  // refused past 2^62
 //! ```
 //!
 //! Nothing here reads a clock: each moment is handed in by the caller. A moment

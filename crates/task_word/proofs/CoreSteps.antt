@@ -6,17 +6,18 @@ use lib.ListN.{get_elem?}
 use prog.Atomic.{either}
 use Rattle.atomic_table.specs.Table.{State, Act, keeps, Allows, Valid, stepped, carried_after}
 use Rattle.atomic_table.proofs.Lists.{at_set, set_here, exchanged}
-use Rattle.task_word.specs.Words.{Parts, IsWord, bit, value, marked, is_live, is_cancelled, rank, rank_in, new_in}
+use Rattle.task_word.specs.Words.{Parts, IsWord, bit, value, marked, is_live, is_ended, is_cancelled, rank, rank_in, new_in}
 use Rattle.task_word.specs.Views.{entry, times, wins, and_if, core_of, with_entry, core_cancelled, MeetsEntry}
 use Rattle.task_word.specs.Rule.{word_of, word_at, Matches, flag, taken_by, is_handle, EntriesFit, HasMet, taken_in_all, handles, IsKept}
 use Rattle.task_word.specs.Steps.{Holder, AtTask, CoreIs, Submitted, Moved, Tells, CoreMeets, CoreCancelled, CoreLooked}
-use Rattle.task_word.specs.declared.phases.Phase.TheVariants.{Vacant}
+use Rattle.task_word.specs.declared.phases.Phase.TheVariants.{Vacant, New, Running, Done, Failed}
+use Rattle.task_word.specs.declared.phases.Phase.{Phase}
 use Rattle.task_word.specs.declared.views.CoreView.{CoreView}
 use Rattle.task_word.specs.declared.views.View.{View}
 use Rattle.task_word.specs.declared.views.View.TheVariants.{Core, Handle, Spent}
 use Rattle.task_word.proofs.Numbers.{reads_back, marked_word, meets, reads_word, reads_number, or_marks}
 use Rattle.task_word.proofs.Lists.{sum_set, sum_part}
-use Rattle.task_word.proofs.Keeping.{met_after, once_after, entries_after, and_if_same, and_if_other, times_append, wins_count, marked_stays}
+use Rattle.task_word.proofs.Keeping.{Goes, goes_same, goes_marked, goes_on, won_still, met_after, once_after, none_after, entries_after, and_if_same, and_if_other, times_append, wins_count}
 
 -- the view that a core's view is
 pub core_same : (v w : CoreView) → some (Core v) ≡ some (Core w) → v ≡ w
@@ -50,12 +51,13 @@ pub core_keeps : (n k x : ℕ) (words : List ℕ) (views : List View) (v : CoreV
     → IsWord e → Matches x e
     → times k own + flag (is_cancelled (word_at words k)) ≡ times k v.own + flag (is_cancelled (word_of x))
     → ((j : ℕ) → j ≢ k → times j own ≡ times j v.own)
-    → rank (word_at words k) ≤ rank (word_of x) → (is_cancelled (word_at words k) ≡ true → is_cancelled (word_of x) ≡ true)
+    → Goes (word_at words k) (word_of x)
     → IsKept n (set words (k + 1) x) (set views 0 (Core record { entries = set v.entries k e; own = own; joined = v.joined; ranks = v.ranks; out = v.out }))
-core_keeps n k x words views v e own kept at in_n is fit here there up stays =
+core_keeps n k x words views v e own kept at in_n is fit here there goes =
     let w : CoreView = record { entries = set v.entries k e; own = own; joined = v.joined; ranks = v.ranks; out = v.out } in
     let lt : k + 1 < length words = omega (arith, kept.count) in
     let met : HasMet n words (Core v) = kept.met 0 (Core v) at in
+    let taken : (j : ℕ) → j ≢ k → times j (taken_by (Core w)) ≡ times j (taken_by (Core v)) = (λ j other. let t = there j other in omega (arith, times_append j own v.joined, times_append j v.own v.joined, t)) in
     record {
       count = length-set words (k + 1) x ∙ kept.count;
       core = (
@@ -68,11 +70,12 @@ core_keeps n k x words views v e own kept at in_n is fit here there up stays =
       only = λ id u there'. elim (at_set views 0 id (Core w) (Core u) there') [ inl same ↦ same.0 | inr other ↦ kept.only id u other.1 ];
       once = once_after n k x 0 words views (Core v) (Core w) lt in_n at
           (omega (arith, times_append k own v.joined, times_append k v.own v.joined, here))
-          (λ j other. let t = there j other in omega (arith, times_append j own v.joined, times_append j v.own v.joined, t))
+          taken
           kept.once;
+      none = none_after n k 0 views (Core v) (Core w) in_n at taken kept.none;
       met = λ id u there'. elim (at_set views 0 id (Core w) u there') [
-        | inl same ↦ subst (HasMet n (set words (k + 1) x)) same.1 (met_after n k x words (Core w) lt in_n up stays record { ranks = met.ranks; seen = met.seen })
-        | inr other ↦ met_after n k x words u lt in_n up stays (kept.met id u other.1)
+        | inl same ↦ subst (HasMet n (set words (k + 1) x)) same.1 (met_after n k x words (Core w) lt in_n goes (won_still n k 0 x words views (Core v) kept at in_n goes) record { ranks = met.ranks; seen = met.seen; still = met.still; ended = met.ended })
+        | inr other ↦ met_after n k x words u lt in_n goes (won_still n k id x words views u kept other.1 in_n goes) (kept.met id u other.1)
       ];
     }
 
@@ -130,15 +133,21 @@ submits n slots id k me zero_id core in_n phase =
         core_keeps n k (value (new_in 0)) words views v (new_in 0) v.own kept at in_n fresh (inl refl)
         (ap (λ b. times k v.own + flag b) (free ∙ sym live))
         (λ j other. refl)
-        (omega (arith, low))
-        (λ e. let f' : true ≡ false = sym e ∙ free in grind (arith))
+        (goes_on w _ free (ap is_ended was) (omega (arith, low)))
+
+not_ended : (p : Phase) → is_live p ≡ true → is_ended p ≡ false
+not_ended Vacant e = refl
+not_ended New e = refl
+not_ended Running e = refl
+not_ended Done e = absurd (let f : false ≡ true = e in grind (arith))
+not_ended Failed e = absurd (let f : false ≡ true = e in grind (arith))
 
 -- the exchange that finds what it expected keeps the rule
 exchange_keeps : (n k new : ℕ) (next : Parts) (words : List ℕ) (views : List View) (v : CoreView) → IsKept n words views → get_elem? views 0 ≡ some (Core v) → k < n
-    → is_cancelled (entry v k) ≡ false → slice_index words (k + 1) ≡ value (entry v k) → new ≡ value next → (IsWord (entry v k) → IsWord next)
+    → is_live (entry v k).phase ≡ true → is_cancelled (entry v k) ≡ false → slice_index words (k + 1) ≡ value (entry v k) → new ≡ value next → (IsWord (entry v k) → IsWord next)
     → rank (entry v k) ≤ rank next → is_cancelled next ≡ false
     → IsKept n (set words (k + 1) new) (set views 0 (Core (with_entry v k (word_of new))))
-exchange_keeps n k new next words views v kept at in_n live found is_new word up free =
+exchange_keeps n k new next words views v kept at in_n phase live found is_new word up free =
     let f = fits n words views v kept at in
     let is = f.word k in_n in
     let read : word_of new ≡ next = ap word_of is_new ∙ reads_back next (word is) in
@@ -148,54 +157,14 @@ exchange_keeps n k new next words views v kept at in_n live found is_new word up
     core_keeps n k new words views v (word_of new) v.own kept at in_n (subst IsWord (sym read) (word is)) (inl (is_new ∙ ap value (sym read)))
     (ap (λ b. times k v.own + flag b) (still ∙ sym after))
     (λ j other. refl)
-    (omega (arith, ap rank was, ap rank read, up))
-    (λ e. let f' : true ≡ false = sym e ∙ still in grind (arith))
+    (goes_on _ _ still (not_ended _ (ap (λ p. is_live p.phase) was ∙ phase)) (omega (arith, ap rank was, ap rank read, up)))
 
 -- a load of the core's keeps the rule, whatever word of the entry's it takes over
 load_keeps : (n k : ℕ) (words : List ℕ) (views : List View) (v : CoreView) (e : Parts) → IsKept n words views → get_elem? views 0 ≡ some (Core v) → k < n
     → IsWord e → Matches (slice_index words (k + 1)) e
     → IsKept n (set words (k + 1) (slice_index words (k + 1))) (set views 0 (Core (with_entry v k e)))
 load_keeps n k words views v e kept at in_n is fit =
-    core_keeps n k (slice_index words (k + 1)) words views v e v.own kept at in_n is fit refl (λ j other. refl) (omega arith) (λ e. e)
-
--- a failed exchange met the bit
-met_bit : (x : ℕ) (e : Parts) → Matches x e → x ≢ value e → x ≡ value (marked e)
-met_bit x e (inl same) other = absurd (other same)
-met_bit x e (inr cut) other = cut
-
-move_either : (n slots k old new : ℕ) (next : Parts) (v : CoreView) (xs : List (ℕ × Unit {0})) → k < n
-    → is_cancelled (entry v k) ≡ false → old ≡ value (entry v k) → new ≡ value next → (IsWord (entry v k) → IsWord next)
-    → rank (entry v k) ≤ rank next → is_cancelled next ≡ false
-    → Allows {S = Unit {0}} (Rule n) slots 0 (Core v, xs) (k + 1) (λ x. either (x == old) new x) (Moved (k + 1) old new (Core v, xs))
-move_either n slots k old new next v xs in_n live is_old is_new word up free s kept homes at bound =
-    let x : ℕ = slice_index s.words (k + 1) in
-    let f = fits n s.words s.views v kept at in
-    let is = f.word k in_n in
-    exchanged x old new
-    (λ y. (w : View) × (a : Act (Unit {0})) × Valid s.homes xs a × Rule n (stepped s (k + 1) y 0 xs w a) × Moved (k + 1) old new (Core v, xs) x (w, carried_after xs a))
-    (λ hit. (
-      Core (with_entry v k (word_of new)),
-      keeps,
-      tt,
-      exchange_keeps n k new next s.words s.views v kept at in_n live (hit ∙ is_old) is_new word up free,
-      at_task k (λ j. ((x ≡ old) × CoreIs (with_entry v j (word_of new)) (Core v, xs) (Core (with_entry v k (word_of new)), xs)) ⊎ ((x ≢ old) × CoreIs (with_entry v j (marked (entry v j))) (Core v, xs) (Core (with_entry v k (word_of new)), xs))) (inl (hit, refl)),
-    ))
-    (λ miss. (
-      Core (with_entry v k (marked (entry v k))),
-      keeps,
-      tt,
-      load_keeps n k s.words s.views v (marked (entry v k)) kept at in_n (marked_word (entry v k) is) (inl (met_bit x (entry v k) (f.each k in_n) (λ e. miss (e ∙ sym is_old)))),
-      at_task k (λ j. ((x ≡ old) × CoreIs (with_entry v j (word_of new)) (Core v, xs) (Core (with_entry v k (marked (entry v k))), xs)) ⊎ ((x ≢ old) × CoreIs (with_entry v j (marked (entry v j))) (Core v, xs) (Core (with_entry v k (marked (entry v k))), xs))) (inr (miss, refl)),
-    ))
-
--- an exchange of the core's keeps the rule, and where it fails it met the bit
-pub moves : (n slots id k old new : ℕ) (next : Parts) (me : Holder) → id ≡ 0 → me.0 ≡ Core (core_of me.0) → k < n
-    → is_cancelled (entry (core_of me.0) k) ≡ false → old ≡ value (entry (core_of me.0) k) → new ≡ value next
-    → (IsWord (entry (core_of me.0) k) → IsWord next) → rank (entry (core_of me.0) k) ≤ rank next → is_cancelled next ≡ false
-    → Allows {S = Unit {0}} (Rule n) slots id me (k + 1) (λ x. either (x == old) new x) (Moved (k + 1) old new me)
-moves n slots id k old new next me zero_id core in_n live is_old is_new word up free =
-    seat_is (λ i m. Allows {S = Unit {0}} (Rule n) slots i m (k + 1) (λ x. either (x == old) new x) (Moved (k + 1) old new m)) id me zero_id core
-    (move_either n slots k old new next (core_of me.0) me.1 in_n live is_old is_new word up free)
+    core_keeps n k (slice_index words (k + 1)) words views v e v.own kept at in_n is fit refl (λ j other. refl) (goes_same (word_at words k))
 
 -- while no handle is out, what is taken is the core's
 none_taken : (k : ℕ) (views : List View) → handles views ≡ 0 → ((id : ℕ) (u : CoreView) → get_elem? views id ≢ some (Core u)) → taken_in_all k views ≡ 0
@@ -223,6 +192,7 @@ tells n k words views v kept at in_n =
       once = (let part = sum_part (λ u. times k (taken_by u)) views 0 (Core v) at in omega (arith, all, both, part));
       alone = λ none. omega (arith, all, both, alone_taken k views v at (sym (out_is n words views v kept at) ∙ none) kept.only);
       met = (kept.met 0 (Core v) at).ranks k in_n;
+      still = λ some_won. (kept.met 0 (Core v) at).still k in_n (inr some_won);
     }
 
 core_meets : (n k : ℕ) (words : List ℕ) (views : List View) (v : CoreView) → IsKept n words views → get_elem? views 0 ≡ some (Core v) → k < n → CoreMeets v k (slice_index words (k + 1))
@@ -235,6 +205,45 @@ core_meets n k words views v kept at in_n =
       meets = meets _ (entry v k) is (f.each k in_n);
       tells = tells n k words views v kept at in_n;
     }
+
+-- a failed exchange met the bit
+met_bit : (x : ℕ) (e : Parts) → Matches x e → x ≢ value e → x ≡ value (marked e)
+met_bit x e (inl same) other = absurd (other same)
+met_bit x e (inr cut) other = cut
+
+move_either : (n slots k old new : ℕ) (next : Parts) (v : CoreView) (xs : List (ℕ × Unit {0})) → k < n
+    → is_live (entry v k).phase ≡ true → is_cancelled (entry v k) ≡ false → old ≡ value (entry v k) → new ≡ value next → (IsWord (entry v k) → IsWord next)
+    → rank (entry v k) ≤ rank next → is_cancelled next ≡ false
+    → Allows {S = Unit {0}} (Rule n) slots 0 (Core v, xs) (k + 1) (λ x. either (x == old) new x) (Moved (k + 1) old new (Core v, xs))
+move_either n slots k old new next v xs in_n phase live is_old is_new word up free s kept homes at bound =
+    let x : ℕ = slice_index s.words (k + 1) in
+    let f = fits n s.words s.views v kept at in
+    let is = f.word k in_n in
+    exchanged x old new
+    (λ y. (w : View) × (a : Act (Unit {0})) × Valid s.homes xs a × Rule n (stepped s (k + 1) y 0 xs w a) × Moved (k + 1) old new (Core v, xs) x (w, carried_after xs a))
+    (λ hit. (
+      Core (with_entry v k (word_of new)),
+      keeps,
+      tt,
+      exchange_keeps n k new next s.words s.views v kept at in_n phase live (hit ∙ is_old) is_new word up free,
+      at_task k (λ j. CoreMeets v j x × (((x ≡ old) × CoreIs (with_entry v j (word_of new)) (Core v, xs) (Core (with_entry v k (word_of new)), xs)) ⊎ ((x ≢ old) × CoreIs (with_entry v j (marked (entry v j))) (Core v, xs) (Core (with_entry v k (word_of new)), xs)))) (core_meets n k s.words s.views v kept at in_n, inl (hit, refl)),
+    ))
+    (λ miss. (
+      Core (with_entry v k (marked (entry v k))),
+      keeps,
+      tt,
+      load_keeps n k s.words s.views v (marked (entry v k)) kept at in_n (marked_word (entry v k) is) (inl (met_bit x (entry v k) (f.each k in_n) (λ e. miss (e ∙ sym is_old)))),
+      at_task k (λ j. CoreMeets v j x × (((x ≡ old) × CoreIs (with_entry v j (word_of new)) (Core v, xs) (Core (with_entry v k (marked (entry v k))), xs)) ⊎ ((x ≢ old) × CoreIs (with_entry v j (marked (entry v j))) (Core v, xs) (Core (with_entry v k (marked (entry v k))), xs)))) (core_meets n k s.words s.views v kept at in_n, inr (miss, refl)),
+    ))
+
+-- an exchange of the core's keeps the rule, and where it fails it met the bit
+pub moves : (n slots id k old new : ℕ) (next : Parts) (me : Holder) → id ≡ 0 → me.0 ≡ Core (core_of me.0) → k < n
+    → is_live (entry (core_of me.0) k).phase ≡ true → is_cancelled (entry (core_of me.0) k) ≡ false → old ≡ value (entry (core_of me.0) k) → new ≡ value next
+    → (IsWord (entry (core_of me.0) k) → IsWord next) → rank (entry (core_of me.0) k) ≤ rank next → is_cancelled next ≡ false
+    → Allows {S = Unit {0}} (Rule n) slots id me (k + 1) (λ x. either (x == old) new x) (Moved (k + 1) old new me)
+moves n slots id k old new next me zero_id core in_n phase live is_old is_new word up free =
+    seat_is (λ i m. Allows {S = Unit {0}} (Rule n) slots i m (k + 1) (λ x. either (x == old) new x) (Moved (k + 1) old new m)) id me zero_id core
+    (move_either n slots k old new next (core_of me.0) me.1 in_n phase live is_old is_new word up free)
 
 -- a load of the core's keeps the rule
 pub core_looks : (n slots id k : ℕ) (me : Holder) → id ≡ 0 → me.0 ≡ Core (core_of me.0) → k < n
@@ -267,8 +276,7 @@ bit_keeps n k words views v kept at in_n =
     core_keeps n k (bit_or x bit) words views v (marked w) (and_if (wins w) k v.own) kept at in_n (marked_word w word) (inl cut)
     (let a = and_if_same (wins w) k v.own in let b = wins_count w in let c = ap (λ u. flag (is_cancelled u)) read in omega (arith, a, b, c))
     (λ j other. and_if_other (wins w) k j v.own other)
-    (let c = ap rank read in omega (arith, c))
-    (λ e. ap is_cancelled read ∙ marked_stays w e)
+    (goes_marked w _ read)
 
 pub core_cancels : (n slots id k : ℕ) (me : Holder) → id ≡ 0 → me.0 ≡ Core (core_of me.0) → k < n
     → Allows {S = Unit {0}} (Rule n) slots id me (k + 1) (λ x. bit_or x bit) (CoreCancelled (k + 1) me)

@@ -1,5 +1,6 @@
 -- The steps of a handle's seat keep the rule.
-use Rattle.std.proofs.Common.{◌≡◌, ℕ, ◌+◌, ◌<◌, ◌≤◌, ◌≢◌, zero, suc, Bool, true, false, ◌⊎◌, inl, inr, List, [], ◌∷◌, length, set, slice_index, slice_index_or, refl, sym, ap, subst, ◌∙◌, arith, length-set, bit_or}
+use Rattle.std.proofs.Common.{◌≡◌, ℕ, ◌+◌, ◌<◌, ◌≤◌, ◌≢◌, zero, suc, Bool, true, false, ◌⊎◌, inl, inr, List, [], ◌∷◌, length, set, slice_index, slice_index_or, refl, sym, ap, subst, ◌∙◌, arith, length-set, bit_or, get_or-set_same, get_or-set_other}
+use Rattle.std.proofs.lemmas.Bool.{cases_eq}
 use mathlib.Core.Option.{some, some-injective}
 use lib.ListN.{get_elem?}
 use Rattle.atomic_table.specs.Table.{keeps, Allows}
@@ -12,8 +13,8 @@ use Rattle.task_word.specs.declared.views.HandleView.{HandleView}
 use Rattle.task_word.specs.declared.views.View.{View}
 use Rattle.task_word.specs.declared.views.View.TheVariants.{Core, Handle}
 use Rattle.task_word.proofs.Numbers.{reads_back, marked_word, reads_word, reads_number, or_marks}
-use Rattle.task_word.proofs.Lists.{sum_set, sum_part}
-use Rattle.task_word.proofs.Keeping.{met_after, once_after, word_after, and_if_same, and_if_other, wins_count, marked_stays, flag_true}
+use Rattle.task_word.proofs.Lists.{sum_set}
+use Rattle.task_word.proofs.Keeping.{Goes, goes_same, goes_marked, won_cancelled, won_still, met_after, once_after, none_after, word_after, and_if_same, and_if_other, wins_count}
 use Rattle.task_word.proofs.CoreSteps.{Rule, not_core, at_task}
 
 -- a list of numbers with one of them set is below what it was below, and the new one is
@@ -42,30 +43,46 @@ not_first n id words views h kept at zero_id =
     let here : get_elem? views 0 ≡ some (Handle h) = subst (λ (i : ℕ). get_elem? views i ≡ some (Handle h)) zero_id at in
     not_core (Handle h) kept.core.0 refl (some-injective _ _ (sym here ∙ kept.core.1))
 
+-- what a step that met the word w of the task k changes of a handle's view
+record Meets (k : ℕ) (w : Parts) (h h' : HandleView) : Type 0 where
+  pub ranks : h'.ranks ≡ set h.ranks k (rank w)
+  pub seen : h'.seen ≡ set h.seen k (is_cancelled w)
+  pub last : h'.last ≡ (k, w)
+  pub won : (j : ℕ) → j ≢ k → times j h'.won ≡ times j h.won
+
 -- what a handle met stays so where it meets one word more
-met_more : (n k x : ℕ) (words : List ℕ) (h h' : HandleView) (w : Parts) → k < n → w ≡ word_at words k → h'.ranks ≡ set h.ranks k (rank w) → h'.seen ≡ set h.seen k (is_cancelled w)
+met_more : (n k : ℕ) (words : List ℕ) (h h' : HandleView) (w : Parts) → k < n → k < length h.ranks → w ≡ word_at words k → Meets k w h h'
     → HasMet n words (Handle h) → HasMet n words (Handle h')
-met_more n k x words h h' w in_n is ranks seen met =
+met_more n k words h h' w in_n room is new met =
     record {
       ranks = λ j lt.
           let b = set_below h.ranks k j (rank w) (rank (word_at words j)) (met.ranks j lt) (λ e. let s : rank w ≡ rank (word_at words j) = ap rank is ∙ ap (λ i. rank (word_at words i)) (sym e) in omega (arith, s)) in
-          subst (λ (xs : List ℕ). slice_index xs j ≤ rank (word_at words j)) (sym ranks) b;
+          subst (λ (xs : List ℕ). slice_index xs j ≤ rank (word_at words j)) (sym new.ranks) b;
       seen = λ j lt e.
-          elim (set_true h.seen k j (is_cancelled w) (subst (λ (xs : List Bool). slice_index_or xs j false ≡ true) seen e)) [
+          elim (set_true h.seen k j (is_cancelled w) (subst (λ (xs : List Bool). slice_index_or xs j false ≡ true) new.seen e)) [
             | inl before ↦ met.seen j lt before
-            | inr new ↦ ap (λ i. is_cancelled (word_at words i)) new.0 ∙ (sym (ap is_cancelled is) ∙ new.1)
+            | inr here ↦ ap (λ i. is_cancelled (word_at words i)) here.0 ∙ (sym (ap is_cancelled is) ∙ here.1)
           ];
+      still = λ j lt s. elim (cases_eq j k) [
+        | inl same ↦ subst (λ (i : ℕ). slice_index h'.ranks i ≡ rank (word_at words i)) (sym same) (ap (λ xs. slice_index xs k) new.ranks ∙ (get_or-set_same h.ranks k (rank w) 0 room ∙ ap rank is))
+        | inr other ↦ ap (λ xs. slice_index xs j) new.ranks ∙ (get_or-set_other h.ranks k j (rank w) 0 other ∙ met.still j lt (before j other s))
+      ];
+      ended = λ lt e. subst (λ (l : ℕ × Parts). ((word_at words l.0).phase ≡ l.1.phase) × ((word_at words l.0).run ≡ l.1.run)) (sym new.last) (ap (λ p. p.phase) (sym is), ap (λ p. p.run) (sym is));
     }
+  where
+    before : (j : ℕ) → j ≢ k → (slice_index_or h'.seen j false ≡ true) ⊎ (0 < times j h'.won) → (slice_index_or h.seen j false ≡ true) ⊎ (0 < times j h.won)
+    before j other s = elim s [
+      | inl e ↦ inl (sym (ap (λ xs. slice_index_or xs j false) new.seen ∙ get_or-set_other h.seen k j (is_cancelled w) false other) ∙ e)
+      | inr g ↦ inr (let e = new.won j other in omega (arith, g, e))
+    ]
 
 -- a step of a handle keeps the rule: the word of the task k becomes x, and what the handle won goes along
 handle_keeps : (n k x id : ℕ) (words : List ℕ) (views : List View) (h h' : HandleView) → IsKept n words views → get_elem? views id ≡ some (Handle h) → k < n
     → ((e : Parts) → IsWord e → Matches (slice_index words (k + 1)) e → Matches x e)
     → times k h'.won + flag (is_cancelled (word_at words k)) ≡ times k h.won + flag (is_cancelled (word_of x))
-    → ((j : ℕ) → j ≢ k → times j h'.won ≡ times j h.won)
-    → rank (word_at words k) ≤ rank (word_of x) → (is_cancelled (word_at words k) ≡ true → is_cancelled (word_of x) ≡ true)
-    → h'.ranks ≡ set h.ranks k (rank (word_at words k)) → h'.seen ≡ set h.seen k (is_cancelled (word_at words k))
+    → k < length h.ranks → Goes (word_at words k) (word_of x) → rank (word_at words k) ≡ rank (word_of x) → Meets k (word_at words k) h h'
     → IsKept n (set words (k + 1) x) (set views id (Handle h'))
-handle_keeps n k x id words views h h' kept at in_n fit here there up stays ranks seen =
+handle_keeps n k x id words views h h' kept at in_n fit here room goes level new =
     let lt : k + 1 < length words = omega (arith, kept.count) in
     let other_id : 0 ≢ id = (λ e. not_first n id words views h kept at (sym e)) in
     let f = kept.core.2 in
@@ -79,10 +96,11 @@ handle_keeps n k x id words views h h' kept at in_n fit here there up stays rank
         kept.core.4,
       );
       only = λ i u there'. elim (at_set views id i (Handle h') (Core u) there') [ inl same ↦ absurd (not_core (Handle h') u refl same.1) | inr other ↦ kept.only i u other.1 ];
-      once = once_after n k x id words views (Handle h) (Handle h') lt in_n at here there kept.once;
+      once = once_after n k x id words views (Handle h) (Handle h') lt in_n at here new.won kept.once;
+      none = none_after n k id views (Handle h) (Handle h') in_n at new.won kept.none;
       met = λ i u there'. elim (at_set views id i (Handle h') u there') [
-        | inl same ↦ subst (HasMet n (set words (k + 1) x)) same.1 (met_after n k x words (Handle h') lt in_n up stays (met_more n k x words h h' (word_at words k) in_n refl ranks seen (kept.met id (Handle h) at)))
-        | inr other ↦ met_after n k x words u lt in_n up stays (kept.met i u other.1)
+        | inl same ↦ subst (HasMet n (set words (k + 1) x)) same.1 (met_after n k x words (Handle h') lt in_n goes (λ g. level) (met_more n k words h h' (word_at words k) in_n room refl new (kept.met id (Handle h) at)))
+        | inr other ↦ met_after n k x words u lt in_n goes (won_still n k i x words views u kept other.1 in_n goes) (kept.met i u other.1)
       ];
     }
 
@@ -99,16 +117,17 @@ handle_meets n k id words views h kept at in_n =
       word = reads_word _ e.0 e.1 e.2;
       met = met.ranks k in_n;
       seen = met.seen k in_n;
-      won = λ some_won. flag_true _ (let part = sum_part (λ u. times k (taken_by u)) views id (Handle h) at in let all = kept.once k in_n in omega (arith, some_won, part, all));
+      won = won_cancelled n k id words views (Handle h) kept at in_n;
+      still = met.still k in_n;
     }
 
 read_number : (n k : ℕ) (words : List ℕ) (views : List View) → IsKept n words views → k < n → value (word_at words k) ≡ slice_index words (k + 1)
 read_number n k words views kept in_n = let e = some_entry n k words views kept in_n in reads_number _ e.0 e.1 e.2
 
 -- a load of a handle's keeps the rule
-pub handle_looks : (n slots id k : ℕ) (me : Holder) → me.0 ≡ Handle (handle_of me.0) → k < n
+pub handle_looks : (n slots id k : ℕ) (me : Holder) → me.0 ≡ Handle (handle_of me.0) → k < n → k < length (handle_of me.0).ranks
     → Allows {S = Unit {0}} (Rule n) slots id me (k + 1) (λ x. x) (HandleLooked (k + 1) me)
-handle_looks n slots id k me handle in_n =
+handle_looks n slots id k me handle in_n room =
     handle_is (λ m. Allows {S = Unit {0}} (Rule n) slots id m (k + 1) (λ x. x) (HandleLooked (k + 1) m)) me handle
     (λ s kept homes at bound.
     let h : HandleView = handle_of me.0 in
@@ -117,14 +136,14 @@ handle_looks n slots id k me handle in_n =
       Handle h',
       keeps,
       tt,
-      handle_keeps n k x id s.words s.views h h' kept at in_n (λ e is m. m) refl (λ j other. refl) (omega arith) (λ e. e) refl refl,
+      handle_keeps n k x id s.words s.views h h' kept at in_n (λ e is m. m) refl room (goes_same (word_of x)) refl (record { ranks = refl; seen = refl; last = refl; won = λ j other. refl }),
       at_task k (λ j. MeetsHandle h j (word_of x) × (value (word_of x) ≡ x) × HandleIs (handle_looked h j (word_of x)) (Handle h, me.1) (Handle h', me.1)) (handle_meets n k id s.words s.views h kept at in_n, read_number n k s.words s.views kept in_n, refl),
     ))
 
 -- the setting of the bit by a handle keeps the rule
-bit_keeps : (n k id : ℕ) (words : List ℕ) (views : List View) (h : HandleView) → IsKept n words views → get_elem? views id ≡ some (Handle h) → k < n
+bit_keeps : (n k id : ℕ) (words : List ℕ) (views : List View) (h : HandleView) → IsKept n words views → get_elem? views id ≡ some (Handle h) → k < n → k < length h.ranks
     → IsKept n (set words (k + 1) (bit_or (slice_index words (k + 1)) bit)) (set views id (Handle (handle_cancelled h k (word_at words k))))
-bit_keeps n k id words views h kept at in_n =
+bit_keeps n k id words views h kept at in_n room =
     let x : ℕ = slice_index words (k + 1) in
     let w : Parts = word_of x in
     let m = handle_meets n k id words views h kept at in_n in
@@ -134,15 +153,14 @@ bit_keeps n k id words views h kept at in_n =
     handle_keeps n k (bit_or x bit) id words views h (handle_cancelled h k w) kept at in_n
     (λ e is fit. inr (or_marks x e is fit))
     (let a = and_if_same (wins w) k h.won in let b = wins_count w in let c = ap (λ u. flag (is_cancelled u)) read in omega (arith, a, b, c))
-    (λ j other. and_if_other (wins w) k j h.won other)
-    (let c = ap rank read in omega (arith, c))
-    (λ e. ap is_cancelled read ∙ marked_stays w e)
-    refl
-    refl
+    room
+    (goes_marked w _ read)
+    (sym (ap rank read))
+    (record { ranks = refl; seen = refl; last = refl; won = λ j other. and_if_other (wins w) k j h.won other })
 
-pub handle_cancels : (n slots id k : ℕ) (me : Holder) → me.0 ≡ Handle (handle_of me.0) → k < n
+pub handle_cancels : (n slots id k : ℕ) (me : Holder) → me.0 ≡ Handle (handle_of me.0) → k < n → k < length (handle_of me.0).ranks
     → Allows {S = Unit {0}} (Rule n) slots id me (k + 1) (λ x. bit_or x bit) (HandleCancelled (k + 1) me)
-handle_cancels n slots id k me handle in_n =
+handle_cancels n slots id k me handle in_n room =
     handle_is (λ m. Allows {S = Unit {0}} (Rule n) slots id m (k + 1) (λ x. bit_or x bit) (HandleCancelled (k + 1) m)) me handle
     (λ s kept homes at bound.
     let h : HandleView = handle_of me.0 in
@@ -151,6 +169,6 @@ handle_cancels n slots id k me handle in_n =
       Handle h',
       keeps,
       tt,
-      bit_keeps n k id s.words s.views h kept at in_n,
+      bit_keeps n k id s.words s.views h kept at in_n room,
       at_task k (λ j. MeetsHandle h j (word_of x) × (value (word_of x) ≡ x) × HandleIs (handle_cancelled h j (word_of x)) (Handle h, me.1) (Handle h', me.1)) (handle_meets n k id s.words s.views h kept at in_n, read_number n k s.words s.views kept in_n, refl),
     ))

@@ -1,5 +1,5 @@
 -- A new table keeps the rule.
-use Rattle.std.proofs.Common.{◌≡◌, ℕ, ◌+◌, ◌<◌, zero, suc, true, false, inl, List, [], ◌∷◌, get_or, replicate, refl, sym, ap, subst, ◌∙◌, arith}
+use Rattle.std.proofs.Common.{◌≡◌, ℕ, ◌+◌, ◌<◌, zero, suc, true, false, inl, inr, List, [], ◌∷◌, get_or, replicate, refl, sym, ap, subst, ◌∙◌, arith}
 use mathlib.Core.Option.{some, some-injective, some-ne-none}
 use lib.ListN.{get_elem?}
 use Rattle.std.proofs.lemmas.List.{length-replicate, get_or-replicate}
@@ -19,6 +19,8 @@ met_first n words =
     record {
       ranks = λ k h. omega (arith, zeros n k);
       seen = λ k h e. absurd (let f : true ≡ false = sym e in grind (arith));
+      still = λ k h s. absurd (elim s [ inl e ↦ (let f : false ≡ true = e in grind (arith)) | inr g ↦ (let z : 0 < 0 = g in omega (arith, z)) ]);
+      ended = λ h e. absurd (let f : false ≡ true = e in grind (arith));
     }
 
 none_cancelled : (n k : ℕ) → is_cancelled (word_at (replicate n 0) k) ≡ false
@@ -41,6 +43,7 @@ opens n words is =
       );
       only = only;
       once = λ k h. sym (ap Rattle.task_word.specs.Rule.flag (none_cancelled (n + 1) k));
+      none = λ k past. refl;
       met = met;
     }
   where

@@ -34,7 +34,7 @@ core_sits table table' id id' me me' entries out k e w same_table same_id is set
 pub found_it : (k word : ℕ) (next : Parts) (old new found : ℕ) (me me' : Holder) → Moved word old new me found me' → word ≡ k + 1 → found ≡ old → word_of new ≡ next
     → me' ≡ (Core (with_entry (core_of me.0) k next), me.1)
 found_it k word next old new found me me' moved at hit read =
-    elim (moved k at) [
+    elim (moved k at).1 [
       | inl hits ↦ hits.1 ∙ ap (λ e. (Core (with_entry (core_of me.0) k e), me.1)) read
       | inr misses ↦ absurd (misses.0 hit)
     ]

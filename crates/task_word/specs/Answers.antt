@@ -1,7 +1,5 @@
 -- What the calls on a table of words answer, and what their callers know of a table and its seats.
--- Java SE 17 documentation of Future, method cancel: a cancel has no effect on a task that is completed
--- or was cancelled before, and where more threads cancel a task, at least one of them is told that it
--- did. That it is just one, and all else, is this project's rule.
+-- This project's rule.
 use Rattle.std.specs.Prelude.{◌≡◌, ℕ, ◌<◌, Bool, true, false, List, slice_index, if◌then◌else◌}
 use Rattle.atomic_table.specs.Seated.{TableId}
 use Rattle.task_word.specs.Words.{Parts, IsWord, marked, is_cancelled, rank}
@@ -41,6 +39,14 @@ pub record HandleKnows : Type 0 where
 abbrev pub after_move : CoreView → ℕ → Moved → Parts → CoreView
 after_move v k move.Yes w = with_entry v k w
 after_move v k move.Cancelled w = with_entry v k (marked (entry v k))
+
+-- the answer of a move of the core's, by the word that it met
+abbrev pub move_answer : Parts → Moved
+move_answer w = if w.marked then move.Cancelled else move.Yes
+
+-- a move of the core's met some word, and answered by it
+abbrev pub MoveMeets : CoreView → ℕ → Moved → Type 0
+MoveMeets v k answer = (w : Parts) × MeetsEntry (entry v k) w × Tells v k w × (answer ≡ move_answer w)
 
 -- the answer of the core's cancel, by the word that it met
 abbrev pub core_answer_in : Phase → Bool → CoreCancel

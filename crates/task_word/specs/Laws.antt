@@ -4,17 +4,18 @@ use mathlib.Core.Option.{some}
 use lib.ListN.{get_elem?}
 use Rattle.task_word.specs.Words.{Parts, rank, submitted, started, rearmed, ended_well, ended_badly, marked}
 use Rattle.task_word.specs.Views.{times}
-use Rattle.task_word.specs.Rule.{IsKept, taken_by}
+use Rattle.task_word.specs.Rule.{IsKept, taken_by, taken_in_all}
 use Rattle.task_word.specs.declared.phases.Phase.TheVariants.{Vacant, New, Running}
 use Rattle.task_word.specs.declared.views.View.{View}
 
--- whatever a table's words and views are between two steps: of two seats at most one has cancelled a
--- task, or has it from a handle that did, and it has it once
+-- whatever a table's words and views are between two steps: each number stands once at most in what all
+-- seats together cancelled or have from a handle that did, and so of two seats at most one has it, once
+pub record WonOnce (k : ℕ) (views : List View) : Type 0 where
+  pub all : taken_in_all k views ≤ 1
+  pub two : (i j : ℕ) (v w : View) → i ≢ j → get_elem? views i ≡ some v → get_elem? views j ≡ some w → times k (taken_by v) + times k (taken_by w) ≤ 1
+
 abbrev pub OneWinner : Type 0
-OneWinner =
-    (n : ℕ) (words : List ℕ) (views : List View) → IsKept n words views
-    → (i j : ℕ) (v w : View) → i ≢ j → get_elem? views i ≡ some v → get_elem? views j ≡ some w
-    → (k : ℕ) → k < n → times k (taken_by v) + times k (taken_by w) ≤ 1
+OneWinner = (n : ℕ) (words : List ℕ) (views : List View) → IsKept n words views → (k : ℕ) → WonOnce k views
 
 -- each move raises the rank, and the bit leaves it
 pub record MovesRaise (w : Parts) : Type 0 where

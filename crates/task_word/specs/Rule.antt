@@ -4,7 +4,7 @@ use Rattle.std.specs.Prelude.{◌≡◌, ℕ, ◌+◌, ◌/◌, ◌%◌, ◌<◌
 use Rattle.std.specs.List.{sum_by}
 use mathlib.Core.Option.{some}
 use lib.ListN.{get_elem?}
-use Rattle.task_word.specs.Words.{Parts, IsWord, bit, value, vacant, marked, is_cancelled, rank}
+use Rattle.task_word.specs.Words.{Parts, IsWord, bit, value, vacant, marked, is_ended, is_cancelled, rank}
 use Rattle.task_word.specs.Views.{times}
 use Rattle.task_word.specs.declared.phases.Phase.{Phase}
 use Rattle.task_word.specs.declared.phases.Phase.TheVariants.{Vacant, New, Running, Done, Failed}
@@ -51,6 +51,19 @@ seen_of (Core v) = []
 seen_of (Handle h) = h.seen
 seen_of Spent = []
 
+-- the tasks of which the seat knows how far each came when it was cancelled: those that a handle cancelled,
+-- and for the core those that the joined handles did
+abbrev pub won_of : View → List ℕ
+won_of (Core v) = v.joined
+won_of (Handle h) = h.won
+won_of Spent = []
+
+-- the task of a handle's last step, and the word that the step met
+abbrev pub last_of : View → ℕ × Parts
+last_of (Core v) = (0, vacant)
+last_of (Handle h) = h.last
+last_of Spent = (0, vacant)
+
 -- 1 for a handle, else 0
 abbrev pub is_handle : View → ℕ
 is_handle (Core v) = 0
@@ -64,9 +77,14 @@ pub record EntriesFit (n : ℕ) (words : List ℕ) (entries : List Parts) : Type
   pub each : (k : ℕ) → k < n → Matches (slice_index words (k + 1)) (slice_index_or entries k vacant)
 
 -- no word has a lower rank than the seat met, and what the seat met cancelled is cancelled
+--
+-- A cancelled word stands still: one that the seat met so, or that it won, has the rank met. So does an
+-- ended one: that of a handle's last step has the phase and the run met.
 pub record HasMet (n : ℕ) (words : List ℕ) (v : View) : Type 0 where
   pub ranks : (k : ℕ) → k < n → slice_index (ranks_of v) k ≤ rank (word_at words k)
   pub seen : (k : ℕ) → k < n → slice_index_or (seen_of v) k false ≡ true → is_cancelled (word_at words k) ≡ true
+  pub still : (k : ℕ) → k < n → (slice_index_or (seen_of v) k false ≡ true) ⊎ (0 < times k (won_of v)) → slice_index (ranks_of v) k ≡ rank (word_at words k)
+  pub ended : (last_of v).0 < n → is_ended (last_of v).1.phase ≡ true → ((word_at words (last_of v).0).phase ≡ (last_of v).1.phase) × ((word_at words (last_of v).0).run ≡ (last_of v).1.run)
 
 -- how often the task stands in what the seats took, added up
 abbrev pub taken_in_all : ℕ → List View → ℕ
@@ -85,5 +103,7 @@ pub record IsKept (n : ℕ) (words : List ℕ) (views : List View) : Type 0 wher
   pub only : (id : ℕ) (v : CoreView) → get_elem? views id ≡ some (Core v) → id ≡ 0
   -- each cancelled task stands in what one seat took, once, and no other task stands in any
   pub once : (k : ℕ) → k < n → taken_in_all k views ≡ flag (is_cancelled (word_at words k))
+  -- what is no task of the table was taken by none
+  pub none : (k : ℕ) → n ≤ k → taken_in_all k views ≡ 0
   -- what the seats met is so
   pub met : (id : ℕ) (v : View) → get_elem? views id ≡ some v → HasMet n words v

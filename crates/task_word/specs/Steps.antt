@@ -1,5 +1,5 @@
 -- What each kind of step on the word of a task tells the seat that makes it. This project's rule.
-use Rattle.std.specs.Prelude.{◌≡◌, ℕ, ◌+◌, ◌≤◌, ◌≢◌, slice_index, ◌⊎◌}
+use Rattle.std.specs.Prelude.{◌≡◌, ℕ, ◌+◌, ◌<◌, ◌≤◌, ◌≢◌, slice_index, ◌⊎◌}
 use Rattle.atomic_table.specs.Table.{Me}
 use Rattle.task_word.specs.Words.{Parts, IsWord, value, marked, is_cancelled, rank, new_in}
 use Rattle.task_word.specs.Views.{entry, times, core_of, handle_of, with_entry, core_cancelled, handle_looked, handle_cancelled, MeetsEntry, MeetsHandle}
@@ -27,12 +27,6 @@ HandleIs h me next = next ≡ (Handle h, me.1)
 abbrev pub Submitted : ℕ → Holder → Holder → Type 0
 Submitted word me next = AtTask word (λ k. CoreIs (with_entry (core_of me.0) k (new_in 0)) me next)
 
--- the number expected was found, and the word is the new one; or another was, and it is the entry with the bit
-abbrev pub Moved : ℕ → ℕ → ℕ → Holder → ℕ → Holder → Type 0
-Moved word old new me found next = AtTask word (λ k.
-    ((found ≡ old) × CoreIs (with_entry (core_of me.0) k (word_of new)) me next)
-    ⊎ ((found ≢ old) × CoreIs (with_entry (core_of me.0) k (marked (entry (core_of me.0) k))) me next))
-
 -- what the core's own list and the joined handles' say of a task whose word is w
 pub record Tells (v : CoreView) (k : ℕ) (w : Parts) : Type 0 where
   -- a task stands in them once at most, and only where it is cancelled
@@ -41,6 +35,8 @@ pub record Tells (v : CoreView) (k : ℕ) (w : Parts) : Type 0 where
   pub alone : v.out ≡ 0 → times k v.own + times k v.joined ≡ flag (is_cancelled w)
   -- a joined handle met no higher rank
   pub met : slice_index v.ranks k ≤ rank w
+  -- and one that cancelled the task met just this rank
+  pub still : 0 < times k v.joined → slice_index v.ranks k ≡ rank w
 
 -- the core met the word w of the task k, which is its entry or has the bit besides
 pub record CoreMeets (v : CoreView) (k found : ℕ) : Type 0 where
@@ -48,6 +44,12 @@ pub record CoreMeets (v : CoreView) (k found : ℕ) : Type 0 where
   pub number : value (word_of found) ≡ found
   pub meets : MeetsEntry (entry v k) (word_of found)
   pub tells : Tells v k (word_of found)
+
+-- the number expected was found, and the word is the new one; or another was, and it is the entry with the bit
+abbrev pub Moved : ℕ → ℕ → ℕ → Holder → ℕ → Holder → Type 0
+Moved word old new me found next = AtTask word (λ k. CoreMeets (core_of me.0) k found × (
+    ((found ≡ old) × CoreIs (with_entry (core_of me.0) k (word_of new)) me next)
+    ⊎ ((found ≢ old) × CoreIs (with_entry (core_of me.0) k (marked (entry (core_of me.0) k))) me next)))
 
 abbrev pub CoreCancelled : ℕ → Holder → ℕ → Holder → Type 0
 CoreCancelled word me found next = AtTask word (λ k. CoreMeets (core_of me.0) k found × CoreIs (core_cancelled (core_of me.0) k (word_of found)) me next)

@@ -72,12 +72,13 @@ abbrev pub MeetsEntry : Parts → Parts → Type 0
 MeetsEntry e w = (w ≡ e) ⊎ (w ≡ marked e)
 
 -- what a handle knows lets a step meet: no lower rank than it met, and what it met cancelled or
--- cancelled itself is cancelled
+-- cancelled itself is cancelled, with the rank that it met
 pub record MeetsHandle (h : HandleView) (k : ℕ) (w : Parts) : Type 0 where
   pub word : IsWord w
   pub met : slice_index h.ranks k ≤ rank w
   pub seen : seen_at h k ≡ true → is_cancelled w ≡ true
   pub won : 0 < times k h.won → is_cancelled w ≡ true
+  pub still : (seen_at h k ≡ true) ⊎ (0 < times k h.won) → slice_index h.ranks k ≡ rank w
 
 -- what the core's seat knows
 abbrev pub core_of : View → CoreView

@@ -48,6 +48,14 @@ is_live Running = true
 is_live Done = false
 is_live Failed = false
 
+-- the task has ended
+abbrev pub is_ended : Phase → Bool
+is_ended Vacant = false
+is_ended New = false
+is_ended Running = false
+is_ended Done = true
+is_ended Failed = true
+
 -- the bit is set on a task that waits or is run: on another phase it means nothing
 abbrev pub is_cancelled : Parts → Bool
 is_cancelled w = is_live w.phase && w.marked

@@ -1,10 +1,10 @@
-ghost use Rattle.std.specs.Prelude.{◌≡◌, ◌+◌, ◌<◌, ◌≤◌, ◌^◌, ◌⊎◌, false, length, IfOk, IfErr};
+ghost use Rattle.std.specs.Prelude.{◌≡◌, ◌+◌, ◌<◌, ◌≤◌, ◌^◌, ◌⊎◌, true, false, length, IfOk, IfErr};
 ghost use Rattle.task_word.specs.declared.phases.Phase.TheVariants.{Vacant, New, Running};
-ghost use Rattle.task_word.specs.Words.{new_in, started, rearmed, ended_well, ended_badly, is_cancelled, rank, IsWord};
+ghost use Rattle.task_word.specs.Words.{new_in, started, rearmed, ended_well, ended_badly, is_live, is_cancelled, rank, IsWord};
 ghost use Rattle.task_word.specs.Views.{entry, with_entry, and_if, MeetsEntry, one_out, new_handle, joined_with};
 ghost use Rattle.task_word.specs.declared.fault.WordError.TheVariants.{Seats};
 ghost use Rattle.task_word.specs.Steps.{Tells};
-ghost use Rattle.task_word.specs.Answers.{after_move, is_won, CoreCancels};
+ghost use Rattle.task_word.specs.Answers.{after_move, is_won, MoveMeets, CoreCancels};
 
 use crate::answers::{CoreCancel, Moved};
 use crate::fault::WordError;
@@ -76,6 +76,7 @@ impl<A: Allocator> CoreSeat<A> {
         requires live { is_cancelled (entry self.old.view k) ≡ false }
         ensures table { self.new.table ≡ self.old.table }
         ensures view { self.new.view ≡ after_move self.old.view k result (started (entry self.old.view k)) }
+        ensures met { MoveMeets self.old.view k result }
     {
         let next = self.known(words, k).started();
         self.advance(words, k, next)
@@ -89,6 +90,7 @@ impl<A: Allocator> CoreSeat<A> {
         requires live { is_cancelled (entry self.old.view k) ≡ false }
         ensures table { self.new.table ≡ self.old.table }
         ensures view { self.new.view ≡ after_move self.old.view k result (ended_well (entry self.old.view k)) }
+        ensures met { MoveMeets self.old.view k result }
     {
         let next = self.known(words, k).done();
         self.advance(words, k, next)
@@ -102,6 +104,7 @@ impl<A: Allocator> CoreSeat<A> {
         requires live { is_cancelled (entry self.old.view k) ≡ false }
         ensures table { self.new.table ≡ self.old.table }
         ensures view { self.new.view ≡ after_move self.old.view k result (ended_badly (entry self.old.view k)) }
+        ensures met { MoveMeets self.old.view k result }
     {
         let next = self.known(words, k).failed();
         self.advance(words, k, next)
@@ -117,6 +120,7 @@ impl<A: Allocator> CoreSeat<A> {
         requires run { (entry self.old.view k).run + 1 < 2 ^ 32 }
         ensures table { self.new.table ≡ self.old.table }
         ensures view { self.new.view ≡ after_move self.old.view k result (rearmed (entry self.old.view k)) }
+        ensures met { MoveMeets self.old.view k result }
     {
         let next = self.known(words, k).rearmed();
         self.advance(words, k, next)
@@ -161,12 +165,14 @@ impl<A: Allocator> CoreSeat<A> {
 
     /// Cuts off a new handle, which has met and cancelled nothing.
     ///
-    /// The error is [`WordError::Seats`], just where 63 handles are out; then nothing changed.
+    /// The error is [`WordError::Seats`], just where 63 handles are out; then nothing changed. So at most 63
+    /// handles are out.
     pub fn split(&mut self, words: &TaskWords<A>) -> Result<HandleSeat, WordError>
         requires table { self.old.table ≡ words.now.table }
         ensures ok { IfOk result (λ h. (self.old.view.out < 63) × (self.new.view ≡ one_out self.old.view) × (h.table ≡ self.old.table) × (h.view ≡ new_handle words.now.tasks)) }
         ensures err { IfErr result (λ e. (e ≡ Seats) × (self.old.view.out ≡ 63) × (self.new.view ≡ self.old.view)) }
         ensures table { self.new.table ≡ self.old.table }
+        ensures most { self.new.view.out ≤ 63 }
     {
         if self.out >= MOST_HANDLES {
             return Err(WordError::Seats);
@@ -207,11 +213,13 @@ impl<A: Allocator> CoreSeat<A> {
     fn advance(&mut self, words: &TaskWords<A>, k: u32, next: Word) -> Moved
         requires table { self.old.table ≡ words.now.table }
         requires task { k < words.now.tasks }
+        requires phase { is_live (entry self.old.view k).phase ≡ true }
         requires live { is_cancelled (entry self.old.view k) ≡ false }
         requires rank { rank (entry self.old.view k) ≤ rank next }
         requires free { is_cancelled next ≡ false }
         ensures table { self.new.table ≡ self.old.table }
         ensures view { self.new.view ≡ after_move self.old.view k result next }
+        ensures met { MoveMeets self.old.view k result }
     {
         let word = self.known(words, k);
         let old = word.value();

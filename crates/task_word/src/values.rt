@@ -117,7 +117,8 @@ impl Word {
         if self.marked { BIT + plain } else { plain }
     }
 
-    /// The word once the task is submitted: new in run 0, and the bit is cleared.
+    /// The word once the task is submitted: new in run 0, and the bit is cleared. The word is vacant, with
+    /// the bit or without.
     pub fn submitted(self) -> Word
         requires { self.phase ≡ Vacant }
         ensures { result ≡ submitted self }
@@ -125,7 +126,7 @@ impl Word {
         Word::new_run(0)
     }
 
-    /// The word once the task's run begins.
+    /// The word once the task's run begins. The task waits and is not cancelled.
     pub fn started(self) -> Word
         requires phase { self.phase ≡ New }
         requires live { is_cancelled self ≡ false }
@@ -138,7 +139,8 @@ impl Word {
         }
     }
 
-    /// The word once the task waits for its next run.
+    /// The word once the task waits for its next run. The task is run and is not cancelled, and its run is
+    /// below 4,294,967,295.
     pub fn rearmed(self) -> Word
         requires phase { self.phase ≡ Running }
         requires live { is_cancelled self ≡ false }
@@ -152,7 +154,7 @@ impl Word {
         }
     }
 
-    /// The word once the task's run ended well and was its last.
+    /// The word once the task's run ended well and was its last. The task is run and is not cancelled.
     pub fn done(self) -> Word
         requires phase { self.phase ≡ Running }
         requires live { is_cancelled self ≡ false }
@@ -165,7 +167,7 @@ impl Word {
         }
     }
 
-    /// The word once the task's run failed.
+    /// The word once the task's run failed. The task is run and is not cancelled.
     pub fn failed(self) -> Word
         requires phase { self.phase ≡ Running }
         requires live { is_cancelled self ≡ false }

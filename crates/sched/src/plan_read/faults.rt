@@ -24,7 +24,7 @@ pub enum PlanFaultKind {
     /// A key is missing.
     #[error("Missing")]
     Missing,
-    /// A value is not of the type that its key wants.
+    /// A value is not what its key wants: of another type, or an `op` that is none.
     #[error("WrongType")]
     WrongType,
     /// There are more blocks or calls than a plan may have.

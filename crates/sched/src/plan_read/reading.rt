@@ -282,9 +282,11 @@ fn read_text(alloc: Global, text: &[u8]) -> Result<Plan, Stop>
 /// The plan that a text writes, or the first fault of the text.
 ///
 /// A plan is a TOML document in UTF-8 of at most 1,048,576 bytes with the key
-/// `version`, which is 1, and at most one table `block`. Its `call` is an array
-/// of at most 256 tables, each with `op = "schedule"`, a `name`, a `delay` and
-/// an offset `at` (0 if it is left out), both in nanoseconds.
+/// `version`, which is 1, and an array `block` of at most one table. Its `call`
+/// is an array of at most 256 tables, each with `op = "schedule"`, a `name` that
+/// no other has, a `delay` and an offset `at` (0 if it is left out), both in
+/// nanoseconds and at most 2^62. A negative delay counts as 0. An offset is not
+/// negative, and not below the one before it.
 ///
 /// The fault is the first one that is met, text, top, header, then call by call.
 /// [`PlanFaultKind::Memory`] may come in place of any other answer, and says

@@ -1,5 +1,5 @@
-use Rattle.std.proofs.Common.{◌≡◌, ◌+◌, ◌≤◌, false, sym, ap, ◌∙◌, refl, arith, subst}
-use Rattle.task_word.specs.Words.{value, is_cancelled, rank}
+use Rattle.std.proofs.Common.{◌≡◌, ◌+◌, ◌≤◌, true, false, sym, ap, ◌∙◌, refl, arith, subst}
+use Rattle.task_word.specs.Words.{value, is_live, is_cancelled, rank}
 use Rattle.task_word.specs.Views.{entry, with_entry, core_of}
 use Rattle.task_word.specs.Rule.{word_of}
 use Rattle.task_word.proofs.Numbers.{reads_back}
@@ -15,6 +15,7 @@ compare_exchange-found-requires g c =
       omega (arith, tasks, c.words.invariant.1, c.requires.task),
       moves c.words.inside.table.shared.key _ seat.id c.args.k c.value-old.result c.value.result c.args.next seat.me c.self.invariant.0 c.self.invariant.1
           (omega (arith, tasks, c.words.invariant.0, c.requires.task))
+          (subst (λ s. is_live (entry s.view c.args.k).phase ≡ true) (sym c.self.view_is) c.requires.phase)
           (subst (λ s. is_cancelled (entry s.view c.args.k) ≡ false) (sym c.self.view_is) c.requires.live)
           (c.value-old.ensures.value ∙ ap value (c.known-word.ensures ∙ ap (λ s. entry s.view c.args.k) (sym c.self.view_is)))
           c.value.ensures.value

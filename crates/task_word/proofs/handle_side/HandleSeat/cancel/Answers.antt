@@ -9,10 +9,11 @@ use Rattle.task_word.proofs.handle_side.HandleSeat.cancel.Goals as goal
 
 pub fetch_or-found-requires : goal.fetch_or-found-requires
 fetch_or-found-requires g c =
-    let seat = c.self.inside.seat in (
+    let seat = c.self.inside.seat in
+    let words = ap (λ s. s.table.words) c.self.view_is ∙ (ap (λ t. t.words) c.requires.table ∙ sym (ap (λ t. t.table.words) c.words.view_is)) in (
       ap (λ s. s.table) c.self.view_is ∙ (c.requires.table ∙ sym (ap (λ w. w.table) c.words.view_is)),
       omega (arith, c.words.invariant.1, c.if-k-words.false),
-      handle_cancels c.words.inside.table.shared.key _ seat.id c.args.k seat.me c.self.invariant.0 (omega (arith, c.words.invariant.0, c.if-k-words.false)),
+      handle_cancels c.words.inside.table.shared.key _ seat.id c.args.k seat.me c.self.invariant.0 (omega (arith, c.words.invariant.0, c.if-k-words.false)) (omega (arith, c.self.invariant.2, c.words.invariant.1, c.if-k-words.false, words)),
     )
 
 pub of_value-requires : goal.of_value-requires
