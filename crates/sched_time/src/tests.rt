@@ -1,7 +1,6 @@
 //! Spans and moments by hand.
-use std::test::Fail;
-
 use crate::{TimeError, Unit, moment, span};
+use std::test::Fail;
 
 #[test]
 fn converts_spans(rt: HostRuntime) -> Result<(), Fail> {
