@@ -1,4 +1,4 @@
-ghost use Rattle.std.specs.Prelude.{◌≡◌, ◌≢◌, ℕ, ◌+◌, ◌-◌, ◌^◌, ◌<◌, ◌≤◌, ◌↔◌, ◌⊎◌, List, [], ◌∷◌, ◌++◌, length, replicate, None, Some, slice_get, Option, OnOk, OnErr, IfOk, IfErr, IsErrOf, IsTrue, false, vec_len, vec_capacity};
+ghost use Rattle.std.specs.Prelude.{◌≡◌, ◌≢◌, ℕ, ◌+◌, ◌-◌, ◌^◌, ◌<◌, ◌≤◌, ◌↔◌, ◌⊎◌, List, [], ◌∷◌, ◌++◌, length, replicate, None, Some, slice_get, Option, OnOk, OnErr, IsOk, IfOk, IfErr, IsErrOf, IsTrue, false, vec_len, vec_capacity};
 ghost use Rattle.executor_core.specs.declared.words.Happening.TheVariants as happening;
 ghost use Rattle.executor_core.specs.declared.words.CodeCall.TheVariants as call;
 ghost use Rattle.executor_core.specs.Calls.{IsOrderly, task_count, is_submission};
@@ -105,7 +105,8 @@ impl<A: Allocator> Core<A> {
     ///
     /// The lines of the answers are added to `out`, the oldest first. Where as many events were
     /// taken as the limit allows the answer is [`CoreError::Full`]; where `out` cannot grow it is
-    /// [`CoreError::Memory`]. Both leave the core and the lines as they were, and the event may
+    /// [`CoreError::Memory`], which does not come where `out` has room for a line of each call that is
+    /// left and one more. Both leave the core and the lines as they were, and the event may
     /// be given again.
     pub fn event<B: Allocator>(
         &mut self,
@@ -114,6 +115,7 @@ impl<A: Allocator> Core<A> {
     ) -> Result<(), CoreError>
         ensures full { IsErrOf result CoreError.Full ↔ (self.old.taken ≡ self.old.limit) }
         ensures others { IfErr result (λ e. (e ≡ CoreError.Full) ⊎ (e ≡ CoreError.Memory)) }
+        ensures room { vec_len out.old + (length self.old.calls - self.old.made) < vec_capacity out.old → self.old.taken < self.old.limit → IsOk result }
         ensures refused { OnErr result ((self.new ≡ self.old) × (out.new.items ≡ out.old.items)) }
         ensures taken { OnOk result (self.new.taken ≡ self.old.taken + 1) }
         ensures steps { OnOk result (Steps self.old self.new out.old.items out.new.items (part_of self.old.calls self.old.made self.old.moment event)) }

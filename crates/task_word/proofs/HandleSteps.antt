@@ -7,7 +7,7 @@ use Rattle.atomic_table.specs.Table.{keeps, Allows}
 use Rattle.atomic_table.proofs.Lists.{at_set, set_else}
 use Rattle.task_word.specs.Words.{Parts, IsWord, bit, value, marked, is_cancelled, rank}
 use Rattle.task_word.specs.Views.{times, wins, handle_of, handle_looked, handle_cancelled, MeetsHandle}
-use Rattle.task_word.specs.Rule.{word_of, word_at, Matches, flag, taken_by, is_handle, HasMet, IsKept}
+use Rattle.task_word.specs.Rule.{word_of, word_at, Matches, flag, is_handle, HasMet, IsKept}
 use Rattle.task_word.specs.Steps.{Holder, HandleIs, HandleCancelled, HandleLooked}
 use Rattle.task_word.specs.declared.views.HandleView.{HandleView}
 use Rattle.task_word.specs.declared.views.View.{View}

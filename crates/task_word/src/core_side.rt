@@ -67,8 +67,8 @@ impl<A: Allocator> CoreSeat<A> {
 
     /// Begins the task's run. In the core's view the task waits and is not cancelled.
     ///
-    /// At [`Moved::Cancelled`], here and in each move below, the entry has the bit now and nothing else
-    /// changed.
+    /// Here and in each move below the answer is by the word that the call met: [`Moved::Yes`] where it had
+    /// no bit. At [`Moved::Cancelled`] the entry has the bit now and nothing else changed.
     pub fn start(&mut self, words: &TaskWords<A>, k: u32) -> Moved
         requires table { self.old.table ≡ words.now.table }
         requires task { k < words.now.tasks }

@@ -38,8 +38,8 @@ impl Model for HandleSeat {
 impl HandleSeat {
     /// Sets the bit of the task's word, and answers by the word that it met, in one atomic step.
     ///
-    /// That word has no lower rank than this handle met of the task before, and is cancelled where the
-    /// handle met it so. Past the table it answers [`CancelAnswer::NoTask`], and nothing is touched.
+    /// That word has no lower rank than this handle met of the task before. Where the handle met it
+    /// cancelled, or cancelled it, it is cancelled, and has just the rank met then. Past the table it answers [`CancelAnswer::NoTask`], and nothing is touched.
     pub fn cancel<A: Allocator>(&mut self, words: &TaskWords<A>, k: u32) -> CancelAnswer
         requires table { self.old.table ≡ words.now.table }
         ensures table { self.new.table ≡ self.old.table }

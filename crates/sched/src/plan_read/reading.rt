@@ -1,6 +1,6 @@
 //! Plans from their texts.
 
-ghost use Rattle.std.specs.Prelude.{◌≡◌, ◌≢◌, ◌≤◌, true, length, [], ◌∷◌, option_map, IfOk, IfErr, Ok, Err};
+ghost use Rattle.std.specs.Prelude.{◌≡◌, ◌≢◌, ◌≤◌, ◌⊎◌, true, length, [], ◌∷◌, option_map, IfOk, IfErr, Ok, Err};
 ghost use Rattle.toml.specs.View.{view, table_view, items_view};
 ghost use Rattle.sched_time.specs.Times.{longest};
 ghost use Rattle.sched.specs.Plans.{IsCallFrom, AreCallsFrom};
@@ -294,6 +294,7 @@ fn read_text(alloc: Global, text: &[u8]) -> Result<Plan, Stop>
 pub fn read_plan(alloc: Global, text: &[u8]) -> Result<Plan, PlanFault>
     ensures plan { IfOk result (λ p. plan_of_text text.now ≡ Ok p) }
     ensures fault { IfErr result (λ e. e.kind ≢ kinds.Memory → plan_of_text text.now ≡ Err e) }
+    ensures memory { IfErr result (λ e. (plan_of_text text.now ≡ Err e) ⊎ (e ≡ record { kind = kinds.Memory; block = 0; call = 0 })) }
 {
     match read_text(alloc, text) {
         Ok(plan) => Ok(plan),
