@@ -46,12 +46,17 @@ pub fn put_text<A: Allocator>(out: &mut Vec<u8, A>, text: &[u8])
     };
 }
 
-/// Appends the decimal digits of a number, at most 20, for which there is room.
+/// Appends the decimal digits of a number, at most 20, for which there is room. One digit, which is
+/// what most numbers of workers have, is put without a copy.
 pub fn put_number<A: Allocator>(out: &mut Vec<u8, A>, n: u64)
     requires { vec_len out.old + 20 ≤ vec_capacity out.old }
     ensures items { Puts out.old.items out.new.items (decimal n) }
     ensures len { vec_len out.new ≤ vec_len out.old + 20 }
     ensures room { vec_capacity out.old ≤ vec_capacity out.new }
 {
-    put_text(out, Buffer::new().format(n).as_bytes());
+    if n < 10 {
+        out.push_reserved(b'0' + n as u8);
+    } else {
+        put_text(out, Buffer::new().format(n).as_bytes());
+    }
 }
