@@ -1,23 +1,21 @@
 -- Inputs: the lines of events, and one event more.
-use Rattle.std.proofs.Common.{◌≡◌, ◌≢◌, ℕ, ◌+◌, ◌*◌, ◌^◌, ◌<◌, ◌≤◌, List, [], ◌∷◌, ◌++◌, take, drop, length, All, refl, ap, ◌∙◌, sym, subst, arith, append_assoc, append-nil, length-append, Bool, true, false, cond}
-use Rattle.std.specs.Prelude.{replicate, flat_map}
+use Rattle.std.proofs.Common.{◌≡◌, ℕ, ◌+◌, ◌^◌, ◌<◌, ◌≤◌, List, [], ◌∷◌, ◌++◌, take, length, refl, ap, ◌∙◌, sym, subst, arith, append_assoc, append-nil, length-append}
+use Rattle.std.specs.Prelude.{replicate}
 use Rattle.std.proofs.lemmas.List.{length-replicate}
 use Rattle.std.proofs.lemmas.List.Concat.{flat_map-append}
-use Rattle.std.proofs.lemmas.List.Elements.{All-nil, All-cons, All-head, All-tail}
+use Rattle.std.proofs.lemmas.List.Elements.{All-nil, All-cons}
 use Rattle.executor_core.specs.declared.Event.{Event}
 use Rattle.executor_core.specs.declared.Event.TheVariants as v
 use Rattle.executor_core.specs.declared.Happening.{Happening}
 use Rattle.executor_core.specs.declared.Happening.TheVariants as h
 use Rattle.executor_core.specs.declared.Line.{Line}
 use Rattle.executor_core.specs.Calls.{Planned, IsOrderly}
-use Rattle.executor_core.specs.Answers.{is_accepted}
 use Rattle.executor_core.specs.Histories.{Entry, happenings, made, now_of, Means}
-use Rattle.executor_core.specs.Flows.{flow, part_of, reached, calls_before, history_from, history_of, lines_of}
+use Rattle.executor_core.specs.Flows.{flow, part_of, calls_before, history_from, history_of, lines_of}
 use Rattle.executor_core.specs.Machine.{Machine, workers_of, Stands, Steps, Continues}
 use Rattle.executor_core.proofs.Flowing.{flow_means, history_more, stands_agrees, made_past, made-calls, happenings_from}
-use Rattle.sched.specs.Spelling.{event_text, FitsEvent, lines_text, line_text}
-use Rattle.sched.specs.Running.{event_line, input_of, AreEvents, text_of, IsRefused, EventsAreOne, Answers, IsStanding}
-use Rattle.sched.proofs.EventTexts.{first_event}
+use Rattle.sched.specs.Spelling.{FitsEvent, lines_text, line_text}
+use Rattle.sched.specs.Running.{event_line, input_of, text_of, Answers, IsStanding}
 
 pub input_of-append : (more before : List Event) → input_of (more ++ before) ≡ input_of before ++ input_of more
 input_of-append [] before = sym (append-nil (input_of before))

@@ -1,18 +1,16 @@
 -- Pieces: what bytes that are no event line are, and what a piece of input makes of a run.
-use Rattle.std.proofs.Common.{◌≡◌, ◌≢◌, ℕ, ◌+◌, ◌-◌, ◌*◌, ◌^◌, ◌<◌, ◌≤◌, List, [], ◌∷◌, ◌++◌, take, drop, length, Option, Some, None, IfSome, Bool, true, false, ◌==◌, refl, ap, ◌∙◌, sym, subst, arith, append_assoc, append-nil, length-append, length-drop, length-take}
+use Rattle.std.proofs.Common.{◌≡◌, ◌≢◌, ℕ, ◌+◌, ◌-◌, ◌*◌, ◌^◌, ◌<◌, ◌≤◌, List, [], ◌∷◌, ◌++◌, take, drop, length, Option, Some, None, true, false, ◌==◌, refl, ap, ◌∙◌, sym, subst, arith, append_assoc, append-nil, length-append, length-drop, length-take}
 use Rattle.std.proofs.lemmas.Bool.Decides.{nat_tests}
 use Rattle.std.proofs.lemmas.List.Elements.{All-append, All-nil}
 use Rattle.std.specs.Io.KnownBytes.{Consumes, Appends, Keeps, IsAtEnd, prepend_known}
 use Rattle.executor_core.specs.declared.Event.{Event}
-use Rattle.executor_core.specs.declared.Line.{Line}
 use Rattle.executor_core.specs.Calls.{Planned, IsOrderly}
-use Rattle.executor_core.specs.Histories.{Entry, happenings, Means}
-use Rattle.executor_core.specs.Flows.{flow, history_of, lines_of}
+use Rattle.executor_core.specs.Flows.{history_of, lines_of}
 use Rattle.executor_core.specs.Machine.{Machine, workers_of, Stands}
 use Rattle.executor_core.proofs.Flowing.{flow_means}
 use Rattle.sched.specs.Lines.{IsLine}
-use Rattle.sched.specs.Spelling.{event_text, FitsEvent, lines_text, Spells}
-use Rattle.sched.specs.Running.{event_line, input_of, AreEvents, IsTrace, text_of, IsRefused, BeginsWithEvent, Splits, Took, TookPart, Answers, IsStanding, IsFirst, Done}
+use Rattle.sched.specs.Spelling.{event_text, FitsEvent}
+use Rattle.sched.specs.Running.{event_line, input_of, IsTrace, text_of, IsRefused, BeginsWithEvent, Took, TookPart, Answers, IsFirst, Done}
 use Rattle.sched.proofs.EventTexts.{event_is_line, event_short}
 use Rattle.sched.proofs.Texts.{first_line, no_short_line, no_line}
 use Rattle.sched.proofs.Runs.{at_end, so_far, at_fault, took, gave, gave_front}

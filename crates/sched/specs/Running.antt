@@ -10,7 +10,6 @@ use Rattle.executor_core.specs.Flows.{flow, history_of, lines_of}
 use Rattle.executor_core.specs.Machine.{Machine, workers_of, Stands}
 use Rattle.sched.specs.declared.engine.Why.{Why}
 use Rattle.sched.specs.declared.engine.Why.TheVariants as w
-use Rattle.sched.specs.declared.engine.Stop.{Stop}
 use Rattle.sched.specs.declared.report.Report.{Report}
 use Rattle.sched.specs.declared.report.RunError.{RunError}
 use Rattle.sched.specs.declared.report.RunError.TheVariants as x

@@ -1,8 +1,8 @@
-use Rattle.std.proofs.Common.{◌≡◌, ℕ, ◌+◌, ◌≤◌, ◌<◌, List, [], ◌++◌, length, take, drop, ap, sym, refl, subst, ◌∙◌, arith, append-nil, length-append}
+use Rattle.std.proofs.Common.{◌≡◌, ℕ, ◌+◌, ◌<◌, List, [], ◌++◌, length, take, drop, ap, sym, refl, subst, ◌∙◌, arith}
 use Rattle.std.specs.Io.KnownBytes.{Appends}
 use Rattle.executor_core.specs.Machine.{workers_of}
 use Rattle.sched.specs.Lines.{IsLine}
-use Rattle.sched.specs.Running.{Done, Stops, IsRefused, BeginsWithEvent}
+use Rattle.sched.specs.Running.{Stops, IsRefused, BeginsWithEvent}
 use Rattle.sched.specs.declared.engine.Why.{Why}
 use Rattle.sched.proofs.Pieces.{first_done, out_of_memory, refused, full, ended, cut_off, faulted, lines_fit, unwritten, smaller, piece, empty, not_empty}
 use Rattle.sched.proofs.engine.answer_all.Goals as goal

@@ -1,12 +1,10 @@
-use Rattle.std.proofs.Common.{◌≡◌, ℕ, ◌+◌, ◌-◌, ◌<◌, ◌≤◌, List, [], ◌∷◌, ◌++◌, length, take, drop, ap, sym, refl, Result, Ok, Err, ◌∙◌, subst, arith, rules, length-drop}
+use Rattle.std.proofs.Common.{◌≡◌, ℕ, ◌+◌, ◌-◌, ◌≤◌, List, ◌∷◌, ◌++◌, length, take, drop, ap, sym, refl, Result, Ok, Err, ◌∙◌, subst, arith, rules, length-drop}
 use Rattle.std.proofs.lemmas.List.{take_rest}
 use Rattle.executor_core.specs.declared.CoreError.{CoreError}
 use Rattle.executor_core.specs.declared.CoreError.TheVariants.{Full}
-use Rattle.executor_core.specs.Histories.{Entry, Means}
 use Rattle.executor_core.specs.Flows.{part_of}
-use Rattle.executor_core.specs.Machine.{Steps, Stands, Continues, workers_of}
 use Rattle.sched.specs.Spelling.{event_text, lines_text}
-use Rattle.sched.specs.Running.{event_line, input_of, IsRefused}
+use Rattle.sched.specs.Running.{input_of, IsRefused}
 use Rattle.sched.proofs.Texts.{line_taken, line_first}
 use Rattle.sched.proofs.Inputs.{answers_none, answers_more, count_fits}
 use Rattle.sched.proofs.Pieces.{refused_line, refused_long}
