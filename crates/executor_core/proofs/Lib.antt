@@ -13,3 +13,4 @@ pub mod Opens
 pub mod Events
 pub mod Plains
 pub mod Places
+pub mod Reading

@@ -1,13 +1,17 @@
 -- What the definitions by recursion say of the positions in a history.
 -- All of it is this project's rule.
-use Rattle.std.specs.Prelude.{◌≡◌, ℕ, ◌+◌, ◌<◌, ◌≤◌, ◌==◌, Bool, true, false, List, ◌∷◌, ◌++◌, ◌⊎◌, Option, Some, None, slice_get}
+use Rattle.std.specs.Prelude.{◌≡◌, ℕ, ◌+◌, ◌<◌, ◌≤◌, ◌==◌, Bool, true, false, List, ◌∷◌, ◌++◌, ◌⊎◌, ◌↔◌, length, take, Option, Some, None, slice_get}
 use Rattle.std.specs.List.{list_any}
+use Rattle.sched_time.specs.declared.timing.Timing.{Timing}
+use Rattle.executor_core.specs.declared.words.CodeCall.{CodeCall}
+use Rattle.executor_core.specs.declared.words.CodeCall.TheVariants as c
 use Rattle.executor_core.specs.declared.words.Happening.TheVariants as h
 use Rattle.executor_core.specs.declared.words.Answer.{Answer}
 use Rattle.executor_core.specs.declared.words.Answer.TheVariants as a
-use Rattle.executor_core.specs.Calls.{Planned, how_many, numbers, task_count}
+use Rattle.executor_core.specs.Calls.{Planned, how_many, numbers, task_count, IsOrderly, terms_of}
 use Rattle.executor_core.specs.View.{View, is_enabled, precedes, first_enabled}
 use Rattle.executor_core.specs.Histories.{Entry, Means, happenings, made, now_of, work_of}
+use Rattle.executor_core.specs.Flows.{reached}
 
 -- the work of a worker
 
@@ -87,3 +91,38 @@ abbrev pub NoneIsEnabled : Type 0
 NoneIsEnabled = (calls : List Planned) (v : View)
     → (first_enabled v (numbers calls) ≡ None → (j : ℕ) → j < task_count calls → is_enabled v j ≡ false)
     × (((j : ℕ) → j < task_count calls → is_enabled v j ≡ false) → first_enabled v (numbers calls) ≡ None)
+
+-- the calls that a clock reaches
+
+-- of the calls from `first` on, a clock of moment t reaches just those whose moment is at most t, and they
+-- are a front of those calls
+abbrev pub ReachedIsAFront : Type 0
+ReachedIsAFront = (calls : List Planned) (first t : ℕ) → IsOrderly calls
+    → ((n : ℕ) (p : Planned) → first ≤ n → slice_get calls n ≡ Some p → ((n < first + reached calls first t) ↔ (p.0 ≤ t)))
+    × (first ≤ length calls → first + reached calls first t ≤ length calls)
+
+-- the submissions
+
+-- a call is the submission of this number
+abbrev pub IsSubmissionOf : ℕ → CodeCall → Type 0
+IsSubmissionOf k (c.Submit task timing delay) = task ≡ k
+
+-- a call is the submission of task k, and no other call is; k submissions stand before it
+pub record HasSubmission (calls : List Planned) (k : ℕ) : Type 0 where
+  pub place : ℕ
+  pub call : Planned
+  pub there : slice_get calls place ≡ Some call
+  pub submits : IsSubmissionOf k call.1
+  pub number : k ≡ task_count (take place calls)
+  pub only : (n : ℕ) (p : Planned) → slice_get calls n ≡ Some p → IsSubmissionOf k p.1 → n ≡ place
+
+-- the tasks of a plan are those that a call submits, each by just one call
+abbrev pub TasksAreSubmitted : Type 0
+TasksAreSubmitted = (calls : List Planned) (k : ℕ) → IsOrderly calls
+    → (k < task_count calls → HasSubmission calls k)
+    × ((n : ℕ) (p : Planned) → slice_get calls n ≡ Some p → IsSubmissionOf k p.1 → k < task_count calls)
+
+-- the terms of a task are those of its submission: its timing, and it is first due its delay after the call
+abbrev pub TermsAreItsOwn : Type 0
+TermsAreItsOwn = (calls : List Planned) (n moment k : ℕ) (timing : Timing) (delay : ℕ) → IsOrderly calls
+    → slice_get calls n ≡ Some (moment, c.Submit k timing delay) → terms_of calls k ≡ record { timing = timing; first = moment + delay }

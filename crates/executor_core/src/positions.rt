@@ -1,5 +1,5 @@
 //! What the definitions by recursion say of the positions in a history.
-ghost use Rattle.executor_core.specs.Positions.{WorkIsTheLastStart, StartsExceedFinishes, NowIsTheGreatest, FirstIsTheLeast, NoneIsEnabled};
+ghost use Rattle.executor_core.specs.Positions.{WorkIsTheLastStart, StartsExceedFinishes, NowIsTheGreatest, FirstIsTheLeast, NoneIsEnabled, ReachedIsAFront, TasksAreSubmitted, TermsAreItsOwn};
 
 /// The work of a worker is the task of its last start, where no finish came after it.
 pub fn work_is_the_last_start()
@@ -24,4 +24,19 @@ pub fn first_is_the_least()
 /// There is no first enabled task just where none is enabled.
 pub fn none_is_enabled()
     ensures { NoneIsEnabled }
+{}
+
+/// The calls that a clock reaches are those left with a moment of at most its own, and a front.
+pub fn reached_is_a_front()
+    ensures { ReachedIsAFront }
+{}
+
+/// The tasks of a plan are those that a call submits, each by just one call.
+pub fn tasks_are_submitted()
+    ensures { TasksAreSubmitted }
+{}
+
+/// The terms of a task are those of its submission.
+pub fn terms_are_its_own()
+    ensures { TermsAreItsOwn }
 {}
