@@ -1,14 +1,22 @@
 -- The calls of a plan, and the flow of events, read by position.
-use Rattle.std.proofs.Common.{◌≡◌, ℕ, ◌+◌, ◌<◌, ◌≤◌, ◌==◌, nat_le, zero, suc, Bool, true, false, cond, List, [], ◌∷◌, take, Some, refl, sym, ap, ◌∙◌, arith, subst}
-use Rattle.std.specs.Prelude.{slice_get}
-use Rattle.std.proofs.lemmas.Bool.{leb-true, leb-false, eqb-true, eqb-false}
+use Rattle.std.proofs.Common.{◌≡◌, ℕ, ◌+◌, ◌<◌, ◌≤◌, ◌==◌, nat_le, zero, suc, Bool, true, false, cond, List, [], ◌∷◌, ◌++◌, length, map, take, Some, refl, sym, ap, ◌∙◌, arith, subst}
+use Rattle.std.specs.Prelude.{slice_get, replicate, ◌^◌, ◌↔◌}
+use Rattle.std.specs.List.{filter}
+use Rattle.std.proofs.lemmas.Bool.{false≢true, and_parts, leb-true, leb-false, eqb-true, eqb-false}
+use Rattle.std.proofs.lemmas.Bool.Decides.{nat_tests}
 use Rattle.std.proofs.lemmas.Option.{none-some, same_Some}
 use Rattle.executor_core.specs.declared.words.CodeCall.{CodeCall}
 use Rattle.executor_core.specs.declared.words.CodeCall.TheVariants as c
-use Rattle.executor_core.specs.Calls.{Planned, how_many, task_count, is_submission, count_after, IsOrderlyCall, IsOrderlyFrom}
-use Rattle.executor_core.specs.Flows.{reached}
-use Rattle.executor_core.specs.Positions.{ReachedIsAFront, IsSubmissionOf, TasksAreSubmitted, TermsAreItsOwn}
-use Rattle.executor_core.proofs.Flowing.{all_reached, reached_within}
+use Rattle.executor_core.specs.declared.words.Event.{Event}
+use Rattle.executor_core.specs.declared.words.Event.TheVariants as v
+use Rattle.executor_core.specs.declared.words.Happening.{Happening}
+use Rattle.executor_core.specs.declared.words.Happening.TheVariants as h
+use Rattle.executor_core.specs.Calls.{Planned, how_many, task_count, is_submission, count_after, IsOrderlyCall, IsOrderlyFrom, IsOrderly}
+use Rattle.executor_core.specs.Answers.{is_accepted}
+use Rattle.executor_core.specs.Histories.{Entry, Means, MayCome, happenings, made, now_of}
+use Rattle.executor_core.specs.Flows.{reached, flow, happening_of, calls_before, history_of}
+use Rattle.executor_core.specs.Positions.{ReachedIsAFront, IsSubmissionOf, TasksAreSubmitted, TermsAreItsOwn, is_event, FlowKeepsTheEvents, IsAcceptedClock, IsMadeBefore, FlowMakesWhatIsReached, FlowMayCome}
+use Rattle.executor_core.proofs.Flowing.{all_reached, reached_within, made_past, one_history}
 use Rattle.executor_core.proofs.Tables.{submission}
 
 -- the calls that a clock reaches
@@ -154,3 +162,81 @@ tasks_are_submitted calls k o = (
 
 pub terms_are_its_own : TermsAreItsOwn
 terms_are_its_own calls n moment k timing delay o q = (submission calls 0 0 n moment k timing delay o.1 q).terms
+
+-- the flow of events
+
+no_calls_kept : (n : ℕ) (past : List Happening) → filter is_event (replicate n h.Call ++ past) ≡ filter is_event past
+no_calls_kept zero past = refl
+no_calls_kept (suc n) past = no_calls_kept n past
+
+pub flow_keeps_the_events : FlowKeepsTheEvents
+flow_keeps_the_events calls [] = refl
+flow_keeps_the_events calls (event ∷ before) =
+    let past = flow calls before in
+    let rest : (n : ℕ) → filter is_event (replicate n h.Call ++ past) ≡ map happening_of before = λ n. no_calls_kept n past ∙ flow_keeps_the_events calls before in
+    let go : (y : Event) (n : ℕ) → filter is_event (happening_of y ∷ (replicate n h.Call ++ past)) ≡ happening_of y ∷ map happening_of before =
+    elim [
+      | v.Clock t ↦ λ n. ap (λ l. h.Clock t ∷ l) (rest n)
+      | v.Start w ↦ λ n. ap (λ l. h.Start w ∷ l) (rest n)
+      | v.Finish w ending ↦ λ n. ap (λ l. h.Finish w ending ∷ l) (rest n)
+    ]
+    in
+    go event (calls_before calls (made past) (now_of calls past) event)
+
+-- a flow makes no more calls than there are
+made_flow : (calls : List Planned) (events : List Event) → IsOrderly calls → made (flow calls events) ≤ length calls
+made_flow calls events o =
+    let history = one_history calls 0 events o in
+    subst (λ l. made l ≤ length calls) history.1 (made_past calls 0 (history_of calls 0 events) history.0)
+
+accepts : (now t : ℕ) → now ≤ t → t ≤ 2 ^ 62 → is_accepted now t ≡ true
+accepts now t l m = grind (arith, nat_tests)
+
+accepted : (now t : ℕ) → is_accepted now t ≡ true → (now ≤ t) × (t ≤ 2 ^ 62)
+accepted now t q = let parts = and_parts (nat_le now t) (nat_le t (2 ^ 62)) q in (leb-true now t parts.0, leb-true t (2 ^ 62) parts.1)
+
+-- the calls before an event that is no accepted clock
+made_before_other : (calls : List Planned) (past : List Happening) (event : Event) → made past ≤ length calls → ((t : ℕ) → IsAcceptedClock calls past event t → ⊥) → IsMadeBefore calls past event 0
+made_before_other calls past event l never = record { within = omega (arith, l); clock = λ t n p is m q. absurd (never t is); other = λ none. refl }
+
+-- the calls before a clock, by whether it is accepted
+made_before_clock : (calls : List Planned) (past : List Happening) (u : ℕ) (b : Bool) → IsOrderly calls → made past ≤ length calls → is_accepted (now_of calls past) u ≡ b →
+    IsMadeBefore calls past (v.Clock u) (cond b (reached calls (made past) u) 0)
+made_before_clock calls past u true o l q =
+    let is = accepted (now_of calls past) u q in
+    record {
+      within = (reached_is_a_front calls (made past) u o).1 l;
+      clock = λ t n p has m there.
+          let same : u ≡ t = cc in
+          subst (λ i. (n < made past + reached calls (made past) u) ↔ (p.0 ≤ i)) same ((reached_is_a_front calls (made past) u o).0 n p m there);
+      other = λ never. absurd (never u (refl, is.0, is.1));
+    }
+made_before_clock calls past u false o l q =
+    made_before_other calls past (v.Clock u) l (λ t has. let same : u ≡ t = cc in false≢true (sym q ∙ (ap (is_accepted (now_of calls past)) same ∙ accepts (now_of calls past) t has.1 has.2)))
+
+made_before : (calls : List Planned) (past : List Happening) (event : Event) → IsOrderly calls → made past ≤ length calls → IsMadeBefore calls past event (calls_before calls (made past) (now_of calls past) event)
+made_before calls past (v.Clock u) o l = made_before_clock calls past u (is_accepted (now_of calls past) u) o l refl
+made_before calls past (v.Start w) o l = made_before_other calls past (v.Start w) l (λ t has. let other : v.Start w ≡ v.Clock t = has.0 in absurd cc)
+made_before calls past (v.Finish w ending) o l = made_before_other calls past (v.Finish w ending) l (λ t has. let other : v.Finish w ending ≡ v.Clock t = has.0 in absurd cc)
+
+pub flow_makes_what_is_reached : FlowMakesWhatIsReached
+flow_makes_what_is_reached calls before event o =
+    let past = flow calls before in
+    (calls_before calls (made past) (now_of calls past) event, made_before calls past event o (made_flow calls before o), refl)
+
+may_come_at : (calls : List Planned) (workers : ℕ) (history : List Entry) (later past : List Happening) (happening : Happening) → Means calls workers history →
+    happenings history ≡ later ++ happening ∷ past → MayCome calls past happening
+may_come_at calls workers [] [] past happening m q = absurd cc
+may_come_at calls workers [] (x ∷ later) past happening m q = absurd cc
+may_come_at calls workers (e ∷ history) [] past happening m q =
+    let head : e.happening ≡ happening = cc in
+    let rest : happenings history ≡ past = cc in
+    subst (λ l. MayCome calls l happening) rest (subst (MayCome calls (happenings history)) head m.1)
+may_come_at calls workers (e ∷ history) (x ∷ later) past happening m q =
+    let rest : happenings history ≡ later ++ happening ∷ past = cc in
+    may_come_at calls workers history later past happening m.0 rest
+
+pub flow_may_come : FlowMayCome
+flow_may_come calls events later past happening o q =
+    let history = one_history calls 0 events o in
+    may_come_at calls 0 (history_of calls 0 events) later past happening history.0 (history.1 ∙ q)

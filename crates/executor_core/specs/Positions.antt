@@ -1,17 +1,20 @@
 -- What the definitions by recursion say of the positions in a history.
 -- All of it is this project's rule.
-use Rattle.std.specs.Prelude.{◌≡◌, ℕ, ◌+◌, ◌<◌, ◌≤◌, ◌==◌, Bool, true, false, List, ◌∷◌, ◌++◌, ◌⊎◌, ◌↔◌, length, take, Option, Some, None, slice_get}
-use Rattle.std.specs.List.{list_any}
+use Rattle.std.specs.Prelude.{◌≡◌, ℕ, ◌+◌, ◌<◌, ◌≤◌, ◌==◌, Bool, true, false, List, ◌∷◌, ◌++◌, ◌⊎◌, ◌↔◌, ◌^◌, not, length, map, take, replicate, Option, Some, None, slice_get}
+use Rattle.std.specs.List.{list_any, filter}
 use Rattle.sched_time.specs.declared.timing.Timing.{Timing}
 use Rattle.executor_core.specs.declared.words.CodeCall.{CodeCall}
 use Rattle.executor_core.specs.declared.words.CodeCall.TheVariants as c
+use Rattle.executor_core.specs.declared.words.Event.{Event}
+use Rattle.executor_core.specs.declared.words.Event.TheVariants as v
+use Rattle.executor_core.specs.declared.words.Happening.{Happening}
 use Rattle.executor_core.specs.declared.words.Happening.TheVariants as h
 use Rattle.executor_core.specs.declared.words.Answer.{Answer}
 use Rattle.executor_core.specs.declared.words.Answer.TheVariants as a
 use Rattle.executor_core.specs.Calls.{Planned, how_many, numbers, task_count, IsOrderly, terms_of}
-use Rattle.executor_core.specs.View.{View, is_enabled, precedes, first_enabled}
-use Rattle.executor_core.specs.Histories.{Entry, Means, happenings, made, now_of, work_of}
-use Rattle.executor_core.specs.Flows.{reached}
+use Rattle.executor_core.specs.View.{View, is_waiting, is_enabled, precedes, first_enabled}
+use Rattle.executor_core.specs.Histories.{Entry, Means, MayCome, happenings, is_call, is_finish, last_finish, look, made, now_of, work_of}
+use Rattle.executor_core.specs.Flows.{reached, flow, happening_of}
 
 -- the work of a worker
 
@@ -126,3 +129,36 @@ TasksAreSubmitted = (calls : List Planned) (k : ℕ) → IsOrderly calls
 abbrev pub TermsAreItsOwn : Type 0
 TermsAreItsOwn = (calls : List Planned) (n moment k : ℕ) (timing : Timing) (delay : ℕ) → IsOrderly calls
     → slice_get calls n ≡ Some (moment, c.Submit k timing delay) → terms_of calls k ≡ record { timing = timing; first = moment + delay }
+
+-- the flow of events
+
+-- a happening is an event
+abbrev pub is_event : Happening → Bool
+is_event happening = not (is_call happening)
+
+-- the events of a flow are the events given, in their order
+abbrev pub FlowKeepsTheEvents : Type 0
+FlowKeepsTheEvents = (calls : List Planned) (events : List Event) → filter is_event (flow calls events) ≡ map happening_of events
+
+-- the event is a clock that shows t, and after these happenings it is accepted
+abbrev pub IsAcceptedClock : List Planned → List Happening → Event → ℕ → Type 0
+IsAcceptedClock calls past event t = (event ≡ v.Clock t) × (now_of calls past ≤ t) × (t ≤ 2 ^ 62)
+
+-- so many calls are made between some happenings and an event: before an accepted clock those that are not
+-- made yet and whose moment is at most its own, and before any other event none
+pub record IsMadeBefore (calls : List Planned) (past : List Happening) (event : Event) (count : ℕ) : Type 0 where
+  pub within : made past + count ≤ length calls
+  pub clock : (t n : ℕ) (p : Planned) → IsAcceptedClock calls past event t → made past ≤ n → slice_get calls n ≡ Some p
+      → ((n < made past + count) ↔ (p.0 ≤ t))
+  pub other : ((t : ℕ) → IsAcceptedClock calls past event t → ⊥) → count ≡ 0
+
+-- the flow of one event more is longer by the event and by the calls that are made before it, and nothing else
+abbrev pub FlowMakesWhatIsReached : Type 0
+FlowMakesWhatIsReached = (calls : List Planned) (before : List Event) (event : Event) → IsOrderly calls
+    → (count : ℕ) × IsMadeBefore calls (flow calls before) event count
+    × (flow calls (event ∷ before) ≡ happening_of event ∷ (replicate count h.Call ++ flow calls before))
+
+-- each happening of a flow may come after those before it
+abbrev pub FlowMayCome : Type 0
+FlowMayCome = (calls : List Planned) (events : List Event) (later past : List Happening) (happening : Happening) → IsOrderly calls
+    → flow calls events ≡ later ++ happening ∷ past → MayCome calls past happening

@@ -21,8 +21,10 @@ pub use laws::{
 pub use machine::Core;
 pub use order::orderly;
 pub use positions::{
-    first_is_the_least, none_is_enabled, now_is_the_greatest, reached_is_a_front,
-    starts_exceed_finishes, tasks_are_submitted, terms_are_its_own, work_is_the_last_start,
+    first_is_the_least, flow_keeps_the_events, flow_makes_what_is_reached,
+    flow_may_come, none_is_enabled, now_is_the_greatest,
+    reached_is_a_front, starts_exceed_finishes, tasks_are_submitted, terms_are_its_own,
+    work_is_the_last_start,
 };
 pub use task::{Phase, Task};
 pub use words::{Answer, CodeCall, Event, EventError, Happening, Kind, Line, Outcome};

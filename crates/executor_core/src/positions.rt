@@ -1,5 +1,5 @@
 //! What the definitions by recursion say of the positions in a history.
-ghost use Rattle.executor_core.specs.Positions.{WorkIsTheLastStart, StartsExceedFinishes, NowIsTheGreatest, FirstIsTheLeast, NoneIsEnabled, ReachedIsAFront, TasksAreSubmitted, TermsAreItsOwn};
+ghost use Rattle.executor_core.specs.Positions.{WorkIsTheLastStart, StartsExceedFinishes, NowIsTheGreatest, FirstIsTheLeast, NoneIsEnabled, ReachedIsAFront, TasksAreSubmitted, TermsAreItsOwn, FlowKeepsTheEvents, FlowMakesWhatIsReached, FlowMayCome};
 
 /// The work of a worker is the task of its last start, where no finish came after it.
 pub fn work_is_the_last_start()
@@ -39,4 +39,19 @@ pub fn tasks_are_submitted()
 /// The terms of a task are those of its submission.
 pub fn terms_are_its_own()
     ensures { TermsAreItsOwn }
+{}
+
+/// The events of a flow are the events given, in their order.
+pub fn flow_keeps_the_events()
+    ensures { FlowKeepsTheEvents }
+{}
+
+/// A flow makes calls before accepted clocks alone, and there just those that the clock reaches.
+pub fn flow_makes_what_is_reached()
+    ensures { FlowMakesWhatIsReached }
+{}
+
+/// Each happening of a flow may come after those before it.
+pub fn flow_may_come()
+    ensures { FlowMayCome }
 {}
