@@ -14,3 +14,4 @@ pub mod Events
 pub mod Plains
 pub mod Places
 pub mod Reading
+pub mod Waiting

@@ -162,3 +162,46 @@ FlowMakesWhatIsReached = (calls : List Planned) (before : List Event) (event : E
 abbrev pub FlowMayCome : Type 0
 FlowMayCome = (calls : List Planned) (events : List Event) (later past : List Happening) (happening : Happening) → IsOrderly calls
     → flow calls events ≡ later ++ happening ∷ past → MayCome calls past happening
+
+-- the tasks that wait
+
+-- a call that was made is the submission of task k
+pub record WasSubmitted (calls : List Planned) (past : List Happening) (k : ℕ) : Type 0 where
+  pub place : ℕ
+  pub call : Planned
+  pub there : slice_get calls place ≡ Some call
+  pub submits : IsSubmissionOf k call.1
+  pub before : place < made past
+
+-- a task that waits, as an enabled one does, is one of the plan, and the call that submits it was made
+abbrev pub WaitingIsATask : Type 0
+WaitingIsATask = (calls : List Planned) (workers : ℕ) (past : List Entry) (k : ℕ) → IsOrderly calls → Means calls workers past
+    → is_waiting ((look calls past).fate k) ≡ true → (k < task_count calls) × WasSubmitted calls (happenings past) k
+
+-- a task that waits is due within twice the limit of a moment
+abbrev pub WaitingIsDueInTime : Type 0
+WaitingIsDueInTime = (calls : List Planned) (workers : ℕ) (past : List Entry) (k : ℕ) → IsOrderly calls → Means calls workers past
+    → is_waiting ((look calls past).fate k) ≡ true → ((look calls past).fate k).due ≤ 2 ^ 63
+
+-- the last finish of a task
+
+-- a finish of task k stands in the history, and no finish of it after; the moment before it is t
+pub record FinishedLast (calls : List Planned) (past : List Entry) (k t : ℕ) : Type 0 where
+  pub later : List Entry
+  pub e : Entry
+  pub before : List Entry
+  pub parts : past ≡ later ++ e ∷ before
+  pub finish : is_finish k e.answer ≡ true
+  pub none : list_any (λ f. is_finish k f.answer) later ≡ false
+  pub moment : t ≡ now_of calls (happenings before)
+
+-- the last finish is the one with no other after it, at its moment; there is none just where no finish stands
+abbrev pub LastFinishIsTheLast : Type 0
+LastFinishIsTheLast = (calls : List Planned) (past : List Entry) (k : ℕ)
+    → ((t : ℕ) → ((last_finish calls k past ≡ Some t) ↔ FinishedLast calls past k t))
+    × ((last_finish calls k past ≡ None) ↔ (list_any (λ e. is_finish k e.answer) past ≡ false))
+
+-- a finish does not move now: the moment before it is its own
+abbrev pub FinishKeepsNow : Type 0
+FinishKeepsNow = (calls : List Planned) (workers : ℕ) (past : List Entry) (e : Entry) (k : ℕ) → Means calls workers (e ∷ past)
+    → is_finish k e.answer ≡ true → now_of calls (happenings (e ∷ past)) ≡ now_of calls (happenings past)

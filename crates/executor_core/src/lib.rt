@@ -21,10 +21,10 @@ pub use laws::{
 pub use machine::Core;
 pub use order::orderly;
 pub use positions::{
-    first_is_the_least, flow_keeps_the_events, flow_makes_what_is_reached,
-    flow_may_come, none_is_enabled, now_is_the_greatest,
+    finish_keeps_now, first_is_the_least, flow_keeps_the_events, flow_makes_what_is_reached,
+    flow_may_come, last_finish_is_the_last, none_is_enabled, now_is_the_greatest,
     reached_is_a_front, starts_exceed_finishes, tasks_are_submitted, terms_are_its_own,
-    work_is_the_last_start,
+    waiting_is_a_task, waiting_is_due_in_time, work_is_the_last_start,
 };
 pub use task::{Phase, Task};
 pub use words::{Answer, CodeCall, Event, EventError, Happening, Kind, Line, Outcome};

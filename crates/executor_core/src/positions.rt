@@ -1,5 +1,5 @@
 //! What the definitions by recursion say of the positions in a history.
-ghost use Rattle.executor_core.specs.Positions.{WorkIsTheLastStart, StartsExceedFinishes, NowIsTheGreatest, FirstIsTheLeast, NoneIsEnabled, ReachedIsAFront, TasksAreSubmitted, TermsAreItsOwn, FlowKeepsTheEvents, FlowMakesWhatIsReached, FlowMayCome};
+ghost use Rattle.executor_core.specs.Positions.{WorkIsTheLastStart, StartsExceedFinishes, NowIsTheGreatest, FirstIsTheLeast, NoneIsEnabled, ReachedIsAFront, TasksAreSubmitted, TermsAreItsOwn, FlowKeepsTheEvents, FlowMakesWhatIsReached, FlowMayCome, WaitingIsATask, WaitingIsDueInTime, LastFinishIsTheLast, FinishKeepsNow};
 
 /// The work of a worker is the task of its last start, where no finish came after it.
 pub fn work_is_the_last_start()
@@ -54,4 +54,24 @@ pub fn flow_makes_what_is_reached()
 /// Each happening of a flow may come after those before it.
 pub fn flow_may_come()
     ensures { FlowMayCome }
+{}
+
+/// A task that waits is one of the plan, and the call that submits it was made.
+pub fn waiting_is_a_task()
+    ensures { WaitingIsATask }
+{}
+
+/// A task that waits is due at a moment of at most 2^63 nanoseconds.
+pub fn waiting_is_due_in_time()
+    ensures { WaitingIsDueInTime }
+{}
+
+/// The last finish of a task is the one with no other after it, at its moment.
+pub fn last_finish_is_the_last()
+    ensures { LastFinishIsTheLast }
+{}
+
+/// A finish does not move now.
+pub fn finish_keeps_now()
+    ensures { FinishKeepsNow }
 {}
