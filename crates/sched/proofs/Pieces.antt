@@ -153,8 +153,8 @@ cut_off calls workers limit a b c o p held core count n orderly done within cons
 
 -- a fault of the source
 pub faulted : (calls : List Planned) (workers limit : ℕ) (a b c o p : Option (List ℕ)) (held : List ℕ) (core : Machine) (count : ℕ) → IsOrderly calls → Done calls workers limit a b held o p core count → core.taken ≤ limit →
-    Keeps b c → IsLine held → TookPart calls workers limit a c o p
-faulted calls workers limit a b c o p held core count orderly done within keeps part = record {
+    Keeps b c → IsLine held → length held < 63 → TookPart calls workers limit a c o p
+faulted calls workers limit a b c o p held core count orderly done within keeps part short = record {
   events = done.events;
   fit = done.fit;
   past = history_of calls workers done.events;
@@ -162,6 +162,7 @@ faulted calls workers limit a b c o p held core count orderly done within keeps 
   part = held;
   read = at_fault a b c held (input_of done.events) done.read keeps;
   line = part;
+  short = short;
   within = omega (arith, done.taken, within);
   written = done.written;
 }

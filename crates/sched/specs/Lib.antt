@@ -9,3 +9,4 @@ pub mod Plans
 pub mod PlanReading
 pub mod PlanCalls
 pub mod Running
+pub mod Faults

@@ -79,7 +79,7 @@ pub record Took (calls : List Planned) (workers limit : ℕ) (input : Option (Li
   pub within : length events ≤ limit
   pub gives : Q (length events) (length (lines_of calls past)) (text_of calls past)
 
--- the same after a fault of the source: what was read are the lines of the events, and a part of one more
+-- the same after a fault of the source: what was read are the lines of the events, and a part of one more line, less than 63 bytes
 pub record TookPart (calls : List Planned) (workers limit : ℕ) (input left old new : Option (List ℕ)) : Type 0 where
   pub events : List Event
   pub fit : AreEvents events
@@ -88,6 +88,7 @@ pub record TookPart (calls : List Planned) (workers limit : ℕ) (input left old
   pub part : List ℕ
   pub read : Consumes input left (input_of events ++ part)
   pub line : IsLine part
+  pub short : length part < 63
   pub within : length events ≤ limit
   pub written : Appends old new (text_of calls past)
 

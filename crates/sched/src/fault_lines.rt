@@ -1,6 +1,7 @@
 //! Why the program gives up, and the line that says so.
 
 ghost use Rattle.std.specs.Prelude.{◌≡◌};
+ghost use Rattle.sched.specs.Faults.{status_of, IsToldAs, IsOfSystem};
 ghost use Rattle.sched.specs.declared.fault_lines.Fault.TheVariants.{Run};
 ghost use Rattle.sched.specs.declared.report.RunError.TheVariants.{Memory};
 
@@ -28,7 +29,9 @@ pub enum Fault {
 
 impl Fault {
     /// The exit status that goes with the fault: 2 for the command line, else 1.
-    pub fn status(self) -> u8 {
+    pub fn status(self) -> u8
+        ensures { result ≡ status_of self }
+    {
         match self {
             Fault::Words => 2,
             Fault::PlanFile | Fault::Run(_) => 1,
@@ -36,7 +39,9 @@ impl Fault {
     }
 
     /// What a fault of the system comes to: memory where memory ran out, else `other`.
-    pub fn of_system(error: io::Error, other: Fault) -> Fault {
+    pub fn of_system(error: io::Error, other: Fault) -> Fault
+        ensures { IsOfSystem error other result }
+    {
         if error.kind() == ErrorKind::OutOfMemory {
             Fault::Run(RunError::Memory)
         } else {
@@ -54,6 +59,8 @@ impl From<AllocError> for Fault {
 }
 
 impl From<RunError> for Fault {
+    ghost from_gives = { λ error told. IsToldAs error told };
+
     /// Want of memory while the plan is read is want of memory, and says nothing of the plan.
     fn from(error: RunError) -> Fault {
         match error {

@@ -1,4 +1,4 @@
-ghost use Rattle.std.specs.Prelude.{◌≡◌, ℕ, ◌+◌, ◌≤◌, ◌<◌, ◌++◌, OnOk, OnErr, length, take, vec_len, vec_capacity};
+ghost use Rattle.std.specs.Prelude.{◌≡◌, ℕ, ◌+◌, ◌≤◌, ◌<◌, ◌++◌, OnOk, OnErr, IsOk, length, take, vec_len, vec_capacity};
 ghost use Rattle.sched.specs.Spelling.{Puts, kind_text, error_text, outcome_text, line_text, lines_text};
 
 use crate::number::{put_number, put_text};
@@ -38,10 +38,11 @@ pub fn write_lines<A: Allocator>(out: &mut Vec<u8, A>, lines: &[Line]) -> Result
 }
 
 /// Appends the text of a line with its newline. An `Err` leaves the items as
-/// they were.
+/// they were, and does not come where there is room for 160 bytes more.
 pub fn write_line<A: Allocator>(out: &mut Vec<u8, A>, line: &Line) -> Result<(), TextError>
     ensures ok { OnOk result (out.new.items ≡ out.old.items ++ line_text line.now) }
     ensures err { OnErr result (out.new.items ≡ out.old.items) }
+    ensures room { vec_len out.old + 160 ≤ vec_capacity out.old → IsOk result }
 {
     out.reserve(160)?;
     put_number(out, line.moment);

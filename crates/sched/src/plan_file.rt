@@ -1,5 +1,9 @@
 //! The plan file.
 
+ghost use Rattle.std.specs.Prelude.{IfErr};
+ghost use Rattle.sched.specs.Faults.{IsOrMemory};
+ghost use Rattle.sched.specs.declared.fault_lines.Fault.TheVariants.{PlanFile};
+
 use crate::fault_lines::Fault;
 use std::io::Read;
 use std::rt::Files;
@@ -10,7 +14,9 @@ use std::{fs, io};
 pub const MOST: u64 = 1_048_577;
 
 /// The first [`MOST`] bytes of a plan file.
-pub fn plan_text<R: Files + AllocGlobal>(rt: &R, path: &str) -> Result<Vec<u8>, Fault> {
+pub fn plan_text<R: Files + AllocGlobal>(rt: &R, path: &str) -> Result<Vec<u8>, Fault>
+    ensures fault { IfErr result (λ e. IsOrMemory PlanFile e) }
+{
     read_front(rt, path).map_err(|error| Fault::of_system(error, Fault::PlanFile))
 }
 

@@ -1,5 +1,8 @@
 //! The program: its command line, its plan file, and a run over standard input and output.
 
+ghost use Rattle.std.specs.Prelude.{◌≡◌, ◌≤◌, ◌⊎◌, IfOk};
+ghost use Rattle.std.specs.Process.{exit_status};
+
 use crate::command::command;
 use crate::engine::run;
 use crate::fault_lines::Fault;
@@ -15,7 +18,9 @@ use std::{env, io};
 
 /// Does what the command line says, and answers the exit status: 0, 1 after a fault that a line
 /// on standard error tells, or 2 for a fault of the command line.
-pub fn program<R: Env + Files + Input + Print + Eprint + AllocGlobal>(rt: &R) -> ExitCode {
+pub fn program<R: Env + Files + Input + Print + Eprint + AllocGlobal>(rt: &R) -> ExitCode
+    ensures status { exit_status result ≤ 2 }
+{
     match answer(rt) {
         Ok(status) => ExitCode::from(status),
         Err(fault) => {
@@ -26,7 +31,9 @@ pub fn program<R: Env + Files + Input + Print + Eprint + AllocGlobal>(rt: &R) ->
     }
 }
 
-fn answer<R: Env + Files + Input + Print + Eprint + AllocGlobal>(rt: &R) -> Result<u8, Fault> {
+fn answer<R: Env + Files + Input + Print + Eprint + AllocGlobal>(rt: &R) -> Result<u8, Fault>
+    ensures status { IfOk result (λ s. (s ≡ 0) ⊎ (s ≡ 2)) }
+{
     let words = words(rt)?;
     let command = command(rt.alloc())?;
     match command.try_get_matches_from(words.as_slice()) {
@@ -50,7 +57,9 @@ fn words<R: Env + AllocGlobal>(rt: &R) -> Result<Vec<String>, Fault> {
 
 /// Prints the text of help, or of a fault of the command line. Where standard error is closed, the
 /// status alone tells such a fault.
-fn show<R: Print + Eprint>(rt: &R, error: &Error) -> Result<u8, Fault> {
+fn show<R: Print + Eprint>(rt: &R, error: &Error) -> Result<u8, Fault>
+    ensures status { IfOk result (λ s. (s ≡ 0) ⊎ (s ≡ 2)) }
+{
     if error.kind() == ErrorKind::OutOfMemory {
         return Err(Fault::Run(RunError::Memory));
     }
@@ -69,7 +78,9 @@ fn show<R: Print + Eprint>(rt: &R, error: &Error) -> Result<u8, Fault> {
 fn run_plan<R: Files + Input + Print + AllocGlobal>(
     rt: &R,
     matches: &ArgMatches<'_>,
-) -> Result<u8, Fault> {
+) -> Result<u8, Fault>
+    ensures status { IfOk result (λ s. s ≡ 0) }
+{
     let path = matches.get_str("plan").unwrap_or("");
     let workers = matches.get_one::<u8>("workers").unwrap_or(0);
     let limit = matches.get_one::<u32>("limit").unwrap_or(0);

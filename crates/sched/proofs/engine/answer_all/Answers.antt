@@ -60,7 +60,7 @@ returns-in-Fault-clause-runs g c =
     let core = c.args.core.now in
     let kept = c.loop-held.invariant in
     faulted core.calls (workers_of core) c.args.limit (g.S.Source.remaining c.args.reader.now) (g.S.Source.remaining c.loop-held.reader) (g.S.Source.remaining c.fill.new.source)
-    (g.W.Sink.contents c.args.writer.now) (g.W.Sink.contents c.loop-held.writer) c.loop-held.held c.loop-held.core c.loop-held.count c.requires.orderly kept.done kept.room c.in-Fault.ensures.bytes.0 kept.part
+    (g.W.Sink.contents c.args.writer.now) (g.W.Sink.contents c.loop-held.writer) c.loop-held.held c.loop-held.core c.loop-held.count c.requires.orderly kept.done kept.room c.in-Fault.ensures.bytes.0 kept.part kept.short
 
 pub returns-in_default-answer_lines-clause-runs : goal.returns-in_default-answer_lines-clause-runs
 returns-in_default-answer_lines-clause-runs g c =
