@@ -7,13 +7,14 @@ use lib.ListN.{get_elem?}
 use Rattle.atomic_table.specs.Table.{Final, Seen}
 use Rattle.task_word.specs.Words.{IsWord}
 use Rattle.task_word.specs.Views.{entry, core_of}
-use Rattle.task_word.specs.Rule.{word_of, Matches, EntriesFit}
+use Rattle.task_word.specs.Rule.{word_of, Matches, EntriesFit, task_words}
 use Rattle.task_word.specs.Steps.{Tells}
 use Rattle.task_word.specs.Answers.{Closes}
 use Rattle.task_word.specs.declared.views.View.{View}
 use Rattle.task_word.specs.declared.views.View.TheVariants.{Core}
+use Rattle.task_word.proofs.Placing.{Rule, task_at}
 use Rattle.task_word.proofs.Numbers.{reads_word}
-use Rattle.task_word.proofs.CoreSteps.{Rule, fits, tells}
+use Rattle.task_word.proofs.CoreSteps.{fits, tells}
 
 -- the words after the first, copied, close the table
 pub closes : (n id : ℕ) (v : View) (words copied : List ℕ) (slots : List (Unit {0})) → id ≡ 0 → v ≡ Core (core_of v) → Final (Seen (Rule n) id v) words slots
@@ -22,12 +23,12 @@ closes n id v words copied slots zero_id core final same =
     let s = final.0 in
     let kept = final.1.0 in
     let at : get_elem? s.views 0 ≡ some (Core (core_of v)) = subst (λ (i : ℕ). get_elem? s.views i ≡ some v) zero_id final.1.1 ∙ ap some core in
-    let f : EntriesFit n s.words (core_of v).entries = fits n s.words s.views (core_of v) kept at in
-    let is : (j : ℕ) → j < n → slice_index s.words (j + 1) ≡ slice_index copied j = (λ j h. ap (λ ws. slice_index ws (j + 1)) final.2 ∙ sym (same j h)) in
+    let f : EntriesFit n (task_words s.words) (core_of v).entries = fits n (task_words s.words) s.views (core_of v) kept at in
+    let is : (j : ℕ) → j < n → slice_index (task_words s.words) j ≡ slice_index copied j = (λ j h. task_at s.words j ∙ (ap (λ ws. slice_index ws (j + 1)) final.2 ∙ sym (same j h))) in
     record {
       word = λ k h. subst (λ (x : ℕ). IsWord (word_of x)) (is k h) (reads_word _ (entry (core_of v) k) (f.word k h) (f.each k h));
       each = λ k h. subst (λ (x : ℕ). Matches x (entry (core_of v) k)) (is k h) (f.each k h);
-      tells = λ k h. subst (λ (x : ℕ). Tells (core_of v) k (word_of x)) (is k h) (tells n k s.words s.views (core_of v) kept at h);
+      tells = λ k h. subst (λ (x : ℕ). Tells (core_of v) k (word_of x)) (is k h) (tells n k (task_words s.words) s.views (core_of v) kept at h);
     }
 
 -- one word more is copied

@@ -4,7 +4,7 @@ use Rattle.std.proofs.lemmas.List.Sums.{sum_by-cons}
 use mathlib.Core.Option.{some, some-injective, some-ne-none}
 use lib.ListN.{get_elem?}
 use prog.Atomic.{either}
-use Rattle.atomic_table.specs.Table.{State, Act, keeps, Allows, Valid, stepped, carried_after}
+use Rattle.atomic_table.specs.Table.{Allows}
 use Rattle.atomic_table.proofs.Lists.{at_set, set_here, exchanged}
 use Rattle.task_word.specs.Words.{Parts, IsWord, bit, value, marked, is_live, is_ended, is_cancelled, rank, rank_in, new_in}
 use Rattle.task_word.specs.Views.{entry, times, wins, and_if, core_of, with_entry, core_cancelled, MeetsEntry}
@@ -17,6 +17,7 @@ use Rattle.task_word.specs.declared.views.View.{View}
 use Rattle.task_word.specs.declared.views.View.TheVariants.{Core, Handle, Spent}
 use Rattle.task_word.proofs.Numbers.{reads_back, marked_word, meets, reads_word, reads_number, or_marks}
 use Rattle.task_word.proofs.Lists.{sum_set, sum_part}
+use Rattle.task_word.proofs.Placing.{Rule, allows}
 use Rattle.task_word.proofs.Keeping.{Goes, goes_same, goes_marked, goes_on, won_still, met_after, once_after, none_after, entries_after, and_if_same, and_if_other, times_append, wins_count}
 
 -- the view that a core's view is
@@ -52,14 +53,14 @@ pub core_keeps : (n k x : ℕ) (words : List ℕ) (views : List View) (v : CoreV
     → times k own + flag (is_cancelled (word_at words k)) ≡ times k v.own + flag (is_cancelled (word_of x))
     → ((j : ℕ) → j ≢ k → times j own ≡ times j v.own)
     → Goes (word_at words k) (word_of x)
-    → IsKept n (set words (k + 1) x) (set views 0 (Core record { entries = set v.entries k e; own = own; joined = v.joined; ranks = v.ranks; out = v.out }))
+    → IsKept n (set words k x) (set views 0 (Core record { entries = set v.entries k e; own = own; joined = v.joined; ranks = v.ranks; out = v.out }))
 core_keeps n k x words views v e own kept at in_n is fit here there goes =
     let w : CoreView = record { entries = set v.entries k e; own = own; joined = v.joined; ranks = v.ranks; out = v.out } in
-    let lt : k + 1 < length words = omega (arith, kept.count) in
+    let lt : k < length words = omega (arith, kept.count) in
     let met : HasMet n words (Core v) = kept.met 0 (Core v) at in
     let taken : (j : ℕ) → j ≢ k → times j (taken_by (Core w)) ≡ times j (taken_by (Core v)) = (λ j other. let t = there j other in omega (arith, times_append j own v.joined, times_append j v.own v.joined, t)) in
     record {
-      count = length-set words (k + 1) x ∙ kept.count;
+      count = length-set words k x ∙ kept.count;
       core = (
         w,
         set_here views 0 (Core w) (in_views views (Core v) at),
@@ -74,7 +75,7 @@ core_keeps n k x words views v e own kept at in_n is fit here there goes =
           kept.once;
       none = none_after n k 0 views (Core v) (Core w) in_n at taken kept.none;
       met = λ id u there'. elim (at_set views 0 id (Core w) u there') [
-        | inl same ↦ subst (HasMet n (set words (k + 1) x)) same.1 (met_after n k x words (Core w) lt in_n goes (won_still n k 0 x words views (Core v) kept at in_n goes) record { ranks = met.ranks; seen = met.seen; still = met.still; ended = met.ended })
+        | inl same ↦ subst (HasMet n (set words k x)) same.1 (met_after n k x words (Core w) lt in_n goes (won_still n k 0 x words views (Core v) kept at in_n goes) record { ranks = met.ranks; seen = met.seen; still = met.still; ended = met.ended })
         | inr other ↦ met_after n k x words u lt in_n goes (won_still n k id x words views u kept other.1 in_n goes) (kept.met id u other.1)
       ];
     }
@@ -85,10 +86,6 @@ seat_is P id me zero_id core p = subst (λ (i : ℕ). P i me) (sym zero_id) (sub
 
 pub at_task : (k : ℕ) (P : ℕ → Type 0) → P k → AtTask (k + 1) P
 at_task k P p = λ j e. let same : k ≡ j = omega arith in subst P same p
-
--- the rule of n tasks
-abbrev pub Rule : ℕ → State (Unit {0}) View → Type 0
-Rule n s = IsKept n s.words s.views
 
 vacant_free : (w : Parts) → w.phase ≡ Vacant → is_cancelled w ≡ false
 vacant_free w e = ap (λ p. is_live p && w.marked) e
@@ -109,16 +106,14 @@ pub submits : (n slots id k : ℕ) (me : Holder) → id ≡ 0 → me.0 ≡ Core 
     → Allows {S = Unit {0}} (Rule n) slots id me (k + 1) (λ _. value (new_in 0)) (λ _ next. Submitted (k + 1) me next)
 submits n slots id k me zero_id core in_n phase =
     seat_is (λ i m. Allows {S = Unit {0}} (Rule n) slots i m (k + 1) (λ _. value (new_in 0)) (λ _ next. Submitted (k + 1) m next)) id me zero_id core
-    (λ s kept homes at bound. (
+    (allows n slots 0 k (Core (core_of me.0), me.1) (λ _. value (new_in 0)) (λ _ next. Submitted (k + 1) (Core (core_of me.0), me.1) next) (λ words views kept at. (
       Core (with_entry (core_of me.0) k (new_in 0)),
-      keeps,
-      tt,
-      submit_keeps n k s.words s.views (core_of me.0) kept at in_n phase,
+      submit_keeps n k words views (core_of me.0) kept at in_n phase,
       at_task k (λ j. CoreIs (with_entry (core_of me.0) j (new_in 0)) (Core (core_of me.0), me.1) (Core (with_entry (core_of me.0) k (new_in 0)), me.1)) refl,
-    ))
+    )))
   where
     submit_keeps : (n k : ℕ) (words : List ℕ) (views : List View) (v : CoreView) → IsKept n words views → get_elem? views 0 ≡ some (Core v) → k < n → (entry v k).phase ≡ Vacant
-        → IsKept n (set words (k + 1) (value (new_in 0))) (set views 0 (Core (with_entry v k (new_in 0))))
+        → IsKept n (set words k (value (new_in 0))) (set views 0 (Core (with_entry v k (new_in 0))))
     submit_keeps n k words views v kept at in_n phase =
         let f = fits n words views v kept at in
         let is = f.word k in_n in
@@ -144,9 +139,9 @@ not_ended Failed e = absurd (let f : false ≡ true = e in grind (arith))
 
 -- the exchange that finds what it expected keeps the rule
 exchange_keeps : (n k new : ℕ) (next : Parts) (words : List ℕ) (views : List View) (v : CoreView) → IsKept n words views → get_elem? views 0 ≡ some (Core v) → k < n
-    → is_live (entry v k).phase ≡ true → is_cancelled (entry v k) ≡ false → slice_index words (k + 1) ≡ value (entry v k) → new ≡ value next → (IsWord (entry v k) → IsWord next)
+    → is_live (entry v k).phase ≡ true → is_cancelled (entry v k) ≡ false → slice_index words k ≡ value (entry v k) → new ≡ value next → (IsWord (entry v k) → IsWord next)
     → rank (entry v k) ≤ rank next → is_cancelled next ≡ false
-    → IsKept n (set words (k + 1) new) (set views 0 (Core (with_entry v k (word_of new))))
+    → IsKept n (set words k new) (set views 0 (Core (with_entry v k (word_of new))))
 exchange_keeps n k new next words views v kept at in_n phase live found is_new word up free =
     let f = fits n words views v kept at in
     let is = f.word k in_n in
@@ -161,10 +156,10 @@ exchange_keeps n k new next words views v kept at in_n phase live found is_new w
 
 -- a load of the core's keeps the rule, whatever word of the entry's it takes over
 load_keeps : (n k : ℕ) (words : List ℕ) (views : List View) (v : CoreView) (e : Parts) → IsKept n words views → get_elem? views 0 ≡ some (Core v) → k < n
-    → IsWord e → Matches (slice_index words (k + 1)) e
-    → IsKept n (set words (k + 1) (slice_index words (k + 1))) (set views 0 (Core (with_entry v k e)))
+    → IsWord e → Matches (slice_index words k) e
+    → IsKept n (set words k (slice_index words k)) (set views 0 (Core (with_entry v k e)))
 load_keeps n k words views v e kept at in_n is fit =
-    core_keeps n k (slice_index words (k + 1)) words views v e v.own kept at in_n is fit refl (λ j other. refl) (goes_same (word_at words k))
+    core_keeps n k (slice_index words k) words views v e v.own kept at in_n is fit refl (λ j other. refl) (goes_same (word_at words k))
 
 -- while no handle is out, what is taken is the core's
 none_taken : (k : ℕ) (views : List View) → handles views ≡ 0 → ((id : ℕ) (u : CoreView) → get_elem? views id ≢ some (Core u)) → taken_in_all k views ≡ 0
@@ -195,7 +190,7 @@ tells n k words views v kept at in_n =
       still = λ some_won. (kept.met 0 (Core v) at).still k in_n (inr some_won);
     }
 
-core_meets : (n k : ℕ) (words : List ℕ) (views : List View) (v : CoreView) → IsKept n words views → get_elem? views 0 ≡ some (Core v) → k < n → CoreMeets v k (slice_index words (k + 1))
+core_meets : (n k : ℕ) (words : List ℕ) (views : List View) (v : CoreView) → IsKept n words views → get_elem? views 0 ≡ some (Core v) → k < n → CoreMeets v k (slice_index words k)
 core_meets n k words views v kept at in_n =
     let f = fits n words views v kept at in
     let is = f.word k in_n in
@@ -215,26 +210,23 @@ move_either : (n slots k old new : ℕ) (next : Parts) (v : CoreView) (xs : List
     → is_live (entry v k).phase ≡ true → is_cancelled (entry v k) ≡ false → old ≡ value (entry v k) → new ≡ value next → (IsWord (entry v k) → IsWord next)
     → rank (entry v k) ≤ rank next → is_cancelled next ≡ false
     → Allows {S = Unit {0}} (Rule n) slots 0 (Core v, xs) (k + 1) (λ x. either (x == old) new x) (Moved (k + 1) old new (Core v, xs))
-move_either n slots k old new next v xs in_n phase live is_old is_new word up free s kept homes at bound =
-    let x : ℕ = slice_index s.words (k + 1) in
-    let f = fits n s.words s.views v kept at in
+move_either n slots k old new next v xs in_n phase live is_old is_new word up free =
+    allows n slots 0 k (Core v, xs) (λ x. either (x == old) new x) (Moved (k + 1) old new (Core v, xs)) (λ words views kept at.
+    let x : ℕ = slice_index words k in
+    let f = fits n words views v kept at in
     let is = f.word k in_n in
     exchanged x old new
-    (λ y. (w : View) × (a : Act (Unit {0})) × Valid s.homes xs a × Rule n (stepped s (k + 1) y 0 xs w a) × Moved (k + 1) old new (Core v, xs) x (w, carried_after xs a))
+    (λ y. (w : View) × IsKept n (set words k y) (set views 0 w) × Moved (k + 1) old new (Core v, xs) x (w, xs))
     (λ hit. (
       Core (with_entry v k (word_of new)),
-      keeps,
-      tt,
-      exchange_keeps n k new next s.words s.views v kept at in_n phase live (hit ∙ is_old) is_new word up free,
-      at_task k (λ j. CoreMeets v j x × (((x ≡ old) × CoreIs (with_entry v j (word_of new)) (Core v, xs) (Core (with_entry v k (word_of new)), xs)) ⊎ ((x ≢ old) × CoreIs (with_entry v j (marked (entry v j))) (Core v, xs) (Core (with_entry v k (word_of new)), xs)))) (core_meets n k s.words s.views v kept at in_n, inl (hit, refl)),
+      exchange_keeps n k new next words views v kept at in_n phase live (hit ∙ is_old) is_new word up free,
+      at_task k (λ j. CoreMeets v j x × (((x ≡ old) × CoreIs (with_entry v j (word_of new)) (Core v, xs) (Core (with_entry v k (word_of new)), xs)) ⊎ ((x ≢ old) × CoreIs (with_entry v j (marked (entry v j))) (Core v, xs) (Core (with_entry v k (word_of new)), xs)))) (core_meets n k words views v kept at in_n, inl (hit, refl)),
     ))
     (λ miss. (
       Core (with_entry v k (marked (entry v k))),
-      keeps,
-      tt,
-      load_keeps n k s.words s.views v (marked (entry v k)) kept at in_n (marked_word (entry v k) is) (inl (met_bit x (entry v k) (f.each k in_n) (λ e. miss (e ∙ sym is_old)))),
-      at_task k (λ j. CoreMeets v j x × (((x ≡ old) × CoreIs (with_entry v j (word_of new)) (Core v, xs) (Core (with_entry v k (marked (entry v k))), xs)) ⊎ ((x ≢ old) × CoreIs (with_entry v j (marked (entry v j))) (Core v, xs) (Core (with_entry v k (marked (entry v k))), xs)))) (core_meets n k s.words s.views v kept at in_n, inr (miss, refl)),
-    ))
+      load_keeps n k words views v (marked (entry v k)) kept at in_n (marked_word (entry v k) is) (inl (met_bit x (entry v k) (f.each k in_n) (λ e. miss (e ∙ sym is_old)))),
+      at_task k (λ j. CoreMeets v j x × (((x ≡ old) × CoreIs (with_entry v j (word_of new)) (Core v, xs) (Core (with_entry v k (marked (entry v k))), xs)) ⊎ ((x ≢ old) × CoreIs (with_entry v j (marked (entry v j))) (Core v, xs) (Core (with_entry v k (marked (entry v k))), xs)))) (core_meets n k words views v kept at in_n, inr (miss, refl)),
+    )))
 
 -- an exchange of the core's keeps the rule, and where it fails it met the bit
 pub moves : (n slots id k old new : ℕ) (next : Parts) (me : Holder) → id ≡ 0 → me.0 ≡ Core (core_of me.0) → k < n
@@ -250,24 +242,22 @@ pub core_looks : (n slots id k : ℕ) (me : Holder) → id ≡ 0 → me.0 ≡ Co
     → Allows {S = Unit {0}} (Rule n) slots id me (k + 1) (λ x. x) (CoreLooked (k + 1) me)
 core_looks n slots id k me zero_id core in_n =
     seat_is (λ i m. Allows {S = Unit {0}} (Rule n) slots i m (k + 1) (λ x. x) (CoreLooked (k + 1) m)) id me zero_id core
-    (λ s kept homes at bound.
+    (allows n slots 0 k (Core (core_of me.0), me.1) (λ x. x) (CoreLooked (k + 1) (Core (core_of me.0), me.1)) (λ words views kept at.
     let v : CoreView = core_of me.0 in
-    let x : ℕ = slice_index s.words (k + 1) in
-    let m : CoreMeets v k x = core_meets n k s.words s.views v kept at in_n in (
+    let x : ℕ = slice_index words k in
+    let m : CoreMeets v k x = core_meets n k words views v kept at in_n in (
       Core (with_entry v k (word_of x)),
-      keeps,
-      tt,
-      load_keeps n k s.words s.views v (word_of x) kept at in_n m.word (inl (sym m.number)),
+      load_keeps n k words views v (word_of x) kept at in_n m.word (inl (sym m.number)),
       at_task k (λ j. CoreMeets v j x × CoreIs (with_entry v j (word_of x)) (Core v, me.1) (Core (with_entry v k (word_of x)), me.1)) (m, refl),
-    ))
+    )))
 
 -- the setting of the bit by the core keeps the rule
 bit_keeps : (n k : ℕ) (words : List ℕ) (views : List View) (v : CoreView) → IsKept n words views → get_elem? views 0 ≡ some (Core v) → k < n
-    → IsKept n (set words (k + 1) (bit_or (slice_index words (k + 1)) bit)) (set views 0 (Core (core_cancelled v k (word_at words k))))
+    → IsKept n (set words k (bit_or (slice_index words k) bit)) (set views 0 (Core (core_cancelled v k (word_at words k))))
 bit_keeps n k words views v kept at in_n =
     let f = fits n words views v kept at in
     let is = f.word k in_n in
-    let x : ℕ = slice_index words (k + 1) in
+    let x : ℕ = slice_index words k in
     let w : Parts = word_of x in
     let word : IsWord w = reads_word x (entry v k) is (f.each k in_n) in
     let number : value w ≡ x = reads_number x (entry v k) is (f.each k in_n) in
@@ -282,13 +272,11 @@ pub core_cancels : (n slots id k : ℕ) (me : Holder) → id ≡ 0 → me.0 ≡ 
     → Allows {S = Unit {0}} (Rule n) slots id me (k + 1) (λ x. bit_or x bit) (CoreCancelled (k + 1) me)
 core_cancels n slots id k me zero_id core in_n =
     seat_is (λ i m. Allows {S = Unit {0}} (Rule n) slots i m (k + 1) (λ x. bit_or x bit) (CoreCancelled (k + 1) m)) id me zero_id core
-    (λ s kept homes at bound.
+    (allows n slots 0 k (Core (core_of me.0), me.1) (λ x. bit_or x bit) (CoreCancelled (k + 1) (Core (core_of me.0), me.1)) (λ words views kept at.
     let v : CoreView = core_of me.0 in
-    let x : ℕ = slice_index s.words (k + 1) in
-    let m : CoreMeets v k x = core_meets n k s.words s.views v kept at in_n in (
+    let x : ℕ = slice_index words k in
+    let m : CoreMeets v k x = core_meets n k words views v kept at in_n in (
       Core (core_cancelled v k (word_of x)),
-      keeps,
-      tt,
-      bit_keeps n k s.words s.views v kept at in_n,
+      bit_keeps n k words views v kept at in_n,
       at_task k (λ j. CoreMeets v j x × CoreIs (core_cancelled v j (word_of x)) (Core v, me.1) (Core (core_cancelled v k (word_of x)), me.1)) (m, refl),
-    ))
+    )))

@@ -7,15 +7,16 @@ use Rattle.atomic_table.specs.Table.{Splits, Joins}
 use Rattle.atomic_table.proofs.Lists.{at_set, set_here, set_else, at_longer, at_snoc}
 use Rattle.task_word.specs.Words.{rank}
 use Rattle.task_word.specs.Views.{times, core_of, handle_of, new_handle, one_out, joined_with, greater, lender, lent, together, spent}
-use Rattle.task_word.specs.Rule.{word_at, taken_by, is_handle, HasMet, IsKept}
+use Rattle.task_word.specs.Rule.{word_at, taken_by, is_handle, HasMet, IsKept, task_words}
 use Rattle.task_word.specs.declared.views.CoreView.{CoreView}
 use Rattle.task_word.specs.declared.views.HandleView.{HandleView}
 use Rattle.task_word.specs.declared.views.View.{View}
 use Rattle.task_word.specs.declared.views.View.TheVariants.{Core, Handle, Spent}
 use Rattle.task_word.proofs.Lists.{sum_set, sum_last, greater_below}
 use Rattle.task_word.proofs.Uses.{greater_left, greater_right}
+use Rattle.task_word.proofs.Placing.{Rule}
 use Rattle.task_word.proofs.Keeping.{times_append}
-use Rattle.task_word.proofs.CoreSteps.{Rule, not_core, fits, out_is, out_most, in_views}
+use Rattle.task_word.proofs.CoreSteps.{not_core, fits, out_is, out_most, in_views}
 
 pub zeros : (n k : ℕ) → slice_index (replicate n 0) k ≡ 0
 zeros zero k = refl
@@ -79,7 +80,7 @@ split_keeps n words views v kept at room =
 pub splits : (n id : ℕ) (v : View) → id ≡ 0 → v ≡ Core (core_of v) → (core_of v).out < 63 → Splits (Rule n) id v (lender v) (lent v)
 splits n id v zero_id core room s kept at =
     let here : get_elem? s.views 0 ≡ some (Core (core_of v)) = subst (λ (i : ℕ). get_elem? s.views i ≡ some v) zero_id at ∙ ap some core in
-    subst (λ (i : ℕ). IsKept n s.words (set s.views i (lender v) ++ lent v ∷ [])) (sym zero_id) (split_keeps n s.words s.views (core_of v) kept here room)
+    subst (λ (i : ℕ). IsKept n (task_words s.words) (set s.views i (lender v) ++ lent v ∷ [])) (sym zero_id) (split_keeps n (task_words s.words) s.views (core_of v) kept here room)
 
 -- one that is gone knows nothing
 met_none : (n : ℕ) (words : List ℕ) → HasMet n words Spent
@@ -169,4 +170,4 @@ pub joins : (n id other : ℕ) (v w : View) → id ≡ 0 → v ≡ Core (core_of
 joins n id other v w zero_id core handle s kept at apart there =
     let here : get_elem? s.views 0 ≡ some (Core (core_of v)) = subst (λ (i : ℕ). get_elem? s.views i ≡ some v) zero_id at ∙ ap some core in
     let there' : get_elem? (set s.views 0 (together v w)) other ≡ some (Handle (handle_of w)) = subst (λ (i : ℕ). get_elem? (set s.views i (together v w)) other ≡ some w) zero_id there ∙ ap some handle in
-    subst (λ (i : ℕ). IsKept n s.words (set (set s.views i (together v w)) other Spent)) (sym zero_id) (join_keeps n other s.words s.views (core_of v) (handle_of w) kept here (λ e. apart (e ∙ sym zero_id)) there')
+    subst (λ (i : ℕ). IsKept n (task_words s.words) (set (set s.views i (together v w)) other Spent)) (sym zero_id) (join_keeps n other (task_words s.words) s.views (core_of v) (handle_of w) kept here (λ e. apart (e ∙ sym zero_id)) there')

@@ -3,7 +3,7 @@ use Rattle.std.proofs.Common.{◌≡◌, ℕ, ◌+◌, ◌<◌, ◌≤◌, ◌�
 use Rattle.std.proofs.lemmas.Bool.{cases_eq}
 use mathlib.Core.Option.{some, some-injective}
 use lib.ListN.{get_elem?}
-use Rattle.atomic_table.specs.Table.{keeps, Allows}
+use Rattle.atomic_table.specs.Table.{Allows}
 use Rattle.atomic_table.proofs.Lists.{at_set, set_else}
 use Rattle.task_word.specs.Words.{Parts, IsWord, bit, value, marked, is_cancelled, rank}
 use Rattle.task_word.specs.Views.{times, wins, handle_of, handle_looked, handle_cancelled, MeetsHandle}
@@ -14,8 +14,9 @@ use Rattle.task_word.specs.declared.views.View.{View}
 use Rattle.task_word.specs.declared.views.View.TheVariants.{Core, Handle}
 use Rattle.task_word.proofs.Numbers.{reads_back, marked_word, reads_word, reads_number, or_marks}
 use Rattle.task_word.proofs.Lists.{sum_set}
+use Rattle.task_word.proofs.Placing.{Rule, allows}
 use Rattle.task_word.proofs.Keeping.{Goes, goes_same, goes_marked, won_cancelled, won_still, met_after, once_after, none_after, word_after, and_if_same, and_if_other, wins_count}
-use Rattle.task_word.proofs.CoreSteps.{Rule, not_core, at_task}
+use Rattle.task_word.proofs.CoreSteps.{not_core, at_task}
 
 -- a list of numbers with one of them set is below what it was below, and the new one is
 set_below : (xs : List ℕ) (k j a m : ℕ) → slice_index xs j ≤ m → (j ≡ k → a ≤ m) → slice_index (set xs k a) j ≤ m
@@ -34,7 +35,7 @@ set_true (x ∷ xs) (suc k) zero b e = inl e
 set_true (x ∷ xs) (suc k) (suc j) b e = elim (set_true xs k j b e) [ inl before ↦ inl before | inr new ↦ inr (ap suc new.0, new.1) ]
 
 -- the core's word of the task is a word that the table's fits
-some_entry : (n k : ℕ) (words : List ℕ) (views : List View) → IsKept n words views → k < n → (e : Parts) × IsWord e × Matches (slice_index words (k + 1)) e
+some_entry : (n k : ℕ) (words : List ℕ) (views : List View) → IsKept n words views → k < n → (e : Parts) × IsWord e × Matches (slice_index words k) e
 some_entry n k words views kept in_n = (_, kept.core.2.word k in_n, kept.core.2.each k in_n)
 
 -- the seat of a handle is not the first
@@ -78,16 +79,16 @@ met_more n k words h h' w in_n room is new met =
 
 -- a step of a handle keeps the rule: the word of the task k becomes x, and what the handle won goes along
 handle_keeps : (n k x id : ℕ) (words : List ℕ) (views : List View) (h h' : HandleView) → IsKept n words views → get_elem? views id ≡ some (Handle h) → k < n
-    → ((e : Parts) → IsWord e → Matches (slice_index words (k + 1)) e → Matches x e)
+    → ((e : Parts) → IsWord e → Matches (slice_index words k) e → Matches x e)
     → times k h'.won + flag (is_cancelled (word_at words k)) ≡ times k h.won + flag (is_cancelled (word_of x))
     → k < length h.ranks → Goes (word_at words k) (word_of x) → rank (word_at words k) ≡ rank (word_of x) → Meets k (word_at words k) h h'
-    → IsKept n (set words (k + 1) x) (set views id (Handle h'))
+    → IsKept n (set words k x) (set views id (Handle h'))
 handle_keeps n k x id words views h h' kept at in_n fit here room goes level new =
-    let lt : k + 1 < length words = omega (arith, kept.count) in
+    let lt : k < length words = omega (arith, kept.count) in
     let other_id : 0 ≢ id = (λ e. not_first n id words views h kept at (sym e)) in
     let f = kept.core.2 in
     record {
-      count = length-set words (k + 1) x ∙ kept.count;
+      count = length-set words k x ∙ kept.count;
       core = (
         kept.core.0,
         set_else views id 0 (Handle h') other_id ∙ kept.core.1,
@@ -99,7 +100,7 @@ handle_keeps n k x id words views h h' kept at in_n fit here room goes level new
       once = once_after n k x id words views (Handle h) (Handle h') lt in_n at here new.won kept.once;
       none = none_after n k id views (Handle h) (Handle h') in_n at new.won kept.none;
       met = λ i u there'. elim (at_set views id i (Handle h') u there') [
-        | inl same ↦ subst (HasMet n (set words (k + 1) x)) same.1 (met_after n k x words (Handle h') lt in_n goes (λ g. level) (met_more n k words h h' (word_at words k) in_n room refl new (kept.met id (Handle h) at)))
+        | inl same ↦ subst (HasMet n (set words k x)) same.1 (met_after n k x words (Handle h') lt in_n goes (λ g. level) (met_more n k words h h' (word_at words k) in_n room refl new (kept.met id (Handle h) at)))
         | inr other ↦ met_after n k x words u lt in_n goes (won_still n k i x words views u kept other.1 in_n goes) (kept.met i u other.1)
       ];
     }
@@ -119,9 +120,10 @@ handle_meets n k id words views h kept at in_n =
       seen = met.seen k in_n;
       won = won_cancelled n k id words views (Handle h) kept at in_n;
       still = met.still k in_n;
+      ended = λ same over. subst (λ (i : ℕ). ((word_at words i).phase ≡ h.last.1.phase) × ((word_at words i).run ≡ h.last.1.run)) same (met.ended (omega (arith, same, in_n)) over);
     }
 
-read_number : (n k : ℕ) (words : List ℕ) (views : List View) → IsKept n words views → k < n → value (word_at words k) ≡ slice_index words (k + 1)
+read_number : (n k : ℕ) (words : List ℕ) (views : List View) → IsKept n words views → k < n → value (word_at words k) ≡ slice_index words k
 read_number n k words views kept in_n = let e = some_entry n k words views kept in_n in reads_number _ e.0 e.1 e.2
 
 -- a load of a handle's keeps the rule
@@ -129,22 +131,20 @@ pub handle_looks : (n slots id k : ℕ) (me : Holder) → me.0 ≡ Handle (handl
     → Allows {S = Unit {0}} (Rule n) slots id me (k + 1) (λ x. x) (HandleLooked (k + 1) me)
 handle_looks n slots id k me handle in_n room =
     handle_is (λ m. Allows {S = Unit {0}} (Rule n) slots id m (k + 1) (λ x. x) (HandleLooked (k + 1) m)) me handle
-    (λ s kept homes at bound.
+    (allows n slots id k (Handle (handle_of me.0), me.1) (λ x. x) (HandleLooked (k + 1) (Handle (handle_of me.0), me.1)) (λ words views kept at.
     let h : HandleView = handle_of me.0 in
-    let x : ℕ = slice_index s.words (k + 1) in
+    let x : ℕ = slice_index words k in
     let h' : HandleView = handle_looked h k (word_of x) in (
       Handle h',
-      keeps,
-      tt,
-      handle_keeps n k x id s.words s.views h h' kept at in_n (λ e is m. m) refl room (goes_same (word_of x)) refl (record { ranks = refl; seen = refl; last = refl; won = λ j other. refl }),
-      at_task k (λ j. MeetsHandle h j (word_of x) × (value (word_of x) ≡ x) × HandleIs (handle_looked h j (word_of x)) (Handle h, me.1) (Handle h', me.1)) (handle_meets n k id s.words s.views h kept at in_n, read_number n k s.words s.views kept in_n, refl),
-    ))
+      handle_keeps n k x id words views h h' kept at in_n (λ e is m. m) refl room (goes_same (word_of x)) refl (record { ranks = refl; seen = refl; last = refl; won = λ j other. refl }),
+      at_task k (λ j. MeetsHandle h j (word_of x) × (value (word_of x) ≡ x) × HandleIs (handle_looked h j (word_of x)) (Handle h, me.1) (Handle h', me.1)) (handle_meets n k id words views h kept at in_n, read_number n k words views kept in_n, refl),
+    )))
 
 -- the setting of the bit by a handle keeps the rule
 bit_keeps : (n k id : ℕ) (words : List ℕ) (views : List View) (h : HandleView) → IsKept n words views → get_elem? views id ≡ some (Handle h) → k < n → k < length h.ranks
-    → IsKept n (set words (k + 1) (bit_or (slice_index words (k + 1)) bit)) (set views id (Handle (handle_cancelled h k (word_at words k))))
+    → IsKept n (set words k (bit_or (slice_index words k) bit)) (set views id (Handle (handle_cancelled h k (word_at words k))))
 bit_keeps n k id words views h kept at in_n room =
-    let x : ℕ = slice_index words (k + 1) in
+    let x : ℕ = slice_index words k in
     let w : Parts = word_of x in
     let m = handle_meets n k id words views h kept at in_n in
     let number : value w ≡ x = read_number n k words views kept in_n in
@@ -162,13 +162,11 @@ pub handle_cancels : (n slots id k : ℕ) (me : Holder) → me.0 ≡ Handle (han
     → Allows {S = Unit {0}} (Rule n) slots id me (k + 1) (λ x. bit_or x bit) (HandleCancelled (k + 1) me)
 handle_cancels n slots id k me handle in_n room =
     handle_is (λ m. Allows {S = Unit {0}} (Rule n) slots id m (k + 1) (λ x. bit_or x bit) (HandleCancelled (k + 1) m)) me handle
-    (λ s kept homes at bound.
+    (allows n slots id k (Handle (handle_of me.0), me.1) (λ x. bit_or x bit) (HandleCancelled (k + 1) (Handle (handle_of me.0), me.1)) (λ words views kept at.
     let h : HandleView = handle_of me.0 in
-    let x : ℕ = slice_index s.words (k + 1) in
+    let x : ℕ = slice_index words k in
     let h' : HandleView = handle_cancelled h k (word_of x) in (
       Handle h',
-      keeps,
-      tt,
-      bit_keeps n k id s.words s.views h kept at in_n room,
-      at_task k (λ j. MeetsHandle h j (word_of x) × (value (word_of x) ≡ x) × HandleIs (handle_cancelled h j (word_of x)) (Handle h, me.1) (Handle h', me.1)) (handle_meets n k id s.words s.views h kept at in_n, read_number n k s.words s.views kept in_n, refl),
-    ))
+      bit_keeps n k id words views h kept at in_n room,
+      at_task k (λ j. MeetsHandle h j (word_of x) × (value (word_of x) ≡ x) × HandleIs (handle_cancelled h j (word_of x)) (Handle h, me.1) (Handle h', me.1)) (handle_meets n k id words views h kept at in_n, read_number n k words views kept in_n, refl),
+    )))

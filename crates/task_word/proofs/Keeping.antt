@@ -13,18 +13,18 @@ use Rattle.task_word.specs.declared.views.View.TheVariants.{Core, Handle, Spent}
 use Rattle.task_word.proofs.Lists.{sum_set, sum_part}
 
 -- the word of the task that changes, and those of the others
-pub word_same : (words : List ℕ) (k x : ℕ) → k + 1 < length words → word_at (set words (k + 1) x) k ≡ word_of x
-word_same words k x lt = ap word_of (get_or-set_same words (k + 1) x 0 lt)
+pub word_same : (words : List ℕ) (k x : ℕ) → k < length words → word_at (set words k x) k ≡ word_of x
+word_same words k x lt = ap word_of (get_or-set_same words k x 0 lt)
 
-pub word_other : (words : List ℕ) (k x j : ℕ) → j ≢ k → word_at (set words (k + 1) x) j ≡ word_at words j
-word_other words k x j other = let apart : j + 1 ≢ k + 1 = omega arith in ap word_of (get_or-set_other words (k + 1) (j + 1) x 0 apart)
+pub word_other : (words : List ℕ) (k x j : ℕ) → j ≢ k → word_at (set words k x) j ≡ word_at words j
+word_other words k x j other = ap word_of (get_or-set_other words k j x 0 other)
 
 -- what is so of the changed word, and was so of the others, is so of each
-pub after_set : (n k x : ℕ) (words : List ℕ) (P : ℕ → Parts → Type 0) → k + 1 < length words → P k (word_of x) → ((j : ℕ) → j < n → j ≢ k → P j (word_at words j))
-    → (j : ℕ) → j < n → P j (word_at (set words (k + 1) x) j)
+pub after_set : (n k x : ℕ) (words : List ℕ) (P : ℕ → Parts → Type 0) → k < length words → P k (word_of x) → ((j : ℕ) → j < n → j ≢ k → P j (word_at words j))
+    → (j : ℕ) → j < n → P j (word_at (set words k x) j)
 after_set n k x words P lt here there j h =
     elim (cases_eq j k) [
-      | inl same ↦ subst (λ (i : ℕ). P i (word_at (set words (k + 1) x) i)) (sym same) (subst (P k) (sym (word_same words k x lt)) here)
+      | inl same ↦ subst (λ (i : ℕ). P i (word_at (set words k x) i)) (sym same) (subst (P k) (sym (word_same words k x lt)) here)
       | inr other ↦ subst (P j) (sym (word_other words k x j other)) (there j h other)
     ]
 
@@ -40,8 +40,8 @@ pub goes_same : (w : Parts) → Goes w w
 goes_same w = record { up = omega arith; stays = λ e. e; steady = λ e. refl; ended = λ e. (refl, refl) }
 
 -- what a seat met stays so
-pub met_after : (n k x : ℕ) (words : List ℕ) (v : View) → k + 1 < length words → k < n → Goes (word_at words k) (word_of x)
-    → (0 < times k (won_of v) → rank (word_at words k) ≡ rank (word_of x)) → HasMet n words v → HasMet n (set words (k + 1) x) v
+pub met_after : (n k x : ℕ) (words : List ℕ) (v : View) → k < length words → k < n → Goes (word_at words k) (word_of x)
+    → (0 < times k (won_of v) → rank (word_at words k) ≡ rank (word_of x)) → HasMet n words v → HasMet n (set words k x) v
 met_after n k x words v lt in_n goes won met =
     record {
       ranks = after_set n k x words (λ j w. slice_index (ranks_of v) j ≤ rank w) lt (let m = met.ranks k in_n in let u = goes.up in omega (arith, m, u)) (λ j h other. met.ranks j h);
@@ -59,11 +59,11 @@ met_after n k x words v lt in_n goes won met =
     }
 
 -- the number of times that a task was taken goes along with its word
-pub once_after : (n k x id : ℕ) (words : List ℕ) (views : List View) (v w : View) → k + 1 < length words → k < n → get_elem? views id ≡ some v
+pub once_after : (n k x id : ℕ) (words : List ℕ) (views : List View) (v w : View) → k < length words → k < n → get_elem? views id ≡ some v
     → times k (taken_by w) + flag (is_cancelled (word_at words k)) ≡ times k (taken_by v) + flag (is_cancelled (word_of x))
     → ((j : ℕ) → j ≢ k → times j (taken_by w) ≡ times j (taken_by v))
     → ((j : ℕ) → j < n → taken_in_all j views ≡ flag (is_cancelled (word_at words j)))
-    → (j : ℕ) → j < n → taken_in_all j (set views id w) ≡ flag (is_cancelled (word_at (set words (k + 1) x) j))
+    → (j : ℕ) → j < n → taken_in_all j (set views id w) ≡ flag (is_cancelled (word_at (set words k x) j))
 once_after n k x id words views v w lt in_n at here there once =
     after_set n k x words (λ j u. taken_in_all j (set views id w) ≡ flag (is_cancelled u)) lt
     (let s = sum_set (λ u. times k (taken_by u)) views id v w at in let o = once k in_n in omega (arith, s, o, here))
@@ -79,8 +79,8 @@ none_after n k id views v w in_n at there none j past =
     omega (arith, s, o, e)
 
 -- the words still fit the entries where the word and its entry change
-pub entries_after : (n k x : ℕ) (words : List ℕ) (entries : List Parts) (e : Parts) → k + 1 < length words → k < n → IsWord e → Matches x e
-    → EntriesFit n words entries → EntriesFit n (set words (k + 1) x) (set entries k e)
+pub entries_after : (n k x : ℕ) (words : List ℕ) (entries : List Parts) (e : Parts) → k < length words → k < n → IsWord e → Matches x e
+    → EntriesFit n words entries → EntriesFit n (set words k x) (set entries k e)
 entries_after n k x words entries e lt in_n is fits f =
     let room : k < length entries = omega (arith, f.count) in
     record {
@@ -91,29 +91,27 @@ entries_after n k x words entries e lt in_n is fits f =
       ];
       each = λ j h. elim (cases_eq j k) [
         | inl same ↦
-            subst (λ (y : ℕ). Matches y (get_or (set entries k e) j vacant)) (sym (ap (λ i. get_or (set words (k + 1) x) (i + 1) 0) same ∙ get_or-set_same words (k + 1) x 0 lt))
+            subst (λ (y : ℕ). Matches y (get_or (set entries k e) j vacant)) (sym (ap (λ i. get_or (set words k x) i 0) same ∙ get_or-set_same words k x 0 lt))
             (subst (Matches x) (sym (ap (λ i. get_or (set entries k e) i vacant) same ∙ get_or-set_same entries k e vacant room)) fits)
         | inr other ↦
-            let apart : j + 1 ≢ k + 1 = omega arith in
-            subst (λ (y : ℕ). Matches y (get_or (set entries k e) j vacant)) (sym (get_or-set_other words (k + 1) (j + 1) x 0 apart))
-            (subst (Matches (get_or words (j + 1) 0)) (sym (get_or-set_other entries k j e vacant other)) (f.each j h))
+            subst (λ (y : ℕ). Matches y (get_or (set entries k e) j vacant)) (sym (get_or-set_other words k j x 0 other))
+            (subst (Matches (get_or words j 0)) (sym (get_or-set_other entries k j e vacant other)) (f.each j h))
       ];
     }
 
 -- the words still fit the entries where the word changes to one that fits its entry
-pub word_after : (n k x : ℕ) (words : List ℕ) (entries : List Parts) → k + 1 < length words → k < n → Matches x (slice_index_or entries k vacant)
-    → EntriesFit n words entries → EntriesFit n (set words (k + 1) x) entries
+pub word_after : (n k x : ℕ) (words : List ℕ) (entries : List Parts) → k < length words → k < n → Matches x (slice_index_or entries k vacant)
+    → EntriesFit n words entries → EntriesFit n (set words k x) entries
 word_after n k x words entries lt in_n fits f =
     record {
       count = f.count;
       word = f.word;
       each = λ j h. elim (cases_eq j k) [
         | inl same ↦
-            subst (λ (i : ℕ). Matches (get_or (set words (k + 1) x) (i + 1) 0) (get_or entries i vacant)) (sym same)
-            (subst (λ (y : ℕ). Matches y (get_or entries k vacant)) (sym (get_or-set_same words (k + 1) x 0 lt)) fits)
+            subst (λ (i : ℕ). Matches (get_or (set words k x) i 0) (get_or entries i vacant)) (sym same)
+            (subst (λ (y : ℕ). Matches y (get_or entries k vacant)) (sym (get_or-set_same words k x 0 lt)) fits)
         | inr other ↦
-            let apart : j + 1 ≢ k + 1 = omega arith in
-            subst (λ (y : ℕ). Matches y (get_or entries j vacant)) (sym (get_or-set_other words (k + 1) (j + 1) x 0 apart)) (f.each j h)
+            subst (λ (y : ℕ). Matches y (get_or entries j vacant)) (sym (get_or-set_other words k j x 0 other)) (f.each j h)
       ];
     }
 

@@ -1,5 +1,6 @@
 pub mod Numbers
 pub mod Lists
+pub mod Placing
 pub mod Keeping
 pub mod CoreSteps
 pub mod HandleSteps

@@ -5,7 +5,7 @@ use lib.ListN.{get_elem?}
 use Rattle.std.proofs.lemmas.List.{length-replicate, get_or-replicate}
 use Rattle.task_word.specs.Words.{Parts, IsWord, vacant, is_cancelled, rank}
 use Rattle.task_word.specs.Views.{new_core, first_view}
-use Rattle.task_word.specs.Rule.{word_at, HasMet, IsKept}
+use Rattle.task_word.specs.Rule.{word_at, HasMet, IsKept, task_words}
 use Rattle.task_word.specs.declared.views.CoreView.{CoreView}
 use Rattle.task_word.specs.declared.views.View.{View}
 use Rattle.task_word.specs.declared.views.View.TheVariants.{Core}
@@ -24,25 +24,29 @@ met_first n words =
     }
 
 none_cancelled : (n k : ℕ) → is_cancelled (word_at (replicate n 0) k) ≡ false
-none_cancelled n k = ap (λ m. is_cancelled (Rattle.task_word.specs.Rule.word_of m)) (zeros n (k + 1))
+none_cancelled n k = ap (λ m. is_cancelled (Rattle.task_word.specs.Rule.word_of m)) (zeros n k)
 
-pub opens : (n : ℕ) (words : List ℕ) → words ≡ replicate (n + 1) 0 → IsKept n words (first_view n ∷ [])
+-- the words of the tasks are vacant, where all words of the table are
+zero_words : (n : ℕ) → task_words (replicate (n + 1) 0) ≡ replicate n 0
+zero_words n = let e : n + 1 ≡ suc n = omega arith in ap (λ m. task_words (replicate m 0)) e
+
+pub opens : (n : ℕ) (words : List ℕ) → words ≡ replicate (n + 1) 0 → IsKept n (task_words words) (first_view n ∷ [])
 opens n words is =
-    subst (λ (ws : List ℕ). IsKept n ws (first_view n ∷ [])) (sym is) record {
-      count = length-replicate (n + 1) 0;
+    subst (λ (ws : List ℕ). IsKept n ws (first_view n ∷ [])) (sym (ap task_words is ∙ zero_words n)) record {
+      count = length-replicate n 0;
       core = (
         new_core n,
         refl,
         record {
           count = length-replicate n vacant;
           word = vacant_word n;
-          each = λ k h. inl (zeros (n + 1) (k + 1) ∙ sym (ap Rattle.task_word.specs.Words.value (get_or-replicate n k vacant vacant h)));
+          each = λ k h. inl (zeros n k ∙ sym (ap Rattle.task_word.specs.Words.value (get_or-replicate n k vacant vacant h)));
         },
         refl,
         omega arith,
       );
       only = only;
-      once = λ k h. sym (ap Rattle.task_word.specs.Rule.flag (none_cancelled (n + 1) k));
+      once = λ k h. sym (ap Rattle.task_word.specs.Rule.flag (none_cancelled n k));
       none = λ k past. refl;
       met = met;
     }
@@ -51,6 +55,6 @@ opens n words is =
     only zero v e = refl
     only (suc id) v e = absurd (some-ne-none _ (sym e))
 
-    met : (id : ℕ) (v : View) → get_elem? (first_view n ∷ []) id ≡ some v → HasMet n (replicate (n + 1) 0) v
-    met zero v e = subst (HasMet n (replicate (n + 1) 0)) (some-injective _ _ e) (met_first n _)
+    met : (id : ℕ) (v : View) → get_elem? (first_view n ∷ []) id ≡ some v → HasMet n (replicate n 0) v
+    met zero v e = subst (HasMet n (replicate n 0)) (some-injective _ _ e) (met_first n _)
     met (suc id) v e = absurd (some-ne-none _ (sym e))

@@ -1,6 +1,6 @@
--- The rule of a table of words, which is so between any two steps. Word 0 belongs to no task, and the
--- word of task k is word k + 1. This project's rule.
-use Rattle.std.specs.Prelude.{◌≡◌, ℕ, ◌+◌, ◌/◌, ◌%◌, ◌<◌, ◌≤◌, Bool, true, false, List, ◌++◌, [], length, slice_index, slice_index_or, ◌⊎◌, nat_le, ◌==◌, if◌then◌else◌}
+-- The rule of the words of tasks, which is so between any two steps. The word of task k is word k.
+-- This project's rule.
+use Rattle.std.specs.Prelude.{◌≡◌, ℕ, ◌/◌, ◌%◌, ◌<◌, ◌≤◌, Bool, true, false, List, ◌++◌, [], ◌∷◌, length, slice_index, slice_index_or, ◌⊎◌, nat_le, ◌==◌, if◌then◌else◌}
 use Rattle.std.specs.List.{sum_by}
 use mathlib.Core.Option.{some}
 use lib.ListN.{get_elem?}
@@ -20,9 +20,14 @@ phase_of n = if n == 0 then Vacant else if n == 1 then New else if n == 2 then R
 abbrev pub word_of : ℕ → Parts
 word_of n = record { phase = phase_of (n % 8); run = n % bit / 8; marked = nat_le bit n }
 
+-- the words of the tasks among those of a table, whose first word belongs to no task
+abbrev pub task_words : List ℕ → List ℕ
+task_words [] = []
+task_words (spare ∷ words) = words
+
 -- the word of task k
 abbrev pub word_at : List ℕ → ℕ → Parts
-word_at words k = word_of (slice_index words (k + 1))
+word_at words k = word_of (slice_index words k)
 
 -- the number is the word, as it is or with the bit
 abbrev pub Matches : ℕ → Parts → Type 0
@@ -74,7 +79,7 @@ is_handle Spent = 0
 pub record EntriesFit (n : ℕ) (words : List ℕ) (entries : List Parts) : Type 0 where
   pub count : length entries ≡ n
   pub word : (k : ℕ) → k < n → IsWord (slice_index_or entries k vacant)
-  pub each : (k : ℕ) → k < n → Matches (slice_index words (k + 1)) (slice_index_or entries k vacant)
+  pub each : (k : ℕ) → k < n → Matches (slice_index words k) (slice_index_or entries k vacant)
 
 -- no word has a lower rank than the seat met, and what the seat met cancelled is cancelled
 --
@@ -96,8 +101,8 @@ handles views = sum_by is_handle views
 
 -- the words of n tasks and the views of the seats
 pub record IsKept (n : ℕ) (words : List ℕ) (views : List View) : Type 0 where
-  -- one word for each task, and one more
-  pub count : length words ≡ n + 1
+  -- one word for each task
+  pub count : length words ≡ n
   -- the first seat is the core's, and no other
   pub core : (v : CoreView) × (get_elem? views 0 ≡ some (Core v)) × EntriesFit n words v.entries × (v.out ≡ handles views) × (v.out ≤ 63)
   pub only : (id : ℕ) (v : CoreView) → get_elem? views id ≡ some (Core v) → id ≡ 0

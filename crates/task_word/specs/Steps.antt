@@ -13,7 +13,7 @@ use Rattle.task_word.specs.declared.views.View.TheVariants.{Core, Handle}
 abbrev pub Holder : Type 0
 Holder = Me (Unit {0}) View
 
--- of the task whose word it is
+-- of the task whose word it is: the first word of a table belongs to no task
 abbrev pub AtTask : ℕ → (ℕ → Type 0) → Type 0
 AtTask word about = (k : ℕ) → word ≡ k + 1 → about k
 

@@ -2,7 +2,7 @@
 -- This project's rule.
 use Rattle.std.specs.Prelude.{◌≡◌, ℕ, ◌+◌, ◌-◌, ◌<◌, ◌≤◌, ◌==◌, ◌&&◌, max, Bool, true, false, not, List, [], ◌∷◌, ◌++◌, length, slice_index, slice_index_or, slice_set, replicate, ◌⊎◌}
 use Rattle.std.specs.List.{count_by}
-use Rattle.task_word.specs.Words.{Parts, IsWord, vacant, marked, is_live, is_cancelled, rank}
+use Rattle.task_word.specs.Words.{Parts, IsWord, vacant, marked, is_live, is_ended, is_cancelled, rank}
 use Rattle.task_word.specs.declared.views.CoreView.{CoreView}
 use Rattle.task_word.specs.declared.views.HandleView.{HandleView}
 use Rattle.task_word.specs.declared.views.View.{View}
@@ -72,13 +72,15 @@ abbrev pub MeetsEntry : Parts → Parts → Type 0
 MeetsEntry e w = (w ≡ e) ⊎ (w ≡ marked e)
 
 -- what a handle knows lets a step meet: no lower rank than it met, and what it met cancelled or
--- cancelled itself is cancelled, with the rank that it met
+-- cancelled itself is cancelled, with the rank that it met. What its last step met ended has the phase
+-- and the run met
 pub record MeetsHandle (h : HandleView) (k : ℕ) (w : Parts) : Type 0 where
   pub word : IsWord w
   pub met : slice_index h.ranks k ≤ rank w
   pub seen : seen_at h k ≡ true → is_cancelled w ≡ true
   pub won : 0 < times k h.won → is_cancelled w ≡ true
   pub still : (seen_at h k ≡ true) ⊎ (0 < times k h.won) → slice_index h.ranks k ≡ rank w
+  pub ended : h.last.0 ≡ k → is_ended h.last.1.phase ≡ true → (w.phase ≡ h.last.1.phase) × (w.run ≡ h.last.1.run)
 
 -- what the core's seat knows
 abbrev pub core_of : View → CoreView

@@ -39,7 +39,9 @@ impl HandleSeat {
     /// Sets the bit of the task's word, and answers by the word that it met, in one atomic step.
     ///
     /// That word has no lower rank than this handle met of the task before. Where the handle met it
-    /// cancelled, or cancelled it, it is cancelled, and has just the rank met then. Past the table it answers [`CancelAnswer::NoTask`], and nothing is touched.
+    /// cancelled, or cancelled it, it is cancelled, and has just the rank met then. Where the handle's last
+    /// step met it ended, it has the phase and the run met then. Past the table it answers
+    /// [`CancelAnswer::NoTask`], and nothing is touched.
     pub fn cancel<A: Allocator>(&mut self, words: &TaskWords<A>, k: u32) -> CancelAnswer
         requires table { self.old.table ≡ words.now.table }
         ensures table { self.new.table ≡ self.old.table }
@@ -60,7 +62,8 @@ impl HandleSeat {
     /// The state that the task's word shows, by one atomic load.
     ///
     /// It is no earlier one than this handle met of the task before, and [`TaskState::Cancelled`] where the
-    /// handle cancelled the task. Past the table it answers [`TaskState::NoTask`], and nothing is touched.
+    /// handle cancelled the task. Where the handle's last step met the task ended, it is the end met then.
+    /// Past the table it answers [`TaskState::NoTask`], and nothing is touched.
     pub fn state<A: Allocator>(&mut self, words: &TaskWords<A>, k: u32) -> TaskState
         requires table { self.old.table ≡ words.now.table }
         ensures table { self.new.table ≡ self.old.table }

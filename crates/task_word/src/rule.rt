@@ -2,13 +2,15 @@ use crate::views::View;
 use atomic_table::{Join, Split, TableRule};
 
 /// The rule of the words, which is so between any two steps.
+///
+/// The first word of a table belongs to no task. Each other one is the word of a task, in their order.
 pub struct WordRule;
 
 impl TableRule<(), View, u32> for WordRule {
-    ghost use Rattle.task_word.specs.Rule.{IsKept};
+    ghost use Rattle.task_word.specs.Rule.{IsKept, task_words};
     ghost use Rattle.task_word.specs.Views.{first_view};
 
-    ghost holds = { λ n s. IsKept n s.words s.views };
+    ghost holds = { λ n s. IsKept n (task_words s.words) s.views };
 
     ghost first = { first_view };
 }

@@ -88,6 +88,41 @@ fn sixty_three_handles_may_be_out(rt: HostRuntime) -> Result<(), Fail> {
     Ok(())
 }
 
+#[test]
+fn errors_say_what_is_wanting(rt: HostRuntime) -> Result<(), Fail> {
+    let memory = WordError::Memory;
+    let seats = WordError::Seats;
+    assert!(rt; format!(in rt.alloc(); "{memory}")?.as_str() == "out of memory");
+    assert!(rt; format!(in rt.alloc(); "{seats}")?.as_str() == "63 handles are out");
+    Ok(())
+}
+
+// The words of a table of so many tasks, of which the last one was submitted.
+fn with_the_last_submitted(alloc: Global, tasks: u32) -> Result<Vec<u64, Global>, WordError> {
+    let (words, mut core) = TaskWords::new(alloc, tasks)?;
+    if tasks > 0 {
+        let last = tasks - 1;
+        if core.look(&words, last).phase() == Phase::Vacant {
+            core.submit(&words, last);
+        }
+    }
+    words.close(alloc, core)
+}
+
+#[test]
+fn tables_of_any_size_are_closed(rt: HostRuntime) -> Result<(), Fail> {
+    let alloc = rt.alloc();
+    assert!(rt; with_the_last_submitted(alloc, 0)?.is_empty());
+    assert!(rt; with_the_last_submitted(alloc, 1)?.as_slice() == [1].as_slice());
+    assert!(rt; with_the_last_submitted(alloc, 2)?.as_slice() == [0, 1].as_slice());
+    let seven = with_the_last_submitted(alloc, 7)?;
+    assert!(rt; seven.as_slice() == [0, 0, 0, 0, 0, 0, 1].as_slice());
+    let many = with_the_last_submitted(alloc, 64)?;
+    assert!(rt; many.len() == 64 && many.last() == Some(&1));
+    assert!(rt; many.iter().take(63).all(|word| *word == 0));
+    Ok(())
+}
+
 // How many tasks the two threads cancel.
 const TASKS: u32 = 1000;
 

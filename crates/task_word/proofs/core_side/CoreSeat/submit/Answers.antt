@@ -5,7 +5,8 @@ use Rattle.task_word.specs.Views.{entry, with_entry, core_of}
 use Rattle.task_word.proofs.Sitting.{core_sits}
 use Rattle.task_word.specs.Steps.{Submitted}
 use Rattle.task_word.specs.declared.phases.Phase.TheVariants.{Vacant}
-use Rattle.task_word.proofs.CoreSteps.{Rule, submits}
+use Rattle.task_word.proofs.Placing.{Rule}
+use Rattle.task_word.proofs.CoreSteps.{submits}
 use Rattle.task_word.proofs.core_side.CoreSeat.submit.Goals as goal
 
 pub store-requires : goal.store-requires

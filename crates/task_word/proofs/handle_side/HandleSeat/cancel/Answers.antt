@@ -23,8 +23,8 @@ pub invariant_of-self : goal.invariant_of-self
 invariant_of-self g c =
     let step = c.fetch_or-found.ensures in
     let h = handle_of c.self.inside.seat.me.0 in
-    let w = word_of c.fetch_or-found.result in
-    handle_sits _ _ c.self.inside.seat.me _ (handle_cancelled h c.args.k w) step.0 (step.2 c.args.k refl).2 (length-set h.ranks c.args.k (rank w)) (length-set h.seen c.args.k (is_cancelled w)) c.self.invariant
+    let met = word_of c.fetch_or-found.result in
+    handle_sits _ _ c.self.inside.seat.me _ (handle_cancelled h c.args.k met) step.0 (step.2 c.args.k refl).2 (length-set h.ranks c.args.k (rank met)) (length-set h.seen c.args.k (is_cancelled met)) c.self.invariant
 
 pub returns-clause-met : goal.returns-clause-met
 returns-clause-met g c in_n =
@@ -42,7 +42,7 @@ returns-clause-met g c in_n =
 
 pub returns-clause-won : goal.returns-clause-won
 returns-clause-won g c =
-    let step = c.fetch_or-found.ensures.2 c.args.k refl in
-    let w = word_of c.fetch_or-found.result in
-    let answer : c.of_word.result ≡ cancel_answer w = c.of_word.ensures ∙ ap cancel_answer c.of_value.ensures in
-    ap (λ m. (handle_of m.0).won) step.2 ∙ (ap (λ s. and_if (wins w) c.args.k s.view.won) c.self.view_is ∙ ap (λ b. and_if b c.args.k c.args.self.now.view.won) (yes_wins w ∙ ap is_yes (sym answer)))
+    let told = c.fetch_or-found.ensures.2 c.args.k refl in
+    let found = word_of c.fetch_or-found.result in
+    let answer : c.of_word.result ≡ cancel_answer found = c.of_word.ensures ∙ ap cancel_answer c.of_value.ensures in
+    ap (λ m. (handle_of m.0).won) told.2 ∙ (ap (λ s. and_if (wins found) c.args.k s.view.won) c.self.view_is ∙ ap (λ b. and_if b c.args.k c.args.self.now.view.won) (yes_wins found ∙ ap is_yes (sym answer)))
