@@ -6,8 +6,8 @@ use Rattle.executor_core.specs.Calls.{Planned}
 use Rattle.executor_core.specs.Answers.{reply}
 use Rattle.executor_core.specs.Histories.{Entry, entry_of, happenings, Means, look, answer}
 use Rattle.executor_core.specs.State.{State, seen, next, after, opening, reply_of}
-use Rattle.executor_core.specs.Machine.{IsSound}
-use Rattle.executor_core.proofs.Views.{seen_moves, look_moves, view_after}
+use Rattle.executor_core.specs.Machine.{IsSound, IsDue}
+use Rattle.executor_core.proofs.Views.{seen_moves, look_moves, view_after, due_next_state}
 use Rattle.executor_core.proofs.Sound.{finds, fits_all, stays}
 
 pub record Agrees (calls : List Planned) (s : State) (past : List Entry) : Type 0 where
@@ -15,13 +15,18 @@ pub record Agrees (calls : List Planned) (s : State) (past : List Entry) : Type 
   pub sound : IsSound s
 
 pub opening_sound : IsSound opening
-opening_sound = record { at_work = λ w k q. absurd (none-some k q); apart = λ v w k p q. absurd (none-some k p) }
+opening_sound = record { at_work = λ w k q. absurd (none-some k q); apart = λ v w k p q. absurd (none-some k p); reached = λ k q. absurd cc }
 
 opening_agrees : (calls : List Planned) → Agrees calls opening []
 opening_agrees calls = record { view = refl; sound = opening_sound }
 
 pub next_sound : (calls : List Planned) (workers : ℕ) (s : State) (happening : Happening) → IsSound s → IsSound (next calls workers s happening)
 next_sound calls workers s happening sound = stays calls s happening (reply_of calls workers s happening) sound (finds calls workers s happening sound)
+
+-- the due moments of a state that a step leads to are those of the terms
+pub next_due_is : (calls : List Planned) (workers : ℕ) (s : State) (happening : Happening) → IsSound s → IsDue calls (seen calls s) → IsDue calls (seen calls (next calls workers s happening))
+next_due_is calls workers s happening sound due =
+    let r = reply_of calls workers s happening in due_next_state calls s happening r (fits_all calls s r.answer sound (finds calls workers s happening sound)) due
 
 -- a state that agrees answers as the equations do
 pub answers_alike : (calls : List Planned) (workers : ℕ) (s : State) (past : List Entry) (happening : Happening) → Agrees calls s past →

@@ -1,5 +1,5 @@
 -- The steps of an event.
-use Rattle.std.proofs.Common.{suc, ◌≡◌, ℕ, ◌+◌, List, [], ◌∷◌, ◌++◌, sym, ◌∙◌, arith, subst}
+use Rattle.std.proofs.Common.{suc, ◌≡◌, ℕ, ◌+◌, List, [], ◌∷◌, ◌++◌, sym, ap, ◌∙◌, arith, subst}
 use Rattle.std.specs.Prelude.{replicate}
 use Rattle.executor_core.specs.declared.words.Event.{Event}
 use Rattle.executor_core.specs.declared.words.Happening.{Happening}
@@ -9,11 +9,8 @@ use Rattle.executor_core.specs.declared.words.Line.{Line}
 use Rattle.executor_core.specs.Calls.{IsOrderly}
 use Rattle.executor_core.specs.Histories.{Entry, Means}
 use Rattle.executor_core.specs.Flows.{happening_of, part_of, reached, ReachesNext}
-use Rattle.executor_core.specs.Machine.{Machine, workers_of, Takes, Steps, Stands, Continues}
+use Rattle.executor_core.specs.Machine.{Machine, workers_of, Takes, Counts, Steps, Stands, Continues}
 use Rattle.executor_core.proofs.Flowing.{then, continues}
-
-abbrev pub counted : Machine → Machine
-counted m = record m { taken = m.taken + 1 }
 
 -- one step with its line
 pub one_step : (old new : Machine) (before lines : List Line) (happening : Happening) (answer : Answer) → Takes old new happening answer → lines ≡ before ++ record { moment = new.moment; answer = answer } ∷ [] →
@@ -26,17 +23,24 @@ one_step old new before lines happening answer takes put = record {
   lines = put ∙ (λ i. before ++ record { moment = (takes.state i).moment; answer = takes.said i } ∷ []);
 }
 
--- it counts as an event
-counts : (old new : Machine) (before lines : List Line) (hs : List Happening) → Steps old new before lines hs → Steps old (counted new) before lines hs
-counts old new before lines hs steps = record { calls = steps.calls; limit = steps.limit; workers = steps.workers; state = steps.state; lines = steps.lines }
+-- counting an event leaves the state
+counts : (old mid counted : Machine) (before lines : List Line) (hs : List Happening) → Counts mid counted → Steps old mid before lines hs → Steps old counted before lines hs
+counts old mid counted before lines hs is steps =
+    subst (λ m. Steps old m before lines hs) (sym is) (record { calls = steps.calls; limit = steps.limit; workers = steps.workers; state = steps.state; lines = steps.lines })
 
 -- the calls before an event, and then the event
-pub event_steps : (old mid answered seen : Machine) (a start b c : List Line) (event : Event) (answer : Answer) (n : ℕ) → start ≡ a → Steps old mid start b (replicate n h.Call) → Takes mid answered (happening_of event) answer →
-    seen ≡ answered → c ≡ b ++ record { moment = seen.moment; answer = answer } ∷ [] → Steps old (counted seen) a c (happening_of event ∷ replicate n h.Call)
-event_steps old mid answered seen a start b c event answer n same calls takes is put =
-    let last : Takes mid seen (happening_of event) answer = subst (λ m. Takes mid m (happening_of event) answer) (sym is) takes in
-    let whole = then old mid seen start b c (replicate n h.Call) (happening_of event ∷ []) calls (one_step mid seen b c (happening_of event) answer last put) in
-    subst (λ l. Steps old (counted seen) l c (happening_of event ∷ replicate n h.Call)) same (counts old seen start c (happening_of event ∷ replicate n h.Call) whole)
+pub event_steps : (old mid counted answered seen : Machine) (a start b c : List Line) (event : Event) (answer : Answer) (n : ℕ) → start ≡ a → Steps old mid start b (replicate n h.Call) → Counts mid counted →
+    Takes counted answered (happening_of event) answer → seen ≡ answered → c ≡ b ++ record { moment = seen.moment; answer = answer } ∷ [] → Steps old seen a c (happening_of event ∷ replicate n h.Call)
+event_steps old mid counted answered seen a start b c event answer n same calls one takes is put =
+    let last : Takes counted seen (happening_of event) answer = subst (λ m. Takes counted m (happening_of event) answer) (sym is) takes in
+    let whole = then old counted seen start b c (replicate n h.Call) (happening_of event ∷ []) (counts old mid counted start b (replicate n h.Call) one calls) (one_step counted seen b c (happening_of event) answer last put) in
+    subst (λ l. Steps old seen l c (happening_of event ∷ replicate n h.Call)) same whole
+
+-- and it counts
+pub event_taken : (old mid counted answered seen : Machine) (happening : Happening) (answer : Answer) → mid.taken ≡ old.taken → Counts mid counted → Takes counted answered happening answer → seen ≡ answered →
+    seen.taken ≡ old.taken + 1
+event_taken old mid counted answered seen happening answer same one takes is =
+    ap (λ (m : Machine). m.taken) is ∙ (takes.taken ∙ (ap (λ (m : Machine). m.taken) one ∙ ap (λ n. n + 1) same))
 
 pub event_continues : (old inside new : Machine) (before lines : List Line) (event : Event) → IsOrderly inside.calls → inside ≡ old → Steps old new before lines (part_of old.calls old.made old.moment event) →
     (past : List Entry) → Means old.calls (workers_of old) past → Stands old past → Continues old new before lines event past

@@ -26,6 +26,7 @@ pub record StartsFirst (calls : List Planned) (v : View) (happening : Happening)
 
 no_call_starts : (calls : List Planned) (v : View) (call : CodeCall) (w k n d : ℕ) → (called calls v call).answer ≡ a.Start w k n d → ⊥
 no_call_starts calls v (c.Submit task timing delay) w k n d q = cc
+no_call_starts calls v (c.Illegal task) w k n d q = cc
 
 pub start_says : (calls : List Planned) (workers : ℕ) (v : View) (y : Happening) (w k n d : ℕ) → (reply calls workers v y).answer ≡ a.Start w k n d → StartsFirst calls v y k n d
 start_says calls workers v h.Call w k n d q =

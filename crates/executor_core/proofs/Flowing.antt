@@ -15,7 +15,7 @@ use Rattle.executor_core.specs.Histories.{Entry, entry_of, happenings, made, now
 use Rattle.executor_core.specs.State.{State, next, reply_of, after, after_from}
 use Rattle.executor_core.specs.Flows.{reached, part_of, flow, history_from, history_of, lines_at, lines_of, lines_from, reply_in}
 use Rattle.executor_core.specs.Machine.{Machine, workers_of, state_of, Stands, Steps, Continues}
-use Rattle.executor_core.specs.Laws.{OneHistory}
+use Rattle.executor_core.specs.Laws.{OneHistory, FlowsAreAnswered}
 use Rattle.executor_core.proofs.Agree.{Agrees, after_agrees, next_agrees}
 
 -- one list of happenings after another
@@ -180,6 +180,18 @@ one_history calls workers events o = (
   flow_happens calls workers events,
   λ past m q. one_answer calls workers past (history_of calls workers events) m (flow_means calls workers events o) (q ∙ sym (flow_happens calls workers events)),
 )
+
+-- happenings of which each may come where it stands
+
+may_mean : (calls : List Planned) (workers : ℕ) (hs : List Happening) → ((later past : List Happening) (y : Happening) → hs ≡ later ++ y ∷ past → MayCome calls past y) →
+    Means calls workers (history_from calls workers [] hs)
+may_mean calls workers [] may = tt
+may_mean calls workers (y ∷ before) may =
+    let same : before ≡ happenings (history_from calls workers [] before) = sym (append-nil before) ∙ sym (happenings_from calls workers [] before) in
+    (may_mean calls workers before (λ later past z e. may (y ∷ later) past z (ap (λ l. y ∷ l) e)), subst (λ past. MayCome calls past y) same (may [] before y refl), refl, refl)
+
+pub flows_are_answered : FlowsAreAnswered
+flows_are_answered calls workers hs may = (history_from calls workers [] hs, happenings_from calls workers [] hs ∙ append-nil hs, may_mean calls workers hs may)
 
 -- steps of a state give the lines of the history
 

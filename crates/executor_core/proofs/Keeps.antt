@@ -19,10 +19,11 @@ use Rattle.executor_core.specs.declared.task.Task.{Task}
 use Rattle.delay_queue.specs.Queues as queues
 use Rattle.executor_core.specs.Calls.{terms_of, task_count}
 use Rattle.executor_core.specs.Answers.{plain, outcome_of}
-use Rattle.executor_core.specs.State.{vacant, reply_of, state_after, finish_task}
-use Rattle.executor_core.specs.Machine.{Machine, workers_of, state_of, Takes, IsKept, IsSound, queued, queued_phase}
-use Rattle.executor_core.proofs.Agree.{next_sound}
-use Rattle.executor_core.proofs.Tables.{at_set}
+use Rattle.executor_core.specs.State.{vacant, seen, reply_of, state_after, finish_task, due_past}
+use Rattle.executor_core.specs.Machine.{Machine, workers_of, state_of, Takes, IsKept, IsSound, IsDue, IsCounted, queued, queued_phase}
+use Rattle.executor_core.proofs.Agree.{next_sound, next_due_is}
+use Rattle.executor_core.proofs.Sound.{no_run_again}
+use Rattle.executor_core.proofs.Tables.{at_set, runs_set}
 use Rattle.executor_core.proofs.Works.{queued_at, by_reply, in_queue, within, idle_starts, task_starts, none_is_first, running, start_state, task_finishes, finish_state}
 
 -- a step that leaves the state, by its reply
@@ -80,13 +81,14 @@ start_takes m entries timings w k d task kept l free least due is =
     record { calls = refl; limit = refl; taken = refl; workers = length-set m.work w (Some k); state = step.0; said = step.1 }
 
 pub start_kept : (m : Machine) (entries : List (Option ℕ)) (timings : List Timing) (w k d : ℕ) (task : Task) → IsKept m entries timings → w < workers_of m → slice_index_or m.work w None ≡ None →
-    queues.IsLeast entries d k → d ≤ m.moment → task ≡ slice_index_or m.tasks k vacant → IsKept (started m w k task) (set entries k None) timings
-start_kept m entries timings w k d task kept l free least due is =
+    queues.IsLeast entries d k → d ≤ m.moment → task ≡ slice_index_or m.tasks k vacant → IsCounted m → IsKept (started m w k task) (set entries k None) timings
+start_kept m entries timings w k d task kept l free least due is counted =
     let there = subst (λ q. queues.IsLeast q d k) kept.queue least in
     let low = within m.tasks k d there.there in
     let waits = (in_queue m.tasks k d there.there).0 in
     let busy : (slice_index_or m.tasks k vacant).phase ≢ ph.Vacant = not_vacant _ ph.Waiting waits (λ q. cc) in
     let takes = start_takes m entries timings w k d task kept l free least due is in
+    let run : task.run ≡ (slice_index_or m.tasks k vacant).run = ap (λ (x : Task). x.run) is in
     record {
       orderly = kept.orderly;
       made = kept.made;
@@ -100,6 +102,8 @@ start_kept m entries timings w k d task kept l free least due is =
       timing = timing_stays m entries timings k (running task) kept low busy;
       fresh = fresh_stays m entries timings k (running task) kept low busy;
       sound = subst IsSound (sym takes.state) (next_sound m.calls (workers_of m) (state_of m) (h.Start w) kept.sound);
+      due = subst (λ s. IsDue m.calls (seen m.calls s)) (sym takes.state) (next_due_is m.calls (workers_of m) (state_of m) (h.Start w) kept.sound kept.due);
+      runs = runs_set m.taken m.tasks k (running task) low kept.runs (omega (arith, run, counted k)) (λ q. omega (arith, run, counted k));
     }
 
 -- what a finish finds
@@ -123,14 +127,14 @@ pub work_timing : (m : Machine) (entries : List (Option ℕ)) (timings : List Ti
 work_timing m entries timings w k kept busy = kept.timing k (not_vacant _ ph.Running (at_work m entries timings w k kept busy) (λ q. cc))
 
 pub finish_takes : (m : Machine) (entries : List (Option ℕ)) (timings : List Timing) (w k : ℕ) (ending : Ending) (timing : Timing) (outcome : Outcome) (task new : Task) → IsKept m entries timings → w < workers_of m →
-    slice_index_or m.work w None ≡ Some k → task ≡ slice_index_or m.tasks k vacant → timing ≡ slice_index_or timings k t.Once → outcome ≡ outcome_of timing ending → new ≡ finish_task timing m.moment outcome task →
+    slice_index_or m.work w None ≡ Some k → task ≡ slice_index_or m.tasks k vacant → timing ≡ slice_index_or timings k t.Once → outcome ≡ outcome_of timing (due_past timing task.due m.moment) ending → new ≡ finish_task timing m.moment outcome task →
     Takes m (finished m w k new) (h.Finish w ending) (a.Finish w k task.run outcome)
 finish_takes m entries timings w k ending timing outcome task new kept l busy is timed out moved =
     let low = work_within m entries timings w k kept busy in
     let same : timing ≡ (terms_of m.calls k).timing = timed ∙ work_timing m entries timings w k kept busy in
     let to : new ≡ finish_task (terms_of m.calls k).timing m.moment outcome (slice_index_or m.tasks k vacant) = moved ∙ (λ i. finish_task (same i) m.moment outcome (is i)) in
     let step = by_reply m.calls (workers_of m) (state_of m) (state_of (finished m w k new)) (h.Finish w ending) (a.Finish w k task.run outcome)
-    (task_finishes m.calls (workers_of m) w k ending outcome (state_of m) l busy (at_work m entries timings w k kept busy) (out ∙ ap (λ x. outcome_of x ending) same) ∙ ap (λ x. plain (a.Finish w k x.run outcome)) (sym is))
+    (task_finishes m.calls (workers_of m) w k ending outcome (state_of m) l busy (at_work m entries timings w k kept busy) kept.due (out ∙ (λ i. outcome_of (same i) (due_past (same i) (is i).due m.moment) ending)) ∙ ap (λ x. plain (a.Finish w k x.run outcome)) (sym is))
     (ap (λ x. state_of (finished m w k x)) to ∙ finish_state m.calls m.made m.moment w k task.run ending outcome m.tasks m.work l low)
     in
     record { calls = refl; limit = refl; taken = refl; workers = length-set m.work w None; state = step.0; said = step.1 }
@@ -138,24 +142,31 @@ finish_takes m entries timings w k ending timing outcome task new kept l busy is
 running_unqueued : (p : Phase) (due : ℕ) → p ≡ ph.Running → queued_phase p due ≡ None
 running_unqueued p due e = ap (λ q. queued_phase q due) e
 
-finish_unqueued : (timing : Timing) (now : ℕ) (outcome : Outcome) (task : Task) → queued (finish_task timing now outcome task) ≡ None
-finish_unqueued timing now (o.Done value) task = refl
+-- a task whose run is under way does not stand in the queue
+pub run_unqueued : (m : Machine) (entries : List (Option ℕ)) (timings : List Timing) (w k : ℕ) → IsKept m entries timings → slice_index_or m.work w None ≡ Some k → slice_index_or entries k None ≡ None
+run_unqueued m entries timings w k kept busy =
+    ap (λ q. slice_index_or q k None) kept.queue ∙ (queued_at m.tasks k ∙ running_unqueued _ (slice_index_or m.tasks k vacant).due (at_work m entries timings w k kept busy))
 
--- nothing is written where the table has it already
-none_there : (entries : List (Option ℕ)) (k : ℕ) → slice_index_or entries k None ≡ None → set entries k None ≡ entries
-none_there [] k q = refl
-none_there (x ∷ entries) zero q = ap (λ y. y ∷ entries) (sym q)
-none_there (x ∷ entries) (suc k) q = ap (λ l. x ∷ l) (none_there entries k q)
+-- the due moment of a run that is under way was reached
+pub run_due : (m : Machine) (entries : List (Option ℕ)) (timings : List Timing) (w k : ℕ) (task : Task) → IsKept m entries timings → slice_index_or m.work w None ≡ Some k → task ≡ slice_index_or m.tasks k vacant → task.due ≤ m.moment
+run_due m entries timings w k task kept busy is =
+    let due : task.due ≡ (slice_index_or m.tasks k vacant).due = ap (λ (x : Task). x.due) is in omega (arith, due, kept.sound.reached k (at_work m entries timings w k kept busy))
+
+-- the run of a task that is finished
+finish_run : (timing : Timing) (now count : ℕ) (outcome : Outcome) (task : Task) → task.run < count → (finish_task timing now outcome task).run ≤ count
+finish_run timing now count (o.Done value) task l = omega arith
+finish_run timing now count (o.Failed code) task l = omega arith
+finish_run timing now count (o.Again due) task l = omega arith
 
 pub finish_kept : (m : Machine) (entries : List (Option ℕ)) (timings : List Timing) (w k : ℕ) (ending : Ending) (timing : Timing) (outcome : Outcome) (task new : Task) → IsKept m entries timings → w < workers_of m →
-    slice_index_or m.work w None ≡ Some k → task ≡ slice_index_or m.tasks k vacant → timing ≡ slice_index_or timings k t.Once → outcome ≡ outcome_of timing ending → new ≡ finish_task timing m.moment outcome task →
-    IsKept (finished m w k new) entries timings
-finish_kept m entries timings w k ending timing outcome task new kept l busy is timed out moved =
+    slice_index_or m.work w None ≡ Some k → task ≡ slice_index_or m.tasks k vacant → timing ≡ slice_index_or timings k t.Once → outcome ≡ outcome_of timing (due_past timing task.due m.moment) ending → new ≡ finish_task timing m.moment outcome task →
+    IsCounted m → IsKept (finished m w k new) (set entries k (queued new)) timings
+finish_kept m entries timings w k ending timing outcome task new kept l busy is timed out moved counted =
     let low = work_within m entries timings w k kept busy in
     let runs = at_work m entries timings w k kept busy in
     let used : (slice_index_or m.tasks k vacant).phase ≢ ph.Vacant = not_vacant _ ph.Running runs (λ q. cc) in
     let takes = finish_takes m entries timings w k ending timing outcome task new kept l busy is timed out moved in
-    let none : slice_index_or entries k None ≡ None = ap (λ q. slice_index_or q k None) kept.queue ∙ (queued_at m.tasks k ∙ running_unqueued _ (slice_index_or m.tasks k vacant).due runs) in
+    let run : task.run ≡ (slice_index_or m.tasks k vacant).run = ap (λ (x : Task). x.run) is in
     record {
       orderly = kept.orderly;
       made = kept.made;
@@ -164,19 +175,29 @@ finish_kept m entries timings w k ending timing outcome task new kept l busy is 
       taken = kept.taken;
       moment = kept.moment;
       count = length-set m.tasks k new ∙ kept.count;
-      queue = sym (none_there entries k none) ∙ unqueued entries m.tasks k new kept.queue (ap queued moved ∙ finish_unqueued timing m.moment outcome task);
+      queue = ap (λ q. set q k (queued new)) kept.queue ∙ sym (map-set queued m.tasks k new);
       timed = kept.timed;
       timing = timing_stays m entries timings k new kept low used;
       fresh = fresh_stays m entries timings k new kept low used;
       sound = subst IsSound (sym takes.state) (next_sound m.calls (workers_of m) (state_of m) (h.Finish w ending) kept.sound);
+      due = subst (λ s. IsDue m.calls (seen m.calls s)) (sym takes.state) (next_due_is m.calls (workers_of m) (state_of m) (h.Finish w ending) kept.sound kept.due);
+      runs = runs_set m.taken m.tasks k new low kept.runs (subst (λ (x : Task). x.run ≤ m.taken) (sym moved) (finish_run timing m.moment m.taken outcome task (omega (arith, run, counted k))))
+          (λ q. absurd (no_run_again timing m.moment outcome task (sym (ap (λ (x : Task). x.phase) moved) ∙ q)));
     }
+
+-- the same, with the entries as a call leaves them
+pub finish_keeps : (m : Machine) (entries left : List (Option ℕ)) (timings : List Timing) (w k : ℕ) (ending : Ending) (timing : Timing) (outcome : Outcome) (task new : Task) → IsKept m entries timings → w < workers_of m →
+    slice_index_or m.work w None ≡ Some k → task ≡ slice_index_or m.tasks k vacant → timing ≡ slice_index_or timings k t.Once → outcome ≡ outcome_of timing (due_past timing task.due m.moment) ending →
+    new ≡ finish_task timing m.moment outcome task → IsCounted m → left ≡ set entries k (queued new) → IsKept (finished m w k new) left timings
+finish_keeps m entries left timings w k ending timing outcome task new kept l busy is timed out moved counted put =
+    subst (λ q. IsKept (finished m w k new) q timings) (sym put) (finish_kept m entries timings w k ending timing outcome task new kept l busy is timed out moved counted)
 
 -- the same, with the entries as a call leaves them, and the core as it was
 
 pub start_keeps : (m : Machine) (entries left : List (Option ℕ)) (timings : List Timing) (w k d : ℕ) (task : Task) → IsKept m entries timings → w < workers_of m → slice_index_or m.work w None ≡ None →
-    queues.IsLeast entries d k → d ≤ m.moment → task ≡ slice_index_or m.tasks k vacant → left ≡ set entries k None → IsKept (started m w k task) left timings
-start_keeps m entries left timings w k d task kept l free least due is gone =
-    subst (λ q. IsKept (started m w k task) q timings) (sym gone) (start_kept m entries timings w k d task kept l free least due is)
+    queues.IsLeast entries d k → d ≤ m.moment → task ≡ slice_index_or m.tasks k vacant → IsCounted m → left ≡ set entries k None → IsKept (started m w k task) left timings
+start_keeps m entries left timings w k d task kept l free least due is counted gone =
+    subst (λ q. IsKept (started m w k task) q timings) (sym gone) (start_kept m entries timings w k d task kept l free least due is counted)
 
 -- the least entry of the queue has its place in the tables
 pub least_within : (m : Machine) (entries : List (Option ℕ)) (timings : List Timing) (k d : ℕ) → IsKept m entries timings → queues.IsLeast entries d k → k < length m.tasks

@@ -14,4 +14,6 @@ pub mod Events
 pub mod Plains
 pub mod Places
 pub mod Reading
-pub mod Waiting
+pub mod Within
+mod Waiting
+pub mod Repeats

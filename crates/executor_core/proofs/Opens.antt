@@ -7,11 +7,12 @@ use Rattle.std.proofs.lemmas.List.{length-replicate}
 use Rattle.sched_time.specs.declared.timing.Timing.{Timing}
 use Rattle.sched_time.specs.declared.timing.Timing.TheVariants as t
 use Rattle.executor_core.specs.declared.task.Task.{Task}
+use Rattle.executor_core.specs.declared.task.Phase.TheVariants as ph
 use Rattle.executor_core.specs.Counts.{IsNoCount}
 use Rattle.executor_core.specs.Calls.{Planned, IsOrderly, IsOrderlyFrom, count_after, how_many, task_count}
 use Rattle.executor_core.specs.Flows.{reached, ReachesNext}
-use Rattle.executor_core.specs.State.{opening, vacant}
-use Rattle.executor_core.specs.Machine.{Machine, IsOpening, IsKept, IsSound, queued}
+use Rattle.executor_core.specs.State.{opening, vacant, seen}
+use Rattle.executor_core.specs.Machine.{Machine, IsOpening, IsKept, IsSound, IsDue, queued}
 use Rattle.executor_core.proofs.Agree.{opening_sound}
 use Rattle.executor_core.proofs.Tables.{at_replicate}
 use Rattle.executor_core.proofs.Submits.{state_at}
@@ -54,6 +55,11 @@ opening_kept calls count workers limit tasks timings work entries orderly counte
       timing = λ k used. absurd (used (ap (λ x. x.phase) (at k)));
       fresh = λ k above. at k;
       sound = subst IsSound (sym ((λ i. state_at 0 0 (is i) (free i)) ∙ opening_state count workers)) opening_sound;
+      due = subst (λ s. IsDue calls (seen calls s)) (sym ((λ i. state_at 0 0 (is i) (free i)) ∙ opening_state count workers)) (λ k. (None, refl));
+      runs = record {
+        all = λ k. omega (arith, ap (λ (x : Task). x.run) (at k));
+        begun = λ k q. let none : ph.Vacant ≡ ph.Running = sym (ap (λ (x : Task). x.phase) (at k)) ∙ q in absurd cc;
+      };
     }
 
 -- which number of workers is one

@@ -48,6 +48,7 @@ none_is_enabled calls v = (
 
 no_call_moves : (calls : List Planned) (v : View) (call : CodeCall) (w k n d : ℕ) → (called calls v call).answer ≡ a.Start w k n d → ⊥
 no_call_moves calls v (c.Submit task timing delay) w k n d q = cc
+no_call_moves calls v (c.Illegal task) w k n d q = cc
 
 -- the work of the worker is free where the answer is a start by it, and taken where it is a finish by it
 abbrev Told : ℕ → Option ℕ → Answer → Type 0
@@ -57,6 +58,7 @@ Told w work _ = Unit {0}
 
 call_tells : (calls : List Planned) (v : View) (call : CodeCall) (w : ℕ) (work : Option ℕ) → Told w work (called calls v call).answer
 call_tells calls v (c.Submit task timing delay) w work = tt
+call_tells calls v (c.Illegal task) w work = tt
 
 pub tells : (calls : List Planned) (workers : ℕ) (v : View) (y : Happening) (w : ℕ) → Told w (v.work w) (reply calls workers v y).answer
 tells calls workers v h.Call w =
@@ -136,6 +138,7 @@ last_start (e ∷ past) w k q =
           in
           by (u == w) refl q
       | a.Submit j kind due ↦ λ is q. behind past e w k (ap (finishes_by w) is) (last_start past w k q)
+      | a.Refuse j refusal ↦ λ is q. behind past e w k (ap (finishes_by w) is) (last_start past w k q)
       | a.Clock ↦ λ is q. behind past e w k (ap (finishes_by w) is) (last_start past w k q)
       | a.Idle u ↦ λ is q. behind past e w k (ap (finishes_by w) is) (last_start past w k q)
       | a.Error y ↦ λ is q. behind past e w k (ap (finishes_by w) is) (last_start past w k q)
@@ -156,6 +159,7 @@ keeps w k (a.Finish u j n o) work told unended is =
     in
     by (u == w) refl
 keeps w k (a.Submit j kind due) work told unended is = is
+keeps w k (a.Refuse j refusal) work told unended is = is
 keeps w k a.Clock work told unended is = is
 keeps w k (a.Idle u) work told unended is = is
 keeps w k (a.Error y) work told unended is = is
@@ -192,6 +196,7 @@ one_more w (a.Finish u j run o) work n m told is =
     in
     by (u == w) refl
 one_more w (a.Submit j kind due) work n m told is = is
+one_more w (a.Refuse j refusal) work n m told is = is
 one_more w a.Clock work n m told is = is
 one_more w (a.Idle u) work n m told is = is
 one_more w (a.Error y) work n m told is = is

@@ -76,15 +76,19 @@ submitted call = cond (is_submission call) 1 0
 
 after_call : (count : ℕ) (call : CodeCall) → count_after count call ≡ count + submitted call
 after_call count (c.Submit task timing delay) = refl
+after_call count (c.Illegal task) = refl
 
 one_task : (call : CodeCall) (n : ℕ) → cond (is_submission call) (1 + n) n ≡ submitted call + n
 one_task (c.Submit task timing delay) n = refl
+one_task (c.Illegal task) n = refl
 
 its_number : (count k : ℕ) (call : CodeCall) → IsOrderlyCall count call → IsSubmissionOf k call → (k ≡ count) × (submitted call ≡ 1)
 its_number count k (c.Submit task timing delay) o s = (sym s ∙ o.0, refl)
+its_number count k (c.Illegal task) o s = (sym s ∙ o, refl)
 
 next_number : (count : ℕ) (call : CodeCall) → IsOrderlyCall count call → submitted call ≡ 1 → IsSubmissionOf count call
 next_number count (c.Submit task timing delay) o one = o.0
+next_number count (c.Illegal task) o one = o
 
 -- a submission has the number of the submissions before it
 numbered : (count moment : ℕ) (calls : List Planned) (n k : ℕ) (p : Planned) → IsOrderlyFrom count moment calls → slice_get calls n ≡ Some p → IsSubmissionOf k p.1 →

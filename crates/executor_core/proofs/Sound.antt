@@ -1,8 +1,8 @@
 -- What each reply finds in a sound state, and that the state stays sound.
-use Rattle.std.proofs.Common.{◌≡◌, ℕ, ◌+◌, ◌&&◌, ◌==◌, nat_lt, nat_le, Bool, true, false, cond, ◌⊎◌, inl, inr, List, [], ◌∷◌, Option, Some, None, refl, sym, ap, ◌∙◌, arith, subst}
+use Rattle.std.proofs.Common.{◌≡◌, ℕ, ◌+◌, ◌^◌, ◌≤◌, ◌&&◌, ◌==◌, nat_lt, nat_le, Bool, true, false, cond, ◌⊎◌, inl, inr, List, [], ◌∷◌, Option, Some, None, refl, sym, ap, ◌∙◌, arith, subst}
 use Rattle.std.specs.Prelude.{slice_get, not, max}
 use Rattle.std.specs.Option.{option_map_or}
-use Rattle.std.proofs.lemmas.Bool.{false≢true, eqb-true, eq-eqb, and_parts}
+use Rattle.std.proofs.lemmas.Bool.{false≢true, eqb-true, eq-eqb, and_parts, leb-true}
 use Rattle.std.proofs.lemmas.Bool.Decides.{nat_tests}
 use Rattle.std.proofs.lemmas.Option.{none-some, same_Some}
 use Rattle.executor_core.specs.declared.words.CodeCall.{CodeCall}
@@ -10,28 +10,27 @@ use Rattle.executor_core.specs.declared.words.CodeCall.TheVariants as c
 use Rattle.executor_core.specs.declared.words.Happening.{Happening}
 use Rattle.executor_core.specs.declared.words.Happening.TheVariants as h
 use Rattle.executor_core.specs.declared.words.EventError.TheVariants as x
+use Rattle.executor_core.specs.declared.words.Outcome.{Outcome}
+use Rattle.executor_core.specs.declared.words.Outcome.TheVariants as o
 use Rattle.executor_core.specs.declared.words.Answer.{Answer}
 use Rattle.executor_core.specs.declared.words.Answer.TheVariants as a
 use Rattle.executor_core.specs.declared.task.Phase.{Phase}
 use Rattle.executor_core.specs.declared.task.Phase.TheVariants as ph
 use Rattle.executor_core.specs.declared.task.Task.{Task}
-use Rattle.sched_time.specs.declared.timing.Ending.{Ending}
-use Rattle.sched_time.specs.declared.timing.Ending.TheVariants as e
 use Rattle.sched_time.specs.declared.timing.Timing.{Timing}
-use Rattle.sched_time.specs.declared.timing.Timing.TheVariants as t
 use Rattle.executor_core.specs.Calls.{Planned, Terms, terms_of, due_at, numbers}
 use Rattle.executor_core.specs.View.{View, is_enabled, is_waiting, first_enabled, earlier, precedes}
-use Rattle.executor_core.specs.Answers.{Reply, plain, called, started, finished, outcome_of, ended_well}
+use Rattle.executor_core.specs.Answers.{Reply, plain, called, started, finished, is_accepted, moment_after}
 use Rattle.executor_core.specs.Histories.{work_after}
-use Rattle.executor_core.specs.State.{State, seen, seen_phase, reply_of, state_after, move_task, submit_phase, finish_task}
+use Rattle.executor_core.specs.State.{State, seen, seen_phase, due_seen, reply_of, state_after, move_task, submit_phase, finish_task}
 use Rattle.executor_core.specs.Machine.{IsSound}
-use Rattle.executor_core.proofs.Moves.{Outcomes, Fits}
+use Rattle.executor_core.proofs.Moves.{Fits}
 
 -- what an answer says of the state that it finds
 abbrev pub Finds : List Planned → State → Answer → Type 0
 Finds calls s (a.Submit j kind due) = due ≡ due_at (terms_of calls j) 0 None
-Finds calls s (a.Start w j n due) = (s.workers w ≡ None) × ((s.tasks j).phase ≡ ph.Waiting)
-Finds calls s (a.Finish w j n outcome) = (s.workers w ≡ Some j) × Outcomes (terms_of calls j) s.moment (s.tasks j) outcome
+Finds calls s (a.Start w j n due) = (s.workers w ≡ None) × ((s.tasks j).phase ≡ ph.Waiting) × ((s.tasks j).due ≤ s.moment)
+Finds calls s (a.Finish w j n outcome) = s.workers w ≡ Some j
 Finds calls s _ = Unit {0}
 
 -- of the first enabled task
@@ -70,6 +69,7 @@ waits terms ph.Vacant run due q = absurd (false≢true q)
 waits terms ph.Waiting run due q = refl
 waits terms ph.Running run due q = absurd (false≢true (sym (ap (λ b. not (not b) && true) (next_eqb run)) ∙ q))
 waits terms ph.Done run due q = absurd (false≢true (sym (no_and (not (not (1 + run == 1 + run))) false refl) ∙ q))
+waits terms ph.Failed run due q = absurd (false≢true (sym (no_and (not (not (1 + run == 1 + run))) false refl) ∙ q))
 
 pub is_seen_waiting : (terms : Terms) (run due : ℕ) → is_waiting (seen_phase terms ph.Waiting run due) ≡ true
 is_seen_waiting terms run due = ap (λ b. not (not b) && true) (same_eqb run)
@@ -81,12 +81,16 @@ waits_in calls s k q = waits (terms_of calls k) (s.tasks k).phase (s.tasks k).ru
 
 call_finds : (calls : List Planned) (s : State) (moment : ℕ) (call : CodeCall) → Finds calls s (called calls (record (seen calls s) { moment = moment }) call).answer
 call_finds calls s moment (c.Submit task timing delay) = refl
+call_finds calls s moment (c.Illegal task) = tt
 
-well_finds : (terms : Terms) (now : ℕ) (task : Task) (timing : Timing) (value : ℕ) → Outcomes terms now task (ended_well timing value)
-well_finds terms now task t.Once value = tt
-
-outcome_finds : (calls : List Planned) (s : State) (k : ℕ) (ending : Ending) → Outcomes (terms_of calls k) s.moment (s.tasks k) (outcome_of (terms_of calls k).timing ending)
-outcome_finds calls s k (e.Value value) = well_finds (terms_of calls k) s.moment (s.tasks k) (terms_of calls k).timing value
+-- an enabled task waits, and its due moment is reached
+pub enabled_in : (calls : List Planned) (s : State) (k : ℕ) → is_enabled (seen calls s) k ≡ true → ((s.tasks k).phase ≡ ph.Waiting) × ((s.tasks k).due ≤ s.moment)
+enabled_in calls s k e =
+    let v = seen calls s in
+    let parts = and_parts (is_waiting (v.fate k)) (nat_le (v.fate k).due v.moment) e in
+    let phase = waits_in calls s k parts.0 in
+    let due : (v.fate k).due ≡ (s.tasks k).due = ap (λ p. due_seen (terms_of calls k) p (s.tasks k).due) phase in
+    (phase, omega (arith, due, leb-true (v.fate k).due v.moment parts.1))
 
 pub finds : (calls : List Planned) (workers : ℕ) (s : State) (happening : Happening) → IsSound s → Finds calls s (reply_of calls workers s happening).answer
 finds calls workers s h.Call sound =
@@ -102,7 +106,7 @@ finds calls workers s (h.Start w) sound =
     let first : (q : Option ℕ) → s.workers w ≡ None → first_enabled v (numbers calls) ≡ q → Finds calls s (started v w q) =
     elim [
       | None ↦ λ free is. tt
-      | Some k ↦ λ free is. (free, waits_in calls s k (and_parts (is_waiting (v.fate k)) (nat_le (v.fate k).due v.moment) (first_is_enabled v (numbers calls) k is)).0)
+      | Some k ↦ λ free is. let enabled = enabled_in calls s k (first_is_enabled v (numbers calls) k is) in (free, enabled.0, enabled.1)
     ]
     in
     let pick : (b : Bool) (work : Option ℕ) → s.workers w ≡ work → Finds calls s (cond b (option_map_or (λ _. a.Error x.Busy) work (started v w (first_enabled v (numbers calls)))) (a.Error x.NoWorker)) =
@@ -112,15 +116,14 @@ finds calls workers s (h.Start w) sound =
 finds calls workers s (h.Finish w ending) sound =
     let v = seen calls s in
     let pick : (b : Bool) (work : Option ℕ) → s.workers w ≡ work → Finds calls s (cond b (finished calls v w ending work) (a.Error x.NoWorker)) =
-    elim [ true ↦ elim [ None ↦ λ is. tt | Some k ↦ λ is. (is, outcome_finds calls s k ending) ] | false ↦ λ work is. tt ]
+    elim [ true ↦ elim [ None ↦ λ is. tt | Some k ↦ λ is. is ] | false ↦ λ work is. tt ]
     in
     pick (nat_lt w workers) (s.workers w) refl
 
 pub fits_all : (calls : List Planned) (s : State) (answer : Answer) → IsSound s → Finds calls s answer → (k : ℕ) → Fits (terms_of calls k) s.moment k (s.tasks k) answer
 fits_all calls s (a.Submit j kind due) sound f k = λ q. subst (λ k. due ≡ due_at (terms_of calls k) 0 None) (eqb-true j k q) f
 fits_all calls s (a.Start w j n due) sound f k = λ q. subst (λ k. (s.tasks k).phase ≡ ph.Waiting) (eqb-true j k q) f.1
-fits_all calls s (a.Finish w j n outcome) sound f k = λ q.
-    subst (λ k. ((s.tasks k).phase ≡ ph.Running) × Outcomes (terms_of calls k) s.moment (s.tasks k) outcome) (eqb-true j k q) (sound.at_work w j f.0, f.1)
+fits_all calls s (a.Finish w j n outcome) sound f k = λ q. subst (λ k. (s.tasks k).phase ≡ ph.Running) (eqb-true j k q) (sound.at_work w j f)
 fits_all calls s _ sound f k = tt
 
 -- a sound state stays sound
@@ -150,7 +153,7 @@ at_work_after calls s (a.Start v j n due) sound f w k q =
 at_work_after calls s (a.Finish v j n outcome) sound f w k q =
     let runs : (c : Bool) → (j == k) ≡ c → (v == w) ≡ false → s.workers w ≡ Some k → (cond c (finish_task (terms_of calls k).timing s.moment outcome (s.tasks k)) (s.tasks k)).phase ≡ ph.Running =
     elim [
-      | true ↦ λ same apart q. absurd (false≢true (sym apart ∙ eq-eqb v w (sound.apart v w k (f.0 ∙ ap Some (eqb-true j k same)) q)))
+      | true ↦ λ same apart q. absurd (false≢true (sym apart ∙ eq-eqb v w (sound.apart v w k (f ∙ ap Some (eqb-true j k same)) q)))
       | false ↦ λ same apart q. sound.at_work w k q
     ]
     in
@@ -183,8 +186,57 @@ apart_after calls s (a.Finish u j n outcome) sound f v w k p q =
     pick (u == v) (u == w) p q
 apart_after calls s _ sound f v w k p q = sound.apart v w k p q
 
+-- now does not fall
+later : (now : ℕ) (next : Option Planned) (happening : Happening) → now ≤ moment_after now next happening
+later now None h.Call = omega arith
+later now (Some p) h.Call = grind (arith, nat_tests)
+later now next (h.Clock moment) =
+    let pick : (b : Bool) → is_accepted now moment ≡ b → now ≤ cond b moment now =
+    elim [
+      | true ↦ λ is. leb-true now moment (and_parts (nat_le now moment) (nat_le moment (2 ^ 62)) is).0
+      | false ↦ λ is. omega arith
+    ]
+    in
+    pick (is_accepted now moment) refl
+later now next (h.Start worker) = omega arith
+later now next (h.Finish worker ending) = omega arith
+
+pub no_run_again : (timing : Timing) (now : ℕ) (outcome : Outcome) (task : Task) → (finish_task timing now outcome task).phase ≡ ph.Running → ⊥
+no_run_again timing now (o.Done value) task q = cc
+no_run_again timing now (o.Failed code) task q = cc
+no_run_again timing now (o.Again due) task q = cc
+
+-- the due moment of a task that runs after an answer was reached
+run_reached : (calls : List Planned) (s : State) (answer : Answer) → IsSound s → Finds calls s answer → (k : ℕ) → phase_after calls s answer k ≡ ph.Running →
+    (move_task (terms_of calls k).timing s.moment k answer (s.tasks k)).due ≤ s.moment
+run_reached calls s (a.Submit j kind due) sound f k =
+    let pick : (b : Bool) → (cond b (submit_phase due (s.tasks k).phase (s.tasks k)) (s.tasks k)).phase ≡ ph.Running → (cond b (submit_phase due (s.tasks k).phase (s.tasks k)) (s.tasks k)).due ≤ s.moment =
+    elim [ true ↦ λ q. unsubmitted (s.tasks k).phase (s.tasks k) refl q | false ↦ λ q. sound.reached k q ]
+    in
+    pick (j == k)
+  where
+    unsubmitted : (p : Phase) (task : Task) → task ≡ s.tasks k → (submit_phase due p task).phase ≡ ph.Running → (submit_phase due p task).due ≤ s.moment
+    unsubmitted ph.Vacant task is q = absurd cc
+    unsubmitted ph.Waiting task is q = subst (λ (x : Task). x.due ≤ s.moment) (sym is) (sound.reached k (sym (ap (λ (x : Task). x.phase) is) ∙ q))
+    unsubmitted ph.Running task is q = subst (λ (x : Task). x.due ≤ s.moment) (sym is) (sound.reached k (sym (ap (λ (x : Task). x.phase) is) ∙ q))
+    unsubmitted ph.Done task is q = subst (λ (x : Task). x.due ≤ s.moment) (sym is) (sound.reached k (sym (ap (λ (x : Task). x.phase) is) ∙ q))
+    unsubmitted ph.Failed task is q = subst (λ (x : Task). x.due ≤ s.moment) (sym is) (sound.reached k (sym (ap (λ (x : Task). x.phase) is) ∙ q))
+run_reached calls s (a.Start w j n due) sound f k =
+    let pick : (b : Bool) → (j == k) ≡ b → (cond b (record (s.tasks k) { phase = ph.Running }) (s.tasks k)).phase ≡ ph.Running → (cond b (record (s.tasks k) { phase = ph.Running }) (s.tasks k)).due ≤ s.moment =
+    elim [ true ↦ λ same q. subst (λ i. (s.tasks i).due ≤ s.moment) (eqb-true j k same) f.2 | false ↦ λ apart q. sound.reached k q ]
+    in
+    pick (j == k) refl
+run_reached calls s (a.Finish w j n outcome) sound f k =
+    let pick : (b : Bool) → (cond b (finish_task (terms_of calls k).timing s.moment outcome (s.tasks k)) (s.tasks k)).phase ≡ ph.Running →
+    (cond b (finish_task (terms_of calls k).timing s.moment outcome (s.tasks k)) (s.tasks k)).due ≤ s.moment =
+    elim [ true ↦ λ q. absurd (no_run_again (terms_of calls k).timing s.moment outcome (s.tasks k) q) | false ↦ λ q. sound.reached k q ]
+    in
+    pick (j == k)
+run_reached calls s _ sound f k = sound.reached k
+
 pub stays : (calls : List Planned) (s : State) (happening : Happening) (r : Reply) → IsSound s → Finds calls s r.answer → IsSound (state_after calls s happening r)
 stays calls s happening r sound f = record {
   at_work = at_work_after calls s r.answer sound f;
   apart = apart_after calls s r.answer sound f;
+  reached = λ k runs. omega (arith, run_reached calls s r.answer sound f k runs, later s.moment (slice_get calls s.made) happening);
 }

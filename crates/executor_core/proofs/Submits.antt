@@ -1,5 +1,5 @@
 -- The step of a call.
-use Rattle.std.proofs.Common.{◌≡◌, ◌≢◌, ℕ, ◌+◌, ◌<◌, ◌==◌, max, Bool, true, false, cond, List, length, take, Option, Some, None, refl, sym, ap, ◌∙◌, arith, subst, add-one}
+use Rattle.std.proofs.Common.{◌≡◌, ◌≢◌, ℕ, ◌+◌, ◌<◌, ◌==◌, max, Bool, true, false, cond, List, length, take, Option, Some, None, refl, sym, ap, ◌∙◌, arith, subst, add-one, suc}
 use Rattle.std.specs.Prelude.{slice_get, slice_index_or}
 use Rattle.std.specs.Option.{option_map_or}
 use Rattle.std.proofs.Math.ListN.{set}
@@ -8,6 +8,7 @@ use Rattle.std.proofs.lemmas.Bool.Decides.{nat_tests}
 use Rattle.std.proofs.lemmas.Option.{slice_get_within}
 use Rattle.std.proofs.lemmas.List.{length-set, map-set}
 use Rattle.executor_core.specs.declared.words.CodeCall.TheVariants as c
+use Rattle.executor_core.specs.declared.words.Refusal.TheVariants as refusal
 use Rattle.executor_core.specs.declared.words.Happening.TheVariants as h
 use Rattle.executor_core.specs.declared.words.Kind.{Kind}
 use Rattle.executor_core.specs.declared.words.Answer.TheVariants as a
@@ -18,9 +19,9 @@ use Rattle.sched_time.specs.declared.timing.Timing.TheVariants as t
 use Rattle.executor_core.specs.Calls.{Planned, Terms, terms_of, due_at, task_count}
 use Rattle.executor_core.specs.Answers.{Reply, plain, called, kind_of}
 use Rattle.executor_core.specs.State.{State, seen, next, reply_of, state_after, vacant, submit_phase}
-use Rattle.executor_core.specs.Machine.{Machine, workers_of, state_of, IsSound, IsKept, Takes, queued}
-use Rattle.executor_core.proofs.Agree.{next_sound}
-use Rattle.executor_core.proofs.Tables.{at_set, submission}
+use Rattle.executor_core.specs.Machine.{Machine, workers_of, state_of, IsSound, IsKept, IsDue, Takes, queued}
+use Rattle.executor_core.proofs.Agree.{next_sound, next_due_is}
+use Rattle.executor_core.proofs.Tables.{at_set, submission, runs_set, call_moment, count_grows}
 
 abbrev pub state_at : ℕ → ℕ → List Task → List (Option ℕ) → State
 state_at made moment tasks work = record {
@@ -45,7 +46,7 @@ due_first : (terms : Terms) (timing : Timing) (first : ℕ) → terms ≡ record
 due_first terms timing first e = ap (λ x. due_at x 0 None) e ∙ by timing
   where
     by : (timing : Timing) → due_at (record { timing = timing; first = first }) 0 None ≡ first
-    by timing = elim timing as (λ timing. due_at (record { timing = timing; first = first }) 0 None ≡ first) [ t.Once ↦ refl ]
+    by timing = elim timing as (λ timing. due_at (record { timing = timing; first = first }) 0 None ≡ first) [ t.Once ↦ refl | t.Rate period ↦ omega arith | t.Fixed delay ↦ refl ]
 
 pub submit_answer : (calls : List Planned) (workers made moment at task delay : ℕ) (timing : Timing) (tasks : List Task) (work : List (Option ℕ)) →
     slice_get calls made ≡ Some (at, c.Submit task timing delay) → terms_of calls task ≡ record { timing = timing; first = at + delay } →
@@ -83,6 +84,70 @@ submit_state calls workers made moment at task delay timing tasks work is terms 
     }
     in
     there ∙ ap (state_to calls s) (sym is)
+
+-- the state after a call that is not accepted
+pub refuse_state : (calls : List Planned) (workers made moment at task : ℕ) (tasks : List Task) (work : List (Option ℕ)) →
+    slice_get calls made ≡ Some (at, c.Illegal task) →
+    state_at (made + 1) (max moment at) tasks work ≡ next calls workers (state_at made moment tasks work) h.Call
+refuse_state calls workers made moment at task tasks work is =
+    let s = state_at made moment tasks work in
+    let one : made + 1 ≡ 1 + made = omega arith in
+    let there : state_at (made + 1) (max moment at) tasks work ≡ state_to calls s (Some (at, c.Illegal task)) =
+    λ i. record { made = one i; moment = max moment at; tasks = λ k. slice_index_or tasks k vacant; workers = λ w. slice_index_or work w None }
+    in
+    there ∙ ap (state_to calls s) (sym is)
+
+abbrev pub refused : Machine → ℕ → Machine
+refused m moment = record m { made = m.made + 1; moment = moment }
+
+-- the step of a call that is not accepted
+pub refuse_takes : (m : Machine) (at task : ℕ) → slice_get m.calls m.made ≡ Some (at, c.Illegal task) →
+    Takes m (refused m (max m.moment at)) h.Call (a.Refuse task refusal.Illegal)
+refuse_takes m at task is = record {
+  calls = refl;
+  limit = refl;
+  taken = refl;
+  workers = refl;
+  state = refuse_state m.calls (workers_of m) m.made m.moment at task m.tasks m.work is;
+  said = sym (ap (λ o. (reply_to m.calls (state_of m) o).answer) is);
+}
+
+-- what stays true after it
+pub refuse_kept : (m : Machine) (entries : List (Option ℕ)) (timings : List Timing) (at task : ℕ) → IsKept m entries timings → slice_get m.calls m.made ≡ Some (at, c.Illegal task) →
+    IsKept (refused m (max m.moment at)) entries timings
+refuse_kept m entries timings at task kept is =
+    let near = call_moment m.calls 0 0 m.made at (c.Illegal task) kept.orderly.1 is in
+    let state = refuse_state m.calls (workers_of m) m.made m.moment at task m.tasks m.work is in
+    record {
+      orderly = kept.orderly;
+      made = omega (arith, slice_get_within m.calls m.made (at, c.Illegal task) is);
+      some = kept.some;
+      few = kept.few;
+      taken = kept.taken;
+      moment = grind (arith, kept.moment, near);
+      count = kept.count;
+      queue = kept.queue;
+      timed = kept.timed;
+      timing = kept.timing;
+      fresh = λ k above.
+          let more : task_count (take (m.made + 1) m.calls) ≡ task_count (take (suc m.made) m.calls) = ap (λ n. task_count (take n m.calls)) (add-one m.made) in
+          kept.fresh k (omega (arith, above, more, count_grows m.calls m.made));
+      sound = subst IsSound (sym state) (next_sound m.calls (workers_of m) (state_of m) h.Call kept.sound);
+      due = subst (λ s. IsDue m.calls (seen m.calls s)) (sym state) (next_due_is m.calls (workers_of m) (state_of m) h.Call kept.sound kept.due);
+      runs = kept.runs;
+    }
+
+-- the same, with the moment as a call gives it, and the core as it was
+
+pub refuse_keeps : (m : Machine) (entries : List (Option ℕ)) (timings : List Timing) (moment at task : ℕ) → IsKept m entries timings → slice_get m.calls m.made ≡ Some (at, c.Illegal task) →
+    moment ≡ max m.moment at → IsKept (refused m moment) entries timings
+refuse_keeps m entries timings moment at task kept is greatest = subst (λ n. IsKept (refused m n) entries timings) (sym greatest) (refuse_kept m entries timings at task kept is)
+
+pub refuse_steps : (m old : Machine) (moment at task : ℕ) → slice_get m.calls m.made ≡ Some (at, c.Illegal task) → moment ≡ max m.moment at → m ≡ old →
+    Takes old (refused m moment) h.Call (a.Refuse task refusal.Illegal)
+refuse_steps m old moment at task is greatest same =
+    subst (λ x. Takes x (refused m moment) h.Call (a.Refuse task refusal.Illegal)) same
+    (subst (λ n. Takes m (refused m n) h.Call (a.Refuse task refusal.Illegal)) (sym greatest) (refuse_takes m at task is))
 
 -- the step of a submission
 pub submit_takes : (m : Machine) (entries : List (Option ℕ)) (timings : List Timing) (at task delay : ℕ) (timing : Timing) (kind : Kind) → IsKept m entries timings → slice_get m.calls m.made ≡ Some (at, c.Submit task timing delay) →
@@ -124,6 +189,9 @@ submit_kept m entries timings at task delay timing kept is =
           at_set m.tasks task k (waiting (at + delay)) vacant low
           ∙ (ap (λ b. cond b (waiting (at + delay)) (slice_index_or m.tasks k vacant)) (apart task k (omega (arith, above, more))) ∙ kept.fresh k (omega (arith, above, more, sub.number)));
       sound = subst IsSound (sym (submit_state m.calls (workers_of m) m.made m.moment at task delay timing m.tasks m.work is sub.terms low fresh)) (next_sound m.calls (workers_of m) (state_of m) h.Call kept.sound);
+      due = subst (λ s. IsDue m.calls (seen m.calls s)) (sym (submit_state m.calls (workers_of m) m.made m.moment at task delay timing m.tasks m.work is sub.terms low fresh))
+          (next_due_is m.calls (workers_of m) (state_of m) h.Call kept.sound kept.due);
+      runs = runs_set m.taken m.tasks task (waiting (at + delay)) low kept.runs (omega arith) (λ q. cc);
     }
   where
     timed : (b : Bool) (k : ℕ) → (task == k) ≡ b → (cond b (waiting (at + delay)) (slice_index_or m.tasks k vacant)).phase ≢ ph.Vacant →

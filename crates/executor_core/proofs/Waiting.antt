@@ -19,6 +19,7 @@ use Rattle.executor_core.specs.Answers.{plain, reply, called, started, finished,
 use Rattle.executor_core.specs.Histories.{Entry, Means, look, happenings, made, now_of, is_submit, is_finish, was_accepted, starts, last_finish}
 use Rattle.executor_core.specs.Positions.{IsSubmissionOf, WasSubmitted, WaitingIsATask, WaitingIsDueInTime, FinishedLast, LastFinishIsTheLast, FinishKeepsNow}
 use Rattle.executor_core.proofs.Reading.{tasks_are_submitted}
+use Rattle.executor_core.proofs.Within.{dues_within}
 
 -- what an answer that submits a task says of what happened
 
@@ -30,6 +31,7 @@ record Submits (calls : List Planned) (v : View) (happening : Happening) (k : �
 
 call_submits : (calls : List Planned) (v : View) (call : CodeCall) (k : ℕ) → is_submit k (called calls v call).answer ≡ true → IsSubmissionOf k call
 call_submits calls v (c.Submit task timing delay) k q = eqb-true task k q
+call_submits calls v (c.Illegal task) k q = absurd (false≢true q)
 
 submit_says : (calls : List Planned) (workers : ℕ) (v : View) (y : Happening) (k : ℕ) → is_submit k (reply calls workers v y).answer ≡ true → Submits calls v y k
 submit_says calls workers v h.Call k q =
@@ -90,23 +92,8 @@ waiting_is_a_task calls workers past k o m q =
 
 -- when a task is due
 
-call_due : (count k moment : ℕ) (call : CodeCall) (rest : Terms) → IsOrderlyCall count call → moment ≤ 2 ^ 62 → rest.first ≤ 2 ^ 63 → (terms_in k moment call rest).first ≤ 2 ^ 63
-call_due count k moment (c.Submit task timing delay) rest o l m =
-    let pick : (b : Bool) → (cond b (record { timing = timing; first = moment + delay }) rest).first ≤ 2 ^ 63 = elim [ true ↦ omega (arith, o.1, l) | false ↦ m ] in
-    pick (task == k)
-
-terms_due : (count moment : ℕ) (calls : List Planned) (k : ℕ) → IsOrderlyFrom count moment calls → (terms_of calls k).first ≤ 2 ^ 63
-terms_due count moment [] k o = omega arith
-terms_due count moment (x ∷ calls) k o = call_due count k x.0 x.1 (terms_of calls k) o.2 o.1 (terms_due (count_after count x.1) x.0 calls k o.3)
-
-due_in_time : (terms : Terms) (n : ℕ) (last : Option ℕ) → terms.first ≤ 2 ^ 63 → due_at terms n last ≤ 2 ^ 63
-due_in_time terms n last l = by terms.timing
-  where
-    by : (timing : Timing) → elim timing as (λ timing. ℕ) [ t.Once ↦ terms.first ] ≤ 2 ^ 63
-    by t.Once = l
-
 pub waiting_is_due_in_time : WaitingIsDueInTime
-waiting_is_due_in_time calls workers past k o m q = due_in_time (terms_of calls k) (starts k past) (last_finish calls k past) (terms_due 0 0 calls k o.1)
+waiting_is_due_in_time calls workers past k o m q = dues_within calls workers past o m k
 
 -- the last finish of a task
 
@@ -122,7 +109,7 @@ finished_behind calls past f k t other s = record {
   moment = s.moment;
 }
 
-finish_found : (calls : List Planned) (k : ℕ) (past : List Entry) (t : ℕ) → last_finish calls k past ≡ Some t → FinishedLast calls past k t
+pub finish_found : (calls : List Planned) (k : ℕ) (past : List Entry) (t : ℕ) → last_finish calls k past ≡ Some t → FinishedLast calls past k t
 finish_found calls k [] t q = absurd (none-some t q)
 finish_found calls k (e ∷ past) t q =
     let pick : (b : Bool) → is_finish k e.answer ≡ b → cond b (Some (now_of calls (happenings past))) (last_finish calls k past) ≡ Some t → FinishedLast calls (e ∷ past) k t =
@@ -170,6 +157,7 @@ last_finish_is_the_last calls past k = (
 
 no_call_finishes : (calls : List Planned) (v : View) (call : CodeCall) (k : ℕ) → is_finish k (called calls v call).answer ≡ true → ⊥
 no_call_finishes calls v (c.Submit task timing delay) k q = false≢true q
+no_call_finishes calls v (c.Illegal task) k q = false≢true q
 
 finish_keeps : (calls : List Planned) (workers : ℕ) (v : View) (y : Happening) (k now : ℕ) (call : Option Planned) → is_finish k (reply calls workers v y).answer ≡ true → moment_after now call y ≡ now
 finish_keeps calls workers v h.Call k now call q =

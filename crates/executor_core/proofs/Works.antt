@@ -5,6 +5,8 @@ use Rattle.std.specs.Option.{option_map_or}
 use Rattle.std.proofs.Math.ListN.{set}
 use Rattle.std.proofs.lemmas.Bool.{eqb-true, and_parts, and_from, lt-ltb, le-ltb, le-leb, leb-true}
 use Rattle.std.proofs.lemmas.Option.{none-some, same_Some}
+use Rattle.sched_time.specs.declared.timing.Timing.{Timing}
+use Rattle.sched_time.specs.declared.timing.Timing.TheVariants as t
 use Rattle.executor_core.specs.declared.words.EventError.TheVariants as x
 use Rattle.executor_core.specs.declared.words.Happening.{Happening}
 use Rattle.executor_core.specs.declared.words.Happening.TheVariants as h
@@ -16,11 +18,12 @@ use Rattle.executor_core.specs.declared.task.Phase.TheVariants as ph
 use Rattle.executor_core.specs.declared.task.Task.{Task}
 use Rattle.sched_time.specs.declared.timing.Ending.{Ending}
 use Rattle.delay_queue.specs.Queues as queues
-use Rattle.executor_core.specs.Calls.{Planned, Terms, terms_of, numbers, task_count}
+use Rattle.executor_core.specs.Calls.{Planned, Terms, terms_of, due_at, numbers, task_count}
 use Rattle.executor_core.specs.View.{is_waiting, is_enabled, first_enabled, comes_before}
-use Rattle.executor_core.specs.Answers.{plain, started, finished, outcome_of}
-use Rattle.executor_core.specs.State.{State, seen, seen_phase, due_seen, next, reply_of, state_after, vacant, finish_task}
-use Rattle.executor_core.specs.Machine.{queued, queued_phase}
+use Rattle.executor_core.specs.Answers.{plain, started, finished, outcome_of, due_next}
+use Rattle.executor_core.specs.State.{State, seen, seen_phase, due_seen, due_ahead, due_past, next, reply_of, state_after, vacant, finish_task}
+use Rattle.executor_core.specs.Machine.{queued, queued_phase, IsDue}
+use Rattle.executor_core.proofs.Moves.{due_landed, past_is_landed}
 use Rattle.executor_core.proofs.Sound.{waits_in, is_seen_waiting}
 use Rattle.executor_core.proofs.First.{first_is, first_is_none, in_range}
 use Rattle.executor_core.proofs.Tables.{at_set}
@@ -38,6 +41,7 @@ queued_is ph.Vacant due d q = absurd (none-some d q)
 queued_is ph.Waiting due d q = (refl, same_Some due d q)
 queued_is ph.Running due d q = absurd (none-some d q)
 queued_is ph.Done due d q = absurd (none-some d q)
+queued_is ph.Failed due d q = absurd (none-some d q)
 
 pub queued_at : (tasks : List Task) (k : ℕ) → slice_index_or (map queued tasks) k None ≡ queued (slice_index_or tasks k vacant)
 queued_at [] k = refl
@@ -153,14 +157,34 @@ finish_reply calls workers w ending s work l e =
 pub idle_finishes : (calls : List Planned) (workers w : ℕ) (ending : Ending) (s : State) → w < workers → s.workers w ≡ None → reply_of calls workers s (h.Finish w ending) ≡ plain (a.Error x.NotRunning)
 idle_finishes calls workers w ending s l e = finish_reply calls workers w ending s None l e
 
-pub task_finishes : (calls : List Planned) (workers w k : ℕ) (ending : Ending) (outcome : Outcome) (s : State) → w < workers → s.workers w ≡ Some k → (s.tasks k).phase ≡ ph.Running →
-    outcome ≡ outcome_of (terms_of calls k).timing ending →
-    reply_of calls workers s (h.Finish w ending) ≡ plain (a.Finish w k (s.tasks k).run outcome)
-task_finishes calls workers w k ending outcome s l e running is =
+-- the due moment of the run that would come after a finish is the one that the finish leaves
+landing : (timing : Timing) (first n now : ℕ) (last : Option ℕ) →
+    due_at (record { timing = timing; first = first }) n (Some now) ≡ due_landed timing (due_at (record { timing = timing; first = first }) n last) now
+landing t.Once first n now last = refl
+landing (t.Rate period) first n now last = refl
+landing (t.Fixed delay) first n now last = refl
+
+next_is_past : (calls : List Planned) (s : State) (k : ℕ) → (s.tasks k).phase ≡ ph.Running → IsDue calls (seen calls s) →
+    due_next calls (seen calls s) k ≡ due_past (terms_of calls k).timing (s.tasks k).due s.moment
+next_is_past calls s k busy due =
+    let terms = terms_of calls k in
     let t = s.tasks k in
+    let v = seen calls s in
+    let ahead : (v.fate k).due ≡ due_ahead terms.timing t.due = ap (λ p. due_seen terms p t.due) busy in
+    landing terms.timing terms.first (v.fate k).starts s.moment (due k).0
+    ∙ (ap (λ d. due_landed terms.timing d s.moment) (sym (due k).1 ∙ ahead) ∙ sym (past_is_landed terms.timing t.due s.moment))
+
+pub task_finishes : (calls : List Planned) (workers w k : ℕ) (ending : Ending) (outcome : Outcome) (s : State) → w < workers → s.workers w ≡ Some k → (s.tasks k).phase ≡ ph.Running →
+    IsDue calls (seen calls s) → outcome ≡ outcome_of (terms_of calls k).timing (due_past (terms_of calls k).timing (s.tasks k).due s.moment) ending →
+    reply_of calls workers s (h.Finish w ending) ≡ plain (a.Finish w k (s.tasks k).run outcome)
+task_finishes calls workers w k ending outcome s l e busy due is =
+    let t = s.tasks k in
+    let terms = terms_of calls k in
+    let next = ap (λ d. outcome_of terms.timing d ending) (next_is_past calls s k busy due) in
     finish_reply calls workers w ending s (Some k) l e
-    ∙ (ap (λ p. plain (a.Finish w k ((seen_phase (terms_of calls k) p t.run t.due).starts - 1) (outcome_of (terms_of calls k).timing ending))) running
-    ∙ (λ i. plain (a.Finish w k (less t.run i) (sym is i))))
+    ∙ (ap (λ o. plain (a.Finish w k (((seen calls s).fate k).starts - 1) o)) (next ∙ sym is)
+    ∙ (ap (λ p. plain (a.Finish w k ((seen_phase terms p t.run t.due).starts - 1) outcome)) busy
+    ∙ ap (λ n. plain (a.Finish w k n outcome)) (less t.run)))
   where
     less : (n : ℕ) → 1 + n - 1 ≡ n
     less n = omega arith

@@ -14,6 +14,7 @@ use Rattle.executor_core.specs.declared.words.Happening.{Happening}
 use Rattle.executor_core.specs.declared.words.Happening.TheVariants as h
 use Rattle.executor_core.specs.declared.words.Kind.{Kind}
 use Rattle.executor_core.specs.declared.words.Kind.TheVariants as kind
+use Rattle.executor_core.specs.declared.words.Refusal.TheVariants as refusal
 use Rattle.executor_core.specs.declared.words.EventError.TheVariants as x
 use Rattle.executor_core.specs.declared.words.Outcome.{Outcome}
 use Rattle.executor_core.specs.declared.words.Outcome.TheVariants as o
@@ -32,33 +33,51 @@ abbrev pub plain : Answer → Reply
 plain answer = record { answer = answer; ends = [] }
 
 -- the kind of task that a submission's answer names, by how the task is timed
--- (once: ScheduledExecutorService.schedule, "a value-returning one-shot task")
+-- (ScheduledExecutorService: schedule, scheduleAtFixedRate, scheduleWithFixedDelay)
 abbrev pub kind_of : Timing → Kind
 kind_of t.Once = kind.Schedule
+kind_of (t.Rate period) = kind.Rate
+kind_of (t.Fixed delay) = kind.Fixed
 
 -- the answer to a call, in a view whose moment is the call's
+-- (a period or a fixed delay that is zero or negative: ScheduledExecutorService.scheduleAtFixedRate and
+-- scheduleWithFixedDelay, "IllegalArgumentException")
 abbrev pub called : List Planned → View → CodeCall → Reply
 called calls v (c.Submit task timing delay) = plain (a.Submit task (kind_of timing) (due_at (terms_of calls task) 0 None))
+called calls v (c.Illegal task) = plain (a.Refuse task refusal.Illegal)
 
 -- the answer to a worker without work that asks for a task: the first enabled one, or idle where none is
 abbrev pub started : View → ℕ → Option ℕ → Answer
 started v w None = a.Idle w
 started v w (Some k) = a.Start w k (v.fate k).starts (v.fate k).due
 
--- the outcome of a run that ended with a value: the one run of a one-shot task is its last
--- (ScheduledExecutorService.schedule: "a value-returning one-shot task")
-abbrev pub ended_well : Timing → ℕ → Outcome
-ended_well t.Once value = o.Done value
+-- the outcome of a run that ended with a value, where the run after it would be due at some moment: the one
+-- run of a one-shot task is its last, and each other task waits for its next run
+-- (ScheduledExecutorService.schedule: "a value-returning one-shot task"; scheduleAtFixedRate and
+-- scheduleWithFixedDelay: "The sequence of task executions continues indefinitely until one of the following
+-- exceptional completions occur")
+abbrev pub ended_well : Timing → ℕ → ℕ → Outcome
+ended_well t.Once due value = o.Done value
+ended_well (t.Rate period) due value = o.Again due
+ended_well (t.Fixed delay) due value = o.Again due
 
--- the outcome of a run, by how its task is timed and how the run ended
-abbrev pub outcome_of : Timing → Ending → Outcome
-outcome_of timing (e.Value value) = ended_well timing value
+-- the outcome of a run, by how its task is timed, when the run after it would be due, and how the run ended:
+-- a failure is the end of each task
+-- (ScheduledExecutorService.scheduleAtFixedRate and scheduleWithFixedDelay: "An execution of the task throws an
+-- exception. [..] Subsequent executions are suppressed."; of a one-shot task: this project's rule)
+abbrev pub outcome_of : Timing → ℕ → Ending → Outcome
+outcome_of timing due (e.Value value) = ended_well timing due value
+outcome_of timing due (e.Fault code) = o.Failed code
+
+-- the due moment of the run of task k that would come after a finish at the view's moment
+abbrev pub due_next : List Planned → View → ℕ → ℕ
+due_next calls v k = due_at (terms_of calls k) (v.fate k).starts (Some v.moment)
 
 -- the answer to a worker that finishes: an error where it has no work, and else the run that it started
 -- last, with its outcome
 abbrev pub finished : List Planned → View → ℕ → Ending → Option ℕ → Answer
 finished calls v w ending None = a.Error x.NotRunning
-finished calls v w ending (Some k) = a.Finish w k ((v.fate k).starts - 1) (outcome_of (terms_of calls k).timing ending)
+finished calls v w ending (Some k) = a.Finish w k ((v.fate k).starts - 1) (outcome_of (terms_of calls k).timing (due_next calls v k) ending)
 
 -- a clock is accepted where it does not go back and is within the limit
 abbrev pub is_accepted : ℕ → ℕ → Bool

@@ -68,6 +68,12 @@ is_finish_with test k _ = false
 -- an outcome says that the task's one run gave a value
 abbrev pub is_done : Outcome → Bool
 is_done (o.Done value) = true
+is_done _ = false
+
+-- an outcome says that the run failed
+abbrev pub is_failed : Outcome → Bool
+is_failed (o.Failed code) = true
+is_failed _ = false
 
 -- the task of a worker after an answer
 abbrev pub work_after : ℕ → Answer → Option ℕ → Option ℕ
@@ -94,9 +100,13 @@ last_finish calls k (e ∷ past) = if is_finish k e.answer then Some (now_of cal
 abbrev pub was_accepted : ℕ → List Entry → Bool
 was_accepted k past = list_any (λ e. is_submit k e.answer) past
 
--- a run of task k was finished with a value
+-- the one run of task k was finished with a value
 abbrev pub was_done : ℕ → List Entry → Bool
 was_done k past = list_any (λ e. is_finish_with is_done k e.answer) past
+
+-- a run of task k failed
+abbrev pub was_failed : ℕ → List Entry → Bool
+was_failed k past = list_any (λ e. is_finish_with is_failed k e.answer) past
 
 -- the task that a worker started and has not finished
 abbrev pub work_of : ℕ → List Entry → Option ℕ
@@ -112,6 +122,7 @@ abbrev pub fate_of : List Planned → List Entry → ℕ → Fate
 fate_of calls past k = record {
   accepted = was_accepted k past;
   done = was_done k past;
+  failed = was_failed k past;
   starts = starts k past;
   finishes = finishes k past;
   due = due_of calls past k;

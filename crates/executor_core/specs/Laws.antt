@@ -1,14 +1,20 @@
 -- What holds of each history that means some calls.
 -- Where a definition names a class, its source is the Java SE 17 documentation of that class.
 -- Where it names no source, it is this project's rule.
-use Rattle.std.specs.Prelude.{◌≡◌, ℕ, ◌<◌, ◌≤◌, true, List, ◌∷◌, ◌++◌, ◌⊎◌}
+use Rattle.std.specs.Prelude.{◌≡◌, ℕ, ◌+◌, ◌*◌, ◌<◌, ◌≤◌, true, List, ◌∷◌, ◌++◌, ◌⊎◌, Some, slice_get}
+use Rattle.std.specs.List.{list_any}
+use Rattle.sched_time.specs.declared.timing.Timing.TheVariants as t
+use Rattle.executor_core.specs.declared.words.CodeCall.TheVariants as c
+use Rattle.executor_core.specs.declared.words.Outcome.TheVariants as o
 use Rattle.executor_core.specs.declared.words.Event.{Event}
+use Rattle.executor_core.specs.declared.words.Happening.{Happening}
 use Rattle.executor_core.specs.declared.words.Answer.TheVariants as a
 use Rattle.executor_core.specs.Calls.{Planned, IsOrderly, task_count}
 use Rattle.executor_core.specs.View.{is_enabled, precedes}
-use Rattle.executor_core.specs.Histories.{Entry, Means, happenings, look, now_of, answer}
+use Rattle.executor_core.specs.Histories.{Entry, Means, MayCome, happenings, is_finish, look, due_of, now_of, answer}
 use Rattle.executor_core.specs.State.{after, seen}
 use Rattle.executor_core.specs.Flows.{flow, history_of}
+use Rattle.executor_core.specs.Positions.{FinishedLast}
 
 -- a start stands in the history, and this is what it says
 pub record Starts (calls : List Planned) (workers : ℕ) (past : List Entry) (e : Entry) (w k n d : ℕ) : Type 0 where
@@ -30,6 +36,50 @@ StartsAreInOrder = (calls : List Planned) (workers : ℕ) (past : List Entry) (e
     → Starts calls workers past e w k n d → j < task_count calls → is_enabled (look calls past) j ≡ true
     → (j ≡ k) ⊎ (precedes (look calls past) k j ≡ true)
 
+-- of tasks that are due at the same moment the one that was submitted first starts, also where they have run before
+-- (ScheduledThreadPoolExecutor: "Tasks scheduled for exactly the same execution time are enabled in
+-- first-in-first-out (FIFO) order of submission."; that a periodic task keeps its place is this project's rule)
+abbrev pub TiesGoBySubmission : Type 0
+TiesGoBySubmission = (calls : List Planned) (workers : ℕ) (past : List Entry) (e : Entry) (w k n d j : ℕ)
+    → Starts calls workers past e w k n d → j < task_count calls → is_enabled (look calls past) j ≡ true → due_of calls past j ≡ d → k ≤ j
+
+-- the run n of a task at a fixed rate is due at its submission plus its initial delay plus n periods
+-- (ScheduledExecutorService.scheduleAtFixedRate: "executions will commence after initialDelay, then
+-- initialDelay + period, then initialDelay + 2 * period, and so on")
+abbrev pub RateRunsAreDue : Type 0
+RateRunsAreDue = (calls : List Planned) (workers : ℕ) (past : List Entry) (e : Entry) (w k n d place moment initial period : ℕ) → IsOrderly calls
+    → slice_get calls place ≡ Some (moment, c.Submit k (t.Rate period) initial) → Starts calls workers past e w k n d
+    → d ≡ moment + initial + n * period
+
+-- the first run of a task with a fixed delay is due at its submission plus its initial delay, and each other one
+-- a delay after the last finish before it
+-- (ScheduledExecutorService.scheduleWithFixedDelay: "becomes enabled first after the given initial delay, and
+-- subsequently with the given delay between the termination of one execution and the commencement of the next")
+abbrev pub FixedRunsAreDue : Type 0
+FixedRunsAreDue = (calls : List Planned) (workers : ℕ) (past : List Entry) (e : Entry) (w k n d place moment initial delay : ℕ) → IsOrderly calls
+    → slice_get calls place ≡ Some (moment, c.Submit k (t.Fixed delay) initial) → Starts calls workers past e w k n d
+    → (n ≡ 0 → d ≡ moment + initial) × (0 < n → (finished : ℕ) × FinishedLast calls past k finished × (d ≡ finished + delay))
+
+-- the run after a finish is due when its answer says
+abbrev pub AgainIsDue : Type 0
+AgainIsDue = (calls : List Planned) (workers : ℕ) (past : List Entry) (e : Entry) (w k n d : ℕ) → Means calls workers (e ∷ past)
+    → e.answer ≡ a.Finish w k n (o.Again d) → d ≡ due_of calls (e ∷ past) k
+
+-- between two starts of a task stands its finish
+-- (ScheduledThreadPoolExecutor: "Successive executions of a periodic task scheduled via scheduleAtFixedRate or
+-- scheduleWithFixedDelay do not overlap.")
+abbrev pub RunsDoNotOverlap : Type 0
+RunsDoNotOverlap = (calls : List Planned) (workers : ℕ) (past between : List Entry) (first second : Entry) (v w k m n d f : ℕ)
+    → Starts calls workers (between ++ first ∷ past) second w k n d → first.answer ≡ a.Start v k m f
+    → list_any (λ e. is_finish k e.answer) between ≡ true
+
+-- after a run that failed nothing of its task starts
+-- (ScheduledExecutorService.scheduleAtFixedRate and scheduleWithFixedDelay: "An execution of the task throws an
+-- exception. [..] Subsequent executions are suppressed.")
+abbrev pub NothingStartsAfterAFailure : Type 0
+NothingStartsAfterAFailure = (calls : List Planned) (workers : ℕ) (past between : List Entry) (finish start : Entry) (v w k m n d code : ℕ)
+    → Starts calls workers (between ++ finish ∷ past) start w k n d → finish.answer ≡ a.Finish v k m (o.Failed code) → ⊥
+
 -- each position: the answer is the one that the history before it has
 abbrev pub AnswersByPosition : Type 0
 AnswersByPosition = (calls : List Planned) (workers : ℕ) (later past : List Entry) (e : Entry) → Means calls workers (later ++ e ∷ past)
@@ -40,6 +90,12 @@ abbrev pub OneHistory : Type 0
 OneHistory = (calls : List Planned) (workers : ℕ) (events : List Event) → IsOrderly calls
     → Means calls workers (history_of calls workers events) × (happenings (history_of calls workers events) ≡ flow calls events)
     × ((past : List Entry) → Means calls workers past → happenings past ≡ flow calls events → past ≡ history_of calls workers events)
+
+-- some happenings of which each may come where it stands have a history that means the calls
+abbrev pub FlowsAreAnswered : Type 0
+FlowsAreAnswered = (calls : List Planned) (workers : ℕ) (happened : List Happening)
+    → ((later past : List Happening) (happening : Happening) → happened ≡ later ++ happening ∷ past → MayCome calls past happening)
+    → (past : List Entry) × (happenings past ≡ happened) × Means calls workers past
 
 -- some happenings, in whatever order they came, have at most one history that means the calls
 abbrev pub HistoriesAreOne : Type 0

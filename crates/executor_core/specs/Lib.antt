@@ -1,4 +1,5 @@
 pub use Rattle.sched_time.specs.Times
+pub use Rattle.sched_time.specs.Dues
 pub mod Counts
 pub mod Calls
 pub mod View
@@ -8,5 +9,5 @@ pub mod State
 pub mod Flows
 pub mod Machine
 pub mod Plain
-pub mod Laws
 pub mod Positions
+pub mod Laws

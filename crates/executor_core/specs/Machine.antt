@@ -1,6 +1,6 @@
 -- What contracts see of an executor's core, and the state and history in which it stands.
 -- All of it is this project's rule.
-use Rattle.std.specs.Prelude.{◌≡◌, ◌≢◌, ℕ, ◌^◌, ◌<◌, ◌≤◌, List, [], ◌++◌, length, map, take, Option, Some, None, slice_index_or}
+use Rattle.std.specs.Prelude.{◌≡◌, ◌≢◌, ℕ, ◌+◌, ◌^◌, ◌<◌, ◌≤◌, List, [], ◌++◌, length, map, take, Option, Some, None, slice_index_or}
 use Rattle.sched_time.specs.declared.timing.Timing.{Timing}
 use Rattle.sched_time.specs.declared.timing.Timing.TheVariants as t
 use Rattle.executor_core.specs.declared.words.Event.{Event}
@@ -10,9 +10,10 @@ use Rattle.executor_core.specs.declared.words.Answer.{Answer}
 use Rattle.executor_core.specs.declared.task.Phase.{Phase}
 use Rattle.executor_core.specs.declared.task.Phase.TheVariants as ph
 use Rattle.executor_core.specs.declared.task.Task.{Task}
-use Rattle.executor_core.specs.Calls.{Planned, IsOrderly, task_count, terms_of}
+use Rattle.executor_core.specs.Calls.{Planned, IsOrderly, task_count, terms_of, due_at}
+use Rattle.executor_core.specs.View.{View}
 use Rattle.executor_core.specs.Histories.{Entry, happenings, Means}
-use Rattle.executor_core.specs.State.{State, vacant, after, after_from, next, reply_of}
+use Rattle.executor_core.specs.State.{State, seen, vacant, after, after_from, next, reply_of}
 use Rattle.executor_core.specs.Flows.{part_of, history_from, lines_of, lines_from}
 
 -- what contracts see of a core: its plan's calls, how many of them it made, the moment, and its two tables
@@ -70,6 +71,10 @@ pub record Takes (old new : Machine) (happening : Happening) (answer : Answer) :
   pub state : state_of new ≡ next old.calls (workers_of old) (state_of old) happening
   pub said : answer ≡ (reply_of old.calls (workers_of old) (state_of old) happening).answer
 
+-- the core counted an event, and nothing else changed
+abbrev pub Counts : Machine → Machine → Type 0
+Counts old new = new ≡ record old { taken = old.taken + 1 }
+
 -- after any history in which the core stood, the event's part of the flow is answered as the equations say
 pub record Continues (old new : Machine) (before after_lines : List Line) (event : Event) (past : List Entry) : Type 0 where
   pub means : Means old.calls (workers_of old) (history_from old.calls (workers_of old) past (part_of old.calls old.made old.moment event))
@@ -89,10 +94,25 @@ queued_phase _ due = None
 abbrev pub queued : Task → Option ℕ
 queued task = queued_phase task.phase task.due
 
--- a busy worker's task runs, and no two workers have one task
+-- a busy worker's task runs, no two workers have one task, and the due moment of a run that is under way was
+-- reached
 pub record IsSound (s : State) : Type 0 where
   pub at_work : (w k : ℕ) → s.workers w ≡ Some k → (s.tasks k).phase ≡ ph.Running
   pub apart : (v w k : ℕ) → s.workers v ≡ Some k → s.workers w ≡ Some k → v ≡ w
+  pub reached : (k : ℕ) → (s.tasks k).phase ≡ ph.Running → (s.tasks k).due ≤ s.moment
+
+-- the due moment that is known of each task is that of its terms, after its starts and some last finish
+abbrev pub IsDue : List Planned → View → Type 0
+IsDue calls v = (k : ℕ) → (last : Option ℕ) × ((v.fate k).due ≡ due_at (terms_of calls k) (v.fate k).starts last)
+
+-- the run of each task has a number of at most so many, and one under way a lower one
+pub record RunsBelow (count : ℕ) (tasks : List Task) : Type 0 where
+  pub all : (k : ℕ) → (slice_index_or tasks k vacant).run ≤ count
+  pub begun : (k : ℕ) → (slice_index_or tasks k vacant).phase ≡ ph.Running → (slice_index_or tasks k vacant).run < count
+
+-- the number of each run is below the number of events taken, as it is once an event is counted
+abbrev pub IsCounted : Machine → Type 0
+IsCounted m = (k : ℕ) → (slice_index_or m.tasks k vacant).run < m.taken
 
 -- what stays true of a core, with its queue's entries by task number and its table of timings
 pub record IsKept (m : Machine) (entries : List (Option ℕ)) (timings : List Timing) : Type 0 where
@@ -110,3 +130,6 @@ pub record IsKept (m : Machine) (entries : List (Option ℕ)) (timings : List Ti
   -- what no call made submits is vacant
   pub fresh : (k : ℕ) → task_count (take m.made m.calls) ≤ k → slice_index_or m.tasks k vacant ≡ vacant
   pub sound : IsSound (state_of m)
+  pub due : IsDue m.calls (seen m.calls (state_of m))
+  -- each run that ended was started by an event and finished by another one
+  pub runs : RunsBelow m.taken m.tasks

@@ -1,6 +1,8 @@
 -- A state that looks at no past answer, and the steps that it takes.
 -- All of it is this project's rule.
 use Rattle.std.specs.Prelude.{ℕ, ◌+◌, ◌==◌, Bool, true, false, if◌then◌else◌, List, [], ◌∷◌, Option, None, slice_get}
+use Rattle.std.specs.Option.{option_map_or}
+use Rattle.sched_time.specs.Dues.{next_due}
 use Rattle.sched_time.specs.declared.timing.Timing.{Timing}
 use Rattle.sched_time.specs.declared.timing.Timing.TheVariants as t
 use Rattle.executor_core.specs.declared.words.Happening.{Happening}
@@ -43,26 +45,35 @@ abbrev pub is_done_phase : Phase → Bool
 is_done_phase ph.Done = true
 is_done_phase _ = false
 
+-- a run of a task in this phase failed
+abbrev pub is_failed_phase : Phase → Bool
+is_failed_phase ph.Failed = true
+is_failed_phase _ = false
+
 -- how often a task in this phase has started: never before its submission, and else the runs before `run`,
--- and that one where it is under way or done
+-- and that one where it is under way, done or failed
 abbrev pub starts_of : Phase → ℕ → ℕ
 starts_of ph.Vacant run = 0
 starts_of ph.Waiting run = run
 starts_of _ run = 1 + run
 
 -- how often a task in this phase has finished: never before its submission, and else the runs before `run`,
--- and that one where the task is done
+-- and that one where the task is done or failed
 abbrev pub finishes_of : Phase → ℕ → ℕ
 finishes_of ph.Done run = 1 + run
+finishes_of ph.Failed run = 1 + run
 finishes_of ph.Vacant run = 0
 finishes_of _ run = run
 
--- the due moment of the run after the one under way
+-- the due moment ahead of a task whose run is under way: with a fixed rate that of the next run is known
+-- from the start on, and with a fixed delay from the end on
 abbrev pub due_ahead : Timing → ℕ → ℕ
 due_ahead t.Once due = due
+due_ahead (t.Rate period) due = due + period
+due_ahead (t.Fixed delay) due = due
 
--- the due moment of a task's next run: before its submission that of the first, during a run that of the
--- one after, and else the one that the task holds
+-- the due moment that is seen of a task: before its submission that of the first run, during a run the one
+-- ahead, and else the one that the task holds
 abbrev pub due_seen : Terms → Phase → ℕ → ℕ
 due_seen terms ph.Vacant due = due_at terms 0 None
 due_seen terms ph.Running due = due_ahead terms.timing due
@@ -73,6 +84,7 @@ abbrev pub seen_phase : Terms → Phase → ℕ → ℕ → Fate
 seen_phase terms phase run due = record {
   accepted = was_submitted phase;
   done = is_done_phase phase;
+  failed = is_failed_phase phase;
   starts = starts_of phase run;
   finishes = finishes_of phase run;
   due = due_seen terms phase due;
@@ -93,13 +105,15 @@ seen calls s = record {
 
 -- what a happening does to a state
 
--- the due moment that a finish leaves
+-- the due moment that a finish at this moment leaves: that of the next run, where the task may have one
 abbrev pub due_past : Timing → ℕ → ℕ → ℕ
-due_past t.Once due now = due
+due_past timing due now = option_map_or (λ next. next) (next_due timing due now) due
 
 -- a task after the finish of its run, at this moment and with this outcome
 abbrev pub finish_task : Timing → ℕ → Outcome → Task → Task
 finish_task timing now (o.Done value) task = record task { phase = ph.Done; due = due_past timing task.due now }
+finish_task timing now (o.Failed code) task = record task { phase = ph.Failed; due = due_past timing task.due now }
+finish_task timing now (o.Again due) task = record task { phase = ph.Waiting; run = 1 + task.run; due = due_past timing task.due now }
 
 -- only a vacant task is submitted
 abbrev pub submit_phase : ℕ → Phase → Task → Task

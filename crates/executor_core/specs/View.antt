@@ -9,6 +9,8 @@ pub record Fate : Type 0 where
   pub accepted : Bool
   -- its one run ended well
   pub done : Bool
+  -- a run of it failed
+  pub failed : Bool
   -- how often it started and finished
   pub starts : ℕ
   pub finishes : ℕ
@@ -29,10 +31,12 @@ pub record View : Type 0 where
 abbrev pub is_running : Fate → Bool
 is_running f = not (f.starts == f.finishes)
 
--- no further run comes: the one run of a one-shot task ended (this project's rule, as in
--- ScheduledExecutorService.schedule: "a value-returning one-shot task")
+-- no further run comes: the one run of a one-shot task ended, or a run failed
+-- (ScheduledExecutorService.schedule: "a value-returning one-shot task"; scheduleAtFixedRate: "An
+-- execution of the task throws an exception. [..] Subsequent executions are suppressed."; that a one-shot task
+-- whose run failed is not done is this project's rule)
 abbrev pub is_over : Fate → Bool
-is_over f = f.done
+is_over f = f.failed || f.done
 
 -- a run is still to come and none is under way: accepted, not running and not over (this project's rule)
 abbrev pub is_waiting : Fate → Bool

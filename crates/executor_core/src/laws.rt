@@ -1,5 +1,5 @@
 //! What holds of each history, whatever the events: laws over the definitions alone.
-ghost use Rattle.executor_core.specs.Laws.{NoStartIsEarly, StartsAreInOrder, AnswersByPosition, OneHistory, HistoriesAreOne, StatesAnswer};
+ghost use Rattle.executor_core.specs.Laws.{NoStartIsEarly, StartsAreInOrder, TiesGoBySubmission, RateRunsAreDue, FixedRunsAreDue, AgainIsDue, RunsDoNotOverlap, NothingStartsAfterAFailure, AnswersByPosition, OneHistory, FlowsAreAnswered, HistoriesAreOne, StatesAnswer};
 
 /// No task starts before its due moment.
 pub fn no_start_is_early()
@@ -11,6 +11,38 @@ pub fn starts_are_in_order()
     ensures { StartsAreInOrder }
 {}
 
+/// Of tasks that are due at the same moment the one that was submitted first starts.
+pub fn ties_go_by_submission()
+    ensures { TiesGoBySubmission }
+{}
+
+/// The run n of a task at a fixed rate is due at its submission plus its initial delay plus n
+/// periods.
+pub fn rate_runs_are_due()
+    ensures { RateRunsAreDue }
+{}
+
+/// The first run of a task with a fixed delay is due at its submission plus its initial delay, and
+/// each other one a delay after the finish before it.
+pub fn fixed_runs_are_due()
+    ensures { FixedRunsAreDue }
+{}
+
+/// The run after a finish is due when its answer says.
+pub fn again_is_due()
+    ensures { AgainIsDue }
+{}
+
+/// Between two starts of a task stands its finish.
+pub fn runs_do_not_overlap()
+    ensures { RunsDoNotOverlap }
+{}
+
+/// After a run that failed nothing of its task starts.
+pub fn nothing_starts_after_a_failure()
+    ensures { NothingStartsAfterAFailure }
+{}
+
 /// Each answer of a history is the one that the table has for what stands before it.
 pub fn answers_by_position()
     ensures { AnswersByPosition }
@@ -19,6 +51,11 @@ pub fn answers_by_position()
 /// The happenings of some events have one history and no other.
 pub fn one_history()
     ensures { OneHistory }
+{}
+
+/// Happenings of which each may come where it stands have a history.
+pub fn flows_are_answered()
+    ensures { FlowsAreAnswered }
 {}
 
 /// No two histories that mean the same calls have the same happenings.

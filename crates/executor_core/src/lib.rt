@@ -15,8 +15,9 @@ mod words;
 
 pub use error::CoreError;
 pub use laws::{
-    answers_by_position, histories_are_one, no_start_is_early, one_history, starts_are_in_order,
-    states_answer,
+    again_is_due, answers_by_position, fixed_runs_are_due, flows_are_answered, histories_are_one,
+    no_start_is_early, nothing_starts_after_a_failure, one_history, rate_runs_are_due,
+    runs_do_not_overlap, starts_are_in_order, states_answer, ties_go_by_submission,
 };
 pub use machine::Core;
 pub use order::orderly;
@@ -27,4 +28,4 @@ pub use positions::{
     waiting_is_a_task, waiting_is_due_in_time, work_is_the_last_start,
 };
 pub use task::{Phase, Task};
-pub use words::{Answer, CodeCall, Event, EventError, Happening, Kind, Line, Outcome};
+pub use words::{Answer, CodeCall, Event, EventError, Happening, Kind, Line, Outcome, Refusal};

@@ -1,9 +1,11 @@
-ghost use Rattle.std.specs.Prelude.{◌≡◌, ◌≢◌, ℕ, ◌+◌, ◌-◌, ◌^◌, ◌<◌, ◌≤◌, ◌↔◌, ◌⊎◌, List, [], ◌∷◌, ◌++◌, length, replicate, None, Some, slice_get, Option, OnOk, OnErr, IsOk, IfOk, IfErr, IsErrOf, IsTrue, false, vec_len, vec_capacity};
+ghost use Rattle.std.specs.Prelude.{◌≡◌, ◌≢◌, ℕ, ◌+◌, ◌-◌, ◌^◌, ◌<◌, ◌≤◌, ◌↔◌, ◌⊎◌, List, [], ◌∷◌, ◌++◌, length, replicate, None, Some, slice_get, slice_set, slice_index_or, Option, OnOk, OnErr, IsOk, IfOk, IfErr, IsErrOf, IsTrue, false, vec_len, vec_capacity};
 ghost use Rattle.executor_core.specs.declared.words.Happening.TheVariants as happening;
 ghost use Rattle.executor_core.specs.declared.words.CodeCall.TheVariants as call;
 ghost use Rattle.executor_core.specs.Calls.{IsOrderly, task_count, is_submission};
 ghost use Rattle.executor_core.specs.Histories as histories;
-ghost use Rattle.executor_core.specs.State.{vacant, finish_task};
+ghost use Rattle.sched_time.specs.Dues.{next_due};
+ghost use Rattle.executor_core.specs.State.{vacant, finish_task, due_past};
+ghost use Rattle.executor_core.specs.Machine.{queued};
 ghost use Rattle.executor_core.specs.Answers.{kind_of, outcome_of};
 ghost use Rattle.executor_core.specs.Counts.{IsNoCount};
 ghost use Rattle.executor_core.specs.Flows.{happening_of, reached, ReachesNext, calls_before, part_of};
@@ -11,9 +13,9 @@ ghost use Rattle.executor_core.specs.Flows.{happening_of, reached, ReachesNext, 
 use crate::error::CoreError;
 use crate::limits::{LATEST, MOST_WORKERS};
 use crate::task::{Phase, Task};
-use crate::words::{Answer, CodeCall, Event, EventError, Kind, Line, Outcome};
+use crate::words::{Answer, CodeCall, Event, EventError, Kind, Line, Outcome, Refusal};
 use delay_queue::{DelayQueue, Entry};
-use sched_time::{Ending, Timing};
+use sched_time::{Ending, Timing, next_due};
 use std::alloc::{AllocError, Allocator};
 use std::marker::Model;
 
@@ -46,7 +48,7 @@ impl<A: Allocator> Model for Core<A> {
 }
 
 impl<A: Allocator> Core<A> {
-    ghost use Rattle.executor_core.specs.Machine.{workers_of, Takes, Steps, Stands, Continues, IsOpening};
+    ghost use Rattle.executor_core.specs.Machine.{workers_of, Takes, Counts, IsCounted, Steps, Stands, Continues, IsOpening};
 
     /// A core before anything happened, for these calls.
     ///
@@ -129,13 +131,22 @@ impl<A: Allocator> Core<A> {
             return Err(CoreError::Memory);
         }
         self.make_calls_before(event, out);
+        self.count();
         let answer = self.answer(event);
         out.push_reserved(Line {
             moment: self.moment,
             answer,
         });
-        self.taken += 1;
         Ok(())
+    }
+
+    /// Counts an event as taken.
+    fn count(&mut self)
+        requires { self.old.taken < self.old.limit }
+        ensures same { Counts self.old self.new }
+        ensures runs { IsCounted self.new }
+    {
+        self.taken += 1;
     }
 
     /// How many lines the next event adds at most.
@@ -197,8 +208,9 @@ impl<A: Allocator> Core<A> {
         });
     }
 
-    /// What an event is answered, once the calls before it were made.
+    /// What an event is answered, once the calls before it were made and it was counted.
     fn answer(&mut self, event: Event) -> Answer
+        requires { IsCounted self.old }
         ensures { Takes self.old self.new (happening_of event) result }
     {
         match event {
@@ -221,6 +233,7 @@ impl<A: Allocator> Core<A> {
                 timing,
                 delay,
             } => self.submit(moment, task, timing, delay),
+            CodeCall::Illegal { task } => self.refuse(moment, task),
         }
     }
 
@@ -231,6 +244,7 @@ impl<A: Allocator> Core<A> {
         ensures made { self.new.made ≡ self.old.made + 1 }
     {
         let place = task as usize;
+        let kind = kind_of(&timing);
         self.made += 1;
         let due = moment + delay;
         self.moment = self.moment.max(moment);
@@ -241,10 +255,20 @@ impl<A: Allocator> Core<A> {
         };
         self.timings[place] = timing;
         self.queue.insert(Entry { due, task });
-        Answer::Submit {
+        Answer::Submit { task, kind, due }
+    }
+
+    /// The next call asks for a task with an illegal period.
+    fn refuse(&mut self, moment: u64, task: u32) -> Answer
+        requires { slice_get self.old.calls self.old.made ≡ Some (moment, call.Illegal task) }
+        ensures step { Takes self.old self.new happening.Call result }
+        ensures made { self.new.made ≡ self.old.made + 1 }
+    {
+        self.made += 1;
+        self.moment = self.moment.max(moment);
+        Answer::Refuse {
             task,
-            kind: kind_of(timing),
-            due,
+            refusal: Refusal::Illegal,
         }
     }
 
@@ -264,6 +288,7 @@ impl<A: Allocator> Core<A> {
 
     /// A worker asks for work.
     fn answer_start(&mut self, worker: u8) -> Answer
+        requires { IsCounted self.old }
         ensures { Takes self.old self.new (happening.Start worker) result }
     {
         let place = worker as usize;
@@ -293,6 +318,7 @@ impl<A: Allocator> Core<A> {
 
     /// The run of a worker ended.
     fn answer_finish(&mut self, worker: u8, ending: Ending) -> Answer
+        requires { IsCounted self.old }
         ensures { Takes self.old self.new (happening.Finish worker ending) result }
     {
         let place = worker as usize;
@@ -303,10 +329,12 @@ impl<A: Allocator> Core<A> {
             return Answer::Error(EventError::NotRunning);
         };
         let task = self.tasks[number as usize];
-        let timing = self.timings[number as usize];
-        let outcome = outcome_of(timing, ending);
-        self.tasks[number as usize] = finished_task(task, outcome);
+        let next = next_due(self.timings[number as usize], task.due, self.moment);
+        let outcome = outcome_of(next, ending);
+        let finished = finished_task(task, outcome, next);
+        self.tasks[number as usize] = finished;
         self.work[place] = None;
+        queue_if_waiting(&mut self.queue, number, finished);
         Answer::Finish {
             worker,
             task: number,
@@ -367,37 +395,67 @@ fn is_submission(call: &CodeCall) -> bool
     ensures { result ≡ is_submission call.now }
 {
     match call {
-        CodeCall::Submit { .. } => true,
+        CodeCall::Submit { .. } | CodeCall::Illegal { .. } => true,
     }
 }
 
-/// What a run of a task of this timing leads to.
-fn outcome_of(timing: Timing, ending: Ending) -> Outcome
-    ensures { result ≡ outcome_of timing ending }
+/// What the end of a run leads to, where the run after it would be due at `next`.
+fn outcome_of(next: Option<u64>, ending: Ending) -> Outcome
+    ensures { (timing : Timing) (due now : ℕ) → next ≡ next_due timing due now → result ≡ outcome_of timing (due_past timing due now) ending }
 {
-    match (timing, ending) {
-        (Timing::Once, Ending::Value(value)) => Outcome::Done(value),
+    match (ending, next) {
+        (Ending::Fault(code), _) => Outcome::Failed(code),
+        (Ending::Value(value), None) => Outcome::Done(value),
+        (Ending::Value(_), Some(due)) => Outcome::Again(due),
     }
 }
 
-/// A task whose run had this outcome.
-fn finished_task(task: Task, outcome: Outcome) -> Task
-    ensures { (timing : Timing) (now : ℕ) → result ≡ finish_task timing now outcome task }
+/// A task whose run had this outcome, where the run after it would be due at `next`.
+fn finished_task(task: Task, outcome: Outcome, next: Option<u64>) -> Task
+    requires { task.run < 2 ^ 32 }
+    ensures { (timing : Timing) (now : ℕ) → next ≡ next_due timing task.due now → result ≡ finish_task timing now outcome task }
 {
+    let due = next.unwrap_or(task.due);
     match outcome {
         Outcome::Done(_) => Task {
             phase: Phase::Done,
             run: task.run,
-            due: task.due,
+            due,
+        },
+        Outcome::Failed(_) => Task {
+            phase: Phase::Failed,
+            run: task.run,
+            due,
+        },
+        Outcome::Again(_) => Task {
+            phase: Phase::Waiting,
+            run: task.run + 1,
+            due,
         },
     }
 }
 
+/// Puts a task that is not in the queue into it, where it waits.
+fn queue_if_waiting<A: Allocator>(queue: &mut DelayQueue<A>, number: u32, task: Task)
+    requires known { number < length queue.old }
+    requires absent { slice_index_or queue.old number None ≡ None }
+    ensures { queue.new ≡ slice_set queue.old number (queued task) }
+{
+    if task.phase == Phase::Waiting {
+        queue.insert(Entry {
+            due: task.due,
+            task: number,
+        });
+    }
+}
+
 /// The kind of a task of this timing.
-fn kind_of(timing: Timing) -> Kind
-    ensures { result ≡ kind_of timing }
+fn kind_of(timing: &Timing) -> Kind
+    ensures { result ≡ kind_of timing.now }
 {
     match timing {
         Timing::Once => Kind::Schedule,
+        Timing::Rate(_) => Kind::Rate,
+        Timing::Fixed(_) => Kind::Fixed,
     }
 }

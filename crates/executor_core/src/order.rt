@@ -1,8 +1,9 @@
 ghost use Rattle.std.specs.Prelude.{◌≡◌, ◌+◌, ◌<◌, ◌≤◌, ◌^◌, ◌↔◌, IsTrue};
-ghost use Rattle.executor_core.specs.Calls.{IsOrderly, IsOrderlyCall, count_after};
+ghost use Rattle.executor_core.specs.Calls.{IsOrderly, IsOrderlyCall, IsTimed, count_after};
 
 use crate::limits::{LATEST, MOST_CALLS};
 use crate::words::CodeCall;
+use sched_time::Timing;
 
 /// Whether the calls are in the order in which they are made, and few enough.
 ///
@@ -38,7 +39,22 @@ fn is_orderly_call(count: u32, call: &CodeCall) -> bool
     ensures { IsTrue result ↔ IsOrderlyCall count call.now }
 {
     match call {
-        CodeCall::Submit { task, delay, .. } => *task == count && *delay <= LATEST,
+        CodeCall::Submit {
+            task,
+            timing,
+            delay,
+        } => *task == count && *delay <= LATEST && is_timed(timing),
+        CodeCall::Illegal { task } => *task == count,
+    }
+}
+
+/// Whether a period, or a fixed delay, is within the limit, as each span is.
+fn is_timed(timing: &Timing) -> bool
+    ensures { IsTrue result ↔ IsTimed timing.now }
+{
+    match timing {
+        Timing::Once => true,
+        Timing::Rate(span) | Timing::Fixed(span) => span.nanos() <= LATEST,
     }
 }
 
@@ -48,6 +64,6 @@ fn count_after(count: u32, call: &CodeCall) -> u32
     ensures { result ≡ count_after count call.now }
 {
     match call {
-        CodeCall::Submit { .. } => count + 1,
+        CodeCall::Submit { .. } | CodeCall::Illegal { .. } => count + 1,
     }
 }

@@ -3,12 +3,14 @@
 pub enum Phase {
     /// Not submitted.
     Vacant,
-    /// It waits for its run.
+    /// It waits for a run.
     Waiting,
-    /// Its run is under way.
+    /// A run is under way.
     Running,
-    /// Its one run ended.
+    /// Its one run ended with a value.
     Done,
+    /// A run failed.
+    Failed,
 }
 
 /// A task of the plan.
@@ -17,7 +19,8 @@ pub struct Task {
     pub phase: Phase,
     /// The number of the run that it waits for, that is under way, or that was its last.
     pub run: u64,
-    /// The due moment of that run, in nanoseconds.
+    /// The due moment of that run, and after the last one that of the run that would come, in
+    /// nanoseconds.
     pub due: u64,
 }
 

@@ -12,6 +12,11 @@ pub enum CodeCall {
         /// From the call's moment to its first run, 0 to 2^62 nanoseconds.
         delay: u64,
     },
+    /// A task is submitted with a period, or a fixed delay, that is zero or negative.
+    Illegal {
+        /// The number of the task, as that of a submission.
+        task: u32,
+    },
 }
 
 /// What the outside reports to the executor.
@@ -43,6 +48,17 @@ pub enum Happening {
 pub enum Kind {
     /// One run after a delay.
     Schedule,
+    /// Runs at a fixed rate.
+    Rate,
+    /// Runs with a fixed delay between the end of one and the start of the next.
+    Fixed,
+}
+
+/// Why a task was not accepted.
+#[derive(Clone, Copy, Debug, PartialEq, Eq)]
+pub enum Refusal {
+    /// Its period, or its fixed delay, is zero or negative.
+    Illegal,
 }
 
 /// Why an event had no effect.
@@ -65,6 +81,10 @@ pub enum EventError {
 pub enum Outcome {
     /// The task is done, with this value.
     Done(u64),
+    /// The run failed, with this code; no run of the task comes after it.
+    Failed(u32),
+    /// The task waits for its next run, with this due moment, at most 2^63 nanoseconds.
+    Again(u64),
 }
 
 /// What a happening is answered.
@@ -76,6 +96,11 @@ pub enum Answer {
         kind: Kind,
         /// The due moment of its first run, at most 2^63 nanoseconds.
         due: u64,
+    },
+    /// The task was not accepted.
+    Refuse {
+        task: u32,
+        refusal: Refusal,
     },
     /// The clock was moved.
     Clock,

@@ -6,7 +6,7 @@ use Rattle.std.proofs.lemmas.Str.Parse.{digit_at}
 use Rattle.std.proofs.lemmas.List.{append_cancel_left}
 use Rattle.std.proofs.lemmas.List.Elements.{All-append, All-from_get_or}
 use Rattle.sched_time.specs.declared.timing.Ending.{Ending}
-use Rattle.sched_time.specs.declared.timing.Ending.TheVariants.{Value}
+use Rattle.sched_time.specs.declared.timing.Ending.TheVariants.{Value, Fault}
 use Rattle.executor_core.specs.declared.Event.{Event}
 use Rattle.executor_core.specs.declared.Event.TheVariants.{Clock, Start, Finish}
 use Rattle.sched.specs.Lines.{IsLine}
@@ -26,6 +26,9 @@ behind a b p q = All-append (λ c. c ≢ 10) a b p q
 ok_line : IsLine (codes "ok ")
 ok_line = search rules
 
+fail_line : IsLine (codes "fail ")
+fail_line = search rules
+
 space_line : IsLine (codes " ")
 space_line = search rules
 
@@ -40,6 +43,7 @@ finish_line = search rules
 
 ending_is_line : (e : Ending) → FitsEnding e → IsLine (ending_text e)
 ending_is_line (Value v) h = behind (codes "ok ") (decimal v) ok_line (number_is_line v h)
+ending_is_line (Fault c) h = behind (codes "fail ") (decimal c) fail_line (number_is_line c (omega (arith, h)))
 
 -- the text of an event holds no newline
 pub event_is_line : (e : Event) → FitsEvent e → IsLine (event_text e)
@@ -55,8 +59,12 @@ number_short n h = length-decimal-le 20 n (omega arith) (omega arith) h
 worker_short : (n : ℕ) → n < 2 ^ 8 → length (decimal n) ≤ 3
 worker_short n h = length-decimal-le 3 n (omega arith) (omega arith) (omega arith)
 
+code_short : (n : ℕ) → n < 2 ^ 32 → length (decimal n) ≤ 10
+code_short n h = length-decimal-le 10 n (omega arith) (omega arith) (omega arith)
+
 ending_short : (e : Ending) → FitsEnding e → length (ending_text e) ≤ 23
 ending_short (Value v) h = omega (arith, length-append (codes "ok ") (decimal v), number_short v h)
+ending_short (Fault c) h = omega (arith, length-append (codes "fail ") (decimal c), code_short c h)
 
 -- the text of an event has at most 34 bytes
 pub event_short : (e : Event) → FitsEvent e → length (event_text e) ≤ 34
@@ -82,6 +90,10 @@ first_byte xs ys i e = ap (λ l. get_or l i 0) e
 
 ending_is_one : (e f : Ending) → FitsEnding e → FitsEnding f → ending_text e ≡ ending_text f → e ≡ f
 ending_is_one (Value v) (Value u) p q h = ap Value (decimal_injective v u p q (append_cancel_left (codes "ok ") (decimal v) (decimal u) h))
+ending_is_one (Value v) (Fault c) p q h = let e = first_byte (ending_text (Value v)) (ending_text (Fault c)) 0 h in absurd (omega (arith, e))
+ending_is_one (Fault c) (Value v) p q h = let e = first_byte (ending_text (Fault c)) (ending_text (Value v)) 0 h in absurd (omega (arith, e))
+ending_is_one (Fault c) (Fault d) p q h =
+    ap Fault (decimal_injective c d (omega (arith, p)) (omega (arith, q)) (append_cancel_left (codes "fail ") (decimal c) (decimal d) h))
 
 -- a text is the text of one event alone
 pub event_is_one : (e f : Event) → FitsEvent e → FitsEvent f → event_text e ≡ event_text f → e ≡ f

@@ -1,13 +1,13 @@
 pub mod Digits
 pub mod EventTexts
 pub mod Numbers
-pub mod Puts
 pub mod Ranges
 pub mod Refusals
 pub mod Runs
 pub mod Texts
 pub mod Tables
 pub mod Offsets
+pub mod Periods
 pub mod Reading
 pub mod Ordering
 pub mod Trees

@@ -4,7 +4,7 @@ use Rattle.std.proofs.lemmas.List.{drop_more}
 use Rattle.executor_core.specs.declared.words.CodeCall.{CodeCall}
 use Rattle.sched.specs.declared.plan_read.plans.Call.{Call}
 use Rattle.sched.specs.declared.plan_read.plans.Op.{Op}
-use Rattle.sched.specs.declared.plan_read.plans.Op.TheVariants.{Schedule}
+use Rattle.sched.specs.declared.plan_read.plans.Op.TheVariants.{Schedule, Rate, Fixed}
 use Rattle.sched.specs.Plans.{BlockTree, PlanTree}
 use Rattle.sched.specs.PlanCalls.{tasks_after, tasks_after_calls, calls_of_block, calls_from}
 use Rattle.executor_core.specs.Calls.{count_after, IsOrderlyFrom}
@@ -32,6 +32,8 @@ blocks_turn task bs i b h is = ap (calls_from task) (drop_more bs i b h ∙ ap (
 
 one_task : (task : ℕ) (op : Op) → tasks_after task op ≡ task + 1
 one_task task (Schedule name delay) = refl
+one_task task (Rate name first period) = refl
+one_task task (Fixed name first delay) = refl
 
 -- the number of tasks after a block counts its calls
 tasks_count : (task : ℕ) (cs : List Call) → tasks_after_calls task cs ≡ task + length cs

@@ -1,9 +1,9 @@
 -- The calls of a block are in order.
-use Rattle.std.proofs.Common.{◌≡◌, ℕ, ◌+◌, ◌≤◌, List, [], ◌∷◌, length, refl, arith, append-nil}
+use Rattle.std.proofs.Common.{◌≡◌, ℕ, ◌+◌, ◌≤◌, List, [], ◌∷◌, length, Some, None, refl, arith, append-nil}
 use Rattle.sched.specs.declared.plan_read.plans.Call.{Call}
 use Rattle.sched.specs.declared.plan_read.plans.Op.{Op}
-use Rattle.sched.specs.declared.plan_read.plans.Op.TheVariants.{Schedule}
-use Rattle.sched.specs.Plans.{IsShort, AreCallsFrom}
+use Rattle.sched.specs.declared.plan_read.plans.Op.TheVariants.{Schedule, Rate, Fixed}
+use Rattle.sched.specs.Plans.{IsWithinLimits, AreCallsFrom}
 use Rattle.sched.specs.PlanCalls.{code_call, tasks_after, calls_of_block, calls_of}
 use Rattle.executor_core.specs.Calls.{count_after, IsOrderlyCall, IsOrderlyFrom, IsOrderly}
 
@@ -11,11 +11,19 @@ pub length-calls_of_block : (at task : ℕ) (cs : List Call) → length (calls_o
 length-calls_of_block at task [] = refl
 length-calls_of_block at task (c ∷ cs) = omega (arith, length-calls_of_block at (tasks_after task c.op) cs)
 
-is_orderly_call : (task : ℕ) (op : Op) → IsShort op → IsOrderlyCall task (code_call task op)
-is_orderly_call task (Schedule name delay) h = (refl, h)
+is_orderly_call : (task : ℕ) (op : Op) → IsWithinLimits op → IsOrderlyCall task (code_call task op)
+is_orderly_call task (Schedule name delay) h = (refl, h, tt)
+is_orderly_call task (Rate name first (Some period)) h = (refl, h.0, h.1.1)
+is_orderly_call task (Rate name first None) h = refl
+is_orderly_call task (Fixed name first (Some delay)) h = (refl, h.0, h.1.1)
+is_orderly_call task (Fixed name first None) h = refl
 
 pub counts_alike : (task : ℕ) (op : Op) → count_after task (code_call task op) ≡ tasks_after task op
 counts_alike task (Schedule name delay) = refl
+counts_alike task (Rate name first (Some period)) = refl
+counts_alike task (Rate name first None) = refl
+counts_alike task (Fixed name first (Some delay)) = refl
+counts_alike task (Fixed name first None) = refl
 
 at_zero : (task offset : ℕ) (cs : List Call) → AreCallsFrom offset cs → IsOrderlyFrom task offset (calls_of_block 0 task cs)
 at_zero task offset [] h = tt

@@ -1,21 +1,28 @@
 -- The calls that a plan makes.
 -- All of it is this project's rule.
-use Rattle.std.specs.Prelude.{ℕ, ◌+◌, List, [], ◌∷◌, ◌++◌}
-use Rattle.sched_time.specs.declared.timing.Timing.TheVariants.{Once}
+use Rattle.std.specs.Prelude.{ℕ, ◌+◌, List, [], ◌∷◌, ◌++◌, Some, None}
+use Rattle.sched_time.specs.declared.timing.Timing.TheVariants as t
 use Rattle.executor_core.specs.declared.words.CodeCall.{CodeCall}
-use Rattle.executor_core.specs.declared.words.CodeCall.TheVariants.{Submit}
+use Rattle.executor_core.specs.declared.words.CodeCall.TheVariants.{Submit, Illegal}
 use Rattle.sched.specs.declared.plan_read.plans.Call.{Call}
 use Rattle.sched.specs.declared.plan_read.plans.Op.{Op}
-use Rattle.sched.specs.declared.plan_read.plans.Op.TheVariants.{Schedule}
+use Rattle.sched.specs.declared.plan_read.plans.Op.TheVariants.{Schedule, Rate, Fixed}
 use Rattle.sched.specs.Plans.{PlanTree}
 
 -- the call that an operation asks for, where `task` submissions stand before it
+-- (that a submission with no legal period or fixed delay is a call too, and has a number, is this project's rule)
 abbrev pub code_call : ℕ → Op → CodeCall
-code_call task (Schedule name delay) = Submit task Once delay
+code_call task (Schedule name delay) = Submit task t.Once delay
+code_call task (Rate name first (Some period)) = Submit task (t.Rate period) first
+code_call task (Rate name first None) = Illegal task
+code_call task (Fixed name first (Some delay)) = Submit task (t.Fixed delay) first
+code_call task (Fixed name first None) = Illegal task
 
 -- how many submissions there are up to and with an operation
 abbrev pub tasks_after : ℕ → Op → ℕ
 tasks_after task (Schedule name delay) = task + 1
+tasks_after task (Rate name first period) = task + 1
+tasks_after task (Fixed name first delay) = task + 1
 
 -- how many there are up to and with the calls of a block
 abbrev pub tasks_after_calls : ℕ → List Call → ℕ

@@ -8,7 +8,7 @@ use Rattle.toml.specs.Parse.{parse_document}
 use Rattle.toml.specs.Data.{Data, Items, no_items, item, Members, no_members, member, get_member, as_integer, as_str, as_array, as_table}
 use Rattle.sched_time.specs.declared.unit.Unit.{Unit as TimeUnit}
 use Rattle.sched_time.specs.declared.unit.Unit.TheVariants.{Ns}
-use Rattle.sched_time.specs.Times.{longest, span_of}
+use Rattle.sched_time.specs.Times.{longest, span_of, period_of}
 use Rattle.sched.specs.declared.plan_read.faults.Place.{Place}
 use Rattle.sched.specs.declared.plan_read.faults.PlanFault.{PlanFault}
 use Rattle.sched.specs.declared.plan_read.faults.PlanFaultKind.{PlanFaultKind}
@@ -17,8 +17,12 @@ use Rattle.sched.specs.declared.plan_read.faults.Stop.{Stop}
 use Rattle.sched.specs.declared.plan_read.faults.Stop.TheVariants as stops
 use Rattle.sched.specs.declared.plan_read.plans.Call.{Call}
 use Rattle.sched.specs.declared.plan_read.plans.Op.{Op}
-use Rattle.sched.specs.declared.plan_read.plans.Op.TheVariants.{Schedule}
-use Rattle.sched.specs.declared.plan_read.reading.Fields.{Fields}
+use Rattle.sched.specs.declared.plan_read.plans.Op.TheVariants.{Schedule, Rate, Fixed}
+use Rattle.sched.specs.declared.plan_read.verbs.Verb.{Verb}
+use Rattle.sched.specs.declared.plan_read.verbs.Verb.TheVariants as verbs
+use Rattle.sched.specs.declared.plan_read.fields.Fields.{Fields}
+use Rattle.sched.specs.declared.plan_read.fields.WrittenSpans.{WrittenSpans}
+use Rattle.sched.specs.declared.plan_read.fields.WrittenSpans.TheVariants as written
 use Rattle.sched.specs.Names.{is_name}
 use Rattle.sched.specs.Plans.{BlockTree, PlanTree}
 
@@ -97,6 +101,10 @@ tables_of place (Some d) = do
   tables ← check place (are_tables items) WrongType
   Ok items
 
+-- the value at a key that has to be there
+abbrev pub required : Place → List ℕ → Members → Read Data
+required place key ms = expect place (get_member key ms) Missing
+
 -- an integer, with 0 where there is no value
 abbrev pub integer_or_zero : Place → Option Data → Read ℤ
 integer_or_zero place None = Ok (pos 0)
@@ -106,11 +114,17 @@ integer_or_zero place (Some d) = expect place (as_integer d) WrongType
 abbrev pub nanos_at : Place → ℤ → TimeUnit → Read ℕ
 nanos_at place value unit = if nat_le (span_of value unit) longest then Ok (span_of value unit) else Err (fault place TooLarge)
 
+-- the nanoseconds of a period or a fixed delay, at most 2^62, and none where it is illegal: zero or negative
+abbrev pub period_at : Place → ℤ → TimeUnit → Read (Option ℕ)
+period_at place value unit = if nat_le (span_of value unit) longest then Ok (period_of value unit) else Err (fault place TooLarge)
+
 -- ---- a call
 
 -- an operation is a submission of this name
 abbrev pub has_name : List ℕ → Op → Bool
 has_name text (Schedule name delay) = bytes_eq name text
+has_name text (Rate name first period) = bytes_eq name text
+has_name text (Fixed name first delay) = bytes_eq name text
 
 -- one of the calls is a submission of this name
 abbrev pub is_taken : List ℕ → List Call → Bool
@@ -125,50 +139,112 @@ last_from offset (c ∷ cs) = last_from c.at cs
 abbrev pub last_offset : List Call → ℕ
 last_offset calls = last_from 0 calls
 
--- the keys of a `schedule`
-abbrev pub is_schedule_key : List ℕ → Bool
-is_schedule_key key = bytes_eq key (codes "op") || bytes_eq key (codes "at") || bytes_eq key (codes "name") || bytes_eq key (codes "delay")
+-- the operation of a word, and none where the word names none
+abbrev pub verb_of_word : List ℕ → Option Verb
+verb_of_word word =
+    if bytes_eq word (codes "schedule") then Some verbs.Schedule else
+    (if bytes_eq word (codes "rate") then Some verbs.Rate else
+    (if bytes_eq word (codes "fixed") then Some verbs.Fixed else None))
 
--- the values of its keys, each of its type
+-- the operation has to be there, and to be one of the three
+unfoldable pub verb_of : Place → Members → Read Verb
+verb_of place ms = do
+  op ← required place (codes "op") ms
+  word ← expect place (as_str op) WrongType
+  expect place (verb_of_word word) WrongType
+
+-- the keys that each submission has
+abbrev pub is_submission_key : List ℕ → Bool
+is_submission_key key = bytes_eq key (codes "op") || bytes_eq key (codes "at") || bytes_eq key (codes "name")
+
+-- the keys of a call, by its operation
+abbrev pub is_call_key : Verb → List ℕ → Bool
+is_call_key verbs.Schedule key = is_submission_key key || bytes_eq key (codes "delay")
+is_call_key verbs.Rate key = is_submission_key key || bytes_eq key (codes "first") || bytes_eq key (codes "period")
+is_call_key verbs.Fixed key = is_submission_key key || bytes_eq key (codes "first") || bytes_eq key (codes "delay")
+
+-- the values of a submission's keys, each of its type
 pub record FieldValues : Type 0 where
   pub name : List ℕ
-  pub delay : ℤ
+  pub spans : WrittenSpans
   pub at : ℤ
 
 -- the code's record of them, seen so
 abbrev pub field_values : Fields → FieldValues
-field_values f = record { name = f.name.now; delay = f.delay; at = f.at }
+field_values f = record { name = f.name.now; spans = f.spans; at = f.at }
 
--- the operation has to be there, and to be `schedule`
-unfoldable pub op_of : Place → Members → Read Bool
-op_of place ms = do
-  op ← expect place (get_member (codes "op") ms) Missing
-  word ← expect place (as_str op) WrongType
-  check place (bytes_eq word (codes "schedule")) WrongType
-
--- no other keys, then the keys that have to be there, then their types
-unfoldable pub fields_of : Place → Members → Read FieldValues
-fields_of place ms = do
-  known ← check place (has_only is_schedule_key ms) UnknownKey
-  name ← expect place (get_member (codes "name") ms) Missing
-  delay ← expect place (get_member (codes "delay") ms) Missing
+-- a `schedule`: the keys that have to be there, then the types of the values
+unfoldable pub schedule_of : Place → Members → Read FieldValues
+schedule_of place ms = do
+  name ← required place (codes "name") ms
+  delay ← required place (codes "delay") ms
   text ← expect place (as_str name) WrongType
   wait ← expect place (as_integer delay) WrongType
   at ← integer_or_zero place (get_member (codes "at") ms)
-  Ok (record { name = text; delay = wait; at = at })
+  Ok (record { name = text; spans = written.Schedule wait; at = at })
+
+-- a `rate`, likewise
+unfoldable pub rate_of : Place → Members → Read FieldValues
+rate_of place ms = do
+  name ← required place (codes "name") ms
+  first ← required place (codes "first") ms
+  period ← required place (codes "period") ms
+  text ← expect place (as_str name) WrongType
+  start ← expect place (as_integer first) WrongType
+  step ← expect place (as_integer period) WrongType
+  at ← integer_or_zero place (get_member (codes "at") ms)
+  Ok (record { name = text; spans = written.Rate start step; at = at })
+
+-- a `fixed`, likewise
+unfoldable pub fixed_of : Place → Members → Read FieldValues
+fixed_of place ms = do
+  name ← required place (codes "name") ms
+  first ← required place (codes "first") ms
+  delay ← required place (codes "delay") ms
+  text ← expect place (as_str name) WrongType
+  start ← expect place (as_integer first) WrongType
+  wait ← expect place (as_integer delay) WrongType
+  at ← integer_or_zero place (get_member (codes "at") ms)
+  Ok (record { name = text; spans = written.Fixed start wait; at = at })
+
+-- the values of a submission, by its operation
+abbrev pub values_of : Place → Verb → Members → Read FieldValues
+values_of place verbs.Schedule ms = schedule_of place ms
+values_of place verbs.Rate ms = rate_of place ms
+values_of place verbs.Fixed ms = fixed_of place ms
+
+-- no other keys than those of the operation, then the values
+unfoldable pub fields_of : Place → Verb → Members → Read FieldValues
+fields_of place verb ms = do
+  known ← check place (has_only (is_call_key verb) ms) UnknownKey
+  values_of place verb ms
+
+-- the operation of a submission of this name, with these spans in nanoseconds
+unfoldable pub op_of : Place → List ℕ → WrittenSpans → Read Op
+op_of place name (written.Schedule delay) = do
+  wait ← nanos_at place delay Ns
+  Ok (Schedule name wait)
+op_of place name (written.Rate first period) = do
+  start ← nanos_at place first Ns
+  step ← period_at place period Ns
+  Ok (Rate name start step)
+op_of place name (written.Fixed first delay) = do
+  start ← nanos_at place first Ns
+  wait ← period_at place delay Ns
+  Ok (Fixed name start wait)
 
 -- the call that a table writes, after the calls `before` of its block
 unfoldable pub call_of : Place → List Call → Members → Read Call
 call_of place before ms = do
-  op ← op_of place ms
-  fields ← fields_of place ms
+  verb ← verb_of place ms
+  fields ← fields_of place verb ms
   named ← check place (is_name fields.name) BadName
   fresh ← check place (not (is_taken fields.name before)) DuplicateName
   forward ← check place (not (int_lt fields.at (pos 0))) Negative
   offset ← nanos_at place fields.at Ns
-  delay ← nanos_at place fields.delay Ns
+  op ← op_of place fields.name fields.spans
   ordered ← check place (nat_le (last_offset before) offset) OutOfOrder
-  Ok (record { at = offset; op = Schedule fields.name delay })
+  Ok (record { at = offset; op = op })
 
 -- ---- a block
 

@@ -1,10 +1,10 @@
 -- What contracts see of a plan.
 -- All of it is this project's rule.
-use Rattle.std.specs.Prelude.{ℕ, ◌≤◌, List, [], ◌∷◌}
+use Rattle.std.specs.Prelude.{ℕ, ◌≤◌, List, [], ◌∷◌, Option, Some, None}
 use Rattle.sched_time.specs.Times.{longest}
 use Rattle.sched.specs.declared.plan_read.plans.Call.{Call}
 use Rattle.sched.specs.declared.plan_read.plans.Op.{Op}
-use Rattle.sched.specs.declared.plan_read.plans.Op.TheVariants.{Schedule}
+use Rattle.sched.specs.declared.plan_read.plans.Op.TheVariants.{Schedule, Rate, Fixed}
 
 -- a block: its moment, and its calls in the order of the text
 pub record BlockTree : Type 0 where
@@ -15,13 +15,20 @@ pub record BlockTree : Type 0 where
 abbrev pub PlanTree : Type 0
 PlanTree = List BlockTree
 
--- the operation asks for no span above 2^62 nanoseconds
-abbrev pub IsShort : Op → Type 0
-IsShort (Schedule name delay) = delay ≤ longest
+-- a period or a fixed delay is 1 to 2^62 nanoseconds, where it is legal
+abbrev pub IsLegal : Option ℕ → Type 0
+IsLegal None = Unit {0}
+IsLegal (Some nanos) = (1 ≤ nanos) × (nanos ≤ longest)
+
+-- the operation asks for no span above 2^62 nanoseconds, and for no period or fixed delay of 0
+abbrev pub IsWithinLimits : Op → Type 0
+IsWithinLimits (Schedule name delay) = delay ≤ longest
+IsWithinLimits (Rate name first period) = (first ≤ longest) × IsLegal period
+IsWithinLimits (Fixed name first delay) = (first ≤ longest) × IsLegal delay
 
 -- the call may come after an offset
 abbrev pub IsCallFrom : ℕ → Call → Type 0
-IsCallFrom offset c = (offset ≤ c.at) × (c.at ≤ longest) × IsShort c.op
+IsCallFrom offset c = (offset ≤ c.at) × (c.at ≤ longest) × IsWithinLimits c.op
 
 -- the calls from some offset on: the offsets do not fall
 abbrev pub AreCallsFrom : ℕ → List Call → Type 0

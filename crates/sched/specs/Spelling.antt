@@ -9,6 +9,8 @@ use Rattle.executor_core.specs.declared.Event.{Event}
 use Rattle.executor_core.specs.declared.Event.TheVariants as event
 use Rattle.executor_core.specs.declared.Kind.{Kind}
 use Rattle.executor_core.specs.declared.Kind.TheVariants as kind
+use Rattle.executor_core.specs.declared.Refusal.{Refusal}
+use Rattle.executor_core.specs.declared.Refusal.TheVariants as refusal
 use Rattle.executor_core.specs.declared.EventError.{EventError}
 use Rattle.executor_core.specs.declared.EventError.TheVariants as error
 use Rattle.executor_core.specs.declared.Outcome.{Outcome}
@@ -25,9 +27,10 @@ pub record Puts (old new text : List ℕ) : Type 0 where
 abbrev pub EndsNumber : List ℕ → Type 0
 EndsNumber rest = IsInRange 48 57 (slice_index rest 0) → ⊥
 
--- how a run ended: `ok V`
+-- how a run ended: `ok V` with a value, `fail C` with a code
 abbrev pub ending_text : Ending → List ℕ
 ending_text (ending.Value v) = codes "ok " ++ decimal v
+ending_text (ending.Fault c) = codes "fail " ++ decimal c
 
 -- an event's line, without its newline
 abbrev pub event_text : Event → List ℕ
@@ -35,9 +38,10 @@ event_text (event.Clock t) = codes "clock " ++ decimal t
 event_text (event.Start w) = codes "start " ++ decimal w
 event_text (event.Finish w e) = codes "finish " ++ (decimal w ++ (codes " " ++ ending_text e))
 
--- a value below 2^64
+-- a value below 2^64, a code below 2^32
 abbrev pub FitsEnding : Ending → Type 0
 FitsEnding (ending.Value v) = v < 2 ^ 64
+FitsEnding (ending.Fault c) = c < 2 ^ 32
 
 -- a moment below 2^64, a worker below 256
 abbrev pub FitsEvent : Event → Type 0
@@ -48,8 +52,14 @@ FitsEvent (event.Finish w e) = (w < 2 ^ 8) × FitsEnding e
 -- the word of a kind of task
 abbrev pub kind_text : Kind → List ℕ
 kind_text kind.Schedule = codes "schedule"
+kind_text kind.Rate = codes "rate"
+kind_text kind.Fixed = codes "fixed"
 
--- the words of a refusal
+-- why a task was refused, in a word
+abbrev pub refusal_text : Refusal → List ℕ
+refusal_text refusal.Illegal = codes "illegal"
+
+-- why an event had no effect, in words
 abbrev pub error_text : EventError → List ℕ
 error_text error.Backward = codes "backward"
 error_text error.TooFar = codes "too far"
@@ -60,10 +70,13 @@ error_text error.NotRunning = codes "not running"
 -- what a finished run led to, and the newline
 abbrev pub outcome_text : Outcome → List ℕ
 outcome_text (outcome.Done v) = codes " done " ++ (decimal v ++ codes "\n")
+outcome_text (outcome.Failed c) = codes " failed " ++ (decimal c ++ codes "\n")
+outcome_text (outcome.Again d) = codes " again due " ++ (decimal d ++ codes "\n")
 
 -- an answer behind its moment, and the newline
 abbrev pub answer_text : Answer → List ℕ
 answer_text (answer.Submit k kind d) = codes " submit " ++ (decimal k ++ (codes " " ++ (kind_text kind ++ (codes " due " ++ (decimal d ++ codes "\n")))))
+answer_text (answer.Refuse k reason) = codes " refuse " ++ (decimal k ++ (codes " " ++ (refusal_text reason ++ codes "\n")))
 answer_text answer.Clock = codes " clock\n"
 answer_text (answer.Start w k n d) = codes " start " ++ (decimal w ++ (codes " task " ++ (decimal k ++ (codes " run " ++ (decimal n ++ (codes " due " ++ (decimal d ++ codes "\n")))))))
 answer_text (answer.Idle w) = codes " start " ++ (decimal w ++ codes " idle\n")

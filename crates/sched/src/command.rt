@@ -17,19 +17,29 @@ const FORMS: &str = "\
 The plan is a TOML file of at most 1,048,576 bytes: 'version = 1', and at most
 one [[block]] with a [[block.call]] for each call that is made, at most 256.
 A call has
-  op     \"schedule\": a task that runs once
-  name   the task's name: 1 to 32 ASCII letters, digits, '-' and '_';
-         no other task has it
-  delay  when the task is due, in nanoseconds after the call;
-         a negative one counts as 0
-  at     when the call is made, in nanoseconds, 0 where it is left out;
-         no call has a smaller one than the call before it
+  op      what it submits:
+            \"schedule\"  a task that runs once
+            \"rate\"      a task that runs at a fixed rate
+            \"fixed\"     a task that runs a fixed delay after each of its runs
+  name    the task's name: 1 to 32 ASCII letters, digits, '-' and '_';
+          no other task has it
+  at      when the call is made, in nanoseconds, 0 where it is left out;
+          no call has a smaller one than the call before it
+and, in nanoseconds,
+  delay   of schedule: when the task is due after the call
+  first   of rate and fixed: when the first run is due after the call
+  period  of rate: from one due moment to the next
+  delay   of fixed: from the end of a run to the due moment of the next
+A negative first, or delay of schedule, counts as 0. A task whose period, or
+delay of fixed, is zero or negative is refused when its call is made.
 Tasks are numbered from 0 in the order of their calls, workers from 0 to N - 1.
 
 An event is a line on standard input, of at most 63 bytes with its newline:
-  clock T        the time is now T nanoseconds; calls made by then come first
-  start W        worker W takes the first task that is due, if there is one
-  finish W ok V  worker W has run its task, and the task's value is V
+  clock T          the time is now T nanoseconds; calls made by then come first
+  start W          worker W takes the first task that is due, if there is one
+  finish W ok V    worker W has run its task, and the run's value is V
+  finish W fail C  the run of worker W failed with code C; no other run of
+                   the task follows
 
 The trace goes to standard output, a line for each call and each event, with
 the time in front. All events that were read are answered before more are read.

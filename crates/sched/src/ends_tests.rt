@@ -1,16 +1,14 @@
 ghost use Rattle.std.specs.Prelude.{◌≡◌, ◌≤◌, ◌++◌, ℕ, List, take, IfOk, IfSome};
 
 use crate::ends::{read_some, write_text};
-use crate::event::read_event;
 use crate::held::{Filled, Held};
 use crate::line_text::{TextError, write_line, write_lines};
 use crate::lines::{Front, front_line};
 use crate::memory::Pieces;
 use crate::readers::Reading;
 use crate::writers::Writing;
-use executor_core::{Answer, Event, EventError, Kind, Line, Outcome};
+use executor_core::{Answer, Line};
 use linked_list_allocator::LocalHeap;
-use sched_time::Ending;
 use std::alloc::Global;
 use std::io;
 use std::io::{ErrorKind, Read, Write};
@@ -140,102 +138,6 @@ fn holds_pieces(rt: HostRuntime) -> Result<(), Fail> {
         }
         assert!(rt; lines.as_slice() == [2, 4].as_slice());
         assert!(rt; held.bytes().is_empty());
-    }
-    Ok(())
-}
-
-#[test]
-fn reads_events(rt: HostRuntime) -> Result<(), Fail> {
-    assert_eq!(rt; read_event(b"clock 0"), Some(Event::Clock(0)));
-    assert_eq!(rt;
-        read_event(b"clock 18446744073709551615"),
-        Some(Event::Clock(u64::MAX))
-    );
-    assert_eq!(rt; read_event(b"start 255"), Some(Event::Start(255)));
-    assert_eq!(rt;
-        read_event(b"finish 255 ok 18446744073709551615"),
-        Some(Event::Finish(255, Ending::Value(u64::MAX)))
-    );
-    let refused: [&[u8]; 20] = [
-        b"",
-        b"clock",
-        b"clock ",
-        b"clock 05",
-        b"clock +5",
-        b"clock 5 ",
-        b"clock  5",
-        b" clock 5",
-        b"clock 5\n",
-        b"Clock 5",
-        b"clock 18446744073709551616",
-        b"start 256",
-        b"start -1",
-        b"finish 3",
-        b"finish 3 ok",
-        b"finish 3 ok ",
-        b"finish 256 ok 1",
-        b"finish 03 ok 1",
-        b"finish 3  ok 1",
-        b"finish 3 ok 1 ",
-    ];
-    for line in refused {
-        assert_eq!(rt; read_event(line), None);
-    }
-    Ok(())
-}
-
-/// The text of one line.
-fn text_of(alloc: Global, moment: u64, answer: Answer) -> Result<Vec<u8>, TextError> {
-    let mut out = Vec::new(alloc);
-    write_line(&mut out, &Line { moment, answer })?;
-    Ok(out)
-}
-
-#[test]
-fn writes_answers(rt: HostRuntime) -> Result<(), Fail> {
-    let answers: [(Answer, &[u8]); 10] = [
-        (
-            Answer::Submit {
-                task: 4_294_967_295,
-                kind: Kind::Schedule,
-                due: 12,
-            },
-            b"7 submit 4294967295 schedule due 12\n",
-        ),
-        (Answer::Clock, b"7 clock\n"),
-        (
-            Answer::Start {
-                worker: 255,
-                task: 3,
-                run: 0,
-                due: 9,
-            },
-            b"7 start 255 task 3 run 0 due 9\n",
-        ),
-        (Answer::Idle { worker: 2 }, b"7 start 2 idle\n"),
-        (
-            Answer::Finish {
-                worker: 1,
-                task: 3,
-                run: 0,
-                outcome: Outcome::Done(18_446_744_073_709_551_615),
-            },
-            b"7 finish 1 task 3 run 0 done 18446744073709551615\n",
-        ),
-        (Answer::Error(EventError::Backward), b"7 error backward\n"),
-        (Answer::Error(EventError::TooFar), b"7 error too far\n"),
-        (Answer::Error(EventError::NoWorker), b"7 error no worker\n"),
-        (Answer::Error(EventError::Busy), b"7 error busy\n"),
-        (
-            Answer::Error(EventError::NotRunning),
-            b"7 error not running\n",
-        ),
-    ];
-    for (answer, want) in answers {
-        match text_of(rt.alloc(), 7, answer) {
-            Ok(text) => assert!(rt; text.as_slice() == want),
-            Err(TextError::Memory) => assert!(rt; false, "out of memory"),
-        }
     }
     Ok(())
 }

@@ -8,8 +8,8 @@ use executor_core::Event;
 use sched_time::Ending;
 
 /// The event that a line spells, given without its newline. `None` where it
-/// spells none whose moment and value are below 2^64 and whose worker is below
-/// 256.
+/// spells none whose moment and value are below 2^64, whose worker is below 256
+/// and whose code is below 2^32.
 pub fn read_event(line: &[u8]) -> Option<Event>
     ensures { Spells line.now result }
 {
@@ -67,17 +67,40 @@ fn read_finish(rest: &[u8]) -> Option<Event>
     Some(Event::Finish(worker, ending))
 }
 
-/// How a run ended, as these words say: `ok V`.
+/// How a run ended, as these words say: `ok V` or `fail C`.
 fn read_ending(words: &[u8]) -> Option<Ending>
     ensures { ReadsEnding words.now result }
 {
-    let Some(rest) = strip(words, b"ok ") else {
-        return None;
-    };
+    if let Some(rest) = strip(words, b"ok ") {
+        return read_value(rest);
+    }
+    if let Some(rest) = strip(words, b"fail ") {
+        return read_fault(rest);
+    }
+    None
+}
+
+/// The ending of words that begin with `ok`.
+fn read_value(rest: &[u8]) -> Option<Ending>
+    ensures { ReadsEnding (codes "ok " ++ rest.now) result }
+{
     let Some(value) = read_number(rest) else {
         return None;
     };
     Some(Ending::Value(value))
+}
+
+/// The ending of words that begin with `fail`.
+fn read_fault(rest: &[u8]) -> Option<Ending>
+    ensures { ReadsEnding (codes "fail " ++ rest.now) result }
+{
+    let Some(number) = read_number(rest) else {
+        return None;
+    };
+    let Some(code) = code_of(number) else {
+        return None;
+    };
+    Some(Ending::Fault(code))
 }
 
 /// The worker of this number, below 256.
@@ -89,3 +112,16 @@ fn worker_of(number: u64) -> Option<u8>
     }
     Some(number as u8)
 }
+
+/// The code of this number, below 2^32.
+fn code_of(number: u64) -> Option<u32>
+    ensures { MatchOption result (2 ^ 32 ≤ number) (λ c. c ≡ number) }
+{
+    if number > 4_294_967_295 {
+        return None;
+    }
+    Some(number as u32)
+}
+
+#[cfg(test)]
+mod tests;

@@ -1,8 +1,10 @@
-ghost use Rattle.std.specs.Prelude.{◌≡◌, ℕ, ◌+◌, ◌≤◌, ◌<◌, ◌++◌, OnOk, OnErr, IsOk, length, take, vec_len, vec_capacity};
-ghost use Rattle.sched.specs.Spelling.{Puts, kind_text, error_text, outcome_text, line_text, lines_text};
+ghost use Rattle.std.specs.Prelude.{◌≡◌, ℕ, ◌+◌, ◌≤◌, ◌<◌, ◌++◌, OnOk, OnErr, IsOk, length, take, vec_len, vec_capacity, codes};
+ghost use Rattle.std.specs.Fmt.{decimal};
+ghost use Rattle.sched.specs.Spelling.{Puts, kind_text, refusal_text, error_text, outcome_text, answer_text, line_text, lines_text};
+ghost use Rattle.executor_core.specs.declared.Answer.TheVariants as a;
 
 use crate::number::{put_number, put_text};
-use executor_core::{Answer, EventError, Kind, Line, Outcome};
+use executor_core::{Answer, EventError, Kind, Line, Outcome, Refusal};
 use std::alloc::{AllocError, Allocator};
 use thiserror::Error;
 
@@ -46,59 +48,106 @@ pub fn write_line<A: Allocator>(out: &mut Vec<u8, A>, line: &Line) -> Result<(),
 {
     out.reserve(160)?;
     put_number(out, line.moment);
-    match line.answer {
-        Answer::Submit { task, kind, due } => {
-            put_text(out, b" submit ");
-            put_number(out, task as u64);
-            put_text(out, b" ");
-            put_text(out, kind_words(kind));
-            put_text(out, b" due ");
-            put_number(out, due);
-            put_text(out, b"\n");
-        }
+    put_answer(out, line.answer);
+    Ok(())
+}
+
+/// Appends an answer as it stands behind its moment, and the newline, for which there is room.
+fn put_answer<A: Allocator>(out: &mut Vec<u8, A>, answer: Answer)
+    requires { vec_len out.old + 140 ≤ vec_capacity out.old }
+    ensures items { Puts out.old.items out.new.items (answer_text answer) }
+{
+    match answer {
+        Answer::Submit { task, kind, due } => put_submit(out, task, kind, due),
+        Answer::Refuse { task, refusal } => put_refuse(out, task, refusal),
         Answer::Clock => put_text(out, b" clock\n"),
         Answer::Start {
             worker,
             task,
             run,
             due,
-        } => {
-            put_text(out, b" start ");
-            put_number(out, worker as u64);
-            put_text(out, b" task ");
-            put_number(out, task as u64);
-            put_text(out, b" run ");
-            put_number(out, run);
-            put_text(out, b" due ");
-            put_number(out, due);
-            put_text(out, b"\n");
-        }
-        Answer::Idle { worker } => {
-            put_text(out, b" start ");
-            put_number(out, worker as u64);
-            put_text(out, b" idle\n");
-        }
+        } => put_start(out, worker, task, run, due),
+        Answer::Idle { worker } => put_idle(out, worker),
         Answer::Finish {
             worker,
             task,
             run,
             outcome,
-        } => {
-            put_text(out, b" finish ");
-            put_number(out, worker as u64);
-            put_text(out, b" task ");
-            put_number(out, task as u64);
-            put_text(out, b" run ");
-            put_number(out, run);
-            put_outcome(out, outcome);
-        }
-        Answer::Error(error) => {
-            put_text(out, b" error ");
-            put_text(out, error_words(error));
-            put_text(out, b"\n");
-        }
+        } => put_finish(out, worker, task, run, outcome),
+        Answer::Error(error) => put_error(out, error),
     }
-    Ok(())
+}
+
+/// Appends that a task was accepted.
+fn put_submit<A: Allocator>(out: &mut Vec<u8, A>, task: u32, kind: Kind, due: u64)
+    requires { vec_len out.old + 140 ≤ vec_capacity out.old }
+    ensures items { Puts out.old.items out.new.items (answer_text (a.Submit task kind due)) }
+{
+    put_text(out, b" submit ");
+    put_number(out, task as u64);
+    put_text(out, b" ");
+    put_text(out, kind_words(kind));
+    put_due(out, due);
+}
+
+/// Appends that a task was not accepted.
+fn put_refuse<A: Allocator>(out: &mut Vec<u8, A>, task: u32, refusal: Refusal)
+    requires { vec_len out.old + 140 ≤ vec_capacity out.old }
+    ensures items { Puts out.old.items out.new.items (answer_text (a.Refuse task refusal)) }
+{
+    put_text(out, b" refuse ");
+    put_number(out, task as u64);
+    put_text(out, b" ");
+    put_text(out, refusal_words(refusal));
+    put_text(out, b"\n");
+}
+
+/// Appends that a worker starts a run.
+fn put_start<A: Allocator>(out: &mut Vec<u8, A>, worker: u8, task: u32, run: u64, due: u64)
+    requires { vec_len out.old + 140 ≤ vec_capacity out.old }
+    ensures items { Puts out.old.items out.new.items (answer_text (a.Start worker task run due)) }
+{
+    put_text(out, b" start ");
+    put_number(out, worker as u64);
+    put_text(out, b" task ");
+    put_number(out, task as u64);
+    put_text(out, b" run ");
+    put_number(out, run);
+    put_due(out, due);
+}
+
+/// Appends that a worker gets no work.
+fn put_idle<A: Allocator>(out: &mut Vec<u8, A>, worker: u8)
+    requires { vec_len out.old + 140 ≤ vec_capacity out.old }
+    ensures items { Puts out.old.items out.new.items (answer_text (a.Idle worker)) }
+{
+    put_text(out, b" start ");
+    put_number(out, worker as u64);
+    put_text(out, b" idle\n");
+}
+
+/// Appends that the run of a worker ended, and what it led to.
+fn put_finish<A: Allocator>(out: &mut Vec<u8, A>, worker: u8, task: u32, run: u64, outcome: Outcome)
+    requires { vec_len out.old + 140 ≤ vec_capacity out.old }
+    ensures items { Puts out.old.items out.new.items (answer_text (a.Finish worker task run outcome)) }
+{
+    put_text(out, b" finish ");
+    put_number(out, worker as u64);
+    put_text(out, b" task ");
+    put_number(out, task as u64);
+    put_text(out, b" run ");
+    put_number(out, run);
+    put_outcome(out, outcome);
+}
+
+/// Appends a due moment and the newline, for which there is room.
+fn put_due<A: Allocator>(out: &mut Vec<u8, A>, due: u64)
+    requires { vec_len out.old + 40 ≤ vec_capacity out.old }
+    ensures items { Puts out.old.items out.new.items (codes " due " ++ (decimal due ++ codes "\n")) }
+{
+    put_text(out, b" due ");
+    put_number(out, due);
+    put_text(out, b"\n");
 }
 
 /// Appends what a finished run led to, and the newline, for which there is room.
@@ -112,7 +161,27 @@ fn put_outcome<A: Allocator>(out: &mut Vec<u8, A>, outcome: Outcome)
             put_number(out, value);
             put_text(out, b"\n");
         }
+        Outcome::Failed(code) => {
+            put_text(out, b" failed ");
+            put_number(out, code as u64);
+            put_text(out, b"\n");
+        }
+        Outcome::Again(due) => {
+            put_text(out, b" again due ");
+            put_number(out, due);
+            put_text(out, b"\n");
+        }
     }
+}
+
+/// Appends that an event had no effect.
+fn put_error<A: Allocator>(out: &mut Vec<u8, A>, error: EventError)
+    requires { vec_len out.old + 140 ≤ vec_capacity out.old }
+    ensures items { Puts out.old.items out.new.items (answer_text (a.Error error)) }
+{
+    put_text(out, b" error ");
+    put_text(out, error_words(error));
+    put_text(out, b"\n");
 }
 
 /// The word of a kind of task.
@@ -122,10 +191,22 @@ fn kind_words(kind: Kind) -> &'static [u8]
 {
     match kind {
         Kind::Schedule => b"schedule",
+        Kind::Rate => b"rate",
+        Kind::Fixed => b"fixed",
     }
 }
 
-/// The words of a refusal.
+/// The word of a refusal.
+fn refusal_words(refusal: Refusal) -> &'static [u8]
+    ensures words { result.now ≡ refusal_text refusal }
+    ensures short { length result.now ≤ 10 }
+{
+    match refusal {
+        Refusal::Illegal => b"illegal",
+    }
+}
+
+/// The words that say why an event had no effect.
 fn error_words(error: EventError) -> &'static [u8]
     ensures words { result.now ≡ error_text error }
     ensures short { length result.now ≤ 20 }
@@ -138,3 +219,6 @@ fn error_words(error: EventError) -> &'static [u8]
         EventError::NotRunning => b"not running",
     }
 }
+
+#[cfg(test)]
+mod tests;

@@ -1,11 +1,13 @@
 //! Plan texts, and the plans that they write.
 
 mod faults;
+mod fields;
 mod listing;
 mod names;
 mod plans;
 mod reading;
 mod tables;
+mod verbs;
 
 pub use faults::{PlanFault, PlanFaultKind};
 pub use listing::written_out;

@@ -12,6 +12,9 @@ use std::io::{ErrorKind, Read, Write};
 use std::process::Abort;
 use std::test::Fail;
 
+mod examples;
+mod periodic;
+
 /// The plan of one delayed task.
 const ONE_DELAY: &str =
     "version = 1\n\n[[block]]\n\n[[block.call]]\nop = \"schedule\"\nname = \"a\"\ndelay = 5\n";
@@ -65,8 +68,13 @@ fn ran(
 
 /// Checks the answer and the bytes of a row, read at once and a few bytes at a time.
 fn answers(rt: &(impl AllocGlobal + Abort), row: &Row<'_>) {
+    answers_with(rt, row, 1)
+}
+
+/// Checks a row by so many workers.
+fn answers_with(rt: &(impl AllocGlobal + Abort), row: &Row<'_>, workers: u8) {
     for most in [65_536usize, 1, 2, 7] {
-        let (answer, trace) = ran(rt.alloc(), row.plan, 1, row.limit, row.events, most);
+        let (answer, trace) = ran(rt.alloc(), row.plan, workers, row.limit, row.events, most);
         let events = row.events;
         assert!(rt; answer == row.answer, "{events}: {answer:?}");
         assert!(rt; trace.as_slice() == row.trace.as_bytes(), "{events}");

@@ -1,6 +1,6 @@
 -- Units of time, and the greatest moment.
 -- All moments and spans are whole nanoseconds. The limit is this project's rule.
-use Rattle.std.specs.Prelude.{ℕ, ◌^◌, ◌*◌, ℤ, pos, negsuc}
+use Rattle.std.specs.Prelude.{ℕ, ◌^◌, ◌*◌, ℤ, pos, negsuc, zero, suc, Option, Some, None}
 use Rattle.sched_time.specs.declared.unit.Unit.{Unit}
 use Rattle.sched_time.specs.declared.unit.Unit.TheVariants.{Ns, Us, Ms, S}
 
@@ -8,7 +8,7 @@ use Rattle.sched_time.specs.declared.unit.Unit.TheVariants.{Ns, Us, Ms, S}
 abbrev pub longest : ℕ
 longest = 2 ^ 62
 
--- how many nanoseconds a unit has
+-- how many nanoseconds a unit has (TimeUnit)
 abbrev pub nanos_of : Unit → ℕ
 nanos_of Ns = 1
 nanos_of Us = 1000
@@ -22,6 +22,14 @@ abbrev pub delay_units : ℤ → ℕ
 delay_units (pos n) = n
 delay_units (negsuc n) = 0
 
--- the nanoseconds that a value in a unit asks for
+-- the nanoseconds that a value in a unit asks for (this project's rule: no value is rounded or cut)
 abbrev pub span_of : ℤ → Unit → ℕ
 span_of value unit = delay_units value * nanos_of unit
+
+-- the nanoseconds of a period in a unit, and none where the value is no period
+-- (ScheduledExecutorService.scheduleAtFixedRate throws IllegalArgumentException "if period less than or equal to
+-- zero", and scheduleWithFixedDelay "if delay less than or equal to zero")
+abbrev pub period_of : ℤ → Unit → Option ℕ
+period_of (pos zero) unit = None
+period_of (pos (suc n)) unit = Some (suc n * nanos_of unit)
+period_of (negsuc n) unit = None

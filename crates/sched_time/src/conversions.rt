@@ -1,5 +1,5 @@
 ghost use Rattle.std.specs.Prelude.{◌≡◌, ◌+◌, ◌<◌, ◌↔◌, IfOk, IsErrOf};
-ghost use Rattle.sched_time.specs.Times.{longest, span_of};
+ghost use Rattle.sched_time.specs.Times.{longest, span_of, period_of};
 
 use crate::error::TimeError;
 use crate::spans::Span;
@@ -24,6 +24,21 @@ pub fn span(value: i64, unit: Unit) -> Result<Span, TimeError>
         Some(nanos) if nanos <= LONGEST => Ok(Span::of_nanos(nanos)),
         _ => Err(TimeError::TooLarge),
     }
+}
+
+/// The period, or the fixed delay, of `value` units, and none where the value is zero or negative.
+///
+/// The Java documentation of `ScheduledExecutorService` answers a period or a fixed delay that is
+/// zero or negative by `IllegalArgumentException`. What is there is at least 1 nanosecond. It is
+/// refused as [`TimeError::TooLarge`] just where it is more than 2^62 nanoseconds.
+pub fn period(value: i64, unit: Unit) -> Result<Option<Span>, TimeError>
+    ensures ok { IfOk result (λ p. p ≡ period_of value unit) }
+    ensures too_large { IsErrOf result TimeError.TooLarge ↔ (longest < span_of value unit) }
+{
+    if value <= 0 {
+        return Ok(None);
+    }
+    span(value, unit).map(Some)
 }
 
 /// The moment `offset` nanoseconds after `base`.

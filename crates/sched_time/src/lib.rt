@@ -18,8 +18,8 @@ mod tests;
 mod timing;
 mod unit;
 
-pub use conversions::{moment, span};
+pub use conversions::{moment, period, span};
 pub use error::TimeError;
 pub use spans::Span;
-pub use timing::{Ending, Timing};
+pub use timing::{Ending, Timing, next_due};
 pub use unit::Unit;

@@ -1,5 +1,5 @@
 //! Spans and moments by hand.
-use crate::{TimeError, Unit, moment, span};
+use crate::{TimeError, Timing, Unit, moment, next_due, period, span};
 use std::test::Fail;
 
 #[test]
@@ -21,5 +21,30 @@ fn adds_offsets(rt: HostRuntime) -> Result<(), Fail> {
     assert_eq!(rt; moment(1 << 61, 1 << 61), Ok(1 << 62));
     assert_eq!(rt; moment(1 << 62, 1), Err(TimeError::TooLarge));
     assert_eq!(rt; moment(u64::MAX, 1), Err(TimeError::TooLarge));
+    Ok(())
+}
+
+#[test]
+fn a_period_is_at_least_one_nanosecond(rt: HostRuntime) -> Result<(), Fail> {
+    assert_eq!(rt;
+        period(1, Unit::Us).map(|p| p.map(|s| s.nanos())),
+        Ok(Some(1_000))
+    );
+    assert_eq!(rt; period(0, Unit::S), Ok(None));
+    assert_eq!(rt; period(-1, Unit::S), Ok(None));
+    assert_eq!(rt;
+        period(1 << 62, Unit::Ns).map(|p| p.map(|s| s.nanos())),
+        Ok(Some(1 << 62))
+    );
+    assert_eq!(rt; period((1 << 62) + 1, Unit::Ns), Err(TimeError::TooLarge));
+    Ok(())
+}
+
+#[test]
+fn a_run_is_due_again(rt: HostRuntime) -> Result<(), Fail> {
+    let ten = span(10, Unit::Ns)?;
+    assert_eq!(rt; next_due(Timing::Once, 20, 25), None);
+    assert_eq!(rt; next_due(Timing::Rate(ten), 20, 25), Some(30));
+    assert_eq!(rt; next_due(Timing::Fixed(ten), 20, 25), Some(35));
     Ok(())
 }

@@ -95,7 +95,8 @@ fn is_submit(k: u32, answer: Answer) -> bool
 {
     match answer {
         Answer::Submit { task, .. } => task == k,
-        Answer::Clock
+        Answer::Refuse { .. }
+        | Answer::Clock
         | Answer::Start { .. }
         | Answer::Idle { .. }
         | Answer::Finish { .. }
@@ -110,6 +111,7 @@ fn is_start(k: u32, answer: Answer) -> bool
     match answer {
         Answer::Start { task, .. } => task == k,
         Answer::Submit { .. }
+        | Answer::Refuse { .. }
         | Answer::Clock
         | Answer::Idle { .. }
         | Answer::Finish { .. }
@@ -124,6 +126,7 @@ fn is_finish(k: u32, answer: Answer) -> bool
     match answer {
         Answer::Finish { task, .. } => task == k,
         Answer::Submit { .. }
+        | Answer::Refuse { .. }
         | Answer::Clock
         | Answer::Start { .. }
         | Answer::Idle { .. }
@@ -131,17 +134,49 @@ fn is_finish(k: u32, answer: Answer) -> bool
     }
 }
 
-/// Whether an answer ends a run of a task well.
+/// Whether an outcome is the value of a task's one run.
+fn is_done(outcome: Outcome) -> bool
+    ensures { result ≡ histories.is_done outcome }
+{
+    match outcome {
+        Outcome::Done(_) => true,
+        Outcome::Failed(_) | Outcome::Again(_) => false,
+    }
+}
+
+/// Whether an outcome is a failure.
+fn is_failed(outcome: Outcome) -> bool
+    ensures { result ≡ histories.is_failed outcome }
+{
+    match outcome {
+        Outcome::Failed(_) => true,
+        Outcome::Done(_) | Outcome::Again(_) => false,
+    }
+}
+
+/// Whether an answer says that a run of a task failed.
+fn is_failed_finish(k: u32, answer: Answer) -> bool
+    ensures { result ≡ histories.is_finish_with histories.is_failed k answer }
+{
+    match answer {
+        Answer::Finish { task, outcome, .. } => task == k && is_failed(outcome),
+        Answer::Submit { .. }
+        | Answer::Refuse { .. }
+        | Answer::Clock
+        | Answer::Start { .. }
+        | Answer::Idle { .. }
+        | Answer::Error(_) => false,
+    }
+}
+
+/// Whether an answer ends the one run of a task with a value.
 fn is_done_finish(k: u32, answer: Answer) -> bool
     ensures { result ≡ histories.is_finish_with histories.is_done k answer }
 {
     match answer {
-        Answer::Finish {
-            task,
-            outcome: Outcome::Done(_),
-            ..
-        } => task == k,
+        Answer::Finish { task, outcome, .. } => task == k && is_done(outcome),
         Answer::Submit { .. }
+        | Answer::Refuse { .. }
         | Answer::Clock
         | Answer::Start { .. }
         | Answer::Idle { .. }
@@ -169,7 +204,11 @@ fn work_after(worker: u8, answer: Answer, before: Option<u32>) -> Option<u32>
             worker: finisher,
             ..
         } => { if finisher == worker { None } else { before } }
-        Answer::Submit { .. } | Answer::Clock | Answer::Idle { .. } | Answer::Error(_) => before,
+        Answer::Submit { .. }
+        | Answer::Refuse { .. }
+        | Answer::Clock
+        | Answer::Idle { .. }
+        | Answer::Error(_) => before,
     }
 }
 
@@ -231,7 +270,17 @@ pub(crate) fn was_accepted(k: u32, past: &[Past]) -> bool
     }
 }
 
-/// Whether the one run of a task ended well.
+/// Whether a run of a task failed.
+pub(crate) fn was_failed(k: u32, past: &[Past]) -> bool
+    ensures { result ≡ histories.was_failed k (history past.now) }
+{
+    match past {
+        [] => false,
+        [newest, before @ ..] => is_failed_finish(k, newest.answer) || was_failed(k, before),
+    }
+}
+
+/// Whether the one run of a task ended with a value.
 pub(crate) fn was_done(k: u32, past: &[Past]) -> bool
     ensures { result ≡ histories.was_done k (history past.now) }
 {

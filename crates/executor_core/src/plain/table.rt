@@ -4,16 +4,17 @@ ghost use Rattle.executor_core.specs.Calls.{IsOrderly};
 ghost use Rattle.executor_core.specs.View.{View};
 ghost use Rattle.executor_core.specs.Answers as answers;
 ghost use Rattle.executor_core.specs.Histories as histories;
-ghost use Rattle.executor_core.specs.Plain.{history};
+ghost use Rattle.executor_core.specs.Plain.{history, IsAnswered, IsWithin};
 
 use crate::limits::LATEST;
 use crate::plain::history::{Past, call_at, made, now_of, starts, work_of};
 use crate::plain::tasks::{count_tasks, due_at, due_of, first_enabled, timing_of};
-use crate::words::{Answer, CodeCall, EventError, Happening, Kind, Outcome};
+use crate::words::{Answer, CodeCall, EventError, Happening, Kind, Outcome, Refusal};
 use sched_time::{Ending, Timing};
 
 /// The answer to a happening after a history, the newest entry first.
 ///
+/// Each answer of the history has to be this one too, for what stands before it.
 /// A call past the last one never comes in a history; it is answered as a clock is.
 pub fn answer_after(
     calls: &[(u64, CodeCall)],
@@ -21,7 +22,8 @@ pub fn answer_after(
     past: &[Past],
     happening: Happening,
 ) -> Answer
-    requires { IsOrderly calls.now }
+    requires orderly { IsOrderly calls.now }
+    requires answered { IsAnswered calls.now workers (history past.now) }
     ensures { result ≡ (histories.answer calls.now workers (history past.now) happening).answer }
 {
     match happening {
@@ -46,6 +48,10 @@ fn answer_call(calls: &[(u64, CodeCall)], call: CodeCall) -> Answer
             kind: kind_of(timing),
             due: due_at(calls, task, 0, None),
         },
+        CodeCall::Illegal { task } => Answer::Refuse {
+            task,
+            refusal: Refusal::Illegal,
+        },
     }
 }
 
@@ -64,7 +70,8 @@ fn answer_clock(calls: &[(u64, CodeCall)], past: &[Past], moment: u64) -> Answer
 
 /// The answer to a worker that asks for work.
 fn answer_start(calls: &[(u64, CodeCall)], workers: u8, past: &[Past], worker: u8) -> Answer
-    requires { IsOrderly calls.now }
+    requires orderly { IsOrderly calls.now }
+    requires within { IsWithin calls.now (history past.now) }
     ensures { result ≡ (histories.answer calls.now workers (history past.now) (happening.Start worker)).answer }
 {
     if worker >= workers {
@@ -92,6 +99,8 @@ fn answer_finish(
     worker: u8,
     ending: Ending,
 ) -> Answer
+    requires orderly { IsOrderly calls.now }
+    requires within { IsWithin calls.now (history past.now) }
     ensures { result ≡ (histories.answer calls.now workers (history past.now) (happening.Finish worker ending)).answer }
 {
     if worker >= workers {
@@ -103,9 +112,18 @@ fn answer_finish(
             worker,
             task,
             run: starts(task, past).saturating_sub(1),
-            outcome: outcome_of(timing_of(calls, task), ending),
+            outcome: outcome_of(timing_of(calls, task), due_next(calls, past, task), ending),
         },
     }
+}
+
+/// The due moment of the run of a task that would come after a finish now.
+fn due_next(calls: &[(u64, CodeCall)], past: &[Past], k: u32) -> u64
+    requires orderly { IsOrderly calls.now }
+    requires within { IsWithin calls.now (history past.now) }
+    ensures { result ≡ answers.due_next calls.now (histories.look calls.now (history past.now)) k }
+{
+    due_at(calls, k, starts(k, past), Some(now_of(calls, past)))
 }
 
 /// The kind of a task of this timing.
@@ -114,14 +132,20 @@ fn kind_of(timing: Timing) -> Kind
 {
     match timing {
         Timing::Once => Kind::Schedule,
+        Timing::Rate(_) => Kind::Rate,
+        Timing::Fixed(_) => Kind::Fixed,
     }
 }
 
-/// What a run of a task of this timing leads to.
-fn outcome_of(timing: Timing, ending: Ending) -> Outcome
-    ensures { result ≡ answers.outcome_of timing ending }
+/// What the end of a run leads to, where the run after it would be due at a moment.
+fn outcome_of(timing: Timing, due: u64, ending: Ending) -> Outcome
+    ensures { result ≡ answers.outcome_of timing due ending }
 {
-    match (timing, ending) {
-        (Timing::Once, Ending::Value(value)) => Outcome::Done(value),
+    match ending {
+        Ending::Fault(code) => Outcome::Failed(code),
+        Ending::Value(value) => match timing {
+            Timing::Once => Outcome::Done(value),
+            Timing::Rate(_) | Timing::Fixed(_) => Outcome::Again(due),
+        },
     }
 }

@@ -1,11 +1,13 @@
-ghost use Rattle.std.specs.Prelude.{◌≡◌, ◌+◌, ◌≤◌, length};
+ghost use Rattle.std.specs.Prelude.{◌≡◌, ◌+◌, ◌≤◌, ◌^◌, length};
 ghost use Rattle.std.specs.List.{range_with_len};
 ghost use Rattle.executor_core.specs.Calls.{IsOrderly, task_count, terms_of, due_at};
 ghost use Rattle.executor_core.specs.View as views;
 ghost use Rattle.executor_core.specs.Histories as histories;
-ghost use Rattle.executor_core.specs.Plain.{IsOrderlyPart, history};
+ghost use Rattle.executor_core.specs.Plain.{IsOrderlyPart, IsWithin, history};
 
-use crate::plain::history::{Past, finishes, last_finish, now_of, starts, was_accepted, was_done};
+use crate::plain::history::{
+    Past, finishes, last_finish, now_of, starts, was_accepted, was_done, was_failed,
+};
 use crate::words::CodeCall;
 use sched_time::Timing;
 
@@ -22,6 +24,7 @@ pub(crate) fn timing_of(calls: &[(u64, CodeCall)], k: u32) -> Timing
                 timing_of(later, k)
             }
         }
+        [(_, CodeCall::Illegal { .. }), later @ ..] => timing_of(later, k),
     }
 }
 
@@ -39,22 +42,31 @@ fn first_due(calls: &[(u64, CodeCall)], k: u32) -> u64
                 first_due(later, k)
             }
         }
+        [(_, CodeCall::Illegal { .. }), later @ ..] => first_due(later, k),
     }
 }
 
 /// When the next run of a task is due, after so many starts and with the last finish at a moment.
-pub(crate) fn due_at(calls: &[(u64, CodeCall)], k: u32, _starts: u64, _last: Option<u64>) -> u64
-    requires { IsOrderly calls.now }
-    ensures { result ≡ due_at (terms_of calls.now k) _starts _last }
+pub(crate) fn due_at(calls: &[(u64, CodeCall)], k: u32, starts: u64, last: Option<u64>) -> u64
+    requires orderly { IsOrderly calls.now }
+    requires within { due_at (terms_of calls.now k) starts last ≤ 2 ^ 63 }
+    ensures { result ≡ due_at (terms_of calls.now k) starts last }
 {
+    let first = first_due(calls, k);
     match timing_of(calls, k) {
-        Timing::Once => first_due(calls, k),
+        Timing::Once => first,
+        Timing::Rate(period) => first + starts * period.nanos(),
+        Timing::Fixed(delay) => match last {
+            None => first,
+            Some(finished_at) => finished_at + delay.nanos(),
+        },
     }
 }
 
 /// When the next run of a task is due.
 pub(crate) fn due_of(calls: &[(u64, CodeCall)], past: &[Past], k: u32) -> u64
-    requires { IsOrderly calls.now }
+    requires orderly { IsOrderly calls.now }
+    requires within { IsWithin calls.now (history past.now) }
     ensures { result ≡ histories.due_of calls.now (history past.now) k }
 {
     due_at(calls, k, starts(k, past), last_finish(calls, k, past))
@@ -71,12 +83,16 @@ fn is_running(calls: &[(u64, CodeCall)], past: &[Past], k: u32) -> bool
 fn is_waiting(calls: &[(u64, CodeCall)], past: &[Past], k: u32) -> bool
     ensures { result ≡ views.is_waiting ((histories.look calls.now (history past.now)).fate k) }
 {
-    was_accepted(k, past) && !is_running(calls, past, k) && !was_done(k, past)
+    was_accepted(k, past)
+        && !is_running(calls, past, k)
+        && !was_failed(k, past)
+        && !was_done(k, past)
 }
 
 /// Whether a task waits and its due moment is reached.
 pub(crate) fn is_enabled(calls: &[(u64, CodeCall)], past: &[Past], k: u32) -> bool
-    requires { IsOrderly calls.now }
+    requires orderly { IsOrderly calls.now }
+    requires within { IsWithin calls.now (history past.now) }
     ensures { result ≡ views.is_enabled (histories.look calls.now (history past.now)) k }
 {
     is_waiting(calls, past, k) && due_of(calls, past, k) <= now_of(calls, past)
@@ -84,7 +100,8 @@ pub(crate) fn is_enabled(calls: &[(u64, CodeCall)], past: &[Past], k: u32) -> bo
 
 /// Whether one task comes before another, by due moment and then by number.
 fn precedes(calls: &[(u64, CodeCall)], past: &[Past], j: u32, k: u32) -> bool
-    requires { IsOrderly calls.now }
+    requires orderly { IsOrderly calls.now }
+    requires within { IsWithin calls.now (history past.now) }
     ensures { result ≡ views.precedes (histories.look calls.now (history past.now)) j k }
 {
     let one = due_of(calls, past, j);
@@ -94,7 +111,8 @@ fn precedes(calls: &[(u64, CodeCall)], past: &[Past], j: u32, k: u32) -> bool
 
 /// The earlier one of a task and perhaps another.
 fn earlier(calls: &[(u64, CodeCall)], past: &[Past], k: u32, other: Option<u32>) -> u32
-    requires { IsOrderly calls.now }
+    requires orderly { IsOrderly calls.now }
+    requires within { IsWithin calls.now (history past.now) }
     ensures { result ≡ views.earlier (histories.look calls.now (history past.now)) k other }
 {
     match other {
@@ -111,6 +129,7 @@ pub(crate) fn first_enabled(
     count: u32,
 ) -> Option<u32>
     requires orderly { IsOrderly calls.now }
+    requires due { IsWithin calls.now (history past.now) }
     requires within { from + count ≤ 65536 }
     ensures { result ≡ views.first_enabled (histories.look calls.now (history past.now)) (range_with_len from count) }
 {
@@ -132,6 +151,9 @@ pub(crate) fn count_tasks(calls: &[(u64, CodeCall)]) -> u32
 {
     match calls {
         [] => 0,
-        [(_, CodeCall::Submit { .. }), later @ ..] => 1 + count_tasks(later),
+        [
+            (_, CodeCall::Submit { .. } | CodeCall::Illegal { .. }),
+            later @ ..,
+        ] => { 1 + count_tasks(later) }
     }
 }

@@ -3,7 +3,7 @@ ghost use Rattle.executor_core.specs.declared.words.Happening.TheVariants as hap
 ghost use Rattle.executor_core.specs.Calls.{IsOrderly, how_many};
 ghost use Rattle.executor_core.specs.Histories as histories;
 ghost use Rattle.executor_core.specs.Flows as flows;
-ghost use Rattle.executor_core.specs.Plain.{history};
+ghost use Rattle.executor_core.specs.Plain.{history, IsAnswered};
 
 use crate::plain::history::{Past, is_accepted, made, now_of};
 use crate::plain::table::answer_after;
@@ -88,7 +88,8 @@ fn happen<A: Allocator>(
     past: &mut Vec<Past, A>,
     happening: Happening,
 ) -> Result<(), AllocError>
-    requires { IsOrderly calls.now }
+    requires orderly { IsOrderly calls.now }
+    requires answered { IsAnswered calls.now workers (history past.old.items) }
     ensures { OnOk result (history past.new.items ≡ flows.history_from calls.now workers (history past.old.items) (happening ∷ [])) }
 {
     let answer = answer_after(calls, workers, past, happening);
@@ -103,7 +104,8 @@ fn make_calls<A: Allocator>(
     past: &mut Vec<Past, A>,
     count: usize,
 ) -> Result<(), AllocError>
-    requires { IsOrderly calls.now }
+    requires orderly { IsOrderly calls.now }
+    requires answered { IsAnswered calls.now workers (history past.old.items) }
     ensures { OnOk result (history past.new.items ≡ flows.history_from calls.now workers (history past.old.items) (replicate count happening.Call)) }
 {
     for _made in 0..count {
@@ -119,7 +121,8 @@ fn take_event<A: Allocator>(
     past: &mut Vec<Past, A>,
     event: Event,
 ) -> Result<(), AllocError>
-    requires { IsOrderly calls.now }
+    requires orderly { IsOrderly calls.now }
+    requires answered { IsAnswered calls.now workers (history past.old.items) }
     ensures { OnOk result (history past.new.items ≡ flows.history_from calls.now workers (history past.old.items)
         (flows.part_of calls.now (histories.made (histories.happenings (history past.old.items))) (histories.now_of calls.now (histories.happenings (history past.old.items))) event)) }
 {

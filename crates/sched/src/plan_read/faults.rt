@@ -39,7 +39,7 @@ pub enum PlanFaultKind {
     /// An offset is below 0.
     #[error("Negative")]
     Negative,
-    /// An offset or a delay is above 2^62 nanoseconds.
+    /// An offset, a delay or a period is above 2^62 nanoseconds.
     #[error("TooLarge")]
     TooLarge,
     /// An offset is below that of the call before it.

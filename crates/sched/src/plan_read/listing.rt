@@ -11,9 +11,9 @@ use std::alloc::{AllocError, Allocator};
 
 /// The calls of a plan with their moments, in the order in which they are made.
 ///
-/// Submissions are numbered 0, 1, .. in this list. There are at most 65,536
-/// calls, and moments, which do not fall, and delays are at most 2^62
-/// nanoseconds. The only error is want of memory.
+/// Submissions are numbered 0, 1, .. in this list, illegal ones among them. There
+/// are at most 65,536 calls, and moments, which do not fall, and delays are at
+/// most 2^62 nanoseconds. The only error is want of memory.
 pub fn written_out<A: Allocator>(
     alloc: A,
     plan: &Plan,
@@ -54,6 +54,8 @@ fn write_block<A: Allocator>(
 }
 
 /// The call that an operation asks for, where `task` submissions stand before it.
+///
+/// A submission with a period, or a fixed delay, that is zero or negative is an illegal one.
 fn code_call(task: u32, op: &Op) -> CodeCall
     ensures { result ≡ code_call task op.now }
 {
@@ -63,6 +65,25 @@ fn code_call(task: u32, op: &Op) -> CodeCall
             timing: Timing::Once,
             delay: delay.nanos(),
         },
+        Op::Rate {
+            first,
+            period: Some(period),
+            ..
+        } => CodeCall::Submit {
+            task,
+            timing: Timing::Rate(*period),
+            delay: first.nanos(),
+        },
+        Op::Fixed {
+            first,
+            delay: Some(delay),
+            ..
+        } => CodeCall::Submit {
+            task,
+            timing: Timing::Fixed(*delay),
+            delay: first.nanos(),
+        },
+        Op::Rate { period: None, .. } | Op::Fixed { delay: None, .. } => CodeCall::Illegal { task },
     }
 }
 
@@ -72,6 +93,6 @@ fn tasks_after(task: u32, op: &Op) -> u32
     ensures { result ≡ tasks_after task op.now }
 {
     match op {
-        Op::Schedule { .. } => task + 1,
+        Op::Schedule { .. } | Op::Rate { .. } | Op::Fixed { .. } => task + 1,
     }
 }

@@ -3,6 +3,7 @@
 ghost use Rattle.std.specs.Prelude.{◌≡◌};
 ghost use Rattle.sched.specs.PlanCalls.{calls_of};
 ghost use Rattle.sched.specs.PlanReading.{IsPlan};
+ghost use Rattle.sched.specs.Plans.{AreCallsFrom};
 ghost use Rattle.executor_core.specs.Calls.{IsOrderly};
 
 use crate::plan_read::names::Name;
@@ -18,6 +19,24 @@ pub enum Op {
         name: Name,
         /// From the call's moment to the task's due moment.
         delay: Span,
+    },
+    /// A task runs again and again, each run due a period after the due moment of the one before.
+    Rate {
+        /// Its name, which no other submission of the plan has.
+        name: Name,
+        /// From the call's moment to the due moment of the first run.
+        first: Span,
+        /// At least 1 nanosecond; none where the plan writes one that is zero or negative.
+        period: Option<Span>,
+    },
+    /// A task runs again and again, each run due a delay after the end of the one before.
+    Fixed {
+        /// Its name, which no other submission of the plan has.
+        name: Name,
+        /// From the call's moment to the due moment of the first run.
+        first: Span,
+        /// At least 1 nanosecond; none where the plan writes one that is zero or negative.
+        delay: Option<Span>,
     },
 }
 
@@ -37,16 +56,19 @@ pub struct Block {
 }
 
 impl Model for Block {
-    ghost use Rattle.sched.specs.Plans.{BlockTree};
+    ghost use Rattle.sched.specs.Plans.{BlockTree, AreCallsFrom};
 
     ghost Value = { BlockTree };
 
     ghost view = { λ b. record { at = b.at; calls = b.calls.items } };
+
+    ghost invariant = { λ b. AreCallsFrom 0 b.calls.items };
 }
 
 impl Block {
     /// A block at a moment.
     pub(crate) fn new(at: u64, calls: Vec<Call>) -> Block
+        requires { AreCallsFrom 0 calls.items }
         ensures { result ≡ record { at = at; calls = calls.items } }
     {
         Block { at, calls }
@@ -60,8 +82,12 @@ impl Block {
     }
 
     /// Its calls in the order of the text.
+    ///
+    /// Their offsets do not fall. Offsets and spans are at most 2^62 nanoseconds, and a period or a
+    /// fixed delay is at least 1.
     pub fn calls(&self) -> &[Call]
-        ensures { result.now ≡ self.now.calls }
+        ensures calls { result.now ≡ self.now.calls }
+        ensures ordered { AreCallsFrom 0 self.now.calls }
     {
         self.calls.as_slice()
     }

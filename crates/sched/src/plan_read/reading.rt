@@ -3,81 +3,21 @@
 ghost use Rattle.std.specs.Prelude.{◌≡◌, ◌≢◌, ◌≤◌, ◌⊎◌, true, length, [], ◌∷◌, option_map, IfOk, IfErr, Ok, Err};
 ghost use Rattle.toml.specs.View.{view, table_view, items_view};
 ghost use Rattle.sched_time.specs.Times.{longest};
-ghost use Rattle.sched.specs.Plans.{IsCallFrom, AreCallsFrom};
+ghost use Rattle.sched.specs.Plans.{IsLegal, IsWithinLimits, IsCallFrom, AreCallsFrom};
 ghost use Rattle.sched.specs.PlanCalls.{calls_of};
 ghost use Rattle.executor_core.specs.Calls.{IsOrderly};
-ghost use Rattle.sched.specs.PlanReading.{expect, top, tree_of, Gives, plan_of_text, top_of, blocks_of, block_of, header_of, calls_after, call_of, fields_of, op_of, nanos_at, tables_of, integer_or_zero, last_offset, is_taken, has_name, field_values};
+ghost use Rattle.sched.specs.PlanReading.{expect, top, tree_of, Gives, plan_of_text, top_of, blocks_of, block_of, header_of, calls_after, call_of, op_of, nanos_at, period_at, tables_of, last_offset, is_taken, has_name};
 ghost use Rattle.sched.specs.declared.plan_read.faults.PlanFaultKind.TheVariants as kinds;
 
 use crate::plan_read::faults::{Place, PlanFault, PlanFaultKind, Stop};
+use crate::plan_read::fields::{WrittenSpans, read_fields, read_verb};
 use crate::plan_read::names::{Name, is_name};
 use crate::plan_read::plans::{Block, Call, Op, Plan};
-use crate::plan_read::tables::{
-    are_tables, has_block_keys, has_plan_keys, has_schedule_keys, member,
-};
-use sched_time::{Span, Unit, span};
+use crate::plan_read::tables::{are_tables, has_block_keys, has_plan_keys, member};
+use sched_time::{Span, Unit, period, span};
 use std::alloc::Global;
 use toml::value::Array;
 use toml::{Table, Value};
-
-/// The values of a `schedule`'s keys.
-#[derive(Clone, Copy)]
-pub struct Fields<'a> {
-    pub name: &'a str,
-    pub delay: i64,
-    pub at: i64,
-}
-
-/// The operation is there, and it is `schedule`.
-#[tactic(auto, unfolding(crate::specs::PlanReading::op_of))]
-fn read_op(place: Place, table: &Table) -> Result<(), Stop>
-    ensures { Gives (λ _. true) result (op_of place (table_view table.now)) }
-{
-    let Some(op) = member(table, "op") else {
-        return Err(place.stop(PlanFaultKind::Missing));
-    };
-    match op.as_str() {
-        Some("schedule") => Ok(()),
-        _ => Err(place.stop(PlanFaultKind::WrongType)),
-    }
-}
-
-/// The values of a `schedule`'s keys.
-#[tactic(auto, unfolding(crate::specs::PlanReading::fields_of))]
-fn read_fields<'a>(place: Place, table: &'a Table) -> Result<Fields<'a>, Stop>
-    ensures { Gives field_values result (fields_of place (table_view table.now)) }
-{
-    if !has_schedule_keys(table) {
-        return Err(place.stop(PlanFaultKind::UnknownKey));
-    }
-    let Some(name) = member(table, "name") else {
-        return Err(place.stop(PlanFaultKind::Missing));
-    };
-    let Some(delay) = member(table, "delay") else {
-        return Err(place.stop(PlanFaultKind::Missing));
-    };
-    let Some(name) = name.as_str() else {
-        return Err(place.stop(PlanFaultKind::WrongType));
-    };
-    let Some(delay) = delay.as_integer() else {
-        return Err(place.stop(PlanFaultKind::WrongType));
-    };
-    let at = integer_or_zero(place, member(table, "at"))?;
-    Ok(Fields { name, delay, at })
-}
-
-/// The integer, or 0 where there is no value.
-fn integer_or_zero(place: Place, value: Option<&Value>) -> Result<i64, Stop>
-    ensures { Gives (λ z. z) result (integer_or_zero place (option_map (λ v. view v.now) value.entry)) }
-{
-    let Some(value) = value else {
-        return Ok(0);
-    };
-    match value.as_integer() {
-        Some(number) => Ok(number),
-        None => Err(place.stop(PlanFaultKind::WrongType)),
-    }
-}
 
 /// The nanoseconds of a number of units.
 fn read_nanos(place: Place, value: i64, unit: Unit) -> Result<Span, Stop>
@@ -87,6 +27,46 @@ fn read_nanos(place: Place, value: i64, unit: Unit) -> Result<Span, Stop>
     match span(value, unit) {
         Ok(span) => Ok(span),
         Err(_) => Err(place.stop(PlanFaultKind::TooLarge)),
+    }
+}
+
+/// The nanoseconds of a period or a fixed delay, and none where it is zero or negative.
+#[tactic(auto, using(crate::proofs::Periods::is_legal))]
+fn read_period(place: Place, value: i64, unit: Unit) -> Result<Option<Span>, Stop>
+    ensures period { Gives (λ p. p) result (period_at place value unit) }
+    ensures legal { IfOk result IsLegal }
+{
+    match period(value, unit) {
+        Ok(period) => Ok(period),
+        Err(_) => Err(place.stop(PlanFaultKind::TooLarge)),
+    }
+}
+
+/// The operation of a submission of this name, with these spans.
+#[tactic(auto, unfolding(crate::specs::PlanReading::op_of))]
+fn read_op(place: Place, name: Name, spans: WrittenSpans) -> Result<Op, Stop>
+    ensures op { Gives (λ op. op) result (op_of place name spans) }
+    ensures limits { IfOk result IsWithinLimits }
+{
+    match spans {
+        WrittenSpans::Schedule { delay } => {
+            let delay = read_nanos(place, delay, Unit::Ns)?;
+            Ok(Op::Schedule { name, delay })
+        }
+        WrittenSpans::Rate { first, period } => {
+            let first = read_nanos(place, first, Unit::Ns)?;
+            let period = read_period(place, period, Unit::Ns)?;
+            Ok(Op::Rate {
+                name,
+                first,
+                period,
+            })
+        }
+        WrittenSpans::Fixed { first, delay } => {
+            let first = read_nanos(place, first, Unit::Ns)?;
+            let delay = read_period(place, delay, Unit::Ns)?;
+            Ok(Op::Fixed { name, first, delay })
+        }
     }
 }
 
@@ -115,7 +95,9 @@ fn has_name(text: &str, op: &Op) -> bool
     ensures { result ≡ has_name text.now op.now }
 {
     match op {
-        Op::Schedule { name, .. } => name.as_str() == text,
+        Op::Schedule { name, .. } | Op::Rate { name, .. } | Op::Fixed { name, .. } => {
+            name.as_str() == text
+        }
     }
 }
 
@@ -135,8 +117,8 @@ fn read_call(alloc: Global, place: Place, before: &[Call], table: &Table) -> Res
     ensures call { Gives (λ c. c) result (call_of place before.now (table_view table.now)) }
     ensures after { IfOk result (λ c. IsCallFrom (last_offset before.now) c) }
 {
-    read_op(place, table)?;
-    let fields = read_fields(place, table)?;
+    let verb = read_verb(place, table)?;
+    let fields = read_fields(place, verb, table)?;
     if !is_name(fields.name) {
         return Err(place.stop(PlanFaultKind::BadName));
     }
@@ -147,15 +129,12 @@ fn read_call(alloc: Global, place: Place, before: &[Call], table: &Table) -> Res
         return Err(place.stop(PlanFaultKind::Negative));
     }
     let at = read_nanos(place, fields.at, Unit::Ns)?.nanos();
-    let delay = read_nanos(place, fields.delay, Unit::Ns)?;
+    let name = Name::new(alloc, fields.name)?;
+    let op = read_op(place, name, fields.spans)?;
     if at < last_offset(before) {
         return Err(place.stop(PlanFaultKind::OutOfOrder));
     }
-    let name = Name::new(alloc, fields.name)?;
-    Ok(Call {
-        at,
-        op: Op::Schedule { name, delay },
-    })
+    Ok(Call { at, op })
 }
 
 /// The tables of a block's calls.
@@ -283,10 +262,13 @@ fn read_text(alloc: Global, text: &[u8]) -> Result<Plan, Stop>
 ///
 /// A plan is a TOML document in UTF-8 of at most 1,048,576 bytes with the key
 /// `version`, which is 1, and an array `block` of at most one table. Its `call`
-/// is an array of at most 256 tables, each with `op = "schedule"`, a `name` that
-/// no other has, a `delay` and an offset `at` (0 if it is left out), both in
-/// nanoseconds and at most 2^62. A negative delay counts as 0. An offset is not
-/// negative, and not below the one before it.
+/// is an array of at most 256 tables, each with an `op`, a `name` that no other
+/// has and an offset `at` (0 if it is left out). A `schedule` has a `delay`, a
+/// `rate` a `first` and a `period`, and a `fixed` a `first` and a `delay`. All are
+/// in nanoseconds and at most 2^62. An offset is not negative, and not below the
+/// one before it. A negative `delay` of a `schedule`, or a negative `first`, counts
+/// as 0. A `period`, or a `delay` of a `fixed`, that is zero or negative is
+/// illegal: the plan keeps that there is none.
 ///
 /// The fault is the first one that is met, text, top, header, then call by call.
 /// [`PlanFaultKind::Memory`] may come in place of any other answer, and says

@@ -5,8 +5,9 @@ ghost use Rattle.std.specs.BTreeMap.{keys};
 ghost use Rattle.std.specs.Prelude.{◌≡◌, string_bytes, option_map, is_some};
 ghost use Rattle.toml.specs.Data.{get_member, as_table};
 ghost use Rattle.toml.specs.View.{view, table_view, array_view};
-ghost use Rattle.sched.specs.PlanReading.{has_only, is_plan_key, is_block_key, is_schedule_key, are_tables};
+ghost use Rattle.sched.specs.PlanReading.{has_only, is_plan_key, is_block_key, is_submission_key, is_call_key, are_tables};
 
+use crate::plan_read::verbs::Verb;
 use toml::value::Array;
 use toml::{Table, Value};
 
@@ -43,17 +44,17 @@ fn each_is_block_key(table: &Table) -> bool
     table.keys().all(|key| is_block_key(key.as_str()))
 }
 
-/// Whether a `schedule` has no other keys than its own.
-pub fn has_schedule_keys(table: &Table) -> bool
-    ensures { result ≡ has_only is_schedule_key (table_view table.now) }
+/// Whether a call has no other keys than those of its operation.
+pub fn has_call_keys(verb: Verb, table: &Table) -> bool
+    ensures { result ≡ has_only (is_call_key verb) (table_view table.now) }
 {
-    each_is_schedule_key(table)
+    each_is_call_key(verb, table)
 }
 
-fn each_is_schedule_key(table: &Table) -> bool
-    ensures { result ≡ list_all (λ key. is_schedule_key (string_bytes key)) (keys table.now) }
+fn each_is_call_key(verb: Verb, table: &Table) -> bool
+    ensures { result ≡ list_all (λ key. is_call_key verb (string_bytes key)) (keys table.now) }
 {
-    table.keys().all(|key| is_schedule_key(key.as_str()))
+    table.keys().all(|key| is_call_key(verb, key.as_str()))
 }
 
 fn is_plan_key(key: &str) -> bool
@@ -68,10 +69,20 @@ fn is_block_key(key: &str) -> bool
     key == "call"
 }
 
-fn is_schedule_key(key: &str) -> bool
-    ensures { result ≡ is_schedule_key key.now }
+fn is_call_key(verb: Verb, key: &str) -> bool
+    ensures { result ≡ is_call_key verb key.now }
 {
-    key == "op" || key == "at" || key == "name" || key == "delay"
+    match verb {
+        Verb::Schedule => is_submission_key(key) || key == "delay",
+        Verb::Rate => is_submission_key(key) || key == "first" || key == "period",
+        Verb::Fixed => is_submission_key(key) || key == "first" || key == "delay",
+    }
+}
+
+fn is_submission_key(key: &str) -> bool
+    ensures { result ≡ is_submission_key key.now }
+{
+    key == "op" || key == "at" || key == "name"
 }
 
 /// Whether each item of an array is a table.

@@ -1,6 +1,6 @@
 use crate::plan_read::{Op, PlanFault, PlanFaultKind, read_plan, written_out};
 use executor_core::CodeCall;
-use sched_time::Timing;
+use sched_time::{Timing, Unit, span};
 use std::process::Abort;
 use std::test::Fail;
 
@@ -32,12 +32,28 @@ fn calls(rt: &impl AllocGlobal, text: &str) -> Result<Vec<(u64, CodeCall)>, Fail
     Ok(written_out(rt.alloc(), &plan)?)
 }
 
-fn once(task: u32, delay: u64) -> CodeCall {
+/// A submission that is timed so, with its first run this long after the call.
+fn submitted(task: u32, timing: Timing, delay: u64) -> CodeCall {
     CodeCall::Submit {
         task,
-        timing: Timing::Once,
+        timing,
         delay,
     }
+}
+
+fn once(task: u32, delay: u64) -> CodeCall {
+    submitted(task, Timing::Once, delay)
+}
+
+/// Checks that a plan of one call is refused at that call.
+fn refuses_call(
+    rt: &(impl AllocGlobal + Abort),
+    lines: &str,
+    kind: PlanFaultKind,
+) -> Result<(), Fail> {
+    let text = format!(in rt.alloc(); "{CALL}{lines}\n")?;
+    refuses(rt, text.as_str(), kind, 1, 1);
+    Ok(())
 }
 
 #[test]
@@ -49,7 +65,9 @@ fn reads_one_delayed_task(rt: HostRuntime) -> Result<(), Fail> {
     assert_eq!(rt; block.at(), 0);
     let call = block.calls().first().ok_or("no call")?;
     assert_eq!(rt; call.at, 0);
-    let Op::Schedule { name, delay } = &call.op;
+    let Op::Schedule { name, delay } = &call.op else {
+        return Err("not a schedule".into());
+    };
     assert_eq!(rt; name.as_str(), "a");
     assert_eq!(rt; delay.nanos(), 5);
     assert_eq!(rt;
@@ -89,6 +107,126 @@ call = [
             (0u64, once(0, 0)),
             (7, once(1, 4611686018427387904)),
             (4611686018427387904, once(2, 0)),
+        ]
+        .as_slice()
+    );
+    Ok(())
+}
+
+#[test]
+fn reads_the_three_operations(rt: HostRuntime) -> Result<(), Fail> {
+    let text = "version = 1
+[[block]]
+call = [
+  { op = \"schedule\", name = \"a\", delay = 3 },
+  { op = \"rate\", name = \"b\", first = 4, period = 5, at = 2 },
+  { op = \"fixed\", name = \"c\", first = 6, delay = 7, at = 9 },
+  { op = \"rate\", name = \"d\", first = -8, period = 1, at = 9 },
+  { op = \"fixed\", name = \"e\", first = -9223372036854775808, delay = 10, at = 11 },
+]
+";
+    assert_eq!(rt;
+        calls(&rt, text)?.as_slice(),
+        [
+            (0u64, once(0, 3)),
+            (2, submitted(1, Timing::Rate(span(5, Unit::Ns)?), 4)),
+            (9, submitted(2, Timing::Fixed(span(7, Unit::Ns)?), 6)),
+            (9, submitted(3, Timing::Rate(span(1, Unit::Ns)?), 0)),
+            (11, submitted(4, Timing::Fixed(span(10, Unit::Ns)?), 0)),
+        ]
+        .as_slice()
+    );
+    Ok(())
+}
+
+#[test]
+fn keeps_the_parts_of_a_plan(rt: HostRuntime) -> Result<(), Fail> {
+    let text = "version = 1
+[[block]]
+call = [
+  { op = \"rate\", name = \"often\", first = 4, period = 5, at = 2 },
+  { op = \"fixed\", name = \"never\", first = 6, delay = 0, at = 9 },
+]
+";
+    let plan = read_plan(rt.alloc(), text.as_bytes())?;
+    let block = plan.blocks().first().ok_or("no block")?;
+    let [often, never] = block.calls() else {
+        return Err("not two calls".into());
+    };
+    let Op::Rate {
+        name,
+        first,
+        period,
+    } = &often.op
+    else {
+        return Err("not a rate".into());
+    };
+    assert_eq!(rt; often.at, 2);
+    assert_eq!(rt; name.as_str(), "often");
+    assert_eq!(rt; first.nanos(), 4);
+    assert_eq!(rt; *period, Some(span(5, Unit::Ns)?));
+    let Op::Fixed { name, first, delay } = &never.op else {
+        return Err("not a fixed".into());
+    };
+    assert_eq!(rt; never.at, 9);
+    assert_eq!(rt; name.as_str(), "never");
+    assert_eq!(rt; first.nanos(), 6);
+    assert_eq!(rt; *delay, None);
+    Ok(())
+}
+
+#[test]
+fn numbers_illegal_submissions(rt: HostRuntime) -> Result<(), Fail> {
+    let text = "version = 1
+[[block]]
+call = [
+  { op = \"schedule\", name = \"a\", delay = -5 },
+  { op = \"rate\", name = \"b\", first = 1, period = 0 },
+  { op = \"fixed\", name = \"c\", first = 1, delay = -1 },
+  { op = \"rate\", name = \"d\", first = 1, period = 1 },
+  { op = \"fixed\", name = \"e\", first = 4611686018427387904, delay = 0 },
+  { op = \"rate\", name = \"f\", first = -1, period = -9223372036854775808 },
+]
+";
+    assert_eq!(rt;
+        calls(&rt, text)?.as_slice(),
+        [
+            (0u64, once(0, 0)),
+            (0, CodeCall::Illegal { task: 1 }),
+            (0, CodeCall::Illegal { task: 2 }),
+            (0, submitted(3, Timing::Rate(span(1, Unit::Ns)?), 1)),
+            (0, CodeCall::Illegal { task: 4 }),
+            (0, CodeCall::Illegal { task: 5 }),
+        ]
+        .as_slice()
+    );
+    Ok(())
+}
+
+#[test]
+fn takes_spans_of_2_to_the_62(rt: HostRuntime) -> Result<(), Fail> {
+    let longest = 4_611_686_018_427_387_904;
+    let text = "version = 1
+[[block]]
+[[block.call]]
+at = 4611686018427387904
+op = \"rate\"
+name = \"a\"
+first = 4611686018427387904
+period = 4611686018427387904
+[[block.call]]
+at = 4611686018427387904
+op = \"fixed\"
+name = \"b\"
+first = 4611686018427387904
+delay = 4611686018427387904
+";
+    let span = span(4_611_686_018_427_387_904, Unit::Ns)?;
+    assert_eq!(rt;
+        calls(&rt, text)?.as_slice(),
+        [
+            (longest, submitted(0, Timing::Rate(span), longest)),
+            (longest, submitted(1, Timing::Fixed(span), longest)),
         ]
         .as_slice()
     );
@@ -240,8 +378,101 @@ fn refuses_at_a_call(rt: HostRuntime) -> Result<(), Fail> {
             PlanFaultKind::TooLarge,
         ),
     ] {
-        let text = format!(in rt.alloc(); "{CALL}{lines}\n")?;
-        refuses(&rt, text.as_str(), kind, 1, 1);
+        refuses_call(&rt, lines, kind)?;
+    }
+    Ok(())
+}
+
+#[test]
+fn refuses_keys_of_another_operation(rt: HostRuntime) -> Result<(), Fail> {
+    for (lines, kind) in [
+        ("op = \"rates\"\nx = 1", PlanFaultKind::WrongType),
+        ("op = \"rate\"\nx = 1", PlanFaultKind::UnknownKey),
+        (
+            "op = \"rate\"\nname = 1\nfirst = 1\ndelay = 1",
+            PlanFaultKind::UnknownKey,
+        ),
+        (
+            "op = \"fixed\"\nname = \"a\"\nfirst = 1\nperiod = 1",
+            PlanFaultKind::UnknownKey,
+        ),
+        (
+            "op = \"schedule\"\nname = \"a\"\ndelay = 1\nfirst = 1",
+            PlanFaultKind::UnknownKey,
+        ),
+        (
+            "op = \"rate\"\nfirst = 1.5\nperiod = 1",
+            PlanFaultKind::Missing,
+        ),
+        (
+            "op = \"rate\"\nname = 1\nperiod = 1",
+            PlanFaultKind::Missing,
+        ),
+        (
+            "op = \"rate\"\nname = \"a\"\nfirst = 1.5",
+            PlanFaultKind::Missing,
+        ),
+        (
+            "op = \"fixed\"\nfirst = 1\ndelay = 1",
+            PlanFaultKind::Missing,
+        ),
+        (
+            "op = \"fixed\"\nname = \"a\"\ndelay = 1.5",
+            PlanFaultKind::Missing,
+        ),
+        (
+            "op = \"fixed\"\nname = 1\nfirst = 1",
+            PlanFaultKind::Missing,
+        ),
+    ] {
+        refuses_call(&rt, lines, kind)?;
+    }
+    Ok(())
+}
+
+#[test]
+fn refuses_values_of_a_periodic_task(rt: HostRuntime) -> Result<(), Fail> {
+    for (lines, kind) in [
+        ("name = 1\nfirst = 1", PlanFaultKind::WrongType),
+        ("name = \"\"\nfirst = \"1\"", PlanFaultKind::WrongType),
+        ("name = \"\"\nfirst = 1\nat = 1.5", PlanFaultKind::WrongType),
+        ("name = \"\"\nfirst = 1\nat = -1", PlanFaultKind::BadName),
+        (
+            "name = \"a\"\nfirst = 4611686018427387905\nat = -1",
+            PlanFaultKind::Negative,
+        ),
+        (
+            "name = \"a\"\nfirst = 1\nat = 4611686018427387905",
+            PlanFaultKind::TooLarge,
+        ),
+        (
+            "name = \"a\"\nfirst = 4611686018427387905",
+            PlanFaultKind::TooLarge,
+        ),
+    ] {
+        for rest in ["op = \"rate\"\nperiod = 0", "op = \"fixed\"\ndelay = -1"] {
+            let call = format!(in rt.alloc(); "{rest}\n{lines}")?;
+            refuses_call(&rt, call.as_str(), kind)?;
+        }
+    }
+    Ok(())
+}
+
+#[test]
+fn refuses_periods_and_fixed_delays(rt: HostRuntime) -> Result<(), Fail> {
+    for front in [
+        "op = \"rate\"\nname = \"a\"\nfirst = -1\nperiod",
+        "op = \"fixed\"\nname = \"a\"\nfirst = -1\ndelay",
+    ] {
+        for (value, kind) in [
+            ("\"1\"", PlanFaultKind::WrongType),
+            ("0.0", PlanFaultKind::WrongType),
+            ("4611686018427387905", PlanFaultKind::TooLarge),
+            ("9223372036854775807", PlanFaultKind::TooLarge),
+        ] {
+            let call = format!(in rt.alloc(); "{front} = {value}")?;
+            refuses_call(&rt, call.as_str(), kind)?;
+        }
     }
     Ok(())
 }
@@ -257,6 +488,29 @@ fn refuses_at_a_second_call(rt: HostRuntime) -> Result<(), Fail> {
         "{CALL}op = \"schedule\"\nname = \"a\"\ndelay = 5\nat = 2\n[[block.call]]\nop = \"schedule\"\nname = \"b\"\ndelay = 5\nat = 1\n"
     )?;
     refuses(&rt, back.as_str(), PlanFaultKind::OutOfOrder, 1, 2);
+    let large = format!(in alloc;
+        "{CALL}op = \"schedule\"\nname = \"a\"\ndelay = 5\nat = 2\n[[block.call]]\nop = \"rate\"\nname = \"b\"\nfirst = 0\nperiod = 4611686018427387905\nat = 1\n"
+    )?;
+    refuses(&rt, large.as_str(), PlanFaultKind::TooLarge, 1, 2);
+    Ok(())
+}
+
+#[test]
+fn refuses_a_name_of_another_operation(rt: HostRuntime) -> Result<(), Fail> {
+    let submissions = [
+        "{ op = \"schedule\", name = \"a\", delay = 1 }",
+        "{ op = \"rate\", name = \"a\", first = 1, period = 1 }",
+        "{ op = \"rate\", name = \"a\", first = 1, period = 0 }",
+        "{ op = \"fixed\", name = \"a\", first = 1, delay = 1 }",
+    ];
+    for first in submissions {
+        for second in submissions {
+            let text = format!(in rt.alloc();
+                "version = 1\n[[block]]\ncall = [{first}, {second}]\n"
+            )?;
+            refuses(&rt, text.as_str(), PlanFaultKind::DuplicateName, 1, 2);
+        }
+    }
     Ok(())
 }
 

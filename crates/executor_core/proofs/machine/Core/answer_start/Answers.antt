@@ -1,6 +1,7 @@
-use Rattle.std.proofs.Common.{◌≡◌, ◌<◌, length, None, ◌∙◌, sym, arith}
+use Rattle.std.proofs.Common.{◌≡◌, ◌<◌, length, None, ◌∙◌, sym, arith, subst}
 use Rattle.std.specs.Prelude.{slice_index_or}
 use Rattle.executor_core.specs.State.{vacant}
+use Rattle.executor_core.specs.Machine.{IsCounted}
 use Rattle.executor_core.proofs.Tables.{read_at, none_of}
 use Rattle.executor_core.proofs.Keeps.{of_view, start_idles, start_takes, start_keeps, least_within}
 use Rattle.executor_core.proofs.machine.Core.answer_start.Goals as goal
@@ -22,7 +23,7 @@ invariant_of-self-2 g c =
     let poll = c.in-Some.ensures in
     let k = c.in-Some.entry.task in
     let task = read_at m.tasks.items k c.index-task.result.now vacant (least_within _ m.queue m.timings.items k c.in-Some.entry.due c.self.invariant poll.least) c.index-task.ensures in
-    start_keeps _ m.queue c.poll.new.self m.timings.items c.args.worker k c.in-Some.entry.due c.index-task.result.now c.self.invariant l free poll.least poll.due task poll.removed
+    start_keeps _ m.queue c.poll.new.self m.timings.items c.args.worker k c.in-Some.entry.due c.index-task.result.now c.self.invariant l free poll.least poll.due task (subst IsCounted (sym c.self.view_is) c.requires) poll.removed
 
 pub returns : goal.returns
 returns g c =

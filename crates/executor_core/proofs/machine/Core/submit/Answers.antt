@@ -53,4 +53,4 @@ pub returns-clause-step : goal.returns-clause-step
 returns-clause-step g c =
     let m = c.self.inside in
     let is : slice_get m.calls.items m.made ≡ Some (c.args.moment, call.Submit c.args.task c.args.timing c.args.delay) = ap (λ x. slice_get x.calls x.made) c.self.view_is ∙ c.requires in
-    submit_steps _ c.args.self.now m.queue m.timings.items c.max-self-inside.result c.args.moment c.args.task c.args.delay c.args.timing c.kind_of.result c.self.invariant is c.kind_of.ensures c.max-self-inside.ensures c.self.view_is
+    submit_steps _ c.args.self.now m.queue m.timings.items c.max-self-inside.result c.args.moment c.args.task c.args.delay c.args.timing c.kind_of-kind.result c.self.invariant is c.kind_of-kind.ensures c.max-self-inside.ensures c.self.view_is

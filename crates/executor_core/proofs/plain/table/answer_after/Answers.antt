@@ -3,7 +3,14 @@ use Rattle.executor_core.specs.declared.words.Happening.{Happening}
 use Rattle.executor_core.specs.Histories.{answer}
 use Rattle.executor_core.specs.Plain.{history}
 use Rattle.executor_core.proofs.Plains.{call_answers}
+use Rattle.executor_core.proofs.Within.{answered_within}
 use Rattle.executor_core.proofs.plain.table.answer_after.Goals as goal
+
+pub answer_start-requires-clause-within : goal.answer_start-requires-clause-within
+answer_start-requires-clause-within c = answered_within c.args.calls.now c.args.workers (history c.args.past.now) c.requires.orderly c.requires.answered
+
+pub answer_finish-requires-clause-within : goal.answer_finish-requires-clause-within
+answer_finish-requires-clause-within c = answered_within c.args.calls.now c.args.workers (history c.args.past.now) c.requires.orderly c.requires.answered
 
 pub returns-in-Some : goal.returns-in-Some
 returns-in-Some c =

@@ -1,7 +1,16 @@
 use Rattle.executor_core.specs.declared.words.Event.TheVariants as v
-use Rattle.executor_core.specs.Plain.{history}
+use Rattle.std.proofs.Common.{[], take, sym, subst}
+use Rattle.std.specs.Prelude.{reverse}
+use Rattle.executor_core.specs.Flows.{flow}
+use Rattle.executor_core.specs.Plain.{history, IsAnswered}
+use Rattle.executor_core.proofs.Within.{answered_from}
 use Rattle.executor_core.proofs.Plains.{one_event}
 use Rattle.executor_core.proofs.plain.tracing.history_of.Goals as goal
+
+pub take_event-requires-clause-answered : goal.take_event-requires-clause-answered
+take_event-requires-clause-answered g c =
+    subst (IsAnswered c.args.calls.now c.args.workers) (sym c.loop-event.invariant)
+    (answered_from c.args.calls.now c.args.workers [] (flow c.args.calls.now (reverse (take c.loop-event.event-index c.args.events.now))) tt)
 
 pub loop-event-preserved : goal.loop-event-preserved
 loop-event-preserved g c =

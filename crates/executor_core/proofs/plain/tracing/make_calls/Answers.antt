@@ -1,6 +1,15 @@
-use Rattle.executor_core.specs.Plain.{history}
+use Rattle.std.proofs.Common.{sym, subst}
+use Rattle.std.specs.Prelude.{replicate}
+use Rattle.executor_core.specs.declared.words.Happening.TheVariants as h
+use Rattle.executor_core.specs.Plain.{history, IsAnswered}
+use Rattle.executor_core.proofs.Within.{answered_from}
 use Rattle.executor_core.proofs.Plains.{one_call}
 use Rattle.executor_core.proofs.plain.tracing.make_calls.Goals as goal
+
+pub happen-requires-clause-answered : goal.happen-requires-clause-answered
+happen-requires-clause-answered g c =
+    subst (IsAnswered c.args.calls.now c.args.workers) (sym c.loop-made.invariant)
+    (answered_from c.args.calls.now c.args.workers (history c.args.past.now.items) (replicate c.loop-made._made h.Call) c.requires.answered)
 
 pub loop-made-preserved : goal.loop-made-preserved
 loop-made-preserved g c =

@@ -1,10 +1,16 @@
-use Rattle.std.proofs.Common.{◌≡◌, ℕ, [], ◌∷◌, ap, ◌∙◌, subst}
+use Rattle.std.proofs.Common.{◌≡◌, ℕ, [], ◌∷◌, sym, ap, ◌∙◌, subst}
 use Rattle.std.specs.Prelude.{OnOk, replicate}
 use Rattle.executor_core.specs.declared.words.Happening.TheVariants as h
 use Rattle.executor_core.specs.Flows.{history_from}
-use Rattle.executor_core.specs.Plain.{history}
+use Rattle.executor_core.specs.Plain.{history, IsAnswered}
+use Rattle.executor_core.proofs.Within.{answered_from}
 use Rattle.executor_core.proofs.Plains.{count_before}
 use Rattle.executor_core.proofs.plain.tracing.take_event.Goals as goal
+
+pub happen-requires-clause-answered : goal.happen-requires-clause-answered
+happen-requires-clause-answered g c =
+    subst (IsAnswered c.args.calls.now c.args.workers) (sym c.in_ok-make_calls.ensures)
+    (answered_from c.args.calls.now c.args.workers (history c.args.past.now.items) (replicate c.calls_before-count.result h.Call) c.requires.answered)
 
 pub returns : goal.returns
 returns g c =
