@@ -1,8 +1,8 @@
 -- Lists that descend: an entry taken out, an entry put in.
-use Rattle.std.proofs.Common.{◌≡◌, ℕ, suc, ◌+◌, ◌<◌, ◌≤◌, ◌≢◌, Bool, true, false, cond, not, List, [], ◌∷◌, ◌++◌, take, drop, length, get_or, eqb, Some, None, position, refl, sym, subst, arith, take-append-drop}
+use Rattle.std.proofs.Common.{◌≡◌, ℕ, zero, suc, ◌+◌, ◌<◌, ◌≤◌, ◌≢◌, Bool, true, false, cond, not, List, [], ◌∷◌, ◌++◌, take, drop, length, get_or, eqb, Some, None, position, refl, sym, ap, ◌∙◌, subst, arith, take-append-drop}
 use Rattle.std.specs.List.{insert, position_or_len}
 use Rattle.std.proofs.lemmas.Bool.Decides.{nat_tests}
-use Rattle.std.proofs.lemmas.Bool.{eqb-true, eqb-false}
+use Rattle.std.proofs.lemmas.Bool.{false≢true, eqb-true, eqb-false}
 use Rattle.std.proofs.lemmas.List.Sums.{prefix_len-le-length}
 use Rattle.delay_queue.specs.Queues.{comes_before}
 use Rattle.delay_queue.specs.Sorted.{AreBefore, Descends, AreKnown}
@@ -116,3 +116,42 @@ place_within p entries = prefix_len-le-length (λ (e : Entry). not (p e)) entrie
 
 pub place_from_none : (p : Entry → Bool) (entries : List Entry) → position p entries ≡ None → length entries ≡ position_or_len p entries
 place_from_none p entries h = let short : position_or_len p entries ≤ length entries = place_within p entries in grind (arith, nat_tests)
+
+-- the place of a new entry, by halves
+
+before_at : (entries : List Entry) (e d : Entry) (i : ℕ) → AreBefore entries e → i < length entries → comes_before (get_or entries i d).due (get_or entries i d).task e.due e.task ≡ true
+before_at [] e d i h within = absurd (omega arith)
+before_at (f ∷ entries) e d zero h within = h.1
+before_at (f ∷ entries) e d (suc i) h within = before_at entries e d i h.2 (omega arith)
+
+-- what comes before the new entry stands behind its place
+pub place_before : (entries : List Entry) (x d : Entry) (i : ℕ) → i < length entries → comes_before (get_or entries i d).due (get_or entries i d).task x.due x.task ≡ true → place_for entries x ≤ i
+place_before [] x d i within h = absurd (omega arith)
+place_before (e ∷ entries) x d zero within h =
+    let pick : (b : Bool) → b ≡ true → cond (not b) (1 + place_for entries x) 0 ≤ 0 = elim [ true ↦ λ q. omega arith | false ↦ λ q. absurd (false≢true q) ] in
+    pick (comes_before e.due e.task x.due x.task) h
+place_before (e ∷ entries) x d (suc i) within h =
+    let rest = place_before entries x d i (omega arith) h in
+    let pick : (b : Bool) → cond (not b) (1 + place_for entries x) 0 ≤ suc i = elim [ true ↦ omega arith | false ↦ omega (arith, rest) ] in
+    pick (comes_before e.due e.task x.due x.task)
+
+-- and what does not stands in front of it
+pub place_behind : (entries : List Entry) (x d : Entry) (i : ℕ) → Descends entries → i < length entries → comes_before (get_or entries i d).due (get_or entries i d).task x.due x.task ≡ false
+    → i < place_for entries x
+place_behind [] x d i desc within h = absurd (omega arith)
+place_behind (e ∷ entries) x d zero desc within h =
+    let pick : (b : Bool) → b ≡ false → 0 < cond (not b) (1 + place_for entries x) 0 = elim [ true ↦ λ q. absurd (false≢true (sym q)) | false ↦ λ q. omega arith ] in
+    pick (comes_before e.due e.task x.due x.task) h
+place_behind (e ∷ entries) x d (suc i) desc within h =
+    let f = get_or entries i d in
+    let rest = place_behind entries x d i desc.1 (omega arith) h in
+    let through : comes_before e.due e.task x.due x.task ≡ true → comes_before f.due f.task x.due x.task ≡ true = λ q. before_through f.due f.task e.due e.task x.due x.task (before_at entries e d i desc.0 (omega arith)) q in
+    let pick : (b : Bool) → (comes_before e.due e.task x.due x.task ≡ b) → suc i < cond (not b) (1 + place_for entries x) 0 =
+    elim [ true ↦ λ q. absurd (false≢true (sym h ∙ through q)) | false ↦ λ q. omega (arith, rest) ]
+    in
+    pick (comes_before e.due e.task x.due x.task) refl
+
+-- the test of an entry that was read
+pub read_entry : (entries : List Entry) (x : Entry) (i : ℕ) (e : Entry) (b : Bool) → e ≡ get_or entries i e → comes_before e.due e.task x.due x.task ≡ b →
+    comes_before (get_or entries i e).due (get_or entries i e).task x.due x.task ≡ b
+read_entry entries x i e b is h = ap (λ (f : Entry). comes_before f.due f.task x.due x.task) (sym is) ∙ h

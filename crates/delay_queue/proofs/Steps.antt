@@ -1,6 +1,7 @@
 -- What each call does to the table, by what it does to the list.
-use Rattle.std.proofs.Common.{◌≡◌, ℕ, suc, ◌-◌, ◌<◌, List, [], ◌∷◌, ◌++◌, Option, Some, None, set, take, drop, length, get_or, eqb, position, slice_get, sym, ap, subst, ◌∙◌, arith}
+use Rattle.std.proofs.Common.{◌≡◌, ℕ, zero, suc, ◌-◌, ◌<◌, List, [], ◌∷◌, ◌++◌, Option, Some, None, set, take, drop, length, get_or, eqb, position, slice_get, sym, ap, subst, ◌∙◌, arith}
 use Rattle.std.specs.List.{insert, remove}
+use Rattle.std.specs.Prelude.{OnSome}
 use Rattle.std.proofs.lemmas.List.{set-get_or, take-append-drop, drop_all, append-nil}
 use Rattle.std.proofs.lemmas.Option.{slice_get_within, get_or_from_slice_get}
 use Rattle.delay_queue.specs.Queues.{due_in, IsLeast}
@@ -112,13 +113,17 @@ popped tasks entries after queue e n d k view h size is =
     is ∙ ap (λ (m : ℕ). take (m - 1) entries) size ∙ sym (append-nil (take i entries)) ∙ ap (λ (l : List Entry). take i entries ++ l) (sym rest) in
     subst (λ (x : Entry). Becomes tasks after (set queue x.task None)) p.1 (taken tasks entries after queue i e d k view p.0 same)
 
--- what a look at a list says of the list itself
-pub seen_place : (entries seen : List Entry) (task : ℕ) (r o : Option ℕ) → seen ≡ entries → r ≡ position (λ (e : Entry). eqb e.task task) seen → r ≡ o
-    → position (λ (e : Entry). eqb e.task task) entries ≡ o
-seen_place entries seen task r o same is known = ap (position (λ (e : Entry). eqb e.task task)) (sym same) ∙ sym is ∙ known
+-- what a look at the end of a list says
 
-pub seen_last : (entries seen : List Entry) (e : Entry) → seen ≡ entries → Some e ≡ slice_get seen (length seen - 1) → Some e ≡ slice_get entries (length entries - 1)
-seen_last entries seen e same is = is ∙ ap (λ (l : List Entry). slice_get l (length l - 1)) same
+there : (entries : List Entry) (i : ℕ) (e : Entry) → i < length entries → e ≡ get_or entries i e → Some e ≡ slice_get entries i
+there [] i e within h = absurd (omega arith)
+there (x ∷ entries) zero e within h = ap Some h
+there (x ∷ entries) (suc i) e within h = there entries i e (omega arith) h
 
-pub seen_room : (entries seen : List Entry) (x : Entry) (i : ℕ) → seen ≡ entries → i ≡ place_for seen x → i ≡ place_for entries x
-seen_room entries seen x i same is = is ∙ ap (λ (l : List Entry). place_for l x) same
+pub back_is : (entries : List Entry) (n : ℕ) (e : Entry) → n ≡ length entries → 0 < n → e ≡ get_or entries (n - 1) e → Some e ≡ slice_get entries (length entries - 1)
+back_is entries n e size some h =
+    there entries (length entries - 1) e (omega (arith, size, some)) (subst (λ (m : ℕ). e ≡ get_or entries (m - 1) e) size h)
+
+-- what is so where something was taken out, where something was
+pub of_some : (r : Option Entry) (e : Entry) (P : Type 0) → r ≡ Some e → OnSome r P → P
+of_some r e P h p = subst (λ (o : Option Entry). OnSome o P) h p

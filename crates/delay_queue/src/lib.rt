@@ -30,8 +30,8 @@
 //! # Memory and errors
 //!
 //! [`DelayQueue::new`] takes memory and fails with [`QueueError::Memory`] where there is none. No other call takes memory
-//! or can fail. An entry is 16 bytes. `peek` and `poll` take constant time; `insert`, `remove`, `due_of` and `contains`
-//! go over the entries.
+//! or can fail. An entry is 16 bytes. `peek` and `poll` take constant time. `insert` finds the place by halves, and then
+//! moves the entries of the shorter side; `remove`, `due_of` and `contains` go over the entries.
 #![tactic(auto)]
 
 mod entry;

@@ -1,10 +1,12 @@
-//! The queue: entries in a list that descends, with room for one of each task.
+//! The queue: entries in a list that descends, with room for one of each task. The list is a ring, so that an entry goes
+//! in at the cost of the shorter side.
 ghost use Rattle.std.specs.Prelude.{◌≡◌, ◌<◌, ◌≤◌, ◌==◌, false, Some, None, length, replicate, slice_set, is_some, count_by, IfOk, IsOk, IfSome, IfNone};
 ghost use Rattle.delay_queue.specs.Queues.{due_in, IsLeast, IsEmpty, NoneIsDue};
 
 use crate::entry::Entry;
 use crate::sorted::{place_for, place_of};
 use std::alloc::Allocator;
+use std::collections::VecDeque;
 use std::marker::Model;
 
 /// Why a queue was not made.
@@ -19,19 +21,20 @@ pub enum QueueError {
 /// A contract sees it as a table by task number, with the due moment of each task that has an entry.
 #[derive(Drop)]
 pub struct DelayQueue<A: Allocator> {
-    entries: Vec<Entry, A>,
+    entries: VecDeque<Entry, A>,
     tasks: u32,
 }
 
 impl<A: Allocator> Model for DelayQueue<A> {
-    ghost use Rattle.std.specs.Prelude.{ℕ, List, Option, vec_capacity};
+    ghost use Rattle.std.specs.Prelude.{ℕ, List, Option};
+    ghost use Rattle.std.specs.VecDeque.{deque_capacity};
     ghost use Rattle.delay_queue.specs.Sorted.{table, IsKept};
 
     ghost Value = { List (Option ℕ) };
 
     ghost view = { λ q. table q.tasks q.entries.items };
 
-    ghost invariant = { λ q. IsKept q.tasks q.entries.items (vec_capacity q.entries) };
+    ghost invariant = { λ q. IsKept q.tasks q.entries.items (deque_capacity q.entries) };
 }
 
 impl<A: Allocator> DelayQueue<A> {
@@ -44,7 +47,7 @@ impl<A: Allocator> DelayQueue<A> {
         ensures empty { IfOk result (λ q. q ≡ replicate tasks None) }
         ensures no_room { tasks ≡ 0 → IsOk result }
     {
-        match Vec::with_capacity(alloc, tasks as usize) {
+        match VecDeque::with_capacity(alloc, tasks as usize) {
             Ok(entries) => Ok(DelayQueue { entries, tasks }),
             Err(_) => Err(QueueError::Memory),
         }
@@ -67,7 +70,7 @@ impl<A: Allocator> DelayQueue<A> {
         ensures least { IfSome result (λ e. IsLeast self.now e.due e.task) }
         ensures empty { IfNone result (IsEmpty self.now) }
     {
-        match self.entries.last() {
+        match self.entries.back() {
             Some(entry) => Some(*entry),
             None => None,
         }
@@ -83,14 +86,14 @@ impl<A: Allocator> DelayQueue<A> {
         ensures none_due { IfNone result (NoneIsDue self.old now) }
         ensures unchanged { IfNone result (self.new ≡ self.old) }
     {
-        let Some(last) = self.entries.last() else {
+        let Some(last) = self.entries.back() else {
             return None;
         };
         let least = *last;
         if now < least.due {
             return None;
         }
-        self.entries.pop();
+        self.entries.pop_back();
         Some(least)
     }
 

@@ -7,4 +7,4 @@ pub returns : goal.returns
 returns g c =
     let all : count_by is_some c.args.self.now ≡ length c.self.inside.entries.items =
     ap (count_by is_some) (sym c.self.view_is) ∙ count-table c.self.inside.tasks c.self.inside.entries.items c.self.invariant.descends c.self.invariant.known in
-    omega arith
+    omega (arith, all, c.len.ensures, c.self.inside.entries.ok.0)
