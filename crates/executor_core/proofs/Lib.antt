@@ -17,3 +17,4 @@ pub mod Reading
 pub mod Within
 mod Waiting
 pub mod Repeats
+pub mod Endings

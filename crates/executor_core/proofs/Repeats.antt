@@ -32,12 +32,12 @@ use Rattle.executor_core.proofs.Waiting.{finish_found}
 
 -- what a start says of its task: it waited, its run has the number of the starts before, and it was due
 
-record Started (calls : List Planned) (past : List Entry) (k n d : ℕ) : Type 0 where
-  waiting : is_waiting ((look calls past).fate k) ≡ true
-  run : n ≡ starts k past
-  due : d ≡ due_of calls past k
+pub record Started (calls : List Planned) (past : List Entry) (k n d : ℕ) : Type 0 where
+  pub waiting : is_waiting ((look calls past).fate k) ≡ true
+  pub run : n ≡ starts k past
+  pub due : d ≡ due_of calls past k
 
-started_so : (calls : List Planned) (workers : ℕ) (past : List Entry) (e : Entry) (w k n d : ℕ) → Starts calls workers past e w k n d → Started calls past k n d
+pub started_so : (calls : List Planned) (workers : ℕ) (past : List Entry) (e : Entry) (w k n d : ℕ) → Starts calls workers past e w k n d → Started calls past k n d
 started_so calls workers past e w k n d s =
     let said = says calls workers past e w k n d s in
     let v = look calls past in
@@ -48,7 +48,7 @@ started_so calls workers past e w k n d s =
     }
 
 -- a task that waits started as often as it finished
-waits_even : (calls : List Planned) (past : List Entry) (k : ℕ) → is_waiting ((look calls past).fate k) ≡ true → starts k past ≡ finishes k past
+pub waits_even : (calls : List Planned) (past : List Entry) (k : ℕ) → is_waiting ((look calls past).fate k) ≡ true → starts k past ≡ finishes k past
 waits_even calls past k q =
     let f = (look calls past).fate k in
     let idle = (and_parts (not (is_running f)) (not (is_over f)) (and_parts f.accepted (not (is_running f) && not (is_over f)) q).1).0 in
@@ -80,7 +80,7 @@ ties_go_by_submission calls workers past e w k n d j s below enabled same =
 
 -- due moments
 
-due_by : (calls : List Planned) (past : List Entry) (k : ℕ) (terms : Terms) → terms_of calls k ≡ terms → due_of calls past k ≡ due_at terms (starts k past) (last_finish calls k past)
+pub due_by : (calls : List Planned) (past : List Entry) (k : ℕ) (terms : Terms) → terms_of calls k ≡ terms → due_of calls past k ≡ due_at terms (starts k past) (last_finish calls k past)
 due_by calls past k terms e = ap (λ x. due_at x (starts k past) (last_finish calls k past)) e
 
 pub rate_runs_are_due : RateRunsAreDue
@@ -166,7 +166,7 @@ again_is_due calls workers past e w k n d m is =
 
 -- overlaps
 
-starts_grow : (k : ℕ) (between past : List Entry) → starts k past ≤ starts k (between ++ past)
+pub starts_grow : (k : ℕ) (between past : List Entry) → starts k past ≤ starts k (between ++ past)
 starts_grow k [] past = omega arith
 starts_grow k (e ∷ between) past =
     let rest = starts_grow k between past in

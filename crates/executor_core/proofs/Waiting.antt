@@ -23,17 +23,17 @@ use Rattle.executor_core.proofs.Within.{dues_within}
 
 -- what an answer that submits a task says of what happened
 
-record Submits (calls : List Planned) (v : View) (happening : Happening) (k : ℕ) : Type 0 where
-  call : Planned
-  is : happening ≡ h.Call
-  there : slice_get calls v.made ≡ Some call
-  submits : IsSubmissionOf k call.1
+pub record Submits (calls : List Planned) (v : View) (happening : Happening) (k : ℕ) : Type 0 where
+  pub call : Planned
+  pub is : happening ≡ h.Call
+  pub there : slice_get calls v.made ≡ Some call
+  pub submits : IsSubmissionOf k call.1
 
 call_submits : (calls : List Planned) (v : View) (call : CodeCall) (k : ℕ) → is_submit k (called calls v call).answer ≡ true → IsSubmissionOf k call
 call_submits calls v (c.Submit task timing delay) k q = eqb-true task k q
 call_submits calls v (c.Illegal task) k q = absurd (false≢true q)
 
-submit_says : (calls : List Planned) (workers : ℕ) (v : View) (y : Happening) (k : ℕ) → is_submit k (reply calls workers v y).answer ≡ true → Submits calls v y k
+pub submit_says : (calls : List Planned) (workers : ℕ) (v : View) (y : Happening) (k : ℕ) → is_submit k (reply calls workers v y).answer ≡ true → Submits calls v y k
 submit_says calls workers v h.Call k q =
     let pick : (o : Option Planned) → slice_get calls v.made ≡ o → is_submit k (option_map_or (λ p. called calls (record v { moment = max v.moment p.0 }) p.1) o (plain a.Clock)).answer ≡ true → Submits calls v h.Call k =
     elim [

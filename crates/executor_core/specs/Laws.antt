@@ -11,7 +11,7 @@ use Rattle.executor_core.specs.declared.words.Happening.{Happening}
 use Rattle.executor_core.specs.declared.words.Answer.TheVariants as a
 use Rattle.executor_core.specs.Calls.{Planned, IsOrderly, task_count}
 use Rattle.executor_core.specs.View.{is_enabled, precedes}
-use Rattle.executor_core.specs.Histories.{Entry, Means, MayCome, happenings, is_finish, look, due_of, now_of, answer}
+use Rattle.executor_core.specs.Histories.{Entry, Means, starts, MayCome, happenings, is_finish, look, due_of, now_of, answer}
 use Rattle.executor_core.specs.State.{after, seen}
 use Rattle.executor_core.specs.Flows.{flow, history_of}
 use Rattle.executor_core.specs.Positions.{FinishedLast}
@@ -79,6 +79,35 @@ RunsDoNotOverlap = (calls : List Planned) (workers : ℕ) (past between : List E
 abbrev pub NothingStartsAfterAFailure : Type 0
 NothingStartsAfterAFailure = (calls : List Planned) (workers : ℕ) (past between : List Entry) (finish start : Entry) (v w k m n d code : ℕ)
     → Starts calls workers (between ++ finish ∷ past) start w k n d → finish.answer ≡ a.Finish v k m (o.Failed code) → ⊥
+
+-- a task whose one run ended with a value does not start again
+-- (ScheduledExecutorService.schedule: "a value-returning one-shot task")
+abbrev pub NothingStartsOnceDone : Type 0
+NothingStartsOnceDone = (calls : List Planned) (workers : ℕ) (past between : List Entry) (finish start : Entry) (v w k m n d value : ℕ)
+    → Starts calls workers (between ++ finish ∷ past) start w k n d → finish.answer ≡ a.Finish v k m (o.Done value) → ⊥
+
+-- a one-shot task has run 0 alone, which is due at its submission plus its delay
+-- (ScheduledExecutorService.schedule: "a value-returning one-shot task that becomes enabled after the given delay")
+abbrev pub OneShotsRunOnce : Type 0
+OneShotsRunOnce = (calls : List Planned) (workers : ℕ) (past : List Entry) (e : Entry) (w k n d place moment delay : ℕ) → IsOrderly calls
+    → slice_get calls place ≡ Some (moment, c.Submit k t.Once delay) → Starts calls workers past e w k n d
+    → (n ≡ 0) × (d ≡ moment + delay)
+
+-- a one-shot task does not start a second time
+-- (ScheduledExecutorService.schedule: "a value-returning one-shot task")
+abbrev pub OneShotsStartOnce : Type 0
+OneShotsStartOnce = (calls : List Planned) (workers : ℕ) (past between : List Entry) (first second : Entry) (v w k m n d f place moment delay : ℕ) → IsOrderly calls
+    → slice_get calls place ≡ Some (moment, c.Submit k t.Once delay) → Starts calls workers (between ++ first ∷ past) second w k n d
+    → first.answer ≡ a.Start v k m f → ⊥
+
+-- the runs of a task are numbered by its starts (this project's rule)
+abbrev pub RunsAreNumbered : Type 0
+RunsAreNumbered = (calls : List Planned) (workers : ℕ) (past : List Entry) (e : Entry) (w k n d : ℕ) → Starts calls workers past e w k n d → n ≡ starts k past
+
+-- a task whose submission is illegal does not start (this project's rule)
+abbrev pub IllegalTasksDoNotStart : Type 0
+IllegalTasksDoNotStart = (calls : List Planned) (workers : ℕ) (past : List Entry) (e : Entry) (w k n d place moment : ℕ) → IsOrderly calls
+    → slice_get calls place ≡ Some (moment, c.Illegal k) → Starts calls workers past e w k n d → ⊥
 
 -- each position: the answer is the one that the history before it has
 abbrev pub AnswersByPosition : Type 0

@@ -1,5 +1,5 @@
 //! What holds of each history, whatever the events: laws over the definitions alone.
-ghost use Rattle.executor_core.specs.Laws.{NoStartIsEarly, StartsAreInOrder, TiesGoBySubmission, RateRunsAreDue, FixedRunsAreDue, AgainIsDue, RunsDoNotOverlap, NothingStartsAfterAFailure, AnswersByPosition, OneHistory, FlowsAreAnswered, HistoriesAreOne, StatesAnswer};
+ghost use Rattle.executor_core.specs.Laws.{NoStartIsEarly, StartsAreInOrder, TiesGoBySubmission, RateRunsAreDue, FixedRunsAreDue, AgainIsDue, RunsDoNotOverlap, NothingStartsAfterAFailure, NothingStartsOnceDone, OneShotsRunOnce, OneShotsStartOnce, RunsAreNumbered, IllegalTasksDoNotStart, AnswersByPosition, OneHistory, FlowsAreAnswered, HistoriesAreOne, StatesAnswer};
 
 /// No task starts before its due moment.
 pub fn no_start_is_early()
@@ -41,6 +41,31 @@ pub fn runs_do_not_overlap()
 /// After a run that failed nothing of its task starts.
 pub fn nothing_starts_after_a_failure()
     ensures { NothingStartsAfterAFailure }
+{}
+
+/// A task whose one run ended with a value does not start again.
+pub fn nothing_starts_once_done()
+    ensures { NothingStartsOnceDone }
+{}
+
+/// A one-shot task has run 0 alone, which is due at its submission plus its delay.
+pub fn one_shots_run_once()
+    ensures { OneShotsRunOnce }
+{}
+
+/// A one-shot task does not start a second time.
+pub fn one_shots_start_once()
+    ensures { OneShotsStartOnce }
+{}
+
+/// The runs of a task are numbered by its starts.
+pub fn runs_are_numbered()
+    ensures { RunsAreNumbered }
+{}
+
+/// A task whose submission is illegal does not start.
+pub fn illegal_tasks_do_not_start()
+    ensures { IllegalTasksDoNotStart }
 {}
 
 /// Each answer of a history is the one that the table has for what stands before it.

@@ -16,8 +16,10 @@ mod words;
 pub use error::CoreError;
 pub use laws::{
     again_is_due, answers_by_position, fixed_runs_are_due, flows_are_answered, histories_are_one,
-    no_start_is_early, nothing_starts_after_a_failure, one_history, rate_runs_are_due,
-    runs_do_not_overlap, starts_are_in_order, states_answer, ties_go_by_submission,
+    illegal_tasks_do_not_start, no_start_is_early, nothing_starts_after_a_failure,
+    nothing_starts_once_done, one_history, one_shots_run_once, one_shots_start_once,
+    rate_runs_are_due, runs_are_numbered, runs_do_not_overlap, starts_are_in_order, states_answer,
+    ties_go_by_submission,
 };
 pub use machine::Core;
 pub use order::orderly;

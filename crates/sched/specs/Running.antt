@@ -131,7 +131,7 @@ Runs (Err x.Limit) calls workers limit input left old new = ⊥
 
 -- why there is no core for a text and these numbers, the plan first, then the workers, then the limit
 abbrev pub Refuses : RunError → List ℕ → ℕ → ℕ → Type 0
-Refuses (x.Plan fault) text workers limit = fault.kind ≢ kinds.Memory → plan_of_text text ≡ Err fault
+Refuses (x.Plan fault) text workers limit = (plan_of_text text ≡ Err fault) ⊎ (fault ≡ record { kind = kinds.Memory; block = 0; call = 0 })
 Refuses x.Workers text workers limit = (plan : PlanTree) × (plan_of_text text ≡ Ok plan) × IsNoCount workers
 Refuses x.Limit text workers limit = (plan : PlanTree) × (plan_of_text text ≡ Ok plan) × (IsNoCount workers → ⊥) × (limit ≡ 0)
 Refuses x.Memory text workers limit = (plan : PlanTree) × (plan_of_text text ≡ Ok plan)
