@@ -1,5 +1,7 @@
 pub mod Digits
+pub mod LineBuffers
 pub mod EventTexts
+pub mod Newlines
 pub mod Numbers
 pub mod Ranges
 pub mod Refusals

@@ -19,10 +19,6 @@ use Rattle.executor_core.specs.declared.Answer.{Answer}
 use Rattle.executor_core.specs.declared.Answer.TheVariants as answer
 use Rattle.executor_core.specs.declared.Line.{Line}
 
--- a text was put behind the old one
-pub record Puts (old new text : List ℕ) : Type 0 where
-  pub is : new ≡ old ++ text
-
 -- no digit stands in front, so that a number before these bytes ends there: past the last byte stands 0, which is no digit
 abbrev pub EndsNumber : List ℕ → Type 0
 EndsNumber rest = IsInRange 48 57 (slice_index rest 0) → ⊥

@@ -2,12 +2,13 @@ ghost use Rattle.std.specs.Prelude.{◌≡◌, ◌≤◌, ◌++◌, ℕ, List, t
 
 use crate::ends::{read_some, write_text};
 use crate::held::{Filled, Held};
+use crate::line_buffer::LineBuffer;
 use crate::line_text::{TextError, write_line, write_lines};
 use crate::lines::{Front, front_line};
 use crate::memory::Pieces;
 use crate::readers::Reading;
 use crate::writers::Writing;
-use executor_core::{Answer, Line};
+use executor_core::{Answer, Line, Outcome};
 use linked_list_allocator::LocalHeap;
 use std::alloc::Global;
 use std::io;
@@ -142,26 +143,38 @@ fn holds_pieces(rt: HostRuntime) -> Result<(), Fail> {
     Ok(())
 }
 
+/// The longest line.
+const LONGEST: &str =
+    "18446744073709551615 finish 255 task 4294967295 run 18446744073709551615 again due 18446744073709551615\n";
+
 #[test]
 fn refused_memory_changes_nothing(rt: HostRuntime) -> Result<(), Fail> {
     let line = Line {
-        moment: 7,
-        answer: Answer::Clock,
+        moment: u64::MAX,
+        answer: Answer::Finish {
+            worker: 255,
+            task: u32::MAX,
+            run: u64::MAX,
+            outcome: Outcome::Again(u64::MAX),
+        },
     };
+    let mut buffer = LineBuffer::new();
     let heap = LocalHeap::new(rt.alloc(), 64)?;
     let mut out = Vec::from_slice(&heap, b"old")?;
-    assert_eq!(rt; write_line(&mut out, &line), Err(TextError::Memory));
-    assert_eq!(rt;
-        write_lines(&mut out, &[line, line]),
-        Err(TextError::Memory)
-    );
+    let one = write_line(&mut out, &mut buffer, &line);
+    assert_eq!(rt; one, Err(TextError::Memory));
+    let two = write_lines(&mut out, &mut buffer, &[line, line]);
+    assert_eq!(rt; two, Err(TextError::Memory));
     assert!(rt; out.as_slice() == b"old".as_slice());
     assert!(rt; Held::new(&heap).is_err());
 
     let wide = LocalHeap::new(rt.alloc(), 1_000_000)?;
     let mut out = Vec::from_slice(&wide, b"old")?;
-    assert_eq!(rt; write_lines(&mut out, &[line, line]), Ok(()));
-    assert!(rt; out.as_slice() == b"old7 clock\n7 clock\n".as_slice());
+    let two = write_lines(&mut out, &mut buffer, &[line, line]);
+    assert_eq!(rt; two, Ok(()));
+    assert_eq!(rt; out.len(), 3 + 2 * 104);
+    assert!(rt; out.as_slice().ends_with(LONGEST.as_bytes()));
+    assert!(rt; out.as_slice().starts_with(b"old184467"));
     assert!(rt; Held::new(&wide).is_ok());
     Ok(())
 }

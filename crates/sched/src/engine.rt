@@ -6,6 +6,7 @@ ghost use Rattle.sched.specs.Running.{IsStanding, IsFirst, Answers, Stops, Opens
 use crate::ends::{Sink, Source, write_text};
 use crate::event::read_event;
 use crate::held::{Filled, Held, ROOM};
+use crate::line_buffer::LineBuffer;
 use crate::line_text::write_lines;
 use crate::lines::{Front, front_line};
 use crate::plan_read::{read_plan, written_out};
@@ -48,6 +49,7 @@ fn answer_lines<A: Allocator>(
     ensures within { IfOk result (λ _. core.new.taken ≤ core.new.limit) }
     ensures why { IfOk result (λ s. Stops s.why core.new.taken core.new.limit (drop s.taken held.now)) }
 {
+    let mut buffer = LineBuffer::new();
     let mut taken = 0;
     let mut count = 0;
     loop {
@@ -59,7 +61,7 @@ fn answer_lines<A: Allocator>(
                         lines.clear();
                         match core.event(event, lines) {
                             Ok(()) => {
-                                if write_lines(out, lines).is_err() {
+                                if write_lines(out, &mut buffer, lines).is_err() {
                                     return Err(AllocError);
                                 }
                                 taken += n + 1;

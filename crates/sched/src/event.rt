@@ -13,14 +13,14 @@ use sched_time::Ending;
 pub fn read_event(line: &[u8]) -> Option<Event>
     ensures { Spells line.now result }
 {
-    if let Some(rest) = strip(line, b"clock ") {
-        return read_clock(rest);
-    }
     if let Some(rest) = strip(line, b"start ") {
         return read_start(rest);
     }
     if let Some(rest) = strip(line, b"finish ") {
         return read_finish(rest);
+    }
+    if let Some(rest) = strip(line, b"clock ") {
+        return read_clock(rest);
     }
     None
 }

@@ -1,9 +1,9 @@
-ghost use Rattle.std.specs.Prelude.{◌≡◌, ℕ, ◌+◌, ◌≤◌, ◌<◌, ◌++◌, OnOk, OnErr, IsOk, length, take, vec_len, vec_capacity, codes};
+ghost use Rattle.std.specs.Prelude.{◌≡◌, ℕ, ◌+◌, ◌≤◌, ◌<◌, [], ◌++◌, OnOk, OnErr, IsOk, length, take, vec_len, vec_capacity, codes};
 ghost use Rattle.std.specs.Fmt.{decimal};
-ghost use Rattle.sched.specs.Spelling.{Puts, kind_text, refusal_text, error_text, outcome_text, answer_text, line_text, lines_text};
+ghost use Rattle.sched.specs.Spelling.{kind_text, refusal_text, error_text, outcome_text, answer_text, line_text, lines_text};
 ghost use Rattle.executor_core.specs.declared.Answer.TheVariants as a;
 
-use crate::number::{put_number, put_text};
+use crate::line_buffer::LineBuffer;
 use executor_core::{Answer, EventError, Kind, Line, Outcome, Refusal};
 use std::alloc::{AllocError, Allocator};
 use thiserror::Error;
@@ -28,160 +28,177 @@ impl From<AllocError> for TextError {
 }
 
 /// Appends the text of lines, each with its newline. An `Err` leaves the text of
-/// a front of them.
-pub fn write_lines<A: Allocator>(out: &mut Vec<u8, A>, lines: &[Line]) -> Result<(), TextError>
+/// a front of them. What the buffer held is lost.
+pub fn write_lines<A: Allocator>(
+    out: &mut Vec<u8, A>,
+    buffer: &mut LineBuffer,
+    lines: &[Line],
+) -> Result<(), TextError>
     ensures ok { OnOk result (out.new.items ≡ out.old.items ++ lines_text lines.now) }
     ensures err { OnErr result ((n : ℕ) × (n < length lines.now) × (out.new.items ≡ out.old.items ++ lines_text (take n lines.now))) }
 {
     for line in lines {
-        write_line(out, line)?;
+        write_line(out, buffer, line)?;
     }
     Ok(())
 }
 
 /// Appends the text of a line with its newline. An `Err` leaves the items as
-/// they were, and does not come where there is room for 160 bytes more.
-pub fn write_line<A: Allocator>(out: &mut Vec<u8, A>, line: &Line) -> Result<(), TextError>
+/// they were, and does not come where there is room for 160 bytes more. What the
+/// buffer held is lost.
+pub fn write_line<A: Allocator>(
+    out: &mut Vec<u8, A>,
+    buffer: &mut LineBuffer,
+    line: &Line,
+) -> Result<(), TextError>
     ensures ok { OnOk result (out.new.items ≡ out.old.items ++ line_text line.now) }
     ensures err { OnErr result (out.new.items ≡ out.old.items) }
     ensures room { vec_len out.old + 160 ≤ vec_capacity out.old → IsOk result }
 {
-    out.reserve(160)?;
-    put_number(out, line.moment);
-    put_answer(out, line.answer);
+    buffer.clear();
+    prepend_answer(buffer, line.answer);
+    buffer.prepend_number(line.moment);
+    out.extend_from_slice(buffer.bytes())?;
     Ok(())
 }
 
-/// Appends an answer as it stands behind its moment, and the newline, for which there is room.
-fn put_answer<A: Allocator>(out: &mut Vec<u8, A>, answer: Answer)
-    requires { vec_len out.old + 140 ≤ vec_capacity out.old }
-    ensures items { Puts out.old.items out.new.items (answer_text answer) }
+/// Makes the text of an answer as it stands behind its moment, with the newline.
+fn prepend_answer(text: &mut LineBuffer, answer: Answer)
+    requires { text.old ≡ [] }
+    ensures is { text.new ≡ answer_text answer }
+    ensures len { length text.new ≤ 140 }
 {
     match answer {
-        Answer::Submit { task, kind, due } => put_submit(out, task, kind, due),
-        Answer::Refuse { task, refusal } => put_refuse(out, task, refusal),
-        Answer::Clock => put_text(out, b" clock\n"),
+        Answer::Submit { task, kind, due } => prepend_submit(text, task, kind, due),
+        Answer::Refuse { task, refusal } => prepend_refuse(text, task, refusal),
+        Answer::Clock => text.prepend(b" clock\n"),
         Answer::Start {
             worker,
             task,
             run,
             due,
-        } => put_start(out, worker, task, run, due),
-        Answer::Idle { worker } => put_idle(out, worker),
+        } => prepend_start(text, worker, task, run, due),
+        Answer::Idle { worker } => prepend_idle(text, worker),
         Answer::Finish {
             worker,
             task,
             run,
             outcome,
-        } => put_finish(out, worker, task, run, outcome),
-        Answer::Error(error) => put_error(out, error),
+        } => prepend_finish(text, worker, task, run, outcome),
+        Answer::Error(error) => prepend_error(text, error),
     }
 }
 
-/// Appends that a task was accepted.
-fn put_submit<A: Allocator>(out: &mut Vec<u8, A>, task: u32, kind: Kind, due: u64)
-    requires { vec_len out.old + 140 ≤ vec_capacity out.old }
-    ensures items { Puts out.old.items out.new.items (answer_text (a.Submit task kind due)) }
+/// Makes the text of a task that was accepted.
+fn prepend_submit(text: &mut LineBuffer, task: u32, kind: Kind, due: u64)
+    requires { text.old ≡ [] }
+    ensures is { text.new ≡ answer_text (a.Submit task kind due) }
+    ensures len { length text.new ≤ 140 }
 {
-    put_text(out, b" submit ");
-    put_number(out, task as u64);
-    put_text(out, b" ");
-    put_text(out, kind_words(kind));
-    put_due(out, due);
+    prepend_due(text, due);
+    text.prepend(kind_words(kind));
+    text.prepend(b" ");
+    text.prepend_number(task as u64);
+    text.prepend(b" submit ");
 }
 
-/// Appends that a task was not accepted.
-fn put_refuse<A: Allocator>(out: &mut Vec<u8, A>, task: u32, refusal: Refusal)
-    requires { vec_len out.old + 140 ≤ vec_capacity out.old }
-    ensures items { Puts out.old.items out.new.items (answer_text (a.Refuse task refusal)) }
+/// Makes the text of a task that was not accepted.
+fn prepend_refuse(text: &mut LineBuffer, task: u32, refusal: Refusal)
+    requires { text.old ≡ [] }
+    ensures is { text.new ≡ answer_text (a.Refuse task refusal) }
+    ensures len { length text.new ≤ 140 }
 {
-    put_text(out, b" refuse ");
-    put_number(out, task as u64);
-    put_text(out, b" ");
-    put_text(out, refusal_words(refusal));
-    put_text(out, b"\n");
+    text.prepend(b"\n");
+    text.prepend(refusal_words(refusal));
+    text.prepend(b" ");
+    text.prepend_number(task as u64);
+    text.prepend(b" refuse ");
 }
 
-/// Appends that a worker starts a run.
-fn put_start<A: Allocator>(out: &mut Vec<u8, A>, worker: u8, task: u32, run: u64, due: u64)
-    requires { vec_len out.old + 140 ≤ vec_capacity out.old }
-    ensures items { Puts out.old.items out.new.items (answer_text (a.Start worker task run due)) }
+/// Makes the text of a worker that starts a run.
+fn prepend_start(text: &mut LineBuffer, worker: u8, task: u32, run: u64, due: u64)
+    requires { text.old ≡ [] }
+    ensures is { text.new ≡ answer_text (a.Start worker task run due) }
+    ensures len { length text.new ≤ 140 }
 {
-    put_text(out, b" start ");
-    put_number(out, worker as u64);
-    put_text(out, b" task ");
-    put_number(out, task as u64);
-    put_text(out, b" run ");
-    put_number(out, run);
-    put_due(out, due);
+    prepend_due(text, due);
+    text.prepend_number(run);
+    text.prepend(b" run ");
+    text.prepend_number(task as u64);
+    text.prepend(b" task ");
+    text.prepend_number(worker as u64);
+    text.prepend(b" start ");
 }
 
-/// Appends that a worker gets no work.
-fn put_idle<A: Allocator>(out: &mut Vec<u8, A>, worker: u8)
-    requires { vec_len out.old + 140 ≤ vec_capacity out.old }
-    ensures items { Puts out.old.items out.new.items (answer_text (a.Idle worker)) }
+/// Makes the text of a worker that gets no work.
+fn prepend_idle(text: &mut LineBuffer, worker: u8)
+    requires { text.old ≡ [] }
+    ensures is { text.new ≡ answer_text (a.Idle worker) }
+    ensures len { length text.new ≤ 140 }
 {
-    put_text(out, b" start ");
-    put_number(out, worker as u64);
-    put_text(out, b" idle\n");
+    text.prepend(b" idle\n");
+    text.prepend_number(worker as u64);
+    text.prepend(b" start ");
 }
 
-/// Appends that the run of a worker ended, and what it led to.
-fn put_finish<A: Allocator>(out: &mut Vec<u8, A>, worker: u8, task: u32, run: u64, outcome: Outcome)
-    requires { vec_len out.old + 140 ≤ vec_capacity out.old }
-    ensures items { Puts out.old.items out.new.items (answer_text (a.Finish worker task run outcome)) }
+/// Makes the text of a worker whose run ended, and what it led to.
+fn prepend_finish(text: &mut LineBuffer, worker: u8, task: u32, run: u64, outcome: Outcome)
+    requires { text.old ≡ [] }
+    ensures is { text.new ≡ answer_text (a.Finish worker task run outcome) }
+    ensures len { length text.new ≤ 140 }
 {
-    put_text(out, b" finish ");
-    put_number(out, worker as u64);
-    put_text(out, b" task ");
-    put_number(out, task as u64);
-    put_text(out, b" run ");
-    put_number(out, run);
-    put_outcome(out, outcome);
+    prepend_outcome(text, outcome);
+    text.prepend_number(run);
+    text.prepend(b" run ");
+    text.prepend_number(task as u64);
+    text.prepend(b" task ");
+    text.prepend_number(worker as u64);
+    text.prepend(b" finish ");
 }
 
-/// Appends a due moment and the newline, for which there is room.
-fn put_due<A: Allocator>(out: &mut Vec<u8, A>, due: u64)
-    requires { vec_len out.old + 40 ≤ vec_capacity out.old }
-    ensures items { Puts out.old.items out.new.items (codes " due " ++ (decimal due ++ codes "\n")) }
+/// Makes the text of a due moment, with the newline.
+fn prepend_due(text: &mut LineBuffer, due: u64)
+    requires { text.old ≡ [] }
+    ensures is { text.new ≡ codes " due " ++ (decimal due ++ codes "\n") }
+    ensures len { length text.new ≤ 40 }
 {
-    put_text(out, b" due ");
-    put_number(out, due);
-    put_text(out, b"\n");
+    text.prepend(b"\n");
+    text.prepend_number(due);
+    text.prepend(b" due ");
 }
 
-/// Appends what a finished run led to, and the newline, for which there is room.
-fn put_outcome<A: Allocator>(out: &mut Vec<u8, A>, outcome: Outcome)
-    requires { vec_len out.old + 40 ≤ vec_capacity out.old }
-    ensures items { Puts out.old.items out.new.items (outcome_text outcome) }
+/// Makes the text of what a finished run led to, with the newline.
+fn prepend_outcome(text: &mut LineBuffer, outcome: Outcome)
+    requires { text.old ≡ [] }
+    ensures is { text.new ≡ outcome_text outcome }
+    ensures len { length text.new ≤ 40 }
 {
+    text.prepend(b"\n");
     match outcome {
         Outcome::Done(value) => {
-            put_text(out, b" done ");
-            put_number(out, value);
-            put_text(out, b"\n");
+            text.prepend_number(value);
+            text.prepend(b" done ");
         }
         Outcome::Failed(code) => {
-            put_text(out, b" failed ");
-            put_number(out, code as u64);
-            put_text(out, b"\n");
+            text.prepend_number(code as u64);
+            text.prepend(b" failed ");
         }
         Outcome::Again(due) => {
-            put_text(out, b" again due ");
-            put_number(out, due);
-            put_text(out, b"\n");
+            text.prepend_number(due);
+            text.prepend(b" again due ");
         }
     }
 }
 
-/// Appends that an event had no effect.
-fn put_error<A: Allocator>(out: &mut Vec<u8, A>, error: EventError)
-    requires { vec_len out.old + 140 ≤ vec_capacity out.old }
-    ensures items { Puts out.old.items out.new.items (answer_text (a.Error error)) }
+/// Makes the text of an event that had no effect.
+fn prepend_error(text: &mut LineBuffer, error: EventError)
+    requires { text.old ≡ [] }
+    ensures is { text.new ≡ answer_text (a.Error error) }
+    ensures len { length text.new ≤ 140 }
 {
-    put_text(out, b" error ");
-    put_text(out, error_words(error));
-    put_text(out, b"\n");
+    text.prepend(b"\n");
+    text.prepend(error_words(error));
+    text.prepend(b" error ");
 }
 
 /// The word of a kind of task.

@@ -1,6 +1,8 @@
 ghost use Rattle.std.specs.Prelude.{◌≡◌};
 ghost use Rattle.sched.specs.Lines.{IsFront};
 
+use memchr::memchr;
+
 /// What stands at the front of some bytes.
 #[derive(Clone, Copy, Debug, PartialEq, Eq)]
 pub enum Front {
@@ -17,10 +19,9 @@ pub fn front_line(held: &[u8]) -> Front
     ensures { IsFront result held.now }
 {
     let most = held.len().min(63);
-    for i in 0..most {
-        if held[i] == b'\n' {
-            return Front::Line(i);
-        }
+    match memchr(b'\n', &held[..most]) {
+        Some(n) => Front::Line(n),
+        None if most < 63 => Front::Part,
+        None => Front::Long,
     }
-    if most < 63 { Front::Part } else { Front::Long }
 }

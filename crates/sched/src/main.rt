@@ -10,6 +10,7 @@ mod event;
 mod fault_lines;
 mod held;
 mod laws;
+mod line_buffer;
 mod line_text;
 mod lines;
 mod memory;
