@@ -10,3 +10,4 @@ pub mod PlanReading
 pub mod PlanCalls
 pub mod Running
 pub mod Faults
+pub mod Commands

@@ -1,5 +1,9 @@
 //! The command line.
 
+ghost use Rattle.std.specs.Prelude.{◌≡◌, false, IfOk};
+ghost use Rattle.clap.specs.Words.{app_of, rule_of};
+ghost use Rattle.sched.specs.Commands.{limit_rule, plan_rule, run_app, sched_app, workers_rule};
+
 use clap::{Arg, ArgAction, Command, value_parser};
 use std::alloc::{AllocError, Global};
 
@@ -72,7 +76,9 @@ Exit status:
   2  a fault of the command line";
 
 /// The command line of the program: `sched run PLAN --workers N [--limit N]`.
-pub fn command<'a>(alloc: Global) -> Result<Command<'a>, AllocError> {
+pub fn command<'a>(alloc: Global) -> Result<Command<'a>, AllocError>
+    ensures app { IfOk result (λ c. app_of c ≡ sched_app) }
+{
     Ok(
         Command::new(alloc, "sched")
             .bin_name("sched")?
@@ -83,7 +89,9 @@ pub fn command<'a>(alloc: Global) -> Result<Command<'a>, AllocError> {
     )
 }
 
-fn run_command<'a>(alloc: Global) -> Result<Command<'a>, AllocError> {
+fn run_command<'a>(alloc: Global) -> Result<Command<'a>, AllocError>
+    ensures app { IfOk result (λ c. app_of c ≡ run_app) }
+{
     Ok(
         Command::new(alloc, "run")
             .about(
@@ -96,7 +104,10 @@ fn run_command<'a>(alloc: Global) -> Result<Command<'a>, AllocError> {
     )
 }
 
-fn plan<'a>(alloc: Global) -> Arg<'a> {
+fn plan<'a>(alloc: Global) -> Arg<'a>
+    ensures rule { rule_of result ≡ plan_rule }
+    ensures local { result.global ≡ false }
+{
     Arg::new(alloc, "plan")
         .value_name("PLAN")
         .help("The file of the plan: which tasks are submitted, and when")
@@ -104,7 +115,10 @@ fn plan<'a>(alloc: Global) -> Arg<'a> {
         .action(ArgAction::Set)
 }
 
-fn workers<'a>(alloc: Global) -> Arg<'a> {
+fn workers<'a>(alloc: Global) -> Arg<'a>
+    ensures rule { rule_of result ≡ workers_rule }
+    ensures local { result.global ≡ false }
+{
     Arg::new(alloc, "workers")
         .long("workers")
         .value_name("N")
@@ -114,7 +128,10 @@ fn workers<'a>(alloc: Global) -> Arg<'a> {
         .value_parser(value_parser!(u8).range(1..65))
 }
 
-fn limit<'a>(alloc: Global) -> Arg<'a> {
+fn limit<'a>(alloc: Global) -> Arg<'a>
+    ensures rule { rule_of result ≡ limit_rule }
+    ensures local { result.global ≡ false }
+{
     Arg::new(alloc, "limit")
         .long("limit")
         .value_name("N")

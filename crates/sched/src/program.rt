@@ -1,7 +1,9 @@
 //! The program: its command line, its plan file, and a run over standard input and output.
 
-ghost use Rattle.std.specs.Prelude.{◌≡◌, ◌≤◌, ◌⊎◌, IfOk};
+ghost use Rattle.std.specs.Prelude.{◌≡◌, ◌≤◌, ◌⊎◌, map, string_bytes, IfOk};
 ghost use Rattle.std.specs.Process.{exit_status};
+ghost use Rattle.clap.specs.Words.{kind_of};
+ghost use Rattle.sched.specs.Commands.{IsRefusal, IsShown, IsTaken};
 
 use crate::command::command;
 use crate::engine::run;
@@ -35,8 +37,20 @@ fn answer<R: Env + Files + Input + Print + Eprint + AllocGlobal>(rt: &R) -> Resu
     ensures status { IfOk result (λ s. (s ≡ 0) ⊎ (s ≡ 2)) }
 {
     let words = words(rt)?;
+    answer_words(rt, words.as_slice())
+}
+
+/// Does what the words say.
+fn answer_words<R: Files + Input + Print + Eprint + AllocGlobal>(
+    rt: &R,
+    words: &[String],
+) -> Result<u8, Fault>
+    ensures status { IfOk result (λ s. (s ≡ 0) ⊎ (s ≡ 2)) }
+    ensures refused { IsRefusal (map string_bytes words.now) result }
+    ensures taken { IsTaken (map string_bytes words.now) result }
+{
     let command = command(rt.alloc())?;
-    match command.try_get_matches_from(words.as_slice()) {
+    match command.try_get_matches_from(words) {
         Ok(matches) => {
             match matches.subcommand() {
                 Some((_, run)) => run_plan(rt, run),
@@ -59,6 +73,7 @@ fn words<R: Env + AllocGlobal>(rt: &R) -> Result<Vec<String>, Fault> {
 /// status alone tells such a fault.
 fn show<R: Print + Eprint>(rt: &R, error: &Error) -> Result<u8, Fault>
     ensures status { IfOk result (λ s. (s ≡ 0) ⊎ (s ≡ 2)) }
+    ensures shown { IsShown (kind_of error.now) result }
 {
     if error.kind() == ErrorKind::OutOfMemory {
         return Err(Fault::Run(RunError::Memory));

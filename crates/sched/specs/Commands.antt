@@ -1,0 +1,71 @@
+-- Commands: the command line that the program takes: `sched run PLAN --workers N [--limit N]`.
+-- All of it is this project's rule, in the words that clap has for arguments and commands.
+use Rattle.std.specs.Prelude.{◌≡◌, ◌≢◌, ◌⊎◌, ℕ, List, [], ◌∷◌, Some, Ok, Err, Result, MatchResult, IfOk, true, false, pos, codes}
+use Rattle.clap.specs.Words.{App, Rule, IsAmong, fault_of, new_rule}
+use Rattle.clap.specs.Simple.{new_shape}
+use Rattle.clap.specs.declared.builder.action.ArgAction.TheVariants.{Set}
+use Rattle.clap.specs.declared.builder.value_parser.ValueParser.TheVariants.{Signed}
+use Rattle.clap.specs.declared.error.kind.ErrorKind.{ErrorKind}
+use Rattle.clap.specs.declared.error.kind.ErrorKind.TheVariants as k
+use Rattle.sched.specs.declared.fault_lines.Fault.{Fault}
+use Rattle.sched.specs.declared.fault_lines.Fault.TheVariants.{Run}
+use Rattle.sched.specs.declared.report.RunError.TheVariants as x
+
+-- PLAN: a text, which has to be there
+abbrev pub plan_rule : Rule
+plan_rule = record (new_rule (codes "plan")) { value_names = 1; required = true; action = Some Set }
+
+-- --workers N: 1 to 64, which has to be there
+abbrev pub workers_rule : Rule
+workers_rule = record (new_rule (codes "workers")) {
+  long = Some (codes "workers");
+  value_names = 1;
+  required = true;
+  action = Some Set;
+  parser = Some (Signed (pos 1) (pos 64));
+}
+
+-- --limit N: 1 to 4294967295, and 1000000 where it is left out
+abbrev pub limit_rule : Rule
+limit_rule = record (new_rule (codes "limit")) {
+  long = Some (codes "limit");
+  value_names = 1;
+  action = Some Set;
+  defaults = codes "1000000" ∷ [];
+  parser = Some (Signed (pos 1) (pos 4294967295));
+}
+
+-- `run` with its three arguments
+abbrev pub run_app : App
+run_app = record {
+  top = record (new_shape (codes "run")) { rules = plan_rule ∷ workers_rule ∷ limit_rule ∷ [] };
+  subs = [];
+}
+
+-- the program, of which a command has to be named, and `run` is the one that there is
+abbrev pub sched_app : App
+sched_app = record {
+  top = record (new_shape (codes "sched")) { is_leaf = false; subcommand_required = true };
+  subs = run_app.top ∷ [];
+}
+
+-- ---- exit statuses of a command line with no matches
+
+-- help, or the version, which the program does not have
+abbrev pub IsHelp : ErrorKind → Type 0
+IsHelp kind = (kind ≡ k.DisplayHelp) ⊎ (kind ≡ k.DisplayVersion)
+
+-- help exits with 0 unless it can't be written, want of memory is told as that, and a mistake exits with 2
+pub record IsShown (kind : ErrorKind) (result : Result ℕ Fault) : Type 0 where
+  pub memory : kind ≡ k.OutOfMemory → result ≡ Err (Run x.Memory)
+  pub help : IsHelp kind → MatchResult result (λ s. s ≡ 0) (λ e. e ≡ Run x.Write)
+  pub mistake : kind ≢ k.OutOfMemory → (IsHelp kind → ⊥) → result ≡ Ok 2
+
+-- words that the command line does not take are answered by the kind of what is wrong with them, or memory ran out
+abbrev pub IsRefusal : List (List ℕ) → Result ℕ Fault → Type 0
+IsRefusal words result = fault_of sched_app words ≢ []
+    → (kind : ErrorKind) × ((kind ≡ k.OutOfMemory) ⊎ IsAmong kind (fault_of sched_app words)) × IsShown kind result
+
+-- words that it takes are run, which ends with 0 or a fault
+abbrev pub IsTaken : List (List ℕ) → Result ℕ Fault → Type 0
+IsTaken words result = fault_of sched_app words ≡ [] → IfOk result (λ s. s ≡ 0)
