@@ -15,7 +15,7 @@ pub record Agrees (calls : List Planned) (s : State) (past : List Entry) : Type 
   pub sound : IsSound s
 
 pub opening_sound : IsSound opening
-opening_sound = record { at_work = λ w k q. absurd (none-some k q); apart = λ v w k p q. absurd (none-some k p); reached = λ k q. absurd cc }
+opening_sound = record { at_work = λ w k q. absurd (none-some k q); apart = λ v w k p q. absurd (none-some k p); reached = λ k q. absurd cc; over = λ k q. absurd cc }
 
 opening_agrees : (calls : List Planned) → Agrees calls opening []
 opening_agrees calls = record { view = refl; sound = opening_sound }

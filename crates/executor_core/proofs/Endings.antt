@@ -18,8 +18,8 @@ use Rattle.executor_core.specs.declared.words.Answer.{Answer}
 use Rattle.executor_core.specs.declared.words.Answer.TheVariants as a
 use Rattle.executor_core.specs.Calls.{Planned, Terms, numbers, terms_of}
 use Rattle.executor_core.specs.View.{View, is_running, is_over, is_waiting, first_enabled}
-use Rattle.executor_core.specs.Answers.{plain, reply, called, started, finished, outcome_of, due_next}
-use Rattle.executor_core.specs.Histories.{Entry, Means, look, happenings, is_submit, is_start, is_finish, is_finish_with, is_done, is_failed, starts, finishes, was_accepted, was_done, was_failed}
+use Rattle.executor_core.specs.Answers.{plain, reply, called, started, finished, outcome_of, due_next, effect_on, outcome_in}
+use Rattle.executor_core.specs.Histories.{Entry, Means, look, happenings, is_submit, is_start, is_finish, is_finish_with, is_done, is_failed, starts, finishes, was_accepted, was_done, was_failed, is_cancel, was_cancelled}
 use Rattle.executor_core.specs.Laws.{Starts, NothingStartsOnceDone, OneShotsRunOnce, OneShotsStartOnce, RunsAreNumbered, IllegalTasksDoNotStart}
 use Rattle.executor_core.specs.Positions.{IsSubmissionOf}
 use Rattle.executor_core.proofs.Tables.{submission}
@@ -29,7 +29,7 @@ use Rattle.executor_core.proofs.Waiting.{submit_says}
 use Rattle.executor_core.proofs.Repeats.{started_so, waits_even, due_by, starts_grow}
 
 -- a task that waits is not over
-on_of : (calls : List Planned) (past : List Entry) (k : ℕ) → is_waiting ((look calls past).fate k) ≡ true → not (was_failed k past || was_done k past) ≡ true
+on_of : (calls : List Planned) (past : List Entry) (k : ℕ) → is_waiting ((look calls past).fate k) ≡ true → not (was_cancelled k past || (was_failed k past || was_done k past)) ≡ true
 on_of calls past k q =
     let f = (look calls past).fate k in
     (and_parts (not (is_running f)) (not (is_over f)) (and_parts f.accepted (not (is_running f) && not (is_over f)) q).1).1
@@ -47,12 +47,12 @@ pub nothing_starts_once_done : NothingStartsOnceDone
 nothing_starts_once_done calls workers past between finish start v w k m n d value s is =
     let on = on_of calls (between ++ finish ∷ past) k (started_so calls workers (between ++ finish ∷ past) start w k n d s).waiting in
     let done : was_done k (finish ∷ past) ≡ true = ap (λ b. b || was_done k past) (ap (is_finish_with is_done k) is ∙ ap (λ b. b && true) (eq-eqb k k refl)) in
-    let pick : (b d : Bool) → not (b || d) ≡ true → d ≡ true → ⊥ =
-    elim [ true ↦ λ d q r. false≢true q | false ↦ elim [ true ↦ λ q r. false≢true q | false ↦ λ q r. false≢true r ] ]
+    let pick : (a b d : Bool) → not (a || (b || d)) ≡ true → d ≡ true → ⊥ =
+    elim [ true ↦ λ b d q r. false≢true q | false ↦ elim [ true ↦ λ d q r. false≢true q | false ↦ elim [ true ↦ λ q r. false≢true q | false ↦ λ q r. false≢true r ] ] ]
     in
-    pick _ _ on (done_stays k between (finish ∷ past) done)
+    pick _ _ _ on (done_stays k between (finish ∷ past) done)
 
--- the finish of a one-shot task ends it
+-- the finish of a one-shot task ends it, or it was cancelled before
 
 ends_once : (timing : Timing) (due : ℕ) (ending : Ending) → timing ≡ t.Once → (is_failed (outcome_of timing due ending) || is_done (outcome_of timing due ending)) ≡ true
 ends_once t.Once due (e.Value value) q = refl
@@ -60,58 +60,60 @@ ends_once t.Once due (e.Fault code) q = refl
 ends_once (t.Rate period) due ending q = absurd cc
 ends_once (t.Fixed delay) due ending q = absurd cc
 
-abbrev Ends : ℕ → Answer → Type 0
-Ends k answer = is_finish k answer ≡ true → (is_finish_with is_failed k answer || is_finish_with is_done k answer) ≡ true
+abbrev Ends : View → ℕ → Answer → Type 0
+Ends v k answer = is_finish k answer ≡ true → ((v.fate k).cancelled || (is_finish_with is_failed k answer || is_finish_with is_done k answer)) ≡ true
 
-call_ends : (calls : List Planned) (v : View) (call : CodeCall) (k : ℕ) → Ends k (called calls v call).answer
+call_ends : (calls : List Planned) (v : View) (call : CodeCall) (k : ℕ) → Ends v k (called calls v call).answer
 call_ends calls v (c.Submit task timing delay) k q = absurd (false≢true q)
 call_ends calls v (c.Illegal task) k q = absurd (false≢true q)
+call_ends calls v (c.Cancel task) k q = absurd (false≢true q)
 
-once_ends : (calls : List Planned) (workers : ℕ) (v : View) (y : Happening) (k : ℕ) → (terms_of calls k).timing ≡ t.Once → Ends k (reply calls workers v y).answer
+once_ends : (calls : List Planned) (workers : ℕ) (v : View) (y : Happening) (k : ℕ) → (terms_of calls k).timing ≡ t.Once → Ends v k (reply calls workers v y).answer
 once_ends calls workers v h.Call k once =
-    let pick : (p : Option Planned) → Ends k (option_map_or (λ p. called calls (record v { moment = max v.moment p.0 }) p.1) p (plain a.Clock)).answer =
+    let pick : (p : Option Planned) → Ends v k (option_map_or (λ p. called calls (record v { moment = max v.moment p.0 }) p.1) p (plain a.Clock)).answer =
     elim [ None ↦ λ q. absurd (false≢true q) | Some p ↦ call_ends calls (record v { moment = max v.moment p.0 }) p.1 k ]
     in
     pick (slice_get calls v.made)
 once_ends calls workers v (h.Clock moment) k once =
-    let other : (b d : Bool) → Ends k (cond b (a.Error x.Backward) (cond d (a.Error x.TooFar) a.Clock)) =
+    let other : (b d : Bool) → Ends v k (cond b (a.Error x.Backward) (cond d (a.Error x.TooFar) a.Clock)) =
     elim [ true ↦ λ d q. absurd (false≢true q) | false ↦ elim [ true ↦ λ q. absurd (false≢true q) | false ↦ λ q. absurd (false≢true q) ] ]
     in
     other _ _
 once_ends calls workers v (h.Start u) k once =
-    let start : (p : Option ℕ) → Ends k (started v u p) = elim [ None ↦ λ q. absurd (false≢true q) | Some j ↦ λ q. absurd (false≢true q) ] in
-    let other : (b : Bool) (p : Option ℕ) → Ends k (cond b (option_map_or (λ _. a.Error x.Busy) p (started v u (first_enabled v (numbers calls)))) (a.Error x.NoWorker)) =
+    let start : (p : Option ℕ) → Ends v k (started v u p) = elim [ None ↦ λ q. absurd (false≢true q) | Some j ↦ λ q. absurd (false≢true q) ] in
+    let other : (b : Bool) (p : Option ℕ) → Ends v k (cond b (option_map_or (λ _. a.Error x.Busy) p (started v u (first_enabled v (numbers calls)))) (a.Error x.NoWorker)) =
     elim [ true ↦ elim [ None ↦ start (first_enabled v (numbers calls)) | Some j ↦ λ q. absurd (false≢true q) ] | false ↦ λ p q. absurd (false≢true q) ]
     in
     other _ _
 once_ends calls workers v (h.Finish u ending) k once =
-    let from : (j : ℕ) → Ends k (a.Finish u j ((v.fate j).starts - 1) (outcome_of (terms_of calls j).timing (due_next calls v j) ending)) = λ j q.
-    let out = outcome_of (terms_of calls j).timing (due_next calls v j) ending in
-    ap (λ b. (b && is_failed out) || (b && is_done out)) q
-    ∙ ends_once (terms_of calls j).timing (due_next calls v j) ending (ap (λ i. (terms_of calls i).timing) (eqb-true j k q) ∙ once)
+    let from : (j : ℕ) → Ends v k (a.Finish u j ((v.fate j).starts - 1) (outcome_in (v.fate j).cancelled (terms_of calls j).timing (due_next calls v j) ending)) = λ j q.
+    let live : (c : Bool) → (v.fate j).cancelled ≡ c →
+    (c || (is_failed (outcome_in c (terms_of calls j).timing (due_next calls v j) ending) || is_done (outcome_in c (terms_of calls j).timing (due_next calls v j) ending))) ≡ true =
+    elim [ true ↦ λ is. refl | false ↦ λ is. ends_once (terms_of calls j).timing (due_next calls v j) ending (ap (λ i. (terms_of calls i).timing) (eqb-true j k q) ∙ once) ]
     in
-    let pick : (b : Bool) (work : Option ℕ) → Ends k (cond b (finished calls v u ending work) (a.Error x.NoWorker)) =
+    let out = outcome_in (v.fate j).cancelled (terms_of calls j).timing (due_next calls v j) ending in
+    ap (λ i. (v.fate i).cancelled || (((j == k) && is_failed out) || ((j == k) && is_done out))) (sym (eqb-true j k q))
+    ∙ (ap (λ b. (v.fate j).cancelled || ((b && is_failed out) || (b && is_done out))) q ∙ live (v.fate j).cancelled refl)
+    in
+    let pick : (b : Bool) (work : Option ℕ) → Ends v k (cond b (finished calls v u ending work) (a.Error x.NoWorker)) =
     elim [ true ↦ elim [ None ↦ λ q. absurd (false≢true q) | Some j ↦ from j ] | false ↦ λ work q. absurd (false≢true q) ]
     in
     pick _ _
+once_ends calls workers v (h.Cancel j) k once =
+    let pick : (b : Bool) → Ends v k (cond b (a.Outside j (effect_on (v.fate j))) (a.Error x.NoTask)) = elim [ true ↦ λ q. absurd (false≢true q) | false ↦ λ q. absurd (false≢true q) ] in
+    pick _
 
 -- a one-shot task that finished is over
 over_of : (calls : List Planned) (workers : ℕ) (past : List Entry) (k : ℕ) → Means calls workers past → (terms_of calls k).timing ≡ t.Once
-    → 0 < finishes k past → (was_failed k past || was_done k past) ≡ true
+    → 0 < finishes k past → (was_cancelled k past || (was_failed k past || was_done k past)) ≡ true
 over_of calls workers [] k m once l = absurd (omega (arith, l))
 over_of calls workers (e ∷ past) k m once l =
     let v = look calls past in
-    let ends : Ends k e.answer = subst (Ends k) (sym m.2) (once_ends calls workers v e.happening k once) in
-    let here : (b d f g : Bool) → (b || d) ≡ true → ((b || f) || (d || g)) ≡ true =
-    elim [ true ↦ λ d f g q. refl | false ↦ elim [ true ↦ elim [ true ↦ λ g q. refl | false ↦ λ g q. refl ] | false ↦ λ f g q. absurd (false≢true q) ] ]
-    in
-    let there : (b d f g : Bool) → (f || g) ≡ true → ((b || f) || (d || g)) ≡ true =
-    elim [ true ↦ λ d f g q. refl | false ↦ λ d. elim [ true ↦ λ g q. refl | false ↦ elim [ true ↦ λ q. or_true d | false ↦ λ q. absurd (false≢true q) ] ] ]
-    in
-    let pick : (b : Bool) → is_finish k e.answer ≡ b → 0 < cond b (1 + finishes k past) (finishes k past) → (was_failed k (e ∷ past) || was_done k (e ∷ past)) ≡ true =
+    let ends : Ends v k e.answer = subst (Ends v k) (sym m.2) (once_ends calls workers v e.happening k once) in
+    let pick : (b : Bool) → is_finish k e.answer ≡ b → 0 < cond b (1 + finishes k past) (finishes k past) → (was_cancelled k (e ∷ past) || (was_failed k (e ∷ past) || was_done k (e ∷ past))) ≡ true =
     elim [
-      | true ↦ λ is l. here (is_finish_with is_failed k e.answer) (is_finish_with is_done k e.answer) (was_failed k past) (was_done k past) (ends is)
-      | false ↦ λ is l. there (is_finish_with is_failed k e.answer) (is_finish_with is_done k e.answer) (was_failed k past) (was_done k past) (over_of calls workers past k m.0 once l)
+      | true ↦ λ is l. here (is_cancel k e.answer) (was_cancelled k past) (is_finish_with is_failed k e.answer) (is_finish_with is_done k e.answer) (was_failed k past) (was_done k past) (ends is)
+      | false ↦ λ is l. there (is_cancel k e.answer) (was_cancelled k past) (is_finish_with is_failed k e.answer) (is_finish_with is_done k e.answer) (was_failed k past) (was_done k past) (over_of calls workers past k m.0 once l)
     ]
     in
     pick (is_finish k e.answer) refl l
@@ -119,6 +121,22 @@ over_of calls workers (e ∷ past) k m once l =
     or_true : (d : Bool) → (d || true) ≡ true
     or_true true = refl
     or_true false = refl
+
+    here : (x c b d f g : Bool) → (c || (b || d)) ≡ true → ((x || c) || ((b || f) || (d || g))) ≡ true
+    here true c b d f g q = refl
+    here false true b d f g q = refl
+    here false false true d f g q = refl
+    here false false false true true g q = refl
+    here false false false true false g q = refl
+    here false false false false f g q = absurd (false≢true q)
+
+    there : (x c b d f g : Bool) → (c || (f || g)) ≡ true → ((x || c) || ((b || f) || (d || g))) ≡ true
+    there true c b d f g q = refl
+    there false true b d f g q = refl
+    there false false true d f g q = refl
+    there false false false d true g q = refl
+    there false false false d false true q = or_true d
+    there false false false d false false q = absurd (false≢true q)
 
 pub one_shots_run_once : OneShotsRunOnce
 one_shots_run_once calls workers past e w k n d place moment delay orderly is s =
@@ -155,6 +173,7 @@ one_shots_start_once calls workers past between first second v w k m n d f place
 abbrev IsLegalSubmissionOf : ℕ → CodeCall → Type 0
 IsLegalSubmissionOf k (c.Submit task timing delay) = task ≡ k
 IsLegalSubmissionOf k (c.Illegal task) = ⊥
+IsLegalSubmissionOf k (c.Cancel task) = ⊥
 
 record WasLegal (calls : List Planned) (k : ℕ) : Type 0 where
   place : ℕ
@@ -166,6 +185,7 @@ record WasLegal (calls : List Planned) (k : ℕ) : Type 0 where
 call_is_legal : (calls : List Planned) (v : View) (call : CodeCall) (k : ℕ) → is_submit k (called calls v call).answer ≡ true → IsLegalSubmissionOf k call
 call_is_legal calls v (c.Submit task timing delay) k q = eqb-true task k q
 call_is_legal calls v (c.Illegal task) k q = false≢true q
+call_is_legal calls v (c.Cancel task) k q = false≢true q
 
 submit_is_legal : (calls : List Planned) (workers : ℕ) (v : View) (y : Happening) (k : ℕ) → is_submit k (reply calls workers v y).answer ≡ true → WasLegal calls k
 submit_is_legal calls workers v y k q =

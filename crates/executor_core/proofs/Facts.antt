@@ -11,7 +11,7 @@ use Rattle.executor_core.specs.declared.words.Happening.TheVariants as h
 use Rattle.executor_core.specs.declared.words.Answer.TheVariants as a
 use Rattle.executor_core.specs.Calls.{Planned, numbers, task_count}
 use Rattle.executor_core.specs.View.{View, is_waiting, first_enabled}
-use Rattle.executor_core.specs.Answers.{plain, reply, called, started, finished, moment_after}
+use Rattle.executor_core.specs.Answers.{plain, reply, called, started, finished, moment_after, effect_on}
 use Rattle.executor_core.specs.Histories.{Entry, Means, look, now_of, happenings, made}
 use Rattle.executor_core.specs.Laws.{Starts, NoStartIsEarly, StartsAreInOrder, AnswersByPosition}
 use Rattle.executor_core.proofs.Sound.{first_is_enabled}
@@ -27,6 +27,7 @@ pub record StartsFirst (calls : List Planned) (v : View) (happening : Happening)
 no_call_starts : (calls : List Planned) (v : View) (call : CodeCall) (w k n d : ℕ) → (called calls v call).answer ≡ a.Start w k n d → ⊥
 no_call_starts calls v (c.Submit task timing delay) w k n d q = cc
 no_call_starts calls v (c.Illegal task) w k n d q = cc
+no_call_starts calls v (c.Cancel task) w k n d q = cc
 
 pub start_says : (calls : List Planned) (workers : ℕ) (v : View) (y : Happening) (w k n d : ℕ) → (reply calls workers v y).answer ≡ a.Start w k n d → StartsFirst calls v y k n d
 start_says calls workers v h.Call w k n d q =
@@ -55,6 +56,9 @@ start_says calls workers v (h.Start u) w k n d q =
 start_says calls workers v (h.Finish u ending) w k n d q =
     let other : (b : Bool) (o : Option ℕ) → cond b (finished calls v u ending o) (a.Error x.NoWorker) ≡ a.Start w k n d → ⊥ = elim [ true ↦ elim [ None ↦ λ q. cc | Some j ↦ λ q. cc ] | false ↦ λ o q. cc ] in
     absurd (other _ _ q)
+start_says calls workers v (h.Cancel j) w k n d q =
+    let other : (b : Bool) → cond b (a.Outside j (effect_on (v.fate j))) (a.Error x.NoTask) ≡ a.Start w k n d → ⊥ = elim [ true ↦ λ q. cc | false ↦ λ q. cc ] in
+    absurd (other _ q)
 
 pub means_front : (calls : List Planned) (workers : ℕ) (later past : List Entry) → Means calls workers (later ++ past) → Means calls workers past
 means_front calls workers [] past m = m

@@ -106,7 +106,7 @@ made_past calls workers [] m = omega arith
 made_past calls workers (e ∷ past) m =
     let rest = made_past calls workers past m.0 in
     let one : (x : Happening) → MayCome calls (happenings past) x → made (x ∷ happenings past) ≤ length calls =
-    elim [ h.Call ↦ λ may. omega (arith, may) | h.Clock t ↦ λ may. rest | h.Start w ↦ λ may. rest | h.Finish w ending ↦ λ may. rest ]
+    elim [ h.Call ↦ λ may. omega (arith, may) | h.Clock t ↦ λ may. rest | h.Start w ↦ λ may. rest | h.Finish w ending ↦ λ may. rest | h.Cancel k ↦ λ may. rest ]
     in
     one e.happening m.1
 
@@ -139,6 +139,7 @@ part_means calls workers past (v.Clock t) o m =
     (front (is_accepted now t), clock_comes calls workers past t (is_accepted now t) o refl, refl, refl)
 part_means calls workers past (v.Start w) o m = (m, tt, refl, refl)
 part_means calls workers past (v.Finish w ending) o m = (m, tt, refl, refl)
+part_means calls workers past (v.Cancel k) o m = (m, tt, refl, refl)
 
 history_from-append : (calls : List Planned) (workers : ℕ) (past : List Entry) (gs hs : List Happening) → history_from calls workers past (gs ++ hs) ≡ history_from calls workers (history_from calls workers past hs) gs
 history_from-append calls workers past [] hs = refl

@@ -5,10 +5,12 @@ pub mod Agree
 pub mod First
 pub mod Facts
 pub mod Flowing
+pub mod Pairs
 pub mod Tables
 pub mod Submits
 pub mod Works
 pub mod Keeps
+pub mod Cancels
 pub mod Opens
 pub mod Events
 pub mod Plains

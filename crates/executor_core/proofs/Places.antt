@@ -15,7 +15,7 @@ use Rattle.executor_core.specs.declared.words.Answer.{Answer}
 use Rattle.executor_core.specs.declared.words.Answer.TheVariants as a
 use Rattle.executor_core.specs.Calls.{Planned, how_many, numbers, task_count}
 use Rattle.executor_core.specs.View.{View, is_enabled, first_enabled}
-use Rattle.executor_core.specs.Answers.{plain, reply, called, started, finished, moment_after, is_accepted}
+use Rattle.executor_core.specs.Answers.{plain, reply, called, started, finished, moment_after, is_accepted, effect_on}
 use Rattle.executor_core.specs.Histories.{Entry, Means, look, now_of, happenings, made, work_of, work_after, answer}
 use Rattle.executor_core.specs.Positions.{starts_by, finishes_by, StartedLast, WorkIsTheLastStart, StartsExceedFinishes, busy, HasMoment, Shows, NowIsTheGreatest, FirstIsTheLeast, NoneIsEnabled}
 use Rattle.executor_core.proofs.Sound.{first_is_enabled}
@@ -49,6 +49,7 @@ none_is_enabled calls v = (
 no_call_moves : (calls : List Planned) (v : View) (call : CodeCall) (w k n d : ℕ) → (called calls v call).answer ≡ a.Start w k n d → ⊥
 no_call_moves calls v (c.Submit task timing delay) w k n d q = cc
 no_call_moves calls v (c.Illegal task) w k n d q = cc
+no_call_moves calls v (c.Cancel task) w k n d q = cc
 
 -- the work of the worker is free where the answer is a start by it, and taken where it is a finish by it
 abbrev Told : ℕ → Option ℕ → Answer → Type 0
@@ -59,6 +60,7 @@ Told w work _ = Unit {0}
 call_tells : (calls : List Planned) (v : View) (call : CodeCall) (w : ℕ) (work : Option ℕ) → Told w work (called calls v call).answer
 call_tells calls v (c.Submit task timing delay) w work = tt
 call_tells calls v (c.Illegal task) w work = tt
+call_tells calls v (c.Cancel task) w work = tt
 
 pub tells : (calls : List Planned) (workers : ℕ) (v : View) (y : Happening) (w : ℕ) → Told w (v.work w) (reply calls workers v y).answer
 tells calls workers v h.Call w =
@@ -82,6 +84,9 @@ tells calls workers v (h.Finish u ending) w =
     elim [ true ↦ elim [ None ↦ λ is. tt | Some k ↦ λ is. λ same. subst (λ i. v.work i ≡ Some k) (eqb-true u w same) is ] | false ↦ λ q is. tt ]
     in
     pick (nat_lt u workers) (v.work u) refl
+tells calls workers v (h.Cancel k) w =
+    let pick : (b : Bool) → Told w (v.work w) (cond b (a.Outside k (effect_on (v.fate k))) (a.Error x.NoTask)) = elim [ true ↦ tt | false ↦ tt ] in
+    pick _
 
 -- the same of an entry in a history
 entry_tells : (calls : List Planned) (workers : ℕ) (past : List Entry) (e : Entry) (w : ℕ) → Means calls workers (e ∷ past) → Told w (work_of w past) e.answer
@@ -139,6 +144,8 @@ last_start (e ∷ past) w k q =
           by (u == w) refl q
       | a.Submit j kind due ↦ λ is q. behind past e w k (ap (finishes_by w) is) (last_start past w k q)
       | a.Refuse j refusal ↦ λ is q. behind past e w k (ap (finishes_by w) is) (last_start past w k q)
+      | a.Cancel j effect ↦ λ is q. behind past e w k (ap (finishes_by w) is) (last_start past w k q)
+      | a.Outside j effect ↦ λ is q. behind past e w k (ap (finishes_by w) is) (last_start past w k q)
       | a.Clock ↦ λ is q. behind past e w k (ap (finishes_by w) is) (last_start past w k q)
       | a.Idle u ↦ λ is q. behind past e w k (ap (finishes_by w) is) (last_start past w k q)
       | a.Error y ↦ λ is q. behind past e w k (ap (finishes_by w) is) (last_start past w k q)
@@ -160,6 +167,8 @@ keeps w k (a.Finish u j n o) work told unended is =
     by (u == w) refl
 keeps w k (a.Submit j kind due) work told unended is = is
 keeps w k (a.Refuse j refusal) work told unended is = is
+keeps w k (a.Cancel j effect) work told unended is = is
+keeps w k (a.Outside j effect) work told unended is = is
 keeps w k a.Clock work told unended is = is
 keeps w k (a.Idle u) work told unended is = is
 keeps w k (a.Error y) work told unended is = is
@@ -197,6 +206,8 @@ one_more w (a.Finish u j run o) work n m told is =
     by (u == w) refl
 one_more w (a.Submit j kind due) work n m told is = is
 one_more w (a.Refuse j refusal) work n m told is = is
+one_more w (a.Cancel j effect) work n m told is = is
+one_more w (a.Outside j effect) work n m told is = is
 one_more w a.Clock work n m told is = is
 one_more w (a.Idle u) work n m told is = is
 one_more w (a.Error y) work n m told is = is
@@ -232,6 +243,7 @@ rises now call (h.Clock t) =
     pick (is_accepted now t) refl
 rises now call (h.Start w) = omega arith
 rises now call (h.Finish w ending) = omega arith
+rises now call (h.Cancel k) = omega arith
 
 -- the moment of an entry is at most now
 below_here : (calls : List Planned) (workers : ℕ) (e : Entry) (before : List Entry) (t : ℕ) → Means calls workers (e ∷ before) → HasMoment calls e before t → t ≤ now_of calls (happenings (e ∷ before))
@@ -299,6 +311,7 @@ now_shown calls workers (e ∷ past) m =
       | h.Clock t ↦ λ y. clocked t (is_accepted now t) refl y
       | h.Start w ↦ λ y. old
       | h.Finish w ending ↦ λ y. old
+      | h.Cancel k ↦ λ y. old
     ]
     in
     go e.happening refl

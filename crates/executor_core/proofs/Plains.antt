@@ -11,7 +11,6 @@ use Rattle.executor_core.specs.declared.words.Answer.{Answer}
 use Rattle.executor_core.specs.declared.words.Answer.TheVariants as a
 use Rattle.executor_core.specs.declared.plain.history.Past.{Past}
 use Rattle.executor_core.specs.Calls.{Planned, task_count, is_submission}
-use Rattle.executor_core.specs.View.{View}
 use Rattle.executor_core.specs.Answers.{plain, called}
 use Rattle.executor_core.specs.Histories.{Entry, happenings, made, is_call, is_start, is_finish, starts, finishes, look, now_of, answer}
 use Rattle.executor_core.specs.Flows.{history_from, history_of, part_of, calls_before}
@@ -34,11 +33,11 @@ task_count_le calls = how_many-le (λ (p : Planned). is_submission p.1) calls
 
 -- the answer to a call that is made
 pub call_answers : (calls : List Planned) (workers n moment : ℕ) (past : List Entry) (happening : Happening) (call : CodeCall) (said : Answer) →
-    happening ≡ h.Call → n ≡ made (happenings past) → Some (moment, call) ≡ slice_get calls n → ((v : View) → said ≡ (called calls v call).answer) →
+    happening ≡ h.Call → n ≡ made (happenings past) → Some (moment, call) ≡ slice_get calls n → ((now : ℕ) → said ≡ (called calls (record (look calls past) { moment = now }) call).answer) →
     said ≡ (answer calls workers past happening).answer
 call_answers calls workers n moment past happening call said is count found says =
     let v = look calls past in
-    says (record v { moment = max v.moment moment })
+    says (max v.moment moment)
     ∙ (ap (λ (q : Option Planned). (option_map_or (λ (p : Planned). called calls (record v { moment = max v.moment p.0 }) p.1) q (plain a.Clock)).answer) (found ∙ ap (slice_get calls) count)
     ∙ ap (λ (x : Happening). (answer calls workers past x).answer) (sym is))
 

@@ -77,18 +77,22 @@ submitted call = cond (is_submission call) 1 0
 after_call : (count : ℕ) (call : CodeCall) → count_after count call ≡ count + submitted call
 after_call count (c.Submit task timing delay) = refl
 after_call count (c.Illegal task) = refl
+after_call count (c.Cancel task) = omega arith
 
 one_task : (call : CodeCall) (n : ℕ) → cond (is_submission call) (1 + n) n ≡ submitted call + n
 one_task (c.Submit task timing delay) n = refl
 one_task (c.Illegal task) n = refl
+one_task (c.Cancel task) n = omega arith
 
 its_number : (count k : ℕ) (call : CodeCall) → IsOrderlyCall count call → IsSubmissionOf k call → (k ≡ count) × (submitted call ≡ 1)
 its_number count k (c.Submit task timing delay) o s = (sym s ∙ o.0, refl)
 its_number count k (c.Illegal task) o s = (sym s ∙ o, refl)
+its_number count k (c.Cancel task) o s = absurd s
 
 next_number : (count : ℕ) (call : CodeCall) → IsOrderlyCall count call → submitted call ≡ 1 → IsSubmissionOf count call
 next_number count (c.Submit task timing delay) o one = o.0
 next_number count (c.Illegal task) o one = o
+next_number count (c.Cancel task) o one = absurd (omega (arith, one))
 
 -- a submission has the number of the submissions before it
 numbered : (count moment : ℕ) (calls : List Planned) (n k : ℕ) (p : Planned) → IsOrderlyFrom count moment calls → slice_get calls n ≡ Some p → IsSubmissionOf k p.1 →
@@ -183,6 +187,7 @@ flow_keeps_the_events calls (event ∷ before) =
       | v.Clock t ↦ λ n. ap (λ l. h.Clock t ∷ l) (rest n)
       | v.Start w ↦ λ n. ap (λ l. h.Start w ∷ l) (rest n)
       | v.Finish w ending ↦ λ n. ap (λ l. h.Finish w ending ∷ l) (rest n)
+      | v.Cancel k ↦ λ n. ap (λ l. h.Cancel k ∷ l) (rest n)
     ]
     in
     go event (calls_before calls (made past) (now_of calls past) event)
@@ -222,6 +227,7 @@ made_before : (calls : List Planned) (past : List Happening) (event : Event) →
 made_before calls past (v.Clock u) o l = made_before_clock calls past u (is_accepted (now_of calls past) u) o l refl
 made_before calls past (v.Start w) o l = made_before_other calls past (v.Start w) l (λ t has. let other : v.Start w ≡ v.Clock t = has.0 in absurd cc)
 made_before calls past (v.Finish w ending) o l = made_before_other calls past (v.Finish w ending) l (λ t has. let other : v.Finish w ending ≡ v.Clock t = has.0 in absurd cc)
+made_before calls past (v.Cancel k) o l = made_before_other calls past (v.Cancel k) l (λ t has. let other : v.Cancel k ≡ v.Clock t = has.0 in absurd cc)
 
 pub flow_makes_what_is_reached : FlowMakesWhatIsReached
 flow_makes_what_is_reached calls before event o =

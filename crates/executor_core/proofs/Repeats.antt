@@ -15,15 +15,17 @@ use Rattle.executor_core.specs.declared.words.CodeCall.TheVariants as c
 use Rattle.executor_core.specs.declared.words.EventError.TheVariants as x
 use Rattle.executor_core.specs.declared.words.Happening.{Happening}
 use Rattle.executor_core.specs.declared.words.Happening.TheVariants as h
+use Rattle.executor_core.specs.declared.words.CancelEffect.{CancelEffect}
+use Rattle.executor_core.specs.declared.words.CancelEffect.TheVariants as f
 use Rattle.executor_core.specs.declared.words.Outcome.{Outcome}
 use Rattle.executor_core.specs.declared.words.Outcome.TheVariants as o
 use Rattle.executor_core.specs.declared.words.Answer.{Answer}
 use Rattle.executor_core.specs.declared.words.Answer.TheVariants as a
-use Rattle.executor_core.specs.Calls.{Planned, Terms, how_many, numbers, terms_of, due_at}
+use Rattle.executor_core.specs.Calls.{Planned, Terms, how_many, numbers, task_count, terms_of, due_at}
 use Rattle.executor_core.specs.View.{View, is_running, is_over, is_waiting, precedes, first_enabled}
-use Rattle.executor_core.specs.Answers.{plain, reply, called, started, finished, outcome_of, due_next}
-use Rattle.executor_core.specs.Histories.{Entry, Means, look, happenings, now_of, is_start, is_finish, is_finish_with, is_failed, starts, finishes, last_finish, was_failed, due_of}
-use Rattle.executor_core.specs.Laws.{Starts, TiesGoBySubmission, RateRunsAreDue, FixedRunsAreDue, AgainIsDue, RunsDoNotOverlap, NothingStartsAfterAFailure}
+use Rattle.executor_core.specs.Answers.{plain, reply, called, started, finished, outcome_of, due_next, effect_on, outcome_in}
+use Rattle.executor_core.specs.Histories.{Entry, Means, look, happenings, now_of, is_cancel, is_yes, is_start, is_finish, is_finish_with, is_failed, starts, finishes, last_finish, was_cancelled, was_failed, due_of}
+use Rattle.executor_core.specs.Laws.{Starts, TiesGoBySubmission, RateRunsAreDue, FixedRunsAreDue, AgainIsDue, RunsDoNotOverlap, NothingStartsAfterAFailure, NothingStartsAfterACancel, CancelsHaveOneEffect}
 use Rattle.executor_core.specs.Positions.{FinishedLast}
 use Rattle.executor_core.proofs.Tables.{submission}
 use Rattle.executor_core.proofs.Sound.{first_is_enabled}
@@ -57,13 +59,21 @@ waits_even calls past k q =
     in
     pick (starts k past == finishes k past) refl idle
 
+-- it was not cancelled
+waits_live : (calls : List Planned) (past : List Entry) (k : ℕ) → is_waiting ((look calls past).fate k) ≡ true → was_cancelled k past ≡ false
+waits_live calls past k q =
+    let f = (look calls past).fate k in
+    let on = (and_parts (not (is_running f)) (not (is_over f)) (and_parts f.accepted (not (is_running f) && not (is_over f)) q).1).1 in
+    let pick : (a b : Bool) → not (a || b) ≡ true → a ≡ false = elim [ true ↦ λ b q. absurd (false≢true q) | false ↦ λ b q. refl ] in
+    pick f.cancelled (f.failed || f.done) on
+
 -- and it is not over
 waits_on : (calls : List Planned) (past : List Entry) (k : ℕ) → is_waiting ((look calls past).fate k) ≡ true → was_failed k past ≡ false
 waits_on calls past k q =
     let f = (look calls past).fate k in
     let on = (and_parts (not (is_running f)) (not (is_over f)) (and_parts f.accepted (not (is_running f) && not (is_over f)) q).1).1 in
-    let pick : (b d : Bool) → not (b || d) ≡ true → b ≡ false = elim [ true ↦ λ d q. absurd (false≢true q) | false ↦ λ d q. refl ] in
-    pick f.failed f.done on
+    let pick : (a b d : Bool) → not (a || (b || d)) ≡ true → b ≡ false = elim [ true ↦ λ b d q. absurd (false≢true q) | false ↦ elim [ true ↦ λ d q. absurd (false≢true q) | false ↦ λ d q. refl ] ] in
+    pick f.cancelled f.failed f.done on
 
 -- ties
 
@@ -129,6 +139,7 @@ again_landed (t.Fixed delay) due d (e.Value value) q = cc
 no_call_again : (calls : List Planned) (v : View) (call : CodeCall) (w k n d : ℕ) → (called calls v call).answer ≡ a.Finish w k n (o.Again d) → ⊥
 no_call_again calls v (c.Submit task timing delay) w k n d q = cc
 no_call_again calls v (c.Illegal task) w k n d q = cc
+no_call_again calls v (c.Cancel task) w k n d q = cc
 
 again_says : (calls : List Planned) (workers : ℕ) (v : View) (y : Happening) (w k n d : ℕ) → (reply calls workers v y).answer ≡ a.Finish w k n (o.Again d) → d ≡ due_next calls v k
 again_says calls workers v h.Call w k n d q =
@@ -146,15 +157,21 @@ again_says calls workers v (h.Start u) w k n d q =
     in
     absurd (other _ _ q)
 again_says calls workers v (h.Finish u ending) w k n d q =
-    let from : (j : ℕ) → a.Finish u j ((v.fate j).starts - 1) (outcome_of (terms_of calls j).timing (due_next calls v j) ending) ≡ a.Finish w k n (o.Again d) → d ≡ due_next calls v k = λ j q.
+    let from : (j : ℕ) → a.Finish u j ((v.fate j).starts - 1) (outcome_in (v.fate j).cancelled (terms_of calls j).timing (due_next calls v j) ending) ≡ a.Finish w k n (o.Again d) → d ≡ due_next calls v k = λ j q.
     let same : j ≡ k = cc in
-    let outcome : outcome_of (terms_of calls j).timing (due_next calls v j) ending ≡ o.Again d = cc in
-    again_landed (terms_of calls j).timing (due_next calls v j) d ending outcome ∙ ap (due_next calls v) same
+    let outcome : outcome_in (v.fate j).cancelled (terms_of calls j).timing (due_next calls v j) ending ≡ o.Again d = cc in
+    let live : (b : Bool) → outcome_in b (terms_of calls j).timing (due_next calls v j) ending ≡ o.Again d → d ≡ due_next calls v j =
+    elim [ true ↦ λ q. absurd cc | false ↦ λ q. again_landed (terms_of calls j).timing (due_next calls v j) d ending q ]
+    in
+    live (v.fate j).cancelled outcome ∙ ap (due_next calls v) same
     in
     let pick : (b : Bool) (work : Option ℕ) → cond b (finished calls v u ending work) (a.Error x.NoWorker) ≡ a.Finish w k n (o.Again d) → d ≡ due_next calls v k =
     elim [ true ↦ elim [ None ↦ λ q. absurd cc | Some j ↦ λ q. from j q ] | false ↦ λ work q. absurd cc ]
     in
     pick _ _ q
+again_says calls workers v (h.Cancel j) w k n d q =
+    let other : (b : Bool) → cond b (a.Outside j (effect_on (v.fate j))) (a.Error x.NoTask) ≡ a.Finish w k n (o.Again d) → ⊥ = elim [ true ↦ λ q. cc | false ↦ λ q. cc ] in
+    absurd (other _ q)
 
 pub again_is_due : AgainIsDue
 again_is_due calls workers past e w k n d m is =
@@ -209,3 +226,76 @@ nothing_starts_after_a_failure calls workers past between finish start v w k m n
     let waits = waits_on calls (between ++ finish ∷ past) k (started_so calls workers (between ++ finish ∷ past) start w k n d s).waiting in
     let failed : was_failed k (finish ∷ past) ≡ true = ap (λ b. b || was_failed k past) (ap (is_finish_with is_failed k) is ∙ ap (λ b. b && true) (eq-eqb k k refl)) in
     false≢true (sym waits ∙ failed_stays k between (finish ∷ past) failed)
+
+-- cancels
+
+cancelled_stays : (k : ℕ) (between past : List Entry) → was_cancelled k past ≡ true → was_cancelled k (between ++ past) ≡ true
+cancelled_stays k [] past q = q
+cancelled_stays k (e ∷ between) past q =
+    let rest = cancelled_stays k between past q in
+    let pick : (b : Bool) → (b || was_cancelled k (between ++ past)) ≡ true = elim [ true ↦ refl | false ↦ rest ] in
+    pick (is_cancel k e.answer)
+
+pub nothing_starts_after_a_cancel : NothingStartsAfterACancel
+nothing_starts_after_a_cancel calls workers past between cancel start w k n d s is =
+    let live = waits_live calls (between ++ cancel ∷ past) k (started_so calls workers (between ++ cancel ∷ past) start w k n d s).waiting in
+    let cancelled : was_cancelled k (cancel ∷ past) ≡ true = ap (λ b. b || was_cancelled k past) is in
+    false≢true (sym live ∙ cancelled_stays k between (cancel ∷ past) cancelled)
+
+-- what a cancel does to a task of which this is known
+abbrev effect_with : Bool → Bool → Bool → Bool → CancelEffect
+effect_with accepted running cancelled over = cond accepted (cond ((accepted && (not running && not (cancelled || over))) || (running && not cancelled)) f.Yes f.No) f.Absent
+
+yes_live : (accepted running cancelled over : Bool) → is_yes (effect_with accepted running cancelled over) ≡ true → cancelled ≡ false
+yes_live accepted running false over q = refl
+yes_live true true true over q = absurd (false≢true q)
+yes_live true false true over q = absurd (false≢true q)
+yes_live false true true over q = absurd (false≢true q)
+yes_live false false true over q = absurd (false≢true q)
+
+-- a cancel with an effect finds the task not cancelled
+effect_live : (v : View) (j k : ℕ) → ((j == k) && is_yes (effect_on (v.fate j))) ≡ true → (v.fate k).cancelled ≡ false
+effect_live v j k q =
+    let fate = v.fate j in
+    let parts = and_parts (j == k) (is_yes (effect_on fate)) q in
+    ap (λ i. (v.fate i).cancelled) (sym (eqb-true j k parts.0)) ∙ yes_live fate.accepted (is_running fate) fate.cancelled (fate.failed || fate.done) parts.1
+
+call_cancels : (calls : List Planned) (v : View) (call : CodeCall) (k : ℕ) → is_cancel k (called calls v call).answer ≡ true → (v.fate k).cancelled ≡ false
+call_cancels calls v (c.Submit task timing delay) k q = absurd (false≢true q)
+call_cancels calls v (c.Illegal task) k q = absurd (false≢true q)
+call_cancels calls v (c.Cancel task) k q = effect_live v task k q
+
+cancel_says : (calls : List Planned) (workers : ℕ) (v : View) (y : Happening) (k : ℕ) → is_cancel k (reply calls workers v y).answer ≡ true → (v.fate k).cancelled ≡ false
+cancel_says calls workers v h.Call k =
+    let pick : (p : Option Planned) → is_cancel k (option_map_or (λ p. called calls (record v { moment = max v.moment p.0 }) p.1) p (plain a.Clock)).answer ≡ true → (v.fate k).cancelled ≡ false =
+    elim [ None ↦ λ q. absurd (false≢true q) | Some p ↦ call_cancels calls (record v { moment = max v.moment p.0 }) p.1 k ]
+    in
+    pick (slice_get calls v.made)
+cancel_says calls workers v (h.Clock t) k =
+    let other : (b d : Bool) → is_cancel k (cond b (a.Error x.Backward) (cond d (a.Error x.TooFar) a.Clock)) ≡ true → (v.fate k).cancelled ≡ false =
+    elim [ true ↦ λ d q. absurd (false≢true q) | false ↦ elim [ true ↦ λ q. absurd (false≢true q) | false ↦ λ q. absurd (false≢true q) ] ]
+    in
+    other _ _
+cancel_says calls workers v (h.Start u) k =
+    let start : (p : Option ℕ) → is_cancel k (started v u p) ≡ true → (v.fate k).cancelled ≡ false = elim [ None ↦ λ q. absurd (false≢true q) | Some j ↦ λ q. absurd (false≢true q) ] in
+    let other : (b : Bool) (p : Option ℕ) → is_cancel k (cond b (option_map_or (λ _. a.Error x.Busy) p (started v u (first_enabled v (numbers calls)))) (a.Error x.NoWorker)) ≡ true → (v.fate k).cancelled ≡ false =
+    elim [ true ↦ elim [ None ↦ start (first_enabled v (numbers calls)) | Some j ↦ λ q. absurd (false≢true q) ] | false ↦ λ p q. absurd (false≢true q) ]
+    in
+    other _ _
+cancel_says calls workers v (h.Finish u ending) k =
+    let other : (b : Bool) (work : Option ℕ) → is_cancel k (cond b (finished calls v u ending work) (a.Error x.NoWorker)) ≡ true → (v.fate k).cancelled ≡ false =
+    elim [ true ↦ elim [ None ↦ λ q. absurd (false≢true q) | Some j ↦ λ q. absurd (false≢true q) ] | false ↦ λ work q. absurd (false≢true q) ]
+    in
+    other _ _
+cancel_says calls workers v (h.Cancel j) k =
+    let pick : (b : Bool) → is_cancel k (cond b (a.Outside j (effect_on (v.fate j))) (a.Error x.NoTask)) ≡ true → (v.fate k).cancelled ≡ false =
+    elim [ true ↦ effect_live v j k | false ↦ λ q. absurd (false≢true q) ]
+    in
+    pick (nat_lt j (task_count calls))
+
+pub cancels_have_one_effect : CancelsHaveOneEffect
+cancels_have_one_effect calls workers past between first second k m one other =
+    let before = between ++ first ∷ past in
+    let live = cancel_says calls workers (look calls before) second.happening k (sym (ap (is_cancel k) m.2) ∙ other) in
+    let cancelled : was_cancelled k (first ∷ past) ≡ true = ap (λ b. b || was_cancelled k past) one in
+    false≢true (sym live ∙ cancelled_stays k between (first ∷ past) cancelled)

@@ -1,5 +1,5 @@
 -- What each reply finds in a sound state, and that the state stays sound.
-use Rattle.std.proofs.Common.{◌≡◌, ℕ, ◌+◌, ◌^◌, ◌≤◌, ◌&&◌, ◌==◌, nat_lt, nat_le, Bool, true, false, cond, ◌⊎◌, inl, inr, List, [], ◌∷◌, Option, Some, None, refl, sym, ap, ◌∙◌, arith, subst}
+use Rattle.std.proofs.Common.{◌≡◌, ℕ, ◌+◌, ◌^◌, ◌≤◌, ◌&&◌, ◌||◌, ◌==◌, nat_lt, nat_le, Bool, true, false, cond, ◌⊎◌, inl, inr, List, [], ◌∷◌, Option, Some, None, refl, sym, ap, ◌∙◌, arith, subst}
 use Rattle.std.specs.Prelude.{slice_get, not, max}
 use Rattle.std.specs.Option.{option_map_or}
 use Rattle.std.proofs.lemmas.Bool.{false≢true, eqb-true, eq-eqb, and_parts, leb-true}
@@ -18,19 +18,22 @@ use Rattle.executor_core.specs.declared.task.Phase.{Phase}
 use Rattle.executor_core.specs.declared.task.Phase.TheVariants as ph
 use Rattle.executor_core.specs.declared.task.Task.{Task}
 use Rattle.sched_time.specs.declared.timing.Timing.{Timing}
-use Rattle.executor_core.specs.Calls.{Planned, Terms, terms_of, due_at, numbers}
-use Rattle.executor_core.specs.View.{View, is_enabled, is_waiting, first_enabled, earlier, precedes}
-use Rattle.executor_core.specs.Answers.{Reply, plain, called, started, finished, is_accepted, moment_after}
-use Rattle.executor_core.specs.Histories.{work_after}
-use Rattle.executor_core.specs.State.{State, seen, seen_phase, due_seen, reply_of, state_after, move_task, submit_phase, finish_task}
+use Rattle.sched_time.specs.declared.timing.Timing.TheVariants as t
+use Rattle.sched_time.specs.declared.timing.Ending.{Ending}
+use Rattle.sched_time.specs.declared.timing.Ending.TheVariants as e
+use Rattle.executor_core.specs.Calls.{Planned, Terms, terms_of, due_at, numbers, task_count}
+use Rattle.executor_core.specs.View.{View, is_enabled, is_running, is_waiting, first_enabled, earlier, precedes}
+use Rattle.executor_core.specs.Answers.{Reply, plain, called, started, finished, effect_on, outcome_in, due_next, is_accepted, moment_after}
+use Rattle.executor_core.specs.Histories.{is_cancel, work_after}
+use Rattle.executor_core.specs.State.{State, seen, seen_phase, was_submitted, due_seen, reply_of, state_after, move_task, submit_phase, finish_task}
 use Rattle.executor_core.specs.Machine.{IsSound}
 use Rattle.executor_core.proofs.Moves.{Fits}
 
 -- what an answer says of the state that it finds
 abbrev pub Finds : List Planned → State → Answer → Type 0
 Finds calls s (a.Submit j kind due) = due ≡ due_at (terms_of calls j) 0 None
-Finds calls s (a.Start w j n due) = (s.workers w ≡ None) × ((s.tasks j).phase ≡ ph.Waiting) × ((s.tasks j).due ≤ s.moment)
-Finds calls s (a.Finish w j n outcome) = s.workers w ≡ Some j
+Finds calls s (a.Start w j n due) = (s.workers w ≡ None) × ((s.tasks j).phase ≡ ph.Waiting) × ((s.tasks j).cancelled ≡ false) × ((s.tasks j).due ≤ s.moment)
+Finds calls s (a.Finish w j n outcome) = (s.workers w ≡ Some j) × (outcome ≡ o.Dropped → (s.tasks j).cancelled ≡ true)
 Finds calls s _ = Unit {0}
 
 -- of the first enabled task
@@ -59,38 +62,53 @@ next_eqb n = grind (arith, nat_tests)
 same_eqb : (n : ℕ) → (n == n) ≡ true
 same_eqb n = eq-eqb n n refl
 
+or_right : (x y : Bool) → y ≡ true → (x || y) ≡ true
+or_right true y e = refl
+or_right false y e = e
+
 no_and : (x y : Bool) → y ≡ false → (x && y) ≡ false
 no_and true y e = e
 no_and false y e = refl
 
 -- a task that is seen to wait is in that phase
-pub waits : (terms : Terms) (p : Phase) (run due : ℕ) → is_waiting (seen_phase terms p run due) ≡ true → p ≡ ph.Waiting
-waits terms ph.Vacant run due q = absurd (false≢true q)
-waits terms ph.Waiting run due q = refl
-waits terms ph.Running run due q = absurd (false≢true (sym (ap (λ b. not (not b) && true) (next_eqb run)) ∙ q))
-waits terms ph.Done run due q = absurd (false≢true (sym (no_and (not (not (1 + run == 1 + run))) false refl) ∙ q))
-waits terms ph.Failed run due q = absurd (false≢true (sym (no_and (not (not (1 + run == 1 + run))) false refl) ∙ q))
+pub waits : (terms : Terms) (p : Phase) (run due : ℕ) (b : Bool) → (p ≡ ph.Over → b ≡ true) → is_waiting (seen_phase terms p run due b) ≡ true → (p ≡ ph.Waiting) × (b ≡ false)
+waits terms p run due true over q = absurd (false≢true (sym (no_and (was_submitted p) (not (is_running (seen_phase terms p run due true)) && false) (no_and (not (is_running (seen_phase terms p run due true))) false refl)) ∙ q))
+waits terms ph.Vacant run due false over q = absurd (false≢true q)
+waits terms ph.Waiting run due false over q = (refl, refl)
+waits terms ph.Running run due false over q = absurd (false≢true (sym (ap (λ b. not (not b) && true) (next_eqb run)) ∙ q))
+waits terms ph.Done run due false over q = absurd (false≢true (sym (no_and (not (not (1 + run == 1 + run))) false refl) ∙ q))
+waits terms ph.Failed run due false over q = absurd (false≢true (sym (no_and (not (not (1 + run == 1 + run))) false refl) ∙ q))
+waits terms ph.Over run due false over q = absurd (false≢true (over refl))
 
-pub is_seen_waiting : (terms : Terms) (run due : ℕ) → is_waiting (seen_phase terms ph.Waiting run due) ≡ true
+pub is_seen_waiting : (terms : Terms) (run due : ℕ) → is_waiting (seen_phase terms ph.Waiting run due false) ≡ true
 is_seen_waiting terms run due = ap (λ b. not (not b) && true) (same_eqb run)
 
-pub waits_in : (calls : List Planned) (s : State) (k : ℕ) → is_waiting ((seen calls s).fate k) ≡ true → (s.tasks k).phase ≡ ph.Waiting
-waits_in calls s k q = waits (terms_of calls k) (s.tasks k).phase (s.tasks k).run (s.tasks k).due q
+pub waits_in : (calls : List Planned) (s : State) (k : ℕ) → IsSound s → is_waiting ((seen calls s).fate k) ≡ true → ((s.tasks k).phase ≡ ph.Waiting) × ((s.tasks k).cancelled ≡ false)
+waits_in calls s k sound q = waits (terms_of calls k) (s.tasks k).phase (s.tasks k).run (s.tasks k).due (s.tasks k).cancelled (sound.over k) q
 
 -- what each reply finds
 
 call_finds : (calls : List Planned) (s : State) (moment : ℕ) (call : CodeCall) → Finds calls s (called calls (record (seen calls s) { moment = moment }) call).answer
 call_finds calls s moment (c.Submit task timing delay) = refl
 call_finds calls s moment (c.Illegal task) = tt
+call_finds calls s moment (c.Cancel task) = tt
 
 -- an enabled task waits, and its due moment is reached
-pub enabled_in : (calls : List Planned) (s : State) (k : ℕ) → is_enabled (seen calls s) k ≡ true → ((s.tasks k).phase ≡ ph.Waiting) × ((s.tasks k).due ≤ s.moment)
-enabled_in calls s k e =
+pub enabled_in : (calls : List Planned) (s : State) (k : ℕ) → IsSound s → is_enabled (seen calls s) k ≡ true → ((s.tasks k).phase ≡ ph.Waiting) × ((s.tasks k).cancelled ≡ false) × ((s.tasks k).due ≤ s.moment)
+enabled_in calls s k sound e =
     let v = seen calls s in
     let parts = and_parts (is_waiting (v.fate k)) (nat_le (v.fate k).due v.moment) e in
-    let phase = waits_in calls s k parts.0 in
-    let due : (v.fate k).due ≡ (s.tasks k).due = ap (λ p. due_seen (terms_of calls k) p (s.tasks k).due) phase in
-    (phase, omega (arith, due, leb-true (v.fate k).due v.moment parts.1))
+    let waiting = waits_in calls s k sound parts.0 in
+    let due : (v.fate k).due ≡ (s.tasks k).due = ap (λ p. due_seen (terms_of calls k) p (s.tasks k).due) waiting.0 in
+    (waiting.0, waiting.1, omega (arith, due, leb-true (v.fate k).due v.moment parts.1))
+
+-- only the outcome of a cancelled task is dropped
+drops : (cancelled : Bool) (timing : Timing) (due : ℕ) (ending : Ending) → outcome_in cancelled timing due ending ≡ o.Dropped → cancelled ≡ true
+drops true timing due ending q = refl
+drops false t.Once due (e.Value value) q = cc
+drops false (t.Rate period) due (e.Value value) q = cc
+drops false (t.Fixed delay) due (e.Value value) q = cc
+drops false timing due (e.Fault code) q = cc
 
 pub finds : (calls : List Planned) (workers : ℕ) (s : State) (happening : Happening) → IsSound s → Finds calls s (reply_of calls workers s happening).answer
 finds calls workers s h.Call sound =
@@ -106,7 +124,7 @@ finds calls workers s (h.Start w) sound =
     let first : (q : Option ℕ) → s.workers w ≡ None → first_enabled v (numbers calls) ≡ q → Finds calls s (started v w q) =
     elim [
       | None ↦ λ free is. tt
-      | Some k ↦ λ free is. let enabled = enabled_in calls s k (first_is_enabled v (numbers calls) k is) in (free, enabled.0, enabled.1)
+      | Some k ↦ λ free is. let enabled = enabled_in calls s k sound (first_is_enabled v (numbers calls) k is) in (free, enabled.0, enabled.1, enabled.2)
     ]
     in
     let pick : (b : Bool) (work : Option ℕ) → s.workers w ≡ work → Finds calls s (cond b (option_map_or (λ _. a.Error x.Busy) work (started v w (first_enabled v (numbers calls)))) (a.Error x.NoWorker)) =
@@ -116,14 +134,17 @@ finds calls workers s (h.Start w) sound =
 finds calls workers s (h.Finish w ending) sound =
     let v = seen calls s in
     let pick : (b : Bool) (work : Option ℕ) → s.workers w ≡ work → Finds calls s (cond b (finished calls v w ending work) (a.Error x.NoWorker)) =
-    elim [ true ↦ elim [ None ↦ λ is. tt | Some k ↦ λ is. is ] | false ↦ λ work is. tt ]
+    elim [ true ↦ elim [ None ↦ λ is. tt | Some k ↦ λ is. (is, drops (s.tasks k).cancelled (terms_of calls k).timing (due_next calls v k) ending) ] | false ↦ λ work is. tt ]
     in
     pick (nat_lt w workers) (s.workers w) refl
+finds calls workers s (h.Cancel k) sound =
+    let pick : (b : Bool) → Finds calls s (cond b (a.Outside k (effect_on ((seen calls s).fate k))) (a.Error x.NoTask)) = elim [ true ↦ tt | false ↦ tt ] in
+    pick (nat_lt k (task_count calls))
 
 pub fits_all : (calls : List Planned) (s : State) (answer : Answer) → IsSound s → Finds calls s answer → (k : ℕ) → Fits (terms_of calls k) s.moment k (s.tasks k) answer
 fits_all calls s (a.Submit j kind due) sound f k = λ q. subst (λ k. due ≡ due_at (terms_of calls k) 0 None) (eqb-true j k q) f
 fits_all calls s (a.Start w j n due) sound f k = λ q. subst (λ k. (s.tasks k).phase ≡ ph.Waiting) (eqb-true j k q) f.1
-fits_all calls s (a.Finish w j n outcome) sound f k = λ q. subst (λ k. (s.tasks k).phase ≡ ph.Running) (eqb-true j k q) (sound.at_work w j f)
+fits_all calls s (a.Finish w j n outcome) sound f k = λ q. subst (λ k. (s.tasks k).phase ≡ ph.Running) (eqb-true j k q) (sound.at_work w j f.0)
 fits_all calls s _ sound f k = tt
 
 -- a sound state stays sound
@@ -153,7 +174,7 @@ at_work_after calls s (a.Start v j n due) sound f w k q =
 at_work_after calls s (a.Finish v j n outcome) sound f w k q =
     let runs : (c : Bool) → (j == k) ≡ c → (v == w) ≡ false → s.workers w ≡ Some k → (cond c (finish_task (terms_of calls k).timing s.moment outcome (s.tasks k)) (s.tasks k)).phase ≡ ph.Running =
     elim [
-      | true ↦ λ same apart q. absurd (false≢true (sym apart ∙ eq-eqb v w (sound.apart v w k (f ∙ ap Some (eqb-true j k same)) q)))
+      | true ↦ λ same apart q. absurd (false≢true (sym apart ∙ eq-eqb v w (sound.apart v w k (f.0 ∙ ap Some (eqb-true j k same)) q)))
       | false ↦ λ same apart q. sound.at_work w k q
     ]
     in
@@ -200,10 +221,12 @@ later now next (h.Clock moment) =
     pick (is_accepted now moment) refl
 later now next (h.Start worker) = omega arith
 later now next (h.Finish worker ending) = omega arith
+later now next (h.Cancel task) = omega arith
 
 pub no_run_again : (timing : Timing) (now : ℕ) (outcome : Outcome) (task : Task) → (finish_task timing now outcome task).phase ≡ ph.Running → ⊥
 no_run_again timing now (o.Done value) task q = cc
 no_run_again timing now (o.Failed code) task q = cc
+no_run_again timing now o.Dropped task q = cc
 no_run_again timing now (o.Again due) task q = cc
 
 -- the due moment of a task that runs after an answer was reached
@@ -221,9 +244,10 @@ run_reached calls s (a.Submit j kind due) sound f k =
     unsubmitted ph.Running task is q = subst (λ (x : Task). x.due ≤ s.moment) (sym is) (sound.reached k (sym (ap (λ (x : Task). x.phase) is) ∙ q))
     unsubmitted ph.Done task is q = subst (λ (x : Task). x.due ≤ s.moment) (sym is) (sound.reached k (sym (ap (λ (x : Task). x.phase) is) ∙ q))
     unsubmitted ph.Failed task is q = subst (λ (x : Task). x.due ≤ s.moment) (sym is) (sound.reached k (sym (ap (λ (x : Task). x.phase) is) ∙ q))
+    unsubmitted ph.Over task is q = subst (λ (x : Task). x.due ≤ s.moment) (sym is) (sound.reached k (sym (ap (λ (x : Task). x.phase) is) ∙ q))
 run_reached calls s (a.Start w j n due) sound f k =
     let pick : (b : Bool) → (j == k) ≡ b → (cond b (record (s.tasks k) { phase = ph.Running }) (s.tasks k)).phase ≡ ph.Running → (cond b (record (s.tasks k) { phase = ph.Running }) (s.tasks k)).due ≤ s.moment =
-    elim [ true ↦ λ same q. subst (λ i. (s.tasks i).due ≤ s.moment) (eqb-true j k same) f.2 | false ↦ λ apart q. sound.reached k q ]
+    elim [ true ↦ λ same q. subst (λ i. (s.tasks i).due ≤ s.moment) (eqb-true j k same) f.3 | false ↦ λ apart q. sound.reached k q ]
     in
     pick (j == k) refl
 run_reached calls s (a.Finish w j n outcome) sound f k =
@@ -234,9 +258,38 @@ run_reached calls s (a.Finish w j n outcome) sound f k =
     pick (j == k)
 run_reached calls s _ sound f k = sound.reached k
 
+-- a task whose run was dropped was cancelled, also after an answer
+over_after : (calls : List Planned) (s : State) (answer : Answer) → IsSound s → Finds calls s answer → (k : ℕ) → phase_after calls s answer k ≡ ph.Over → (is_cancel k answer || (s.tasks k).cancelled) ≡ true
+over_after calls s (a.Submit j kind due) sound f k q =
+    let pick : (b : Bool) → (cond b (submit_phase due (s.tasks k).phase (s.tasks k)) (s.tasks k)).phase ≡ ph.Over → (s.tasks k).phase ≡ ph.Over =
+    elim [ true ↦ λ q. unsubmitted due (s.tasks k).phase (s.tasks k) refl q | false ↦ λ q. q ]
+    in
+    sound.over k (pick (j == k) q)
+  where
+    unsubmitted : (due : ℕ) (p : Phase) (task : Task) → task.phase ≡ p → (submit_phase due p task).phase ≡ ph.Over → task.phase ≡ ph.Over
+    unsubmitted due ph.Vacant task is q = absurd cc
+    unsubmitted due ph.Waiting task is q = q
+    unsubmitted due ph.Running task is q = q
+    unsubmitted due ph.Done task is q = q
+    unsubmitted due ph.Failed task is q = q
+    unsubmitted due ph.Over task is q = q
+over_after calls s (a.Start w j n due) sound f k q =
+    let pick : (b : Bool) → (cond b (record (s.tasks k) { phase = ph.Running }) (s.tasks k)).phase ≡ ph.Over → (s.tasks k).phase ≡ ph.Over = elim [ true ↦ λ q. absurd cc | false ↦ λ q. q ] in
+    sound.over k (pick (j == k) q)
+over_after calls s (a.Finish w j n outcome) sound f k q =
+    let ended : (x : Outcome) → outcome ≡ x → (finish_task (terms_of calls k).timing s.moment x (s.tasks k)).phase ≡ ph.Over → outcome ≡ o.Dropped =
+    elim [ o.Done value ↦ λ is q. absurd cc | o.Failed code ↦ λ is q. absurd cc | o.Dropped ↦ λ is q. is | o.Again next ↦ λ is q. absurd cc ]
+    in
+    let pick : (b : Bool) → (j == k) ≡ b → (cond b (finish_task (terms_of calls k).timing s.moment outcome (s.tasks k)) (s.tasks k)).phase ≡ ph.Over → (s.tasks k).cancelled ≡ true =
+    elim [ true ↦ λ same q. subst (λ i. (s.tasks i).cancelled ≡ true) (eqb-true j k same) (f.1 (ended outcome refl q)) | false ↦ λ apart q. sound.over k q ]
+    in
+    pick (j == k) refl q
+over_after calls s answer sound f k q = or_right (is_cancel k answer) (s.tasks k).cancelled (sound.over k q)
+
 pub stays : (calls : List Planned) (s : State) (happening : Happening) (r : Reply) → IsSound s → Finds calls s r.answer → IsSound (state_after calls s happening r)
 stays calls s happening r sound f = record {
   at_work = at_work_after calls s r.answer sound f;
   apart = apart_after calls s r.answer sound f;
+  over = over_after calls s r.answer sound f;
   reached = λ k runs. omega (arith, run_reached calls s r.answer sound f k runs, later s.moment (slice_get calls s.made) happening);
 }

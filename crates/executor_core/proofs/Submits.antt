@@ -18,7 +18,7 @@ use Rattle.sched_time.specs.declared.timing.Timing.{Timing}
 use Rattle.sched_time.specs.declared.timing.Timing.TheVariants as t
 use Rattle.executor_core.specs.Calls.{Planned, Terms, terms_of, due_at, task_count}
 use Rattle.executor_core.specs.Answers.{Reply, plain, called, kind_of}
-use Rattle.executor_core.specs.State.{State, seen, next, reply_of, state_after, vacant, submit_phase}
+use Rattle.executor_core.specs.State.{State, seen, next, reply_of, state_after, vacant, submit_phase, submit_task}
 use Rattle.executor_core.specs.Machine.{Machine, workers_of, state_of, IsSound, IsKept, IsDue, Takes, queued}
 use Rattle.executor_core.proofs.Agree.{next_sound, next_due_is}
 use Rattle.executor_core.proofs.Tables.{at_set, submission, runs_set, call_moment, count_grows}
@@ -32,15 +32,19 @@ state_at made moment tasks work = record {
 }
 
 -- the reply to a call, given the call
-abbrev reply_to : List Planned → State → Option Planned → Reply
+abbrev pub reply_to : List Planned → State → Option Planned → Reply
 reply_to calls s call = option_map_or (λ p. called calls (record (seen calls s) { moment = max s.moment p.0 }) p.1) call (plain a.Clock)
 
 -- the state after it
-abbrev state_to : List Planned → State → Option Planned → State
+abbrev pub state_to : List Planned → State → Option Planned → State
 state_to calls s call = record (state_after calls s h.Call (reply_to calls s call)) { moment = option_map_or (λ p. max s.moment p.0) call s.moment }
 
 abbrev pub waiting : ℕ → Task
-waiting due = record { phase = ph.Waiting; run = 0; due = due }
+waiting due = submit_task due vacant
+
+-- a task, cancelled or not as before
+abbrev as_before : Task → Task → Task
+as_before old new = record new { cancelled = old.cancelled }
 
 due_first : (terms : Terms) (timing : Timing) (first : ℕ) → terms ≡ record { timing = timing; first = first } → due_at terms 0 None ≡ first
 due_first terms timing first e = ap (λ x. due_at x 0 None) e ∙ by timing
@@ -56,11 +60,11 @@ submit_answer calls workers made moment at task delay timing tasks work is terms
     ∙ sym (ap (λ o. (reply_to calls (state_at made moment tasks work) o).answer) is)
 
 submitted_at : (tasks : List Task) (task k due : ℕ) → task < length tasks → slice_index_or tasks task vacant ≡ vacant →
-    slice_index_or (set tasks task (waiting due)) k vacant ≡ cond (task == k) (submit_phase due (slice_index_or tasks k vacant).phase (slice_index_or tasks k vacant)) (slice_index_or tasks k vacant)
+    slice_index_or (set tasks task (waiting due)) k vacant ≡ as_before (slice_index_or tasks k vacant) (cond (task == k) (submit_phase due (slice_index_or tasks k vacant).phase (slice_index_or tasks k vacant)) (slice_index_or tasks k vacant))
 submitted_at tasks task k due low fresh =
-    let pick : (b : Bool) → (task == k) ≡ b → cond b (waiting due) (slice_index_or tasks k vacant) ≡ cond b (submit_phase due (slice_index_or tasks k vacant).phase (slice_index_or tasks k vacant)) (slice_index_or tasks k vacant) =
+    let pick : (b : Bool) → (task == k) ≡ b → cond b (waiting due) (slice_index_or tasks k vacant) ≡ as_before (slice_index_or tasks k vacant) (cond b (submit_phase due (slice_index_or tasks k vacant).phase (slice_index_or tasks k vacant)) (slice_index_or tasks k vacant)) =
     elim [
-      | true ↦ λ same. sym (ap (λ (t : Task). submit_phase due t.phase t) (ap (λ j. slice_index_or tasks j vacant) (sym (eqb-true task k same)) ∙ fresh))
+      | true ↦ λ same. sym (ap (λ (t : Task). as_before t (submit_phase due t.phase t)) (ap (λ j. slice_index_or tasks j vacant) (sym (eqb-true task k same)) ∙ fresh))
       | false ↦ λ apart. refl
     ]
     in
@@ -79,7 +83,7 @@ submit_state calls workers made moment at task delay timing tasks work is terms 
       made = one i;
       moment = max moment at;
       tasks = λ k. (submitted_at tasks task k (at + delay) low fresh
-          ∙ ap (λ d. cond (task == k) (submit_phase d (slice_index_or tasks k vacant).phase (slice_index_or tasks k vacant)) (slice_index_or tasks k vacant)) (sym due)) i;
+          ∙ ap (λ d. as_before (slice_index_or tasks k vacant) (cond (task == k) (submit_phase d (slice_index_or tasks k vacant).phase (slice_index_or tasks k vacant)) (slice_index_or tasks k vacant))) (sym due)) i;
       workers = λ w. slice_index_or work w None;
     }
     in
@@ -217,3 +221,19 @@ submit_steps m old entries timings moment at task delay timing kind kept is how 
     subst (λ x. Takes x (record m { made = m.made + 1; moment = moment; tasks = set m.tasks task (waiting (at + delay)) }) h.Call (a.Submit task kind (at + delay))) same
     (subst (λ n. Takes m (record m { made = m.made + 1; moment = n; tasks = set m.tasks task (waiting (at + delay)) }) h.Call (a.Submit task kind (at + delay))) (sym greatest)
     (submit_takes m entries timings at task delay timing kind kept is how))
+
+-- the same, with the tasks as a call leaves them
+
+pub submit_keeps_in : (m : Machine) (entries entries' : List (Option ℕ)) (timings : List Timing) (moment at task delay : ℕ) (timing : Timing) (tasks : List Task) → IsKept m entries timings → slice_get m.calls m.made ≡ Some (at, c.Submit task timing delay) →
+    moment ≡ max m.moment at → entries' ≡ set entries task (Some (at + delay)) → tasks ≡ set m.tasks task (waiting (at + delay)) →
+    IsKept (record m { made = m.made + 1; moment = moment; tasks = tasks }) entries' (set timings task timing)
+submit_keeps_in m entries entries' timings moment at task delay timing tasks kept is greatest put written =
+    subst (λ l. IsKept (record m { made = m.made + 1; moment = moment; tasks = l }) entries' (set timings task timing)) (sym written)
+    (submit_keeps m entries entries' timings moment at task delay timing kept is greatest put)
+
+pub submit_steps_in : (m old : Machine) (entries : List (Option ℕ)) (timings : List Timing) (moment at task delay : ℕ) (timing : Timing) (kind : Kind) (tasks : List Task) → IsKept m entries timings → slice_get m.calls m.made ≡ Some (at, c.Submit task timing delay) →
+    kind ≡ kind_of timing → moment ≡ max m.moment at → m ≡ old → tasks ≡ set m.tasks task (waiting (at + delay)) →
+    Takes old (record m { made = m.made + 1; moment = moment; tasks = tasks }) h.Call (a.Submit task kind (at + delay))
+submit_steps_in m old entries timings moment at task delay timing kind tasks kept is how greatest same written =
+    subst (λ l. Takes old (record m { made = m.made + 1; moment = moment; tasks = l }) h.Call (a.Submit task kind (at + delay))) (sym written)
+    (submit_steps m old entries timings moment at task delay timing kind kept is how greatest same)

@@ -66,6 +66,7 @@ later_submission calls at' count n at task (c.Illegal j) timing delay o one is r
   moment = rest.moment;
   within = rest.within;
 }
+later_submission calls at' count n at task (c.Cancel j) timing delay o one is rest = absurd (false≢true is)
 
 pub submission : (calls : List Planned) (count moment n at task : ℕ) (timing : Timing) (delay : ℕ) → IsOrderlyFrom count moment calls → slice_get calls n ≡ Some (at, c.Submit task timing delay) →
     Submission calls count n at task timing delay
@@ -88,6 +89,13 @@ submission ((at', c.Illegal j) ∷ calls) count moment zero at task timing delay
     absurd cc
 submission ((at', c.Illegal j) ∷ calls) count moment (suc n) at task timing delay o q =
     later_submission calls at' count n at task (c.Illegal j) timing delay o.2 refl refl (submission calls (count + 1) at' n at task timing delay o.3 q)
+submission ((at', c.Cancel j) ∷ calls) count moment zero at task timing delay o q =
+    let same = same_Some (at', c.Cancel j) (at, c.Submit task timing delay) q in
+    let clash : c.Cancel j ≡ c.Submit task timing delay = ap (λ (p : Planned). p.1) same in
+    absurd cc
+submission ((at', c.Cancel j) ∷ calls) count moment (suc n) at task timing delay o q =
+    let rest = submission calls count at' n at task timing delay o.3 q in
+    record { terms = rest.terms; number = rest.number; more = rest.more; below = rest.below; moment = rest.moment; within = rest.within }
 
 -- each call has a moment within the limit, and stands where it does
 pub call_moment : (calls : List Planned) (count moment n at : ℕ) (call : CodeCall) → IsOrderlyFrom count moment calls → slice_get calls n ≡ Some (at, call) → at ≤ 2 ^ 62

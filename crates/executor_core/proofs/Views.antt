@@ -7,14 +7,14 @@ use Rattle.executor_core.specs.declared.words.Happening.{Happening}
 use Rattle.executor_core.specs.Calls.{Planned, Terms, terms_of, due_at, after_finish}
 use Rattle.executor_core.specs.View.{Fate, View}
 use Rattle.executor_core.specs.Answers.{Reply, moment_after}
-use Rattle.executor_core.specs.Histories.{Entry, entry_of, happenings, is_call, is_submit, is_start, is_finish, is_finish_with, is_done, is_failed, work_after, look, starts, last_finish, now_of}
+use Rattle.executor_core.specs.Histories.{Entry, entry_of, happenings, is_call, is_submit, is_cancel, is_start, is_finish, is_finish_with, is_done, is_failed, work_after, look, starts, last_finish, now_of}
 use Rattle.executor_core.specs.State.{State, seen, state_after}
 use Rattle.executor_core.specs.Machine.{IsDue}
 use Rattle.executor_core.proofs.Moves.{fate_with, due_after, Fits, moves}
 
 abbrev pub fate_after : List Planned → View → Reply → ℕ → Fate
 fate_after calls v r k =
-    fate_with (terms_of calls k).timing (v.fate k) v.moment (is_submit k r.answer) (is_start k r.answer) (is_finish k r.answer) (is_finish_with is_done k r.answer) (is_finish_with is_failed k r.answer)
+    fate_with (terms_of calls k).timing (v.fate k) v.moment (is_submit k r.answer) (is_cancel k r.answer) (is_start k r.answer) (is_finish k r.answer) (is_finish_with is_done k r.answer) (is_finish_with is_failed k r.answer)
 
 abbrev pub view_with : List Planned → View → Happening → Reply → (ℕ → Fate) → View
 view_with calls v happening r fates = record {

@@ -15,7 +15,7 @@ use Rattle.executor_core.specs.declared.words.Happening.TheVariants as h
 use Rattle.executor_core.specs.declared.words.Answer.TheVariants as a
 use Rattle.executor_core.specs.Calls.{Planned, Terms, IsOrderlyCall, IsOrderlyFrom, count_after, numbers, terms_of, terms_in, due_at}
 use Rattle.executor_core.specs.View.{View, is_running, is_over, first_enabled}
-use Rattle.executor_core.specs.Answers.{plain, reply, called, started, finished, moment_after}
+use Rattle.executor_core.specs.Answers.{plain, reply, called, started, finished, moment_after, effect_on}
 use Rattle.executor_core.specs.Histories.{Entry, Means, look, happenings, made, now_of, is_submit, is_finish, was_accepted, starts, last_finish}
 use Rattle.executor_core.specs.Positions.{IsSubmissionOf, WasSubmitted, WaitingIsATask, WaitingIsDueInTime, FinishedLast, LastFinishIsTheLast, FinishKeepsNow}
 use Rattle.executor_core.proofs.Reading.{tasks_are_submitted}
@@ -32,6 +32,7 @@ pub record Submits (calls : List Planned) (v : View) (happening : Happening) (k 
 call_submits : (calls : List Planned) (v : View) (call : CodeCall) (k : ℕ) → is_submit k (called calls v call).answer ≡ true → IsSubmissionOf k call
 call_submits calls v (c.Submit task timing delay) k q = eqb-true task k q
 call_submits calls v (c.Illegal task) k q = absurd (false≢true q)
+call_submits calls v (c.Cancel task) k q = absurd (false≢true q)
 
 pub submit_says : (calls : List Planned) (workers : ℕ) (v : View) (y : Happening) (k : ℕ) → is_submit k (reply calls workers v y).answer ≡ true → Submits calls v y k
 submit_says calls workers v h.Call k q =
@@ -56,6 +57,9 @@ submit_says calls workers v (h.Finish w ending) k q =
     elim [ true ↦ elim [ None ↦ λ q. false≢true q | Some j ↦ λ q. false≢true q ] | false ↦ λ o q. false≢true q ]
     in
     absurd (other _ _ q)
+submit_says calls workers v (h.Cancel j) k q =
+    let other : (b : Bool) → is_submit k (cond b (a.Outside j (effect_on (v.fate j))) (a.Error x.NoTask)) ≡ true → ⊥ = elim [ true ↦ λ q. false≢true q | false ↦ λ q. false≢true q ] in
+    absurd (other _ q)
 
 -- a task whose submission was accepted was submitted by a call that was made
 
@@ -64,6 +68,7 @@ made_more h.Call past = omega arith
 made_more (h.Clock t) past = omega arith
 made_more (h.Start w) past = omega arith
 made_more (h.Finish w ending) past = omega arith
+made_more (h.Cancel k) past = omega arith
 
 submitted_behind : (calls : List Planned) (y : Happening) (past : List Happening) (k : ℕ) → WasSubmitted calls past k → WasSubmitted calls (y ∷ past) k
 submitted_behind calls y past k s = record { place = s.place; call = s.call; there = s.there; submits = s.submits; before = omega (arith, s.before, made_more y past) }
@@ -158,6 +163,7 @@ last_finish_is_the_last calls past k = (
 no_call_finishes : (calls : List Planned) (v : View) (call : CodeCall) (k : ℕ) → is_finish k (called calls v call).answer ≡ true → ⊥
 no_call_finishes calls v (c.Submit task timing delay) k q = false≢true q
 no_call_finishes calls v (c.Illegal task) k q = false≢true q
+no_call_finishes calls v (c.Cancel task) k q = false≢true q
 
 finish_keeps : (calls : List Planned) (workers : ℕ) (v : View) (y : Happening) (k now : ℕ) (call : Option Planned) → is_finish k (reply calls workers v y).answer ≡ true → moment_after now call y ≡ now
 finish_keeps calls workers v h.Call k now call q =
@@ -170,6 +176,7 @@ finish_keeps calls workers v (h.Clock t) k now call q =
     absurd (other _ _ q)
 finish_keeps calls workers v (h.Start w) k now call q = refl
 finish_keeps calls workers v (h.Finish w ending) k now call q = refl
+finish_keeps calls workers v (h.Cancel j) k now call q = refl
 
 pub finish_keeps_now : FinishKeepsNow
 finish_keeps_now calls workers past e k m q =

@@ -31,6 +31,7 @@ call_due count k moment (c.Submit task timing delay) rest o l m =
     let pick : (b : Bool) → (cond b (record { timing = timing; first = moment + delay }) rest).first ≤ 2 ^ 63 = elim [ true ↦ omega (arith, o.1, l) | false ↦ m ] in
     pick (task == k)
 call_due count k moment (c.Illegal task) rest o l m = m
+call_due count k moment (c.Cancel task) rest o l m = m
 
 -- the first run of each task is due in time
 pub first_within : (count moment : ℕ) (calls : List Planned) (k : ℕ) → IsOrderlyFrom count moment calls → (terms_of calls k).first ≤ 2 ^ 63
@@ -42,6 +43,7 @@ call_timed count k moment (c.Submit task timing delay) rest o l =
     let pick : (b : Bool) → IsTimed (cond b (record { timing = timing; first = moment + delay }) rest).timing = elim [ true ↦ o.2 | false ↦ l ] in
     pick (task == k)
 call_timed count k moment (c.Illegal task) rest o l = l
+call_timed count k moment (c.Cancel task) rest o l = l
 
 -- the period, or the fixed delay, of each task is within the limit
 pub timed_within : (count moment : ℕ) (calls : List Planned) (k : ℕ) → IsOrderlyFrom count moment calls → IsTimed (terms_of calls k).timing
@@ -63,6 +65,7 @@ moment_within calls n now (h.Clock t) o l =
     pick (is_accepted now t) refl
 moment_within calls n now (h.Start w) o l = l
 moment_within calls n now (h.Finish w ending) o l = l
+moment_within calls n now (h.Cancel k) o l = l
 
 -- it never passes the limit of a moment
 pub now_within : (calls : List Planned) (past : List Happening) → IsOrderly calls → now_of calls past ≤ 2 ^ 62
@@ -73,6 +76,8 @@ now_within calls (y ∷ past) o = moment_within calls (made past) (now_of calls 
 start_was_due : (calls : List Planned) (workers : ℕ) (v : View) (y : Happening) (k : ℕ) (answer : Answer) → answer ≡ (reply calls workers v y).answer → is_start k answer ≡ true → (v.fate k).due ≤ v.moment
 start_was_due calls workers v y k (a.Submit j kind due) is q = absurd (false≢true q)
 start_was_due calls workers v y k (a.Refuse j refusal) is q = absurd (false≢true q)
+start_was_due calls workers v y k (a.Cancel j effect) is q = absurd (false≢true q)
+start_was_due calls workers v y k (a.Outside j effect) is q = absurd (false≢true q)
 start_was_due calls workers v y k a.Clock is q = absurd (false≢true q)
 start_was_due calls workers v y k (a.Start w j n d) is q =
     let said = start_says calls workers v y w j n d (sym is) in

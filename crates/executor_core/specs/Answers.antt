@@ -16,12 +16,14 @@ use Rattle.executor_core.specs.declared.words.Kind.{Kind}
 use Rattle.executor_core.specs.declared.words.Kind.TheVariants as kind
 use Rattle.executor_core.specs.declared.words.Refusal.TheVariants as refusal
 use Rattle.executor_core.specs.declared.words.EventError.TheVariants as x
+use Rattle.executor_core.specs.declared.words.CancelEffect.{CancelEffect}
+use Rattle.executor_core.specs.declared.words.CancelEffect.TheVariants as f
 use Rattle.executor_core.specs.declared.words.Outcome.{Outcome}
 use Rattle.executor_core.specs.declared.words.Outcome.TheVariants as o
 use Rattle.executor_core.specs.declared.words.Answer.{Answer}
 use Rattle.executor_core.specs.declared.words.Answer.TheVariants as a
-use Rattle.executor_core.specs.Calls.{Planned, terms_of, due_at, numbers}
-use Rattle.executor_core.specs.View.{View, first_enabled}
+use Rattle.executor_core.specs.Calls.{Planned, terms_of, due_at, numbers, task_count}
+use Rattle.executor_core.specs.View.{Fate, View, is_live, first_enabled}
 
 -- an answer, and the tasks that it ends; no answer ends a task yet
 pub record Reply : Type 0 where
@@ -39,12 +41,18 @@ kind_of t.Once = kind.Schedule
 kind_of (t.Rate period) = kind.Rate
 kind_of (t.Fixed delay) = kind.Fixed
 
+-- what a cancel does to a task of which this is known: nothing where its submission was not accepted, and
+-- nothing where it is over; else it is cancelled, whether it waits or is run
+abbrev pub effect_on : Fate → CancelEffect
+effect_on fate = if fate.accepted then (if is_live fate then f.Yes else f.No) else f.Absent
+
 -- the answer to a call, in a view whose moment is the call's
 -- (a period or a fixed delay that is zero or negative: ScheduledExecutorService.scheduleAtFixedRate and
 -- scheduleWithFixedDelay, "IllegalArgumentException")
 abbrev pub called : List Planned → View → CodeCall → Reply
 called calls v (c.Submit task timing delay) = plain (a.Submit task (kind_of timing) (due_at (terms_of calls task) 0 None))
 called calls v (c.Illegal task) = plain (a.Refuse task refusal.Illegal)
+called calls v (c.Cancel task) = plain (a.Cancel task (effect_on (v.fate task)))
 
 -- the answer to a worker without work that asks for a task: the first enabled one, or idle where none is
 abbrev pub started : View → ℕ → Option ℕ → Answer
@@ -69,6 +77,10 @@ abbrev pub outcome_of : Timing → ℕ → Ending → Outcome
 outcome_of timing due (e.Value value) = ended_well timing due value
 outcome_of timing due (e.Fault code) = o.Failed code
 
+-- the outcome of a run whose task was maybe cancelled: then it is dropped, whatever the run gave
+abbrev pub outcome_in : Bool → Timing → ℕ → Ending → Outcome
+outcome_in cancelled timing due ending = if cancelled then o.Dropped else outcome_of timing due ending
+
 -- the due moment of the run of task k that would come after a finish at the view's moment
 abbrev pub due_next : List Planned → View → ℕ → ℕ
 due_next calls v k = due_at (terms_of calls k) (v.fate k).starts (Some v.moment)
@@ -77,7 +89,7 @@ due_next calls v k = due_at (terms_of calls k) (v.fate k).starts (Some v.moment)
 -- last, with its outcome
 abbrev pub finished : List Planned → View → ℕ → Ending → Option ℕ → Answer
 finished calls v w ending None = a.Error x.NotRunning
-finished calls v w ending (Some k) = a.Finish w k ((v.fate k).starts - 1) (outcome_of (terms_of calls k).timing (due_next calls v k) ending)
+finished calls v w ending (Some k) = a.Finish w k ((v.fate k).starts - 1) (outcome_in (v.fate k).cancelled (terms_of calls k).timing (due_next calls v k) ending)
 
 -- a clock is accepted where it does not go back and is within the limit
 abbrev pub is_accepted : ℕ → ℕ → Bool
@@ -99,3 +111,5 @@ reply calls workers v (h.Start w) =
     plain (if nat_lt w workers then option_map_or (λ _. a.Error x.Busy) (v.work w) (started v w (first_enabled v (numbers calls))) else a.Error x.NoWorker)
 reply calls workers v (h.Finish w ending) =
     plain (if nat_lt w workers then finished calls v w ending (v.work w) else a.Error x.NoWorker)
+reply calls workers v (h.Cancel k) =
+    plain (if nat_lt k (task_count calls) then a.Outside k (effect_on (v.fate k)) else a.Error x.NoTask)

@@ -1,7 +1,7 @@
 -- The calls of a plan, what they say of each task, and when its runs are due.
 -- Where a definition names a class, its source is the Java SE 17 documentation of that class.
 -- Where it names no source, it is this project's rule.
-use Rattle.std.specs.Prelude.{◌≡◌, ℕ, ◌+◌, ◌*◌, ◌^◌, ◌≤◌, ◌==◌, Bool, true, if◌then◌else◌, List, [], ◌∷◌, length, Option, Some, None}
+use Rattle.std.specs.Prelude.{◌≡◌, ℕ, ◌+◌, ◌*◌, ◌^◌, ◌<◌, ◌≤◌, ◌==◌, Bool, true, false, if◌then◌else◌, List, [], ◌∷◌, length, Option, Some, None}
 use Rattle.std.specs.List.{range_with_len}
 use Rattle.sched_time.specs.declared.timing.Timing.{Timing}
 use Rattle.sched_time.specs.declared.timing.Timing.TheVariants as t
@@ -22,6 +22,7 @@ how_many test (x ∷ xs) = if test x then 1 + how_many test xs else how_many tes
 abbrev pub is_submission : CodeCall → Bool
 is_submission (c.Submit task timing delay) = true
 is_submission (c.Illegal task) = true
+is_submission (c.Cancel task) = false
 
 -- how many tasks some calls submit: submissions are numbered 0, 1, .. in the order of their
 -- calls, and each is a task, also one that is not accepted
@@ -37,6 +38,7 @@ numbers calls = range_with_len 0 (task_count calls)
 abbrev pub count_after : ℕ → CodeCall → ℕ
 count_after count (c.Submit task timing delay) = count + 1
 count_after count (c.Illegal task) = count + 1
+count_after count (c.Cancel task) = count
 
 -- a period, or a fixed delay, is within the limit, as each span is
 abbrev pub IsTimed : Timing → Type 0
@@ -44,10 +46,12 @@ IsTimed t.Once = Unit {0}
 IsTimed (t.Rate period) = period ≤ 2 ^ 62
 IsTimed (t.Fixed delay) = delay ≤ 2 ^ 62
 
--- a submission has the next number, and its delay and its timing are within the limit
+-- a submission has the next number, and its delay and its timing are within the limit; a cancel names an
+-- earlier submission
 abbrev pub IsOrderlyCall : ℕ → CodeCall → Type 0
 IsOrderlyCall count (c.Submit task timing delay) = (task ≡ count) × (delay ≤ 2 ^ 62) × IsTimed timing
 IsOrderlyCall count (c.Illegal task) = task ≡ count
+IsOrderlyCall count (c.Cancel task) = task < count
 
 -- after so many submissions and this moment: moments do not fall and are within the limit,
 -- and each call is in order
@@ -71,6 +75,7 @@ abbrev pub terms_in : ℕ → ℕ → CodeCall → Terms → Terms
 terms_in k moment (c.Submit task timing delay) rest =
     if task == k then record { timing = timing; first = moment + delay } else rest
 terms_in k moment (c.Illegal task) rest = rest
+terms_in k moment (c.Cancel task) rest = rest
 
 -- the terms of task k, by its submission
 abbrev pub terms_of : List Planned → ℕ → Terms

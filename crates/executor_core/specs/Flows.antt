@@ -11,11 +11,13 @@ use Rattle.executor_core.specs.Answers.{Reply, is_accepted}
 use Rattle.executor_core.specs.Histories.{Entry, happenings, made, now_of, answer, entry_of}
 use Rattle.executor_core.specs.State.{State, after_from, next, reply_of}
 
--- an event as a happening: the clock shows a moment, a worker asks for work, or a worker has run its task
+-- an event as a happening: the clock shows a moment, a worker asks for work, a worker has run its task, or a task
+-- is cancelled from outside
 abbrev pub happening_of : Event → Happening
 happening_of (v.Clock moment) = h.Clock moment
 happening_of (v.Start worker) = h.Start worker
 happening_of (v.Finish worker ending) = h.Finish worker ending
+happening_of (v.Cancel task) = h.Cancel task
 
 -- how many of the calls that are not made yet have a moment of at most this one
 abbrev pub reached : List Planned → ℕ → ℕ → ℕ

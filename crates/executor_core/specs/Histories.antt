@@ -5,6 +5,8 @@ use Rattle.std.specs.Prelude.{◌≡◌, ℕ, ◌<◌, ◌≤◌, ◌==◌, ◌&
 use Rattle.std.specs.List.{list_any}
 use Rattle.executor_core.specs.declared.words.Happening.{Happening}
 use Rattle.executor_core.specs.declared.words.Happening.TheVariants as h
+use Rattle.executor_core.specs.declared.words.CancelEffect.{CancelEffect}
+use Rattle.executor_core.specs.declared.words.CancelEffect.TheVariants as f
 use Rattle.executor_core.specs.declared.words.Outcome.{Outcome}
 use Rattle.executor_core.specs.declared.words.Outcome.TheVariants as o
 use Rattle.executor_core.specs.declared.words.Answer.{Answer}
@@ -75,6 +77,17 @@ abbrev pub is_failed : Outcome → Bool
 is_failed (o.Failed code) = true
 is_failed _ = false
 
+-- a cancel had an effect
+abbrev pub is_yes : CancelEffect → Bool
+is_yes f.Yes = true
+is_yes _ = false
+
+-- an answer says that task k was cancelled, by the plan or from outside
+abbrev pub is_cancel : ℕ → Answer → Bool
+is_cancel k (a.Cancel task effect) = (task == k) && is_yes effect
+is_cancel k (a.Outside task effect) = (task == k) && is_yes effect
+is_cancel k _ = false
+
 -- the task of a worker after an answer
 abbrev pub work_after : ℕ → Answer → Option ℕ → Option ℕ
 work_after w (a.Start worker task run due) before = if worker == w then Some task else before
@@ -100,6 +113,10 @@ last_finish calls k (e ∷ past) = if is_finish k e.answer then Some (now_of cal
 abbrev pub was_accepted : ℕ → List Entry → Bool
 was_accepted k past = list_any (λ e. is_submit k e.answer) past
 
+-- task k was cancelled
+abbrev pub was_cancelled : ℕ → List Entry → Bool
+was_cancelled k past = list_any (λ e. is_cancel k e.answer) past
+
 -- the one run of task k was finished with a value
 abbrev pub was_done : ℕ → List Entry → Bool
 was_done k past = list_any (λ e. is_finish_with is_done k e.answer) past
@@ -121,6 +138,7 @@ due_of calls past k = due_at (terms_of calls k) (starts k past) (last_finish cal
 abbrev pub fate_of : List Planned → List Entry → ℕ → Fate
 fate_of calls past k = record {
   accepted = was_accepted k past;
+  cancelled = was_cancelled k past;
   done = was_done k past;
   failed = was_failed k past;
   starts = starts k past;

@@ -11,7 +11,7 @@ use Rattle.executor_core.specs.declared.words.Happening.{Happening}
 use Rattle.executor_core.specs.declared.words.Answer.TheVariants as a
 use Rattle.executor_core.specs.Calls.{Planned, IsOrderly, task_count}
 use Rattle.executor_core.specs.View.{is_enabled, precedes}
-use Rattle.executor_core.specs.Histories.{Entry, Means, starts, MayCome, happenings, is_finish, look, due_of, now_of, answer}
+use Rattle.executor_core.specs.Histories.{Entry, Means, starts, MayCome, happenings, is_cancel, is_finish, look, due_of, now_of, answer}
 use Rattle.executor_core.specs.State.{after, seen}
 use Rattle.executor_core.specs.Flows.{flow, history_of}
 use Rattle.executor_core.specs.Positions.{FinishedLast}
@@ -79,6 +79,16 @@ RunsDoNotOverlap = (calls : List Planned) (workers : ℕ) (past between : List E
 abbrev pub NothingStartsAfterAFailure : Type 0
 NothingStartsAfterAFailure = (calls : List Planned) (workers : ℕ) (past between : List Entry) (finish start : Entry) (v w k m n d code : ℕ)
     → Starts calls workers (between ++ finish ∷ past) start w k n d → finish.answer ≡ a.Finish v k m (o.Failed code) → ⊥
+
+-- after a cancel with an effect nothing of its task starts (this project's rule)
+abbrev pub NothingStartsAfterACancel : Type 0
+NothingStartsAfterACancel = (calls : List Planned) (workers : ℕ) (past between : List Entry) (cancel start : Entry) (w k n d : ℕ)
+    → Starts calls workers (between ++ cancel ∷ past) start w k n d → is_cancel k cancel.answer ≡ true → ⊥
+
+-- at most one cancel of a task has an effect (this project's rule)
+abbrev pub CancelsHaveOneEffect : Type 0
+CancelsHaveOneEffect = (calls : List Planned) (workers : ℕ) (past between : List Entry) (first second : Entry) (k : ℕ)
+    → Means calls workers (second ∷ between ++ first ∷ past) → is_cancel k first.answer ≡ true → is_cancel k second.answer ≡ true → ⊥
 
 -- a task whose one run ended with a value does not start again
 -- (ScheduledExecutorService.schedule: "a value-returning one-shot task")

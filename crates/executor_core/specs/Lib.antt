@@ -1,11 +1,13 @@
 pub use Rattle.sched_time.specs.Times
 pub use Rattle.sched_time.specs.Dues
+pub use Rattle.task_word.specs.Words
 pub mod Counts
 pub mod Calls
 pub mod View
 pub mod Answers
 pub mod Histories
 pub mod State
+pub mod Tasks
 pub mod Flows
 pub mod Machine
 pub mod Plain

@@ -1,12 +1,14 @@
 -- What contracts see of an executor's core, and the state and history in which it stands.
 -- All of it is this project's rule.
-use Rattle.std.specs.Prelude.{◌≡◌, ◌≢◌, ℕ, ◌+◌, ◌^◌, ◌<◌, ◌≤◌, List, [], ◌++◌, length, map, take, Option, Some, None, slice_index_or}
+use Rattle.std.specs.Prelude.{◌≡◌, ◌≢◌, ℕ, ◌+◌, ◌^◌, ◌<◌, ◌≤◌, true, if◌then◌else◌, List, [], ◌++◌, length, map, take, Option, Some, None, slice_index_or}
 use Rattle.sched_time.specs.declared.timing.Timing.{Timing}
 use Rattle.sched_time.specs.declared.timing.Timing.TheVariants as t
 use Rattle.executor_core.specs.declared.words.Event.{Event}
 use Rattle.executor_core.specs.declared.words.Happening.{Happening}
 use Rattle.executor_core.specs.declared.words.Line.{Line}
 use Rattle.executor_core.specs.declared.words.Answer.{Answer}
+use Rattle.executor_core.specs.declared.words.Outcome.{Outcome}
+use Rattle.executor_core.specs.declared.words.Outcome.TheVariants as o
 use Rattle.executor_core.specs.declared.task.Phase.{Phase}
 use Rattle.executor_core.specs.declared.task.Phase.TheVariants as ph
 use Rattle.executor_core.specs.declared.task.Task.{Task}
@@ -85,21 +87,27 @@ pub record Continues (old new : Machine) (before after_lines : List Line) (event
 
 -- what stays true of each core
 
--- the due moment of a waiting task, which stands in the queue
+-- the due moment of a task that waits for a run
 abbrev pub queued_phase : Phase → ℕ → Option ℕ
 queued_phase ph.Waiting due = Some due
 queued_phase _ due = None
 
--- the due moment at which a task stands in the queue, where it waits
+-- the due moment at which a task stands in the queue, where it waits: a cancelled task does not
 abbrev pub queued : Task → Option ℕ
-queued task = queued_phase task.phase task.due
+queued task = if task.cancelled then None else queued_phase task.phase task.due
 
--- a busy worker's task runs, no two workers have one task, and the due moment of a run that is under way was
--- reached
+-- the due moment at which a task stands in the queue once its run had this outcome
+abbrev pub queued_again : Outcome → Option ℕ
+queued_again (o.Again due) = Some due
+queued_again _ = None
+
+-- a busy worker's task runs, no two workers have one task, the due moment of a run that is under way was
+-- reached, and a task whose run was dropped was cancelled
 pub record IsSound (s : State) : Type 0 where
   pub at_work : (w k : ℕ) → s.workers w ≡ Some k → (s.tasks k).phase ≡ ph.Running
   pub apart : (v w k : ℕ) → s.workers v ≡ Some k → s.workers w ≡ Some k → v ≡ w
   pub reached : (k : ℕ) → (s.tasks k).phase ≡ ph.Running → (s.tasks k).due ≤ s.moment
+  pub over : (k : ℕ) → (s.tasks k).phase ≡ ph.Over → (s.tasks k).cancelled ≡ true
 
 -- the due moment that is known of each task is that of its terms, after its starts and some last finish
 abbrev pub IsDue : List Planned → View → Type 0

@@ -110,6 +110,7 @@ ReachedIsAFront = (calls : List Planned) (first t : ℕ) → IsOrderly calls
 abbrev pub IsSubmissionOf : ℕ → CodeCall → Type 0
 IsSubmissionOf k (c.Submit task timing delay) = task ≡ k
 IsSubmissionOf k (c.Illegal task) = task ≡ k
+IsSubmissionOf k (c.Cancel task) = ⊥
 
 -- a call is the submission of task k, and no other call is; k submissions stand before it
 pub record HasSubmission (calls : List Planned) (k : ℕ) : Type 0 where

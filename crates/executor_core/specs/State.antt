@@ -1,6 +1,6 @@
 -- A state that looks at no past answer, and the steps that it takes.
 -- All of it is this project's rule.
-use Rattle.std.specs.Prelude.{ℕ, ◌+◌, ◌==◌, Bool, true, false, if◌then◌else◌, List, [], ◌∷◌, Option, None, slice_get}
+use Rattle.std.specs.Prelude.{ℕ, ◌+◌, ◌==◌, ◌||◌, Bool, true, false, if◌then◌else◌, List, [], ◌∷◌, Option, None, slice_get}
 use Rattle.std.specs.Option.{option_map_or}
 use Rattle.sched_time.specs.Dues.{next_due}
 use Rattle.sched_time.specs.declared.timing.Timing.{Timing}
@@ -16,7 +16,7 @@ use Rattle.executor_core.specs.declared.task.Task.{Task}
 use Rattle.executor_core.specs.Calls.{Planned, Terms, terms_of, due_at}
 use Rattle.executor_core.specs.View.{Fate, View}
 use Rattle.executor_core.specs.Answers.{Reply, reply, moment_after}
-use Rattle.executor_core.specs.Histories.{is_call, work_after}
+use Rattle.executor_core.specs.Histories.{is_call, is_cancel, work_after}
 
 -- how many calls were made, the moment, each task by its number, and the task of each worker that works
 pub record State : Type 0 where
@@ -27,7 +27,7 @@ pub record State : Type 0 where
 
 -- a task that was not submitted
 abbrev pub vacant : Task
-vacant = record { phase = ph.Vacant; run = 0; due = 0 }
+vacant = record { phase = ph.Vacant; run = 0; due = 0; cancelled = false }
 
 -- before anything happened
 abbrev pub opening : State
@@ -51,17 +51,18 @@ is_failed_phase ph.Failed = true
 is_failed_phase _ = false
 
 -- how often a task in this phase has started: never before its submission, and else the runs before `run`,
--- and that one where it is under way, done or failed
+-- and that one where it is under way, done, failed or dropped
 abbrev pub starts_of : Phase → ℕ → ℕ
 starts_of ph.Vacant run = 0
 starts_of ph.Waiting run = run
 starts_of _ run = 1 + run
 
 -- how often a task in this phase has finished: never before its submission, and else the runs before `run`,
--- and that one where the task is done or failed
+-- and that one where the task is done or failed, or its last run was dropped
 abbrev pub finishes_of : Phase → ℕ → ℕ
 finishes_of ph.Done run = 1 + run
 finishes_of ph.Failed run = 1 + run
+finishes_of ph.Over run = 1 + run
 finishes_of ph.Vacant run = 0
 finishes_of _ run = run
 
@@ -79,10 +80,12 @@ due_seen terms ph.Vacant due = due_at terms 0 None
 due_seen terms ph.Running due = due_ahead terms.timing due
 due_seen terms _ due = due
 
--- what is known of a task with these terms, by its phase, its run and the due moment that it holds
-abbrev pub seen_phase : Terms → Phase → ℕ → ℕ → Fate
-seen_phase terms phase run due = record {
+-- what is known of a task with these terms, by its phase, its run, the due moment that it holds, and whether it
+-- was cancelled
+abbrev pub seen_phase : Terms → Phase → ℕ → ℕ → Bool → Fate
+seen_phase terms phase run due cancelled = record {
   accepted = was_submitted phase;
+  cancelled = cancelled;
   done = is_done_phase phase;
   failed = is_failed_phase phase;
   starts = starts_of phase run;
@@ -92,7 +95,7 @@ seen_phase terms phase run due = record {
 
 -- what is known of a task with these terms
 abbrev pub seen_task : Terms → Task → Fate
-seen_task terms task = seen_phase terms task.phase task.run task.due
+seen_task terms task = seen_phase terms task.phase task.run task.due task.cancelled
 
 -- what an answer looks at, in a state
 abbrev pub seen : List Planned → State → View
@@ -109,27 +112,36 @@ seen calls s = record {
 abbrev pub due_past : Timing → ℕ → ℕ → ℕ
 due_past timing due now = option_map_or (λ next. next) (next_due timing due now) due
 
+-- a task whose run ended with this outcome, and which holds this due moment from then on
+abbrev pub end_task : Outcome → ℕ → Task → Task
+end_task (o.Done value) due task = record task { phase = ph.Done; due = due }
+end_task (o.Failed code) due task = record task { phase = ph.Failed; due = due }
+end_task o.Dropped due task = record task { phase = ph.Over; due = due }
+end_task (o.Again next) due task = record task { phase = ph.Waiting; run = 1 + task.run; due = due }
+
 -- a task after the finish of its run, at this moment and with this outcome
 abbrev pub finish_task : Timing → ℕ → Outcome → Task → Task
-finish_task timing now (o.Done value) task = record task { phase = ph.Done; due = due_past timing task.due now }
-finish_task timing now (o.Failed code) task = record task { phase = ph.Failed; due = due_past timing task.due now }
-finish_task timing now (o.Again due) task = record task { phase = ph.Waiting; run = 1 + task.run; due = due_past timing task.due now }
+finish_task timing now outcome task = end_task outcome (due_past timing task.due now) task
+
+-- a task that is submitted, and first due at this moment
+abbrev pub submit_task : ℕ → Task → Task
+submit_task due task = record task { phase = ph.Waiting; run = 0; due = due }
 
 -- only a vacant task is submitted
 abbrev pub submit_phase : ℕ → Phase → Task → Task
-submit_phase due ph.Vacant task = record { phase = ph.Waiting; run = 0; due = due }
+submit_phase due ph.Vacant task = submit_task due task
 submit_phase due _ task = task
 
--- what an answer does to one task
+-- what an answer does to one task, but for a cancel
 abbrev pub move_task : Timing → ℕ → ℕ → Answer → Task → Task
 move_task timing now k (a.Submit j kind due) task = if j == k then submit_phase due task.phase task else task
 move_task timing now k (a.Start w j run due) task = if j == k then record task { phase = ph.Running } else task
 move_task timing now k (a.Finish w j run outcome) task = if j == k then finish_task timing now outcome task else task
 move_task timing now k _ task = task
 
--- task k after a reply
+-- task k after a reply: a cancel leaves it in its phase
 abbrev pub task_after : List Planned → State → Reply → ℕ → Task
-task_after calls s r k = move_task (terms_of calls k).timing s.moment k r.answer (s.tasks k)
+task_after calls s r k = record (move_task (terms_of calls k).timing s.moment k r.answer (s.tasks k)) { cancelled = is_cancel k r.answer || (s.tasks k).cancelled }
 
 -- the state after a happening that has such a reply
 abbrev pub state_after : List Planned → State → Happening → Reply → State

@@ -7,6 +7,8 @@ use Rattle.std.specs.Prelude.{ℕ, ◌==◌, ◌&&◌, ◌||◌, Bool, not, nat_
 pub record Fate : Type 0 where
   -- its submission was accepted
   pub accepted : Bool
+  -- it was cancelled
+  pub cancelled : Bool
   -- its one run ended well
   pub done : Bool
   -- a run of it failed
@@ -31,16 +33,20 @@ pub record View : Type 0 where
 abbrev pub is_running : Fate → Bool
 is_running f = not (f.starts == f.finishes)
 
--- no further run comes: the one run of a one-shot task ended, or a run failed
+-- no further run comes: the task was cancelled, or the one run of a one-shot task ended, or a run failed
 -- (ScheduledExecutorService.schedule: "a value-returning one-shot task"; scheduleAtFixedRate: "An
 -- execution of the task throws an exception. [..] Subsequent executions are suppressed."; that a one-shot task
 -- whose run failed is not done is this project's rule)
 abbrev pub is_over : Fate → Bool
-is_over f = f.failed || f.done
+is_over f = f.cancelled || (f.failed || f.done)
 
 -- a run is still to come and none is under way: accepted, not running and not over (this project's rule)
 abbrev pub is_waiting : Fate → Bool
 is_waiting f = f.accepted && (not (is_running f) && not (is_over f))
+
+-- a cancel would have an effect: it waits, or a run is under way and it was not cancelled (this project's rule)
+abbrev pub is_live : Fate → Bool
+is_live f = is_waiting f || (is_running f && not f.cancelled)
 
 -- it waits, and its due moment is reached
 -- (ScheduledThreadPoolExecutor: "Delayed tasks execute no sooner than they are enabled, but without any

@@ -1,5 +1,5 @@
 //! What holds of each history, whatever the events: laws over the definitions alone.
-ghost use Rattle.executor_core.specs.Laws.{NoStartIsEarly, StartsAreInOrder, TiesGoBySubmission, RateRunsAreDue, FixedRunsAreDue, AgainIsDue, RunsDoNotOverlap, NothingStartsAfterAFailure, NothingStartsOnceDone, OneShotsRunOnce, OneShotsStartOnce, RunsAreNumbered, IllegalTasksDoNotStart, AnswersByPosition, OneHistory, FlowsAreAnswered, HistoriesAreOne, StatesAnswer};
+ghost use Rattle.executor_core.specs.Laws.{NoStartIsEarly, StartsAreInOrder, TiesGoBySubmission, RateRunsAreDue, FixedRunsAreDue, AgainIsDue, RunsDoNotOverlap, NothingStartsAfterAFailure, NothingStartsAfterACancel, CancelsHaveOneEffect, NothingStartsOnceDone, OneShotsRunOnce, OneShotsStartOnce, RunsAreNumbered, IllegalTasksDoNotStart, AnswersByPosition, OneHistory, FlowsAreAnswered, HistoriesAreOne, StatesAnswer};
 
 /// No task starts before its due moment.
 pub fn no_start_is_early()
@@ -41,6 +41,16 @@ pub fn runs_do_not_overlap()
 /// After a run that failed nothing of its task starts.
 pub fn nothing_starts_after_a_failure()
     ensures { NothingStartsAfterAFailure }
+{}
+
+/// After a cancel with an effect nothing of its task starts.
+pub fn nothing_starts_after_a_cancel()
+    ensures { NothingStartsAfterACancel }
+{}
+
+/// At most one cancel of a task has an effect.
+pub fn cancels_have_one_effect()
+    ensures { CancelsHaveOneEffect }
 {}
 
 /// A task whose one run ended with a value does not start again.

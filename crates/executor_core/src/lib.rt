@@ -9,17 +9,18 @@ mod order;
 pub mod plain;
 mod positions;
 mod task;
+mod tasks;
 #[cfg(test)]
 mod tests;
 mod words;
 
 pub use error::CoreError;
 pub use laws::{
-    again_is_due, answers_by_position, fixed_runs_are_due, flows_are_answered, histories_are_one,
-    illegal_tasks_do_not_start, no_start_is_early, nothing_starts_after_a_failure,
-    nothing_starts_once_done, one_history, one_shots_run_once, one_shots_start_once,
-    rate_runs_are_due, runs_are_numbered, runs_do_not_overlap, starts_are_in_order, states_answer,
-    ties_go_by_submission,
+    again_is_due, answers_by_position, cancels_have_one_effect, fixed_runs_are_due,
+    flows_are_answered, histories_are_one, illegal_tasks_do_not_start, no_start_is_early,
+    nothing_starts_after_a_cancel, nothing_starts_after_a_failure, nothing_starts_once_done,
+    one_history, one_shots_run_once, one_shots_start_once, rate_runs_are_due, runs_are_numbered,
+    runs_do_not_overlap, starts_are_in_order, states_answer, ties_go_by_submission,
 };
 pub use machine::Core;
 pub use order::orderly;
@@ -30,4 +31,6 @@ pub use positions::{
     waiting_is_a_task, waiting_is_due_in_time, work_is_the_last_start,
 };
 pub use task::{Phase, Task};
-pub use words::{Answer, CodeCall, Event, EventError, Happening, Kind, Line, Outcome, Refusal};
+pub use words::{
+    Answer, CancelEffect, CodeCall, Event, EventError, Happening, Kind, Line, Outcome, Refusal,
+};

@@ -1,23 +1,30 @@
-ghost use Rattle.std.specs.Prelude.{◌≡◌, ◌≢◌, ℕ, ◌+◌, ◌-◌, ◌^◌, ◌<◌, ◌≤◌, ◌↔◌, ◌⊎◌, List, [], ◌∷◌, ◌++◌, length, replicate, None, Some, slice_get, slice_set, slice_index_or, Option, OnOk, OnErr, IsOk, IfOk, IfErr, IsErrOf, IsTrue, false, vec_len, vec_capacity};
+ghost use Rattle.std.specs.Prelude.{◌≡◌, ◌≢◌, ℕ, ◌+◌, ◌-◌, ◌^◌, ◌<◌, ◌≤◌, ◌↔◌, ◌⊎◌, List, [], ◌∷◌, ◌++◌, true, length, map, replicate, None, Some, slice_get, slice_set, slice_index_or, Option, OnOk, OnErr, IsOk, IfOk, IfErr, IsErrOf, IsTrue, false, vec_len, vec_capacity};
 ghost use Rattle.executor_core.specs.declared.words.Happening.TheVariants as happening;
 ghost use Rattle.executor_core.specs.declared.words.CodeCall.TheVariants as call;
-ghost use Rattle.executor_core.specs.Calls.{IsOrderly, task_count, is_submission};
+ghost use Rattle.executor_core.specs.declared.words.CancelEffect.TheVariants as effect;
+ghost use Rattle.executor_core.specs.declared.task.Phase.TheVariants as ph;
+ghost use Rattle.executor_core.specs.Calls.{IsOrderly, Terms, task_count, terms_of, is_submission};
 ghost use Rattle.executor_core.specs.Histories as histories;
 ghost use Rattle.sched_time.specs.Dues.{next_due};
-ghost use Rattle.executor_core.specs.State.{vacant, finish_task, due_past};
-ghost use Rattle.executor_core.specs.Machine.{queued};
-ghost use Rattle.executor_core.specs.Answers.{kind_of, outcome_of};
+ghost use Rattle.executor_core.specs.State.{vacant, seen_task, due_past};
+ghost use Rattle.executor_core.specs.Tasks.{word_of};
+ghost use Rattle.executor_core.specs.Machine.{queued_again};
+ghost use Rattle.executor_core.specs.Answers.{kind_of, effect_on, outcome_in};
 ghost use Rattle.executor_core.specs.Counts.{IsNoCount};
 ghost use Rattle.executor_core.specs.Flows.{happening_of, reached, ReachesNext, calls_before, part_of};
 
 use crate::error::CoreError;
 use crate::limits::{LATEST, MOST_WORKERS};
 use crate::task::{Phase, Task};
-use crate::words::{Answer, CodeCall, Event, EventError, Kind, Line, Outcome, Refusal};
+use crate::tasks::Tasks;
+use crate::words::{
+    Answer, CancelEffect, CodeCall, Event, EventError, Kind, Line, Outcome, Refusal,
+};
 use delay_queue::{DelayQueue, Entry};
 use sched_time::{Ending, Timing, next_due};
 use std::alloc::{AllocError, Allocator};
 use std::marker::Model;
+use task_word::Word;
 
 /// An executor of the calls of a plan.
 #[derive(Drop)]
@@ -26,7 +33,7 @@ pub struct Core<A: Allocator> {
     /// How many calls were made.
     made: usize,
     moment: u64,
-    tasks: Vec<Task, A>,
+    tasks: Tasks<A>,
     /// How each task that was submitted is timed.
     timings: Vec<Timing, A>,
     /// The task of each worker.
@@ -42,9 +49,9 @@ impl<A: Allocator> Model for Core<A> {
 
     ghost Value = { Machine };
 
-    ghost view = { λ c. record { calls = c.calls.items; limit = c.limit; taken = c.taken; made = c.made; moment = c.moment; tasks = c.tasks.items; work = c.work.items } };
+    ghost view = { λ c. record { calls = c.calls.items; limit = c.limit; taken = c.taken; made = c.made; moment = c.moment; tasks = c.tasks; work = c.work.items } };
 
-    ghost invariant = { λ c. IsKept (record { calls = c.calls.items; limit = c.limit; taken = c.taken; made = c.made; moment = c.moment; tasks = c.tasks.items; work = c.work.items }) c.queue c.timings.items };
+    ghost invariant = { λ c. IsKept (record { calls = c.calls.items; limit = c.limit; taken = c.taken; made = c.made; moment = c.moment; tasks = c.tasks; work = c.work.items }) c.queue c.timings.items };
 }
 
 impl<A: Allocator> Core<A> {
@@ -101,6 +108,14 @@ impl<A: Allocator> Core<A> {
         ensures { result ≡ task_count self.now.calls }
     {
         self.tasks.len()
+    }
+
+    /// The word of each task by its number: how far the task has come, and whether it was cancelled.
+    /// A cancelled word stands still, also once the run that was under way has ended.
+    pub fn words(&self) -> &[Word]
+        ensures { result.now ≡ map word_of self.now.tasks }
+    {
+        self.tasks.words()
     }
 
     /// Takes an event: makes the calls that an accepted clock reaches, then answers it.
@@ -217,6 +232,7 @@ impl<A: Allocator> Core<A> {
             Event::Clock(moment) => self.answer_clock(moment),
             Event::Start(worker) => self.answer_start(worker),
             Event::Finish(worker, ending) => self.answer_finish(worker, ending),
+            Event::Cancel(task) => self.answer_cancel(task),
         }
     }
 
@@ -234,6 +250,7 @@ impl<A: Allocator> Core<A> {
                 delay,
             } => self.submit(moment, task, timing, delay),
             CodeCall::Illegal { task } => self.refuse(moment, task),
+            CodeCall::Cancel { task } => self.cancel_by_plan(moment, task),
         }
     }
 
@@ -248,11 +265,7 @@ impl<A: Allocator> Core<A> {
         self.made += 1;
         let due = moment + delay;
         self.moment = self.moment.max(moment);
-        self.tasks[place] = Task {
-            phase: Phase::Waiting,
-            run: 0,
-            due,
-        };
+        self.tasks.submit(place, due);
         self.timings[place] = timing;
         self.queue.insert(Entry { due, task });
         Answer::Submit { task, kind, due }
@@ -270,6 +283,45 @@ impl<A: Allocator> Core<A> {
             task,
             refusal: Refusal::Illegal,
         }
+    }
+
+    /// The next call cancels a task.
+    fn cancel_by_plan(&mut self, moment: u64, task: u32) -> Answer
+        requires { slice_get self.old.calls self.old.made ≡ Some (moment, call.Cancel task) }
+        ensures step { Takes self.old self.new happening.Call result }
+        ensures made { self.new.made ≡ self.old.made + 1 }
+    {
+        let now = self.moment.max(moment);
+        let effect = self.cancel(task);
+        self.made += 1;
+        self.moment = now;
+        Answer::Cancel { task, effect }
+    }
+
+    /// A task is cancelled from outside the plan.
+    fn answer_cancel(&mut self, task: u32) -> Answer
+        ensures { Takes self.old self.new (happening.Cancel task) result }
+    {
+        if !self.tasks.has(task) {
+            return Answer::Error(EventError::NoTask);
+        }
+        let effect = self.cancel(task);
+        Answer::Outside { task, effect }
+    }
+
+    /// Cancels a task of the plan: one that waits leaves the queue.
+    fn cancel(&mut self, task: u32) -> CancelEffect
+        requires { task < length self.old.tasks }
+        ensures effect { result ≡ effect_on (seen_task (terms_of self.old.calls task) (slice_index_or self.old.tasks task vacant)) }
+        ensures yes { result ≡ effect.Yes → self.new ≡ record self.old { tasks = slice_set self.old.tasks task (record (slice_index_or self.old.tasks task vacant) { cancelled = true }) } }
+        ensures no { result ≢ effect.Yes → self.new ≡ self.old }
+    {
+        let effect = effect_on(self.tasks.get(task as usize));
+        if effect == CancelEffect::Yes {
+            self.tasks.cancel(task as usize);
+            self.queue.remove(task);
+        }
+        effect
     }
 
     /// The clock shows a moment.
@@ -301,17 +353,13 @@ impl<A: Allocator> Core<A> {
         let Some(entry) = self.queue.poll(self.moment) else {
             return Answer::Idle { worker };
         };
-        let task = self.tasks[entry.task as usize];
-        self.tasks[entry.task as usize] = Task {
-            phase: Phase::Running,
-            run: task.run,
-            due: task.due,
-        };
+        let task = self.tasks.get(entry.task as usize);
+        self.tasks.start(entry.task as usize);
         self.work[place] = Some(entry.task);
         Answer::Start {
             worker,
             task: entry.task,
-            run: task.run,
+            run: u64::from(task.run),
             due: entry.due,
         }
     }
@@ -328,17 +376,17 @@ impl<A: Allocator> Core<A> {
         let Some(number) = self.work[place] else {
             return Answer::Error(EventError::NotRunning);
         };
-        let task = self.tasks[number as usize];
+        let task = self.tasks.get(number as usize);
         let next = next_due(self.timings[number as usize], task.due, self.moment);
-        let outcome = outcome_of(next, ending);
-        let finished = finished_task(task, outcome, next);
-        self.tasks[number as usize] = finished;
+        let outcome = outcome_in(task.cancelled, next, ending);
+        let due = next.unwrap_or(task.due);
+        self.tasks.finish(number as usize, outcome, due);
         self.work[place] = None;
-        queue_if_waiting(&mut self.queue, number, finished);
+        queue_if_again(&mut self.queue, number, outcome);
         Answer::Finish {
             worker,
             task: number,
-            run: task.run,
+            run: u64::from(task.run),
             outcome,
         }
     }
@@ -358,7 +406,7 @@ impl<A: Allocator> Core<A> {
         requires workers { ¬ IsNoCount workers }
         ensures { IfOk result (λ core. IsOpening core calls.items workers limit) }
     {
-        let tasks = Vec::from_elem(alloc, Task::VACANT, count as usize)?;
+        let tasks = Tasks::new(alloc, count)?;
         let timings = Vec::from_elem(alloc, Timing::Once, count as usize)?;
         let work = Vec::from_elem(alloc, None, workers as usize)?;
         let queue = DelayQueue::new(alloc, count).map_err(|_| AllocError)?;
@@ -396,56 +444,49 @@ fn is_submission(call: &CodeCall) -> bool
 {
     match call {
         CodeCall::Submit { .. } | CodeCall::Illegal { .. } => true,
+        CodeCall::Cancel { .. } => false,
     }
 }
 
-/// What the end of a run leads to, where the run after it would be due at `next`.
-fn outcome_of(next: Option<u64>, ending: Ending) -> Outcome
-    ensures { (timing : Timing) (due now : ℕ) → next ≡ next_due timing due now → result ≡ outcome_of timing (due_past timing due now) ending }
+/// What a cancel does to a task.
+fn effect_on(task: Task) -> CancelEffect
+    requires { task.phase ≡ ph.Over → task.cancelled ≡ true }
+    ensures { (terms : Terms) → result ≡ effect_on (seen_task terms task) }
+{
+    match task.phase {
+        Phase::Vacant => CancelEffect::Absent,
+        Phase::Waiting | Phase::Running => {
+            if task.cancelled {
+                CancelEffect::No
+            } else {
+                CancelEffect::Yes
+            }
+        }
+        Phase::Done | Phase::Failed | Phase::Over => CancelEffect::No,
+    }
+}
+
+/// What the end of a run leads to, where the run after it would be due at `next`: of a task that was
+/// cancelled the outcome does not count.
+fn outcome_in(cancelled: bool, next: Option<u64>, ending: Ending) -> Outcome
+    ensures { (timing : Timing) (due now : ℕ) → next ≡ next_due timing due now → result ≡ outcome_in cancelled timing (due_past timing due now) ending }
 {
     match (ending, next) {
+        _ if cancelled => Outcome::Dropped,
         (Ending::Fault(code), _) => Outcome::Failed(code),
         (Ending::Value(value), None) => Outcome::Done(value),
         (Ending::Value(_), Some(due)) => Outcome::Again(due),
     }
 }
 
-/// A task whose run had this outcome, where the run after it would be due at `next`.
-fn finished_task(task: Task, outcome: Outcome, next: Option<u64>) -> Task
-    requires { task.run < 2 ^ 32 }
-    ensures { (timing : Timing) (now : ℕ) → next ≡ next_due timing task.due now → result ≡ finish_task timing now outcome task }
+/// Puts a task that is not in the queue into it, where it runs again.
+fn queue_if_again<A: Allocator>(queue: &mut DelayQueue<A>, task: u32, outcome: Outcome)
+    requires known { task < length queue.old }
+    requires absent { slice_index_or queue.old task None ≡ None }
+    ensures { queue.new ≡ slice_set queue.old task (queued_again outcome) }
 {
-    let due = next.unwrap_or(task.due);
-    match outcome {
-        Outcome::Done(_) => Task {
-            phase: Phase::Done,
-            run: task.run,
-            due,
-        },
-        Outcome::Failed(_) => Task {
-            phase: Phase::Failed,
-            run: task.run,
-            due,
-        },
-        Outcome::Again(_) => Task {
-            phase: Phase::Waiting,
-            run: task.run + 1,
-            due,
-        },
-    }
-}
-
-/// Puts a task that is not in the queue into it, where it waits.
-fn queue_if_waiting<A: Allocator>(queue: &mut DelayQueue<A>, number: u32, task: Task)
-    requires known { number < length queue.old }
-    requires absent { slice_index_or queue.old number None ≡ None }
-    ensures { queue.new ≡ slice_set queue.old number (queued task) }
-{
-    if task.phase == Phase::Waiting {
-        queue.insert(Entry {
-            due: task.due,
-            task: number,
-        });
+    if let Outcome::Again(due) = outcome {
+        queue.insert(Entry { due, task });
     }
 }
 

@@ -8,7 +8,8 @@ use sched_time::Timing;
 /// Whether the calls are in the order in which they are made, and few enough.
 ///
 /// There are at most 65,536 of them. Their moments do not fall and are at most 2^62 nanoseconds,
-/// and so is each delay. The submissions are numbered 0, 1, .. in their order.
+/// and so is each delay. The submissions are numbered 0, 1, .. in their order, and a cancel names
+/// one that comes before it.
 pub fn orderly(calls: &[(u64, CodeCall)]) -> bool
     ensures { IsTrue result ↔ IsOrderly calls.now }
 {
@@ -45,6 +46,7 @@ fn is_orderly_call(count: u32, call: &CodeCall) -> bool
             delay,
         } => *task == count && *delay <= LATEST && is_timed(timing),
         CodeCall::Illegal { task } => *task == count,
+        CodeCall::Cancel { task } => *task < count,
     }
 }
 
@@ -65,5 +67,6 @@ fn count_after(count: u32, call: &CodeCall) -> u32
 {
     match call {
         CodeCall::Submit { .. } | CodeCall::Illegal { .. } => count + 1,
+        CodeCall::Cancel { .. } => count,
     }
 }

@@ -3,7 +3,7 @@
 pub enum Phase {
     /// Not submitted.
     Vacant,
-    /// It waits for a run.
+    /// It waits for a run, or was cancelled while it waited.
     Waiting,
     /// A run is under way.
     Running,
@@ -11,6 +11,8 @@ pub enum Phase {
     Done,
     /// A run failed.
     Failed,
+    /// A run was under way when it was cancelled, and has ended.
+    Over,
 }
 
 /// A task of the plan.
@@ -18,17 +20,10 @@ pub enum Phase {
 pub struct Task {
     pub phase: Phase,
     /// The number of the run that it waits for, that is under way, or that was its last.
-    pub run: u64,
+    pub run: u32,
     /// The due moment of that run, and after the last one that of the run that would come, in
     /// nanoseconds.
     pub due: u64,
-}
-
-impl Task {
-    /// A task that was not submitted.
-    pub(crate) const VACANT: Task = Task {
-        phase: Phase::Vacant,
-        run: 0,
-        due: 0,
-    };
+    /// It was cancelled.
+    pub cancelled: bool,
 }

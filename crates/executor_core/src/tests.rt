@@ -3,6 +3,7 @@ use sched_time::{Ending, Span, Timing, Unit, span};
 use std::alloc::Allocator;
 use std::process::Abort;
 use std::test::Fail;
+use task_word::Phase;
 
 /// So many nanoseconds.
 fn nanos(value: i64) -> Result<Span, Fail> {
@@ -68,6 +69,14 @@ fn run_finished(task: u32, run: u64, outcome: Outcome) -> Answer {
         run,
         outcome,
     }
+}
+
+fn cancelled(task: u32, effect: CancelEffect) -> Answer {
+    Answer::Cancel { task, effect }
+}
+
+fn outside(task: u32, effect: CancelEffect) -> Answer {
+    Answer::Outside { task, effect }
 }
 
 /// A core with one worker and the plain program both give these lines.
@@ -153,6 +162,7 @@ fn wrong_events_have_no_effect(rt: HostRuntime) -> Result<(), Fail> {
         Event::Start(0),
         Event::Finish(0, Ending::Value(2)),
         Event::Finish(0, Ending::Value(2)),
+        Event::Cancel(99),
     ];
     let lines = [
         line(0, accepted(0, 0)),
@@ -163,6 +173,7 @@ fn wrong_events_have_no_effect(rt: HostRuntime) -> Result<(), Fail> {
         line(5, Answer::Error(EventError::Busy)),
         line(5, finished(0, 2)),
         line(5, Answer::Error(EventError::NotRunning)),
+        line(5, Answer::Error(EventError::NoTask)),
     ];
     compare(&rt, rt.alloc(), &calls, &events, &lines)
 }
@@ -295,4 +306,124 @@ fn an_illegal_task_has_a_number_and_no_run(rt: HostRuntime) -> Result<(), Fail> 
         line(0, run_finished(2, 0, Outcome::Again(2))),
     ];
     compare(&rt, rt.alloc(), &calls, &events, &lines)
+}
+
+#[test]
+fn a_task_that_is_cancelled_while_it_runs_is_dropped(rt: HostRuntime) -> Result<(), Fail> {
+    let calls = [periodic(0, 0, Timing::Rate(nanos(5)?), 0)];
+    let events = [
+        Event::Clock(0),
+        Event::Start(0),
+        Event::Cancel(0),
+        Event::Cancel(0),
+        Event::Finish(0, Ending::Value(1)),
+        Event::Clock(9),
+        Event::Start(0),
+    ];
+    let lines = [
+        line(0, taken_in(0, Kind::Rate, 0)),
+        line(0, Answer::Clock),
+        line(0, started(0, 0)),
+        line(0, outside(0, CancelEffect::Yes)),
+        line(0, outside(0, CancelEffect::No)),
+        line(0, run_finished(0, 0, Outcome::Dropped)),
+        line(9, Answer::Clock),
+        line(9, Answer::Idle { worker: 0 }),
+    ];
+    compare(&rt, rt.alloc(), &calls, &events, &lines)
+}
+
+#[test]
+fn a_cancel_of_a_failed_task_has_no_effect(rt: HostRuntime) -> Result<(), Fail> {
+    let calls = [periodic(0, 0, Timing::Fixed(nanos(5)?), 0)];
+    let events = [
+        Event::Clock(0),
+        Event::Start(0),
+        Event::Finish(0, Ending::Fault(3)),
+        Event::Cancel(0),
+        Event::Clock(100),
+        Event::Start(0),
+    ];
+    let lines = [
+        line(0, taken_in(0, Kind::Fixed, 0)),
+        line(0, Answer::Clock),
+        line(0, started(0, 0)),
+        line(0, run_finished(0, 0, Outcome::Failed(3))),
+        line(0, outside(0, CancelEffect::No)),
+        line(100, Answer::Clock),
+        line(100, Answer::Idle { worker: 0 }),
+    ];
+    compare(&rt, rt.alloc(), &calls, &events, &lines)
+}
+
+#[test]
+fn a_task_that_was_not_submitted_is_not_cancelled(rt: HostRuntime) -> Result<(), Fail> {
+    let calls = [submission(10, 0, 0)];
+    let lines = [line(0, outside(0, CancelEffect::Absent))];
+    compare(&rt, rt.alloc(), &calls, &[Event::Cancel(0)], &lines)
+}
+
+#[test]
+fn the_plan_cancels(rt: HostRuntime) -> Result<(), Fail> {
+    let calls = [
+        (0, CodeCall::Illegal { task: 0 }),
+        (0, CodeCall::Cancel { task: 0 }),
+        submission(0, 1, 1),
+        (1, CodeCall::Cancel { task: 1 }),
+        (1, CodeCall::Cancel { task: 1 }),
+    ];
+    let lines = [
+        line(0, refused(0)),
+        line(0, cancelled(0, CancelEffect::Absent)),
+        line(0, accepted(1, 1)),
+        line(1, cancelled(1, CancelEffect::Yes)),
+        line(1, cancelled(1, CancelEffect::No)),
+        line(1, Answer::Clock),
+        line(1, Answer::Idle { worker: 0 }),
+    ];
+    compare(
+        &rt,
+        rt.alloc(),
+        &calls,
+        &[Event::Clock(1), Event::Start(0)],
+        &lines,
+    )?;
+    let early = [(0, CodeCall::Cancel { task: 0 }), submission(0, 0, 0)];
+    assert!(rt; !orderly(&early));
+    Ok(())
+}
+
+/// What a word says: its phase, its run, and whether it is cancelled.
+fn word_of<A: Allocator>(core: &Core<A>, task: usize) -> Option<(Phase, u32, bool)> {
+    let word = *core.words().get(task)?;
+    Some((word.phase(), word.run(), word.is_cancelled()))
+}
+
+#[test]
+fn words_tell_how_far_each_task_has_come(rt: HostRuntime) -> Result<(), Fail> {
+    let calls = [
+        periodic(0, 0, Timing::Rate(nanos(5)?), 0),
+        submission(0, 1, 0),
+        submission(9, 2, 0),
+    ];
+    let planned = calls.to_vec(rt.alloc())?;
+    assert!(rt; orderly(&planned));
+    let mut core = Core::new(rt.alloc(), planned, 1, 100)?;
+    let mut out = Vec::new(rt.alloc());
+    assert_eq!(rt; core.words().len(), 3);
+    assert_eq!(rt; word_of(&core, 0), Some((Phase::Vacant, 0, false)));
+    core.event(Event::Clock(0), &mut out)?;
+    core.event(Event::Start(0), &mut out)?;
+    assert_eq!(rt; word_of(&core, 0), Some((Phase::Running, 0, false)));
+    assert_eq!(rt; word_of(&core, 1), Some((Phase::New, 0, false)));
+    core.event(Event::Finish(0, Ending::Value(1)), &mut out)?;
+    assert_eq!(rt; word_of(&core, 0), Some((Phase::New, 1, false)));
+    core.event(Event::Start(0), &mut out)?;
+    core.event(Event::Cancel(1), &mut out)?;
+    assert_eq!(rt; word_of(&core, 1), Some((Phase::Running, 0, true)));
+    core.event(Event::Finish(0, Ending::Value(1)), &mut out)?;
+    assert_eq!(rt; word_of(&core, 1), Some((Phase::Running, 0, true)));
+    assert_eq!(rt; word_of(&core, 2), Some((Phase::Vacant, 0, false)));
+    assert_eq!(rt; word_of(&core, 3), None);
+    Ok(())
 }

@@ -17,6 +17,11 @@ pub enum CodeCall {
         /// The number of the task, as that of a submission.
         task: u32,
     },
+    /// A task is cancelled.
+    Cancel {
+        /// The number of the task, whose submission comes before.
+        task: u32,
+    },
 }
 
 /// What the outside reports to the executor.
@@ -28,6 +33,8 @@ pub enum Event {
     Start(u8),
     /// The run of this worker ended.
     Finish(u8, Ending),
+    /// This task is cancelled from outside the plan.
+    Cancel(u32),
 }
 
 /// One happening of the executor: an event, or the next call of the plan.
@@ -41,6 +48,8 @@ pub enum Happening {
     Start(u8),
     /// The run of this worker ended.
     Finish(u8, Ending),
+    /// This task is cancelled from outside the plan.
+    Cancel(u32),
 }
 
 /// The kind of a task.
@@ -74,6 +83,19 @@ pub enum EventError {
     Busy,
     /// The worker has no run under way.
     NotRunning,
+    /// The plan has no task of this number.
+    NoTask,
+}
+
+/// What a cancel did.
+#[derive(Clone, Copy, Debug, PartialEq, Eq)]
+pub enum CancelEffect {
+    /// The task waited or was run, and is cancelled now.
+    Yes,
+    /// It was cancelled before, or was done, or had failed.
+    No,
+    /// Its submission was not accepted, or not made yet.
+    Absent,
 }
 
 /// What a finished run leads to.
@@ -85,6 +107,8 @@ pub enum Outcome {
     Failed(u32),
     /// The task waits for its next run, with this due moment, at most 2^63 nanoseconds.
     Again(u64),
+    /// The task was cancelled while the run was under way, so that its outcome does not count.
+    Dropped,
 }
 
 /// What a happening is answered.
@@ -101,6 +125,16 @@ pub enum Answer {
     Refuse {
         task: u32,
         refusal: Refusal,
+    },
+    /// The plan cancelled a task.
+    Cancel {
+        task: u32,
+        effect: CancelEffect,
+    },
+    /// A task was cancelled from outside the plan.
+    Outside {
+        task: u32,
+        effect: CancelEffect,
     },
     /// The clock was moved.
     Clock,

@@ -8,7 +8,7 @@ use Rattle.std.proofs.lemmas.List.Elements.{All-append, All-from_get_or}
 use Rattle.sched_time.specs.declared.timing.Ending.{Ending}
 use Rattle.sched_time.specs.declared.timing.Ending.TheVariants.{Value, Fault}
 use Rattle.executor_core.specs.declared.Event.{Event}
-use Rattle.executor_core.specs.declared.Event.TheVariants.{Clock, Start, Finish}
+use Rattle.executor_core.specs.declared.Event.TheVariants.{Clock, Start, Finish, Cancel}
 use Rattle.sched.specs.Lines.{IsLine}
 use Rattle.sched.specs.Spelling.{EndsNumber, event_text, ending_text, FitsEvent, FitsEnding}
 use Rattle.sched.proofs.Digits.{one_number}
@@ -41,6 +41,9 @@ start_line = search rules
 finish_line : IsLine (codes "finish ")
 finish_line = search rules
 
+cancel_line : IsLine (codes "cancel ")
+cancel_line = search rules
+
 ending_is_line : (e : Ending) → FitsEnding e → IsLine (ending_text e)
 ending_is_line (Value v) h = behind (codes "ok ") (decimal v) ok_line (number_is_line v h)
 ending_is_line (Fault c) h = behind (codes "fail ") (decimal c) fail_line (number_is_line c (omega (arith, h)))
@@ -52,6 +55,7 @@ event_is_line (Start w) h = behind (codes "start ") (decimal w) start_line (numb
 event_is_line (Finish w e) h =
     behind (codes "finish ") (decimal w ++ (codes " " ++ ending_text e)) finish_line
     (behind (decimal w) (codes " " ++ ending_text e) (number_is_line w (omega (arith, h.0))) (behind (codes " ") (ending_text e) space_line (ending_is_line e h.1)))
+event_is_line (Cancel k) h = behind (codes "cancel ") (decimal k) cancel_line (number_is_line k (omega (arith, h)))
 
 number_short : (n : ℕ) → n < 2 ^ 64 → length (decimal n) ≤ 20
 number_short n h = length-decimal-le 20 n (omega arith) (omega arith) h
@@ -79,6 +83,7 @@ event_short (Finish w e) h =
       worker_short w h.0,
       ending_short e h.1,
     )
+event_short (Cancel k) h = omega (arith, length-append (codes "cancel ") (decimal k), code_short k h)
 
 -- a space ends a number
 pub space_ends : (rest : List ℕ) → EndsNumber (codes " " ++ rest)
@@ -100,10 +105,12 @@ pub event_is_one : (e f : Event) → FitsEvent e → FitsEvent f → event_text 
 event_is_one (Clock t) (Clock u) p q h = ap Clock (decimal_injective t u p q (append_cancel_left (codes "clock ") (decimal t) (decimal u) h))
 event_is_one (Clock t) (Start w) p q h = let e = first_byte (event_text (Clock t)) (event_text (Start w)) 0 h in absurd (omega (arith, e))
 event_is_one (Clock t) (Finish w x) p q h = let e = first_byte (event_text (Clock t)) (event_text (Finish w x)) 0 h in absurd (omega (arith, e))
+event_is_one (Clock t) (Cancel k) p q h = let e = first_byte (event_text (Clock t)) (event_text (Cancel k)) 1 h in absurd (omega (arith, e))
 event_is_one (Start w) (Clock t) p q h = let e = first_byte (event_text (Start w)) (event_text (Clock t)) 0 h in absurd (omega (arith, e))
 event_is_one (Start w) (Start v) p q h =
     ap Start (decimal_injective w v (omega (arith, p)) (omega (arith, q)) (append_cancel_left (codes "start ") (decimal w) (decimal v) h))
 event_is_one (Start w) (Finish v x) p q h = let e = first_byte (event_text (Start w)) (event_text (Finish v x)) 0 h in absurd (omega (arith, e))
+event_is_one (Start w) (Cancel k) p q h = let e = first_byte (event_text (Start w)) (event_text (Cancel k)) 0 h in absurd (omega (arith, e))
 event_is_one (Finish w x) (Clock t) p q h = let e = first_byte (event_text (Finish w x)) (event_text (Clock t)) 0 h in absurd (omega (arith, e))
 event_is_one (Finish w x) (Start v) p q h = let e = first_byte (event_text (Finish w x)) (event_text (Start v)) 0 h in absurd (omega (arith, e))
 event_is_one (Finish w x) (Finish v y) p q h =
@@ -112,6 +119,12 @@ event_is_one (Finish w x) (Finish v y) p q h =
     let worker : w ≡ v = both.0 in
     let ending : x ≡ y = ending_is_one x y p.1 q.1 (append_cancel_left (codes " ") (ending_text x) (ending_text y) both.1) in
     cc
+event_is_one (Finish w x) (Cancel k) p q h = let e = first_byte (event_text (Finish w x)) (event_text (Cancel k)) 0 h in absurd (omega (arith, e))
+event_is_one (Cancel k) (Clock t) p q h = let e = first_byte (event_text (Cancel k)) (event_text (Clock t)) 1 h in absurd (omega (arith, e))
+event_is_one (Cancel k) (Start w) p q h = let e = first_byte (event_text (Cancel k)) (event_text (Start w)) 0 h in absurd (omega (arith, e))
+event_is_one (Cancel k) (Finish w x) p q h = let e = first_byte (event_text (Cancel k)) (event_text (Finish w x)) 0 h in absurd (omega (arith, e))
+event_is_one (Cancel k) (Cancel m) p q h =
+    ap Cancel (decimal_injective k m (omega (arith, p)) (omega (arith, q)) (append_cancel_left (codes "cancel ") (decimal k) (decimal m) h))
 
 -- where two events' lines stand at the front of one text, they are one event, and the rests are one
 pub first_event : (e f : Event) (x y : List ℕ) → FitsEvent e → FitsEvent f → (event_text e ++ 10 ∷ []) ++ x ≡ (event_text f ++ 10 ∷ []) ++ y → (e ≡ f) × (x ≡ y)

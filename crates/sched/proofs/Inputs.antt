@@ -42,6 +42,7 @@ part_are calls n now event hs =
     by (v.Clock t) = refl
     by (v.Start w) = refl
     by (v.Finish w ending) = refl
+    by (v.Cancel k) = refl
 
 flow_are : (calls : List Planned) (events : List Event) → length (flow calls events) ≡ length events + made (flow calls events)
 flow_are calls [] = refl

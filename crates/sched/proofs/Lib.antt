@@ -14,6 +14,7 @@ pub mod Reading
 pub mod Ordering
 pub mod Trees
 pub mod Listing
+pub mod Counting
 pub mod Inputs
 pub mod Pieces
 pub mod Ones

@@ -1,7 +1,7 @@
 -- Calls whose offsets do not fall.
 use Rattle.std.proofs.Common.{◌≡◌, ℕ, zero, suc, ◌-◌, ◌<◌, List, [], ◌∷◌, ◌++◌, length, get_or, refl, arith}
 use Rattle.sched.specs.declared.plan_read.plans.Call.{Call}
-use Rattle.sched.specs.Plans.{IsCallFrom, AreCallsFrom}
+use Rattle.sched.specs.Plans.{IsCallFrom, AreCallsFrom, tasks_after, tasks_after_calls}
 use Rattle.sched.specs.PlanReading.{last_from, last_offset}
 
 last_from-at : (offset : ℕ) (cs : List Call) (d : Call) (i : ℕ) → length cs ≡ suc i → last_from offset cs ≡ (get_or cs i d).at
@@ -14,6 +14,7 @@ pub last_offset-last : (cs : List Call) (d : Call) → 0 < length cs → last_of
 last_offset-last cs d h = last_from-at 0 cs d (length cs - 1) (omega arith)
 
 -- one more call after the last
-pub one_more : (offset : ℕ) (cs : List Call) (c : Call) → AreCallsFrom offset cs → IsCallFrom (last_from offset cs) c → AreCallsFrom offset (cs ++ c ∷ [])
-one_more offset [] c ordered after = (after, tt)
-one_more offset (d ∷ cs) c ordered after = (ordered.0, one_more d.at cs c ordered.1 after)
+pub one_more : (offset count : ℕ) (cs : List Call) (c : Call) → AreCallsFrom offset count cs → IsCallFrom (last_from offset cs) (tasks_after_calls count cs) c
+    → AreCallsFrom offset count (cs ++ c ∷ [])
+one_more offset count [] c ordered after = (after, tt)
+one_more offset count (d ∷ cs) c ordered after = (ordered.0, one_more d.at (tasks_after count d.op) cs c ordered.1 after)

@@ -6,7 +6,7 @@ use Rattle.std.proofs.lemmas.List.{append_cancel_left}
 use Rattle.sched_time.specs.declared.timing.Ending.{Ending}
 use Rattle.sched_time.specs.declared.timing.Ending.TheVariants.{Value, Fault}
 use Rattle.executor_core.specs.declared.Event.{Event}
-use Rattle.executor_core.specs.declared.Event.TheVariants.{Clock, Start, Finish}
+use Rattle.executor_core.specs.declared.Event.TheVariants.{Clock, Start, Finish, Cancel}
 use Rattle.sched.specs.Spelling.{EndsNumber, event_text, ending_text, FitsEvent, FitsEnding}
 use Rattle.sched.proofs.Digits.{one_number}
 use Rattle.sched.proofs.EventTexts.{space_ends, first_byte}
@@ -16,6 +16,14 @@ pub no_start : (rest : List ℕ) → ((w : ℕ) → w < 2 ^ 8 → rest ≡ decim
 no_start rest none (Clock t) fits h = let e = first_byte (codes "start " ++ rest) (event_text (Clock t)) 0 h in absurd (omega (arith, e))
 no_start rest none (Start w) fits h = none w fits (append_cancel_left (codes "start ") rest (decimal w) h)
 no_start rest none (Finish w x) fits h = let e = first_byte (codes "start " ++ rest) (event_text (Finish w x)) 0 h in absurd (omega (arith, e))
+no_start rest none (Cancel k) fits h = let e = first_byte (codes "start " ++ rest) (event_text (Cancel k)) 0 h in absurd (omega (arith, e))
+
+-- what follows `cancel` is a task
+pub no_cancel : (rest : List ℕ) → ((k : ℕ) → k < 2 ^ 32 → rest ≡ decimal k → ⊥) → (e : Event) → FitsEvent e → codes "cancel " ++ rest ≡ event_text e → ⊥
+no_cancel rest none (Clock t) fits h = let e = first_byte (codes "cancel " ++ rest) (event_text (Clock t)) 1 h in absurd (omega (arith, e))
+no_cancel rest none (Start w) fits h = let e = first_byte (codes "cancel " ++ rest) (event_text (Start w)) 0 h in absurd (omega (arith, e))
+no_cancel rest none (Finish w x) fits h = let e = first_byte (codes "cancel " ++ rest) (event_text (Finish w x)) 0 h in absurd (omega (arith, e))
+no_cancel rest none (Cancel k) fits h = none k fits (append_cancel_left (codes "cancel ") rest (decimal k) h)
 
 -- a number that is not below a bound is no number below it
 pub none_below : (bound : ℕ) (rest : List ℕ) (n : ℕ) → rest ≡ decimal n → n < 2 ^ 64 → bound ≤ n → (m : ℕ) → m < bound → rest ≡ decimal m → ⊥
@@ -31,6 +39,7 @@ pub no_finish : (rest : List ℕ) → ((w : ℕ) (x : Ending) → w < 2 ^ 8 → 
     → (e : Event) → FitsEvent e → codes "finish " ++ rest ≡ event_text e → ⊥
 no_finish rest none (Clock t) fits h = let e = first_byte (codes "finish " ++ rest) (event_text (Clock t)) 0 h in absurd (omega (arith, e))
 no_finish rest none (Start w) fits h = let e = first_byte (codes "finish " ++ rest) (event_text (Start w)) 0 h in absurd (omega (arith, e))
+no_finish rest none (Cancel k) fits h = let e = first_byte (codes "finish " ++ rest) (event_text (Cancel k)) 0 h in absurd (omega (arith, e))
 no_finish rest none (Finish w x) fits h = none w x fits.0 fits.1 (append_cancel_left (codes "finish ") rest (decimal w ++ (codes " " ++ ending_text x)) h)
 
 -- a number stands in front, and what follows it is no ending, or it is no worker

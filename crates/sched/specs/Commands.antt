@@ -1,6 +1,6 @@
 -- Commands: the command line that the program takes: `sched run PLAN --workers N [--limit N]`.
--- All of it is this project's rule, in the words that clap has for arguments and commands.
-use Rattle.std.specs.Prelude.{◌≡◌, ◌≢◌, ◌⊎◌, ℕ, List, [], ◌∷◌, Some, Ok, Err, Result, MatchResult, IfOk, true, false, pos, codes}
+-- All of it is this project's rule, in the words that clap has for arguments and commands. The texts of help are no part of it.
+use Rattle.std.specs.Prelude.{◌≡◌, ◌≢◌, ◌⊎◌, ℕ, List, [], ◌∷◌, Some, Ok, Err, Result, MatchResult, true, false, pos, codes}
 use Rattle.clap.specs.Words.{App, Rule, IsAmong, fault_of, new_rule}
 use Rattle.clap.specs.Simple.{new_shape}
 use Rattle.clap.specs.declared.builder.action.ArgAction.TheVariants.{Set}
@@ -10,6 +10,7 @@ use Rattle.clap.specs.declared.error.kind.ErrorKind.TheVariants as k
 use Rattle.sched.specs.declared.fault_lines.Fault.{Fault}
 use Rattle.sched.specs.declared.fault_lines.Fault.TheVariants.{Run}
 use Rattle.sched.specs.declared.report.RunError.TheVariants as x
+use Rattle.sched.specs.Faults.{status_of}
 
 -- PLAN: a text, which has to be there
 abbrev pub plan_rule : Rule
@@ -42,14 +43,14 @@ run_app = record {
   subs = [];
 }
 
--- the program, of which a command has to be named, and `run` is the one that there is
+-- the program, of which a command has to be named: `run`, beside clap's own `help`
 abbrev pub sched_app : App
 sched_app = record {
   top = record (new_shape (codes "sched")) { is_leaf = false; subcommand_required = true };
   subs = run_app.top ∷ [];
 }
 
--- ---- exit statuses of a command line with no matches
+-- ---- what the program answers to words
 
 -- help, or the version, which the program does not have
 abbrev pub IsHelp : ErrorKind → Type 0
@@ -61,11 +62,11 @@ pub record IsShown (kind : ErrorKind) (result : Result ℕ Fault) : Type 0 where
   pub help : IsHelp kind → MatchResult result (λ s. s ≡ 0) (λ e. e ≡ Run x.Write)
   pub mistake : kind ≢ k.OutOfMemory → (IsHelp kind → ⊥) → result ≡ Ok 2
 
--- words that the command line does not take are answered by the kind of what is wrong with them, or memory ran out
+-- words that the command line does not take, help among them, are answered as one of the kinds that clap may give them, or as want of memory
 abbrev pub IsRefusal : List (List ℕ) → Result ℕ Fault → Type 0
 IsRefusal words result = fault_of sched_app words ≢ []
     → (kind : ErrorKind) × ((kind ≡ k.OutOfMemory) ⊎ IsAmong kind (fault_of sched_app words)) × IsShown kind result
 
--- words that it takes are run, which ends with 0 or a fault
+-- words that it takes end with 0, or with a fault whose exit status is 1
 abbrev pub IsTaken : List (List ℕ) → Result ℕ Fault → Type 0
-IsTaken words result = fault_of sched_app words ≡ [] → IfOk result (λ s. s ≡ 0)
+IsTaken words result = fault_of sched_app words ≡ [] → MatchResult result (λ s. s ≡ 0) (λ e. status_of e ≡ 1)

@@ -12,19 +12,22 @@ use Rattle.sched_time.specs.Times.{longest, span_of, period_of}
 use Rattle.sched.specs.declared.plan_read.faults.Place.{Place}
 use Rattle.sched.specs.declared.plan_read.faults.PlanFault.{PlanFault}
 use Rattle.sched.specs.declared.plan_read.faults.PlanFaultKind.{PlanFaultKind}
-use Rattle.sched.specs.declared.plan_read.faults.PlanFaultKind.TheVariants.{TooLong, Toml, Version, UnknownKey, Missing, WrongType, TooMany, BadName, DuplicateName, Negative, TooLarge, OutOfOrder}
+use Rattle.sched.specs.declared.plan_read.faults.PlanFaultKind.TheVariants.{TooLong, Toml, Version, UnknownKey, Missing, WrongType, TooMany, BadName, DuplicateName, UnknownName, Negative, TooLarge, OutOfOrder}
 use Rattle.sched.specs.declared.plan_read.faults.Stop.{Stop}
 use Rattle.sched.specs.declared.plan_read.faults.Stop.TheVariants as stops
 use Rattle.sched.specs.declared.plan_read.plans.Call.{Call}
 use Rattle.sched.specs.declared.plan_read.plans.Op.{Op}
-use Rattle.sched.specs.declared.plan_read.plans.Op.TheVariants.{Schedule, Rate, Fixed}
+use Rattle.sched.specs.declared.plan_read.plans.Op.TheVariants.{Schedule, Rate, Fixed, Cancel}
+use Rattle.sched.specs.declared.plan_read.plans.Target.{Target}
+use Rattle.sched.specs.declared.plan_read.asked.Asked.{Asked}
+use Rattle.sched.specs.declared.plan_read.asked.Asked.TheVariants as asked
 use Rattle.sched.specs.declared.plan_read.verbs.Verb.{Verb}
 use Rattle.sched.specs.declared.plan_read.verbs.Verb.TheVariants as verbs
 use Rattle.sched.specs.declared.plan_read.fields.Fields.{Fields}
 use Rattle.sched.specs.declared.plan_read.fields.WrittenSpans.{WrittenSpans}
 use Rattle.sched.specs.declared.plan_read.fields.WrittenSpans.TheVariants as written
 use Rattle.sched.specs.Names.{is_name}
-use Rattle.sched.specs.Plans.{BlockTree, PlanTree}
+use Rattle.sched.specs.Plans.{BlockTree, PlanTree, tasks_after, IsTarget}
 
 -- ---- steps of a reading
 
@@ -125,10 +128,20 @@ abbrev pub has_name : List ℕ → Op → Bool
 has_name text (Schedule name delay) = bytes_eq name text
 has_name text (Rate name first period) = bytes_eq name text
 has_name text (Fixed name first delay) = bytes_eq name text
+has_name text (Cancel target) = false
 
 -- one of the calls is a submission of this name
 abbrev pub is_taken : List ℕ → List Call → Bool
 is_taken text calls = list_any (λ c. has_name text c.op) calls
+
+-- the number of the submission of this name, where `count` submissions stand before these calls of the block
+abbrev pub place_from : List ℕ → ℕ → List Call → Option ℕ
+place_from text count [] = None
+place_from text count (c ∷ cs) = if has_name text c.op then Some count else place_from text (tasks_after count c.op) cs
+
+-- the number of the submission of this name among those of the block
+abbrev pub place_of : List ℕ → List Call → Option ℕ
+place_of text calls = place_from text 0 calls
 
 -- the offset of the last of some calls, and one that is given where there is none
 abbrev pub last_from : ℕ → List Call → ℕ
@@ -144,29 +157,31 @@ abbrev pub verb_of_word : List ℕ → Option Verb
 verb_of_word word =
     if bytes_eq word (codes "schedule") then Some verbs.Schedule else
     (if bytes_eq word (codes "rate") then Some verbs.Rate else
-    (if bytes_eq word (codes "fixed") then Some verbs.Fixed else None))
+    (if bytes_eq word (codes "fixed") then Some verbs.Fixed else
+    (if bytes_eq word (codes "cancel") then Some verbs.Cancel else None)))
 
--- the operation has to be there, and to be one of the three
+-- the operation has to be there, and to be one of the four
 unfoldable pub verb_of : Place → Members → Read Verb
 verb_of place ms = do
   op ← required place (codes "op") ms
   word ← expect place (as_str op) WrongType
   expect place (verb_of_word word) WrongType
 
--- the keys that each submission has
-abbrev pub is_submission_key : List ℕ → Bool
-is_submission_key key = bytes_eq key (codes "op") || bytes_eq key (codes "at") || bytes_eq key (codes "name")
+-- the keys that each call has
+abbrev pub is_shared_key : List ℕ → Bool
+is_shared_key key = bytes_eq key (codes "op") || bytes_eq key (codes "at") || bytes_eq key (codes "name")
 
 -- the keys of a call, by its operation
 abbrev pub is_call_key : Verb → List ℕ → Bool
-is_call_key verbs.Schedule key = is_submission_key key || bytes_eq key (codes "delay")
-is_call_key verbs.Rate key = is_submission_key key || bytes_eq key (codes "first") || bytes_eq key (codes "period")
-is_call_key verbs.Fixed key = is_submission_key key || bytes_eq key (codes "first") || bytes_eq key (codes "delay")
+is_call_key verbs.Schedule key = is_shared_key key || bytes_eq key (codes "delay")
+is_call_key verbs.Rate key = is_shared_key key || bytes_eq key (codes "first") || bytes_eq key (codes "period")
+is_call_key verbs.Fixed key = is_shared_key key || bytes_eq key (codes "first") || bytes_eq key (codes "delay")
+is_call_key verbs.Cancel key = is_shared_key key
 
--- the values of a submission's keys, each of its type
+-- the values of a call's keys, each of its type; a cancel has no spans
 pub record FieldValues : Type 0 where
   pub name : List ℕ
-  pub spans : WrittenSpans
+  pub spans : Option WrittenSpans
   pub at : ℤ
 
 -- the code's record of them, seen so
@@ -181,7 +196,7 @@ schedule_of place ms = do
   text ← expect place (as_str name) WrongType
   wait ← expect place (as_integer delay) WrongType
   at ← integer_or_zero place (get_member (codes "at") ms)
-  Ok (record { name = text; spans = written.Schedule wait; at = at })
+  Ok (record { name = text; spans = Some (written.Schedule wait); at = at })
 
 -- a `rate`, likewise
 unfoldable pub rate_of : Place → Members → Read FieldValues
@@ -193,7 +208,7 @@ rate_of place ms = do
   start ← expect place (as_integer first) WrongType
   step ← expect place (as_integer period) WrongType
   at ← integer_or_zero place (get_member (codes "at") ms)
-  Ok (record { name = text; spans = written.Rate start step; at = at })
+  Ok (record { name = text; spans = Some (written.Rate start step); at = at })
 
 -- a `fixed`, likewise
 unfoldable pub fixed_of : Place → Members → Read FieldValues
@@ -205,13 +220,22 @@ fixed_of place ms = do
   start ← expect place (as_integer first) WrongType
   wait ← expect place (as_integer delay) WrongType
   at ← integer_or_zero place (get_member (codes "at") ms)
-  Ok (record { name = text; spans = written.Fixed start wait; at = at })
+  Ok (record { name = text; spans = Some (written.Fixed start wait); at = at })
 
--- the values of a submission, by its operation
+-- a `cancel`, likewise
+unfoldable pub cancel_of : Place → Members → Read FieldValues
+cancel_of place ms = do
+  name ← required place (codes "name") ms
+  text ← expect place (as_str name) WrongType
+  at ← integer_or_zero place (get_member (codes "at") ms)
+  Ok (record { name = text; spans = None; at = at })
+
+-- the values of a call, by its operation
 abbrev pub values_of : Place → Verb → Members → Read FieldValues
 values_of place verbs.Schedule ms = schedule_of place ms
 values_of place verbs.Rate ms = rate_of place ms
 values_of place verbs.Fixed ms = fixed_of place ms
+values_of place verbs.Cancel ms = cancel_of place ms
 
 -- no other keys than those of the operation, then the values
 unfoldable pub fields_of : Place → Verb → Members → Read FieldValues
@@ -219,19 +243,43 @@ fields_of place verb ms = do
   known ← check place (has_only (is_call_key verb) ms) UnknownKey
   values_of place verb ms
 
+-- the submission `sub` of the plan's one block
+abbrev pub target_at : ℕ → Target
+target_at sub = record { block = 0; sub = sub }
+
+-- what a call of this name asks for, after the calls `before` of its block: a submission has a name that none before it has, and a
+-- cancel the name of one before it, which it cancels
+unfoldable pub asked_of : Place → List Call → List ℕ → Option WrittenSpans → Read Asked
+asked_of place before name (Some spans) = do
+  fresh ← check place (not (is_taken name before)) DuplicateName
+  Ok (asked.Submission spans)
+asked_of place before name None = do
+  sub ← expect place (place_of name before) UnknownName
+  Ok (asked.Cancel (target_at sub))
+
+-- where `count` submissions stand before the call, the target of a cancel is one of them
+abbrev pub IsKnown : ℕ → Asked → Type 0
+IsKnown count (asked.Submission spans) = Unit {0}
+IsKnown count (asked.Cancel target) = IsTarget count target
+
 -- the operation of a submission of this name, with these spans in nanoseconds
-unfoldable pub op_of : Place → List ℕ → WrittenSpans → Read Op
-op_of place name (written.Schedule delay) = do
+unfoldable pub submission_of : Place → List ℕ → WrittenSpans → Read Op
+submission_of place name (written.Schedule delay) = do
   wait ← nanos_at place delay Ns
   Ok (Schedule name wait)
-op_of place name (written.Rate first period) = do
+submission_of place name (written.Rate first period) = do
   start ← nanos_at place first Ns
   step ← period_at place period Ns
   Ok (Rate name start step)
-op_of place name (written.Fixed first delay) = do
+submission_of place name (written.Fixed first delay) = do
   start ← nanos_at place first Ns
   wait ← period_at place delay Ns
   Ok (Fixed name start wait)
+
+-- the operation that a call of this name asks for
+abbrev pub op_of : Place → List ℕ → Asked → Read Op
+op_of place name (asked.Submission spans) = submission_of place name spans
+op_of place name (asked.Cancel target) = Ok (Cancel target)
 
 -- the call that a table writes, after the calls `before` of its block
 unfoldable pub call_of : Place → List Call → Members → Read Call
@@ -239,10 +287,10 @@ call_of place before ms = do
   verb ← verb_of place ms
   fields ← fields_of place verb ms
   named ← check place (is_name fields.name) BadName
-  fresh ← check place (not (is_taken fields.name before)) DuplicateName
+  wanted ← asked_of place before fields.name fields.spans
   forward ← check place (not (int_lt fields.at (pos 0))) Negative
   offset ← nanos_at place fields.at Ns
-  op ← op_of place fields.name fields.spans
+  op ← op_of place fields.name wanted
   ordered ← check place (nat_le (last_offset before) offset) OutOfOrder
   Ok (record { at = offset; op = op })
 

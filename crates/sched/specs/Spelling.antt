@@ -13,6 +13,8 @@ use Rattle.executor_core.specs.declared.Refusal.{Refusal}
 use Rattle.executor_core.specs.declared.Refusal.TheVariants as refusal
 use Rattle.executor_core.specs.declared.EventError.{EventError}
 use Rattle.executor_core.specs.declared.EventError.TheVariants as error
+use Rattle.executor_core.specs.declared.CancelEffect.{CancelEffect}
+use Rattle.executor_core.specs.declared.CancelEffect.TheVariants as effect
 use Rattle.executor_core.specs.declared.Outcome.{Outcome}
 use Rattle.executor_core.specs.declared.Outcome.TheVariants as outcome
 use Rattle.executor_core.specs.declared.Answer.{Answer}
@@ -33,17 +35,19 @@ abbrev pub event_text : Event → List ℕ
 event_text (event.Clock t) = codes "clock " ++ decimal t
 event_text (event.Start w) = codes "start " ++ decimal w
 event_text (event.Finish w e) = codes "finish " ++ (decimal w ++ (codes " " ++ ending_text e))
+event_text (event.Cancel k) = codes "cancel " ++ decimal k
 
 -- a value below 2^64, a code below 2^32
 abbrev pub FitsEnding : Ending → Type 0
 FitsEnding (ending.Value v) = v < 2 ^ 64
 FitsEnding (ending.Fault c) = c < 2 ^ 32
 
--- a moment below 2^64, a worker below 256
+-- a moment below 2^64, a worker below 256, a task below 2^32
 abbrev pub FitsEvent : Event → Type 0
 FitsEvent (event.Clock t) = t < 2 ^ 64
 FitsEvent (event.Start w) = w < 2 ^ 8
 FitsEvent (event.Finish w e) = (w < 2 ^ 8) × FitsEnding e
+FitsEvent (event.Cancel k) = k < 2 ^ 32
 
 -- the word of a kind of task
 abbrev pub kind_text : Kind → List ℕ
@@ -62,17 +66,28 @@ error_text error.TooFar = codes "too far"
 error_text error.NoWorker = codes "no worker"
 error_text error.Busy = codes "busy"
 error_text error.NotRunning = codes "not running"
+error_text error.NoTask = codes "no task"
+
+-- what a cancel did, in a word: `yes`, it cancelled the task; `no`, the task was over before; `none`, no such task
+-- was accepted by then
+abbrev pub effect_text : CancelEffect → List ℕ
+effect_text effect.Yes = codes "yes"
+effect_text effect.No = codes "no"
+effect_text effect.Absent = codes "none"
 
 -- what a finished run led to, and the newline
 abbrev pub outcome_text : Outcome → List ℕ
 outcome_text (outcome.Done v) = codes " done " ++ (decimal v ++ codes "\n")
 outcome_text (outcome.Failed c) = codes " failed " ++ (decimal c ++ codes "\n")
 outcome_text (outcome.Again d) = codes " again due " ++ (decimal d ++ codes "\n")
+outcome_text outcome.Dropped = codes " dropped\n"
 
 -- an answer behind its moment, and the newline
 abbrev pub answer_text : Answer → List ℕ
 answer_text (answer.Submit k kind d) = codes " submit " ++ (decimal k ++ (codes " " ++ (kind_text kind ++ (codes " due " ++ (decimal d ++ codes "\n")))))
 answer_text (answer.Refuse k reason) = codes " refuse " ++ (decimal k ++ (codes " " ++ (refusal_text reason ++ codes "\n")))
+answer_text (answer.Cancel k e) = codes " cancel " ++ (decimal k ++ (codes " " ++ (effect_text e ++ codes "\n")))
+answer_text (answer.Outside k e) = codes " outside " ++ (decimal k ++ (codes " " ++ (effect_text e ++ codes "\n")))
 answer_text answer.Clock = codes " clock\n"
 answer_text (answer.Start w k n d) = codes " start " ++ (decimal w ++ (codes " task " ++ (decimal k ++ (codes " run " ++ (decimal n ++ (codes " due " ++ (decimal d ++ codes "\n")))))))
 answer_text (answer.Idle w) = codes " start " ++ (decimal w ++ codes " idle\n")

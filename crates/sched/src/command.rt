@@ -7,8 +7,8 @@ ghost use Rattle.sched.specs.Commands.{limit_rule, plan_rule, run_app, sched_app
 use clap::{Arg, ArgAction, Command, value_parser};
 use std::alloc::{AllocError, Global};
 
-/// What the help says below the commands.
-const ENDS: &str = "\
+/// What the help says below the commands: the exit statuses.
+const STATUSES: &str = "\
 'sched run --help' tells what a plan, an event and a trace look like.
 
 Exit status:
@@ -16,15 +16,18 @@ Exit status:
   1  a fault, told by a line on standard error
   2  a fault of the command line";
 
-/// What the help of `run` says below the options.
+/// What the help of `run` says below the options: what a plan, an event and a trace look like, and
+/// the exit statuses.
 const FORMS: &str = "\
 The plan is a TOML file of at most 1,048,576 bytes: 'version = 1', and at most
 one [[block]] with a [[block.call]] for each call that is made, at most 256.
 A call has
-  op      what it submits:
-            \"schedule\"  a task that runs once
-            \"rate\"      a task that runs at a fixed rate
-            \"fixed\"     a task that runs a fixed delay after each of its runs
+  op      what it does:
+            \"schedule\"  submits a task that runs once
+            \"rate\"      submits a task that runs at a fixed rate
+            \"fixed\"     submits a task that runs a fixed delay after each of its
+                        runs
+            \"cancel\"    cancels the task of a call that stands before it
   name    the task's name: 1 to 32 ASCII letters, digits, '-' and '_';
           no other task has it
   at      when the call is made, in nanoseconds, 0 where it is left out;
@@ -44,6 +47,10 @@ An event is a line on standard input, of at most 63 bytes with its newline:
   finish W ok V    worker W has run its task, and the run's value is V
   finish W fail C  the run of worker W failed with code C; no other run of
                    the task follows
+  cancel K         task K is cancelled: no other run of it starts, and a run
+                   under way is dropped when it ends
+Numbers have no leading zero: T and V are below 2^64, W below 256, and C and K
+below 2^32.
 
 The trace goes to standard output, a line for each call and each event, with
 the time in front. All events that were read are answered before more are read.
@@ -75,7 +82,7 @@ Exit status:
      The events before a bad line, the limit or a read fault were answered.
   2  a fault of the command line";
 
-/// The command line of the program: `sched run PLAN --workers N [--limit N]`.
+/// The command line of the program: `sched run PLAN --workers N [--limit N]`. `Err` where memory ran out.
 pub fn command<'a>(alloc: Global) -> Result<Command<'a>, AllocError>
     ensures app { IfOk result (λ c. app_of c ≡ sched_app) }
 {
@@ -83,12 +90,13 @@ pub fn command<'a>(alloc: Global) -> Result<Command<'a>, AllocError>
         Command::new(alloc, "sched")
             .bin_name("sched")?
             .about("Runs plans of scheduled tasks over lines of events, and writes what happens.")
-            .after_help(ENDS)
+            .after_help(STATUSES)
             .subcommand_required(true)
             .subcommand(run_command(alloc)?)?,
     )
 }
 
+/// `run`, with its three arguments. `Err` where memory ran out.
 fn run_command<'a>(alloc: Global) -> Result<Command<'a>, AllocError>
     ensures app { IfOk result (λ c. app_of c ≡ run_app) }
 {
@@ -104,6 +112,7 @@ fn run_command<'a>(alloc: Global) -> Result<Command<'a>, AllocError>
     )
 }
 
+/// `PLAN`, which has to be there.
 fn plan<'a>(alloc: Global) -> Arg<'a>
     ensures rule { rule_of result ≡ plan_rule }
     ensures local { result.global ≡ false }
@@ -115,6 +124,7 @@ fn plan<'a>(alloc: Global) -> Arg<'a>
         .action(ArgAction::Set)
 }
 
+/// `--workers N`, 1 to 64, which has to be there.
 fn workers<'a>(alloc: Global) -> Arg<'a>
     ensures rule { rule_of result ≡ workers_rule }
     ensures local { result.global ≡ false }
@@ -128,6 +138,7 @@ fn workers<'a>(alloc: Global) -> Arg<'a>
         .value_parser(value_parser!(u8).range(1..65))
 }
 
+/// `--limit N`, 1 to 4,294,967,295, and 1,000,000 where it is left out.
 fn limit<'a>(alloc: Global) -> Arg<'a>
     ensures rule { rule_of result ≡ limit_rule }
     ensures local { result.global ≡ false }

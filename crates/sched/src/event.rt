@@ -9,7 +9,7 @@ use sched_time::Ending;
 
 /// The event that a line spells, given without its newline. `None` where it
 /// spells none whose moment and value are below 2^64, whose worker is below 256
-/// and whose code is below 2^32.
+/// and whose code and task are below 2^32.
 pub fn read_event(line: &[u8]) -> Option<Event>
     ensures { Spells line.now result }
 {
@@ -21,6 +21,9 @@ pub fn read_event(line: &[u8]) -> Option<Event>
     }
     if let Some(rest) = strip(line, b"clock ") {
         return read_clock(rest);
+    }
+    if let Some(rest) = strip(line, b"cancel ") {
+        return read_cancel(rest);
     }
     None
 }
@@ -65,6 +68,19 @@ fn read_finish(rest: &[u8]) -> Option<Event>
         return None;
     };
     Some(Event::Finish(worker, ending))
+}
+
+/// The event of a line that begins with `cancel`.
+fn read_cancel(rest: &[u8]) -> Option<Event>
+    ensures { Spells (codes "cancel " ++ rest.now) result }
+{
+    let Some(number) = read_number(rest) else {
+        return None;
+    };
+    let Some(task) = code_of(number) else {
+        return None;
+    };
+    Some(Event::Cancel(task))
 }
 
 /// How a run ended, as these words say: `ok V` or `fail C`.
@@ -113,7 +129,7 @@ fn worker_of(number: u64) -> Option<u8>
     Some(number as u8)
 }
 
-/// The code of this number, below 2^32.
+/// The code, or the task, of this number, below 2^32.
 fn code_of(number: u64) -> Option<u32>
     ensures { MatchOption result (2 ^ 32 ≤ number) (λ c. c ≡ number) }
 {

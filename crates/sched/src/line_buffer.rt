@@ -6,13 +6,13 @@ ghost use Rattle.std.specs.Fmt.{decimal};
 use itoa::write_digits;
 use std::marker::Model;
 
-/// How many bytes there is room for. The longest line has 104.
-pub const LONGEST: usize = 160;
+/// How many bytes there is room for. The longest line has 104, with its newline.
+const ROOM: usize = 160;
 
-/// The end of a line, at most [`LONGEST`] bytes. Contracts see the list of them.
+/// The end of a line, at most [`ROOM`] bytes of it. Contracts see the list of them.
 #[derive(Drop)]
 pub struct LineBuffer {
-    bytes: [u8; LONGEST],
+    bytes: [u8; ROOM],
     start: usize,
 }
 
@@ -32,8 +32,8 @@ impl LineBuffer {
         ensures { result ≡ [] }
     {
         LineBuffer {
-            bytes: [0; LONGEST],
-            start: LONGEST,
+            bytes: [0; ROOM],
+            start: ROOM,
         }
     }
 
@@ -41,7 +41,7 @@ impl LineBuffer {
     pub fn clear(&mut self)
         ensures { self.new ≡ [] }
     {
-        self.start = LONGEST;
+        self.start = ROOM;
     }
 
     /// The bytes that are there.
@@ -51,7 +51,7 @@ impl LineBuffer {
         &self.bytes[self.start..]
     }
 
-    /// Puts a text in front, for which there is room.
+    /// Puts a text in front of the bytes that are there. Both together are at most [`ROOM`] bytes.
     pub fn prepend(&mut self, text: &[u8])
         requires { length text.now + length self.old ≤ 160 }
         ensures bytes { self.new ≡ text.now ++ self.old }
@@ -61,7 +61,8 @@ impl LineBuffer {
         self.bytes[self.start..end].copy_from_slice(text);
     }
 
-    /// Puts the decimal digits of a number in front, at most 20, for which there is room.
+    /// Puts the decimal digits of a number in front, with no leading zero. They are at most 20, and
+    /// there has to be room for 20, however many there are.
     pub fn prepend_number(&mut self, n: u64)
         requires { 20 + length self.old ≤ 160 }
         ensures bytes { self.new ≡ decimal n ++ self.old }

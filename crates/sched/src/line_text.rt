@@ -1,10 +1,13 @@
+//! The text of a trace's lines. Each `prepend_` function here wants an empty buffer, and leaves the
+//! end of a line in it: at most 140 bytes with the newline, in front of which other words go.
+
 ghost use Rattle.std.specs.Prelude.{◌≡◌, ℕ, ◌+◌, ◌≤◌, ◌<◌, [], ◌++◌, OnOk, OnErr, IsOk, length, take, vec_len, vec_capacity, codes};
 ghost use Rattle.std.specs.Fmt.{decimal};
-ghost use Rattle.sched.specs.Spelling.{kind_text, refusal_text, error_text, outcome_text, answer_text, line_text, lines_text};
+ghost use Rattle.sched.specs.Spelling.{kind_text, refusal_text, error_text, effect_text, outcome_text, answer_text, line_text, lines_text};
 ghost use Rattle.executor_core.specs.declared.Answer.TheVariants as a;
 
 use crate::line_buffer::LineBuffer;
-use executor_core::{Answer, EventError, Kind, Line, Outcome, Refusal};
+use executor_core::{Answer, CancelEffect, EventError, Kind, Line, Outcome, Refusal};
 use std::alloc::{AllocError, Allocator};
 use thiserror::Error;
 
@@ -28,7 +31,7 @@ impl From<AllocError> for TextError {
 }
 
 /// Appends the text of lines, each with its newline. An `Err` leaves the text of
-/// a front of them. What the buffer held is lost.
+/// a front of them, one line less at least. What the buffer held is lost.
 pub fn write_lines<A: Allocator>(
     out: &mut Vec<u8, A>,
     buffer: &mut LineBuffer,
@@ -71,6 +74,8 @@ fn prepend_answer(text: &mut LineBuffer, answer: Answer)
     match answer {
         Answer::Submit { task, kind, due } => prepend_submit(text, task, kind, due),
         Answer::Refuse { task, refusal } => prepend_refuse(text, task, refusal),
+        Answer::Cancel { task, effect } => prepend_cancel(text, b" cancel ", task, effect),
+        Answer::Outside { task, effect } => prepend_cancel(text, b" outside ", task, effect),
         Answer::Clock => text.prepend(b" clock\n"),
         Answer::Start {
             worker,
@@ -113,6 +118,21 @@ fn prepend_refuse(text: &mut LineBuffer, task: u32, refusal: Refusal)
     text.prepend(b" ");
     text.prepend_number(task as u64);
     text.prepend(b" refuse ");
+}
+
+/// Makes the text of a cancel. The word in front says who asked for it: the plan,
+/// or the outside.
+fn prepend_cancel(text: &mut LineBuffer, word: &[u8], task: u32, effect: CancelEffect)
+    requires empty { text.old ≡ [] }
+    requires short { length word.now ≤ 10 }
+    ensures is { text.new ≡ word.now ++ (decimal task ++ (codes " " ++ (effect_text effect ++ codes "\n"))) }
+    ensures len { length text.new ≤ 140 }
+{
+    text.prepend(b"\n");
+    text.prepend(effect_words(effect));
+    text.prepend(b" ");
+    text.prepend_number(task as u64);
+    text.prepend(word);
 }
 
 /// Makes the text of a worker that starts a run.
@@ -187,6 +207,7 @@ fn prepend_outcome(text: &mut LineBuffer, outcome: Outcome)
             text.prepend_number(due);
             text.prepend(b" again due ");
         }
+        Outcome::Dropped => text.prepend(b" dropped"),
     }
 }
 
@@ -234,6 +255,19 @@ fn error_words(error: EventError) -> &'static [u8]
         EventError::NoWorker => b"no worker",
         EventError::Busy => b"busy",
         EventError::NotRunning => b"not running",
+        EventError::NoTask => b"no task",
+    }
+}
+
+/// The word that says what a cancel did.
+fn effect_words(effect: CancelEffect) -> &'static [u8]
+    ensures words { result.now ≡ effect_text effect }
+    ensures short { length result.now ≤ 10 }
+{
+    match effect {
+        CancelEffect::Yes => b"yes",
+        CancelEffect::No => b"no",
+        CancelEffect::Absent => b"none",
     }
 }
 

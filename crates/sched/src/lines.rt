@@ -8,9 +8,9 @@ use memchr::memchr;
 pub enum Front {
     /// A line: how many bytes it has before its newline, 0 to 62.
     Line(usize),
-    /// Less than a line.
+    /// Fewer than 63 bytes, and no newline among them.
     Part,
-    /// A line of 64 bytes or more with its newline.
+    /// No newline among the first 63 bytes, so that the line is too long.
     Long,
 }
 

@@ -1,5 +1,6 @@
 //! Plan texts, and the plans that they write.
 
+mod asked;
 mod faults;
 mod fields;
 mod listing;
@@ -12,7 +13,7 @@ mod verbs;
 pub use faults::{PlanFault, PlanFaultKind};
 pub use listing::written_out;
 pub use names::Name;
-pub use plans::{Block, Call, Op, Plan};
+pub use plans::{Block, Call, Op, Plan, Target};
 pub use reading::read_plan;
 
 #[cfg(test)]

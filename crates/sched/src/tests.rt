@@ -12,6 +12,7 @@ use std::io::{ErrorKind, Read, Write};
 use std::process::Abort;
 use std::test::Fail;
 
+mod cancels;
 mod examples;
 mod periodic;
 

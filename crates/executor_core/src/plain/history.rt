@@ -4,7 +4,7 @@ ghost use Rattle.executor_core.specs.Answers as answers;
 ghost use Rattle.executor_core.specs.Plain.{history};
 
 use crate::limits::LATEST;
-use crate::words::{Answer, CodeCall, Happening, Outcome};
+use crate::words::{Answer, CancelEffect, CodeCall, Happening, Outcome};
 
 /// A happening with its answer.
 ///
@@ -22,7 +22,8 @@ fn is_call(happening: Happening) -> bool
 {
     match happening {
         Happening::Call => true,
-        Happening::Clock(_) | Happening::Start(_) | Happening::Finish(..) => false,
+        Happening::Clock(_) | Happening::Start(_) | Happening::Finish(..) | Happening::Cancel(_) =>
+            false,
     }
 }
 
@@ -72,7 +73,7 @@ fn moment_after(now: u64, call: Option<(u64, CodeCall)>, happening: Happening) -
                 now
             }
         }
-        Happening::Start(_) | Happening::Finish(..) => now,
+        Happening::Start(_) | Happening::Finish(..) | Happening::Cancel(_) => now,
     }
 }
 
@@ -96,6 +97,8 @@ fn is_submit(k: u32, answer: Answer) -> bool
     match answer {
         Answer::Submit { task, .. } => task == k,
         Answer::Refuse { .. }
+        | Answer::Cancel { .. }
+        | Answer::Outside { .. }
         | Answer::Clock
         | Answer::Start { .. }
         | Answer::Idle { .. }
@@ -112,6 +115,8 @@ fn is_start(k: u32, answer: Answer) -> bool
         Answer::Start { task, .. } => task == k,
         Answer::Submit { .. }
         | Answer::Refuse { .. }
+        | Answer::Cancel { .. }
+        | Answer::Outside { .. }
         | Answer::Clock
         | Answer::Idle { .. }
         | Answer::Finish { .. }
@@ -127,6 +132,8 @@ fn is_finish(k: u32, answer: Answer) -> bool
         Answer::Finish { task, .. } => task == k,
         Answer::Submit { .. }
         | Answer::Refuse { .. }
+        | Answer::Cancel { .. }
+        | Answer::Outside { .. }
         | Answer::Clock
         | Answer::Start { .. }
         | Answer::Idle { .. }
@@ -140,7 +147,7 @@ fn is_done(outcome: Outcome) -> bool
 {
     match outcome {
         Outcome::Done(_) => true,
-        Outcome::Failed(_) | Outcome::Again(_) => false,
+        Outcome::Failed(_) | Outcome::Again(_) | Outcome::Dropped => false,
     }
 }
 
@@ -150,7 +157,7 @@ fn is_failed(outcome: Outcome) -> bool
 {
     match outcome {
         Outcome::Failed(_) => true,
-        Outcome::Done(_) | Outcome::Again(_) => false,
+        Outcome::Done(_) | Outcome::Again(_) | Outcome::Dropped => false,
     }
 }
 
@@ -162,6 +169,8 @@ fn is_failed_finish(k: u32, answer: Answer) -> bool
         Answer::Finish { task, outcome, .. } => task == k && is_failed(outcome),
         Answer::Submit { .. }
         | Answer::Refuse { .. }
+        | Answer::Cancel { .. }
+        | Answer::Outside { .. }
         | Answer::Clock
         | Answer::Start { .. }
         | Answer::Idle { .. }
@@ -177,9 +186,29 @@ fn is_done_finish(k: u32, answer: Answer) -> bool
         Answer::Finish { task, outcome, .. } => task == k && is_done(outcome),
         Answer::Submit { .. }
         | Answer::Refuse { .. }
+        | Answer::Cancel { .. }
+        | Answer::Outside { .. }
         | Answer::Clock
         | Answer::Start { .. }
         | Answer::Idle { .. }
+        | Answer::Error(_) => false,
+    }
+}
+
+/// Whether an answer says that a task was cancelled, by the plan or from outside.
+fn is_cancel(k: u32, answer: Answer) -> bool
+    ensures { result ≡ histories.is_cancel k answer }
+{
+    match answer {
+        Answer::Cancel { task, effect } | Answer::Outside { task, effect } => {
+            task == k && effect == CancelEffect::Yes
+        }
+        Answer::Submit { .. }
+        | Answer::Refuse { .. }
+        | Answer::Clock
+        | Answer::Start { .. }
+        | Answer::Idle { .. }
+        | Answer::Finish { .. }
         | Answer::Error(_) => false,
     }
 }
@@ -206,6 +235,8 @@ fn work_after(worker: u8, answer: Answer, before: Option<u32>) -> Option<u32>
         } => { if finisher == worker { None } else { before } }
         Answer::Submit { .. }
         | Answer::Refuse { .. }
+        | Answer::Cancel { .. }
+        | Answer::Outside { .. }
         | Answer::Clock
         | Answer::Idle { .. }
         | Answer::Error(_) => before,
@@ -267,6 +298,16 @@ pub(crate) fn was_accepted(k: u32, past: &[Past]) -> bool
     match past {
         [] => false,
         [newest, before @ ..] => is_submit(k, newest.answer) || was_accepted(k, before),
+    }
+}
+
+/// Whether a task was cancelled.
+pub(crate) fn was_cancelled(k: u32, past: &[Past]) -> bool
+    ensures { result ≡ histories.was_cancelled k (history past.now) }
+{
+    match past {
+        [] => false,
+        [newest, before @ ..] => is_cancel(k, newest.answer) || was_cancelled(k, before),
     }
 }
 

@@ -1,14 +1,13 @@
 ghost use Rattle.std.specs.Prelude.{◌≡◌, ℕ};
 ghost use Rattle.executor_core.specs.declared.words.Happening.TheVariants as happening;
-ghost use Rattle.executor_core.specs.Calls.{IsOrderly};
-ghost use Rattle.executor_core.specs.View.{View};
+ghost use Rattle.executor_core.specs.Calls.{IsOrderly, terms_of};
 ghost use Rattle.executor_core.specs.Answers as answers;
 ghost use Rattle.executor_core.specs.Histories as histories;
 ghost use Rattle.executor_core.specs.Plain.{history, IsAnswered, IsWithin};
 
 use crate::limits::LATEST;
-use crate::plain::history::{Past, call_at, made, now_of, starts, work_of};
-use crate::plain::tasks::{count_tasks, due_at, due_of, first_enabled, timing_of};
+use crate::plain::history::{Past, call_at, made, now_of, starts, was_cancelled, work_of};
+use crate::plain::tasks::{count_tasks, due_at, due_of, effect_on, first_enabled, timing_of};
 use crate::words::{Answer, CodeCall, EventError, Happening, Kind, Outcome, Refusal};
 use sched_time::{Ending, Timing};
 
@@ -28,19 +27,20 @@ pub fn answer_after(
 {
     match happening {
         Happening::Call => match call_at(calls, made(past)) {
-            Some((_, call)) => answer_call(calls, call),
+            Some((_, call)) => answer_call(calls, past, call),
             None => Answer::Clock,
         },
         Happening::Clock(moment) => answer_clock(calls, past, moment),
         Happening::Start(worker) => answer_start(calls, workers, past, worker),
         Happening::Finish(worker, ending) => answer_finish(calls, workers, past, worker, ending),
+        Happening::Cancel(task) => answer_cancel(calls, past, task),
     }
 }
 
 /// The answer to a call.
-fn answer_call(calls: &[(u64, CodeCall)], call: CodeCall) -> Answer
+fn answer_call(calls: &[(u64, CodeCall)], past: &[Past], call: CodeCall) -> Answer
     requires { IsOrderly calls.now }
-    ensures { (v : View) → result ≡ (answers.called calls.now v call).answer }
+    ensures { (moment : ℕ) → result ≡ (answers.called calls.now (record (histories.look calls.now (history past.now)) { moment = moment }) call).answer }
 {
     match call {
         CodeCall::Submit { task, timing, .. } => Answer::Submit {
@@ -52,6 +52,24 @@ fn answer_call(calls: &[(u64, CodeCall)], call: CodeCall) -> Answer
             task,
             refusal: Refusal::Illegal,
         },
+        CodeCall::Cancel { task } => Answer::Cancel {
+            task,
+            effect: effect_on(calls, past, task),
+        },
+    }
+}
+
+/// The answer to a cancel from outside the plan.
+fn answer_cancel(calls: &[(u64, CodeCall)], past: &[Past], task: u32) -> Answer
+    requires { IsOrderly calls.now }
+    ensures { (workers : ℕ) → result ≡ (histories.answer calls.now workers (history past.now) (happening.Cancel task)).answer }
+{
+    if task >= count_tasks(calls) {
+        return Answer::Error(EventError::NoTask);
+    }
+    Answer::Outside {
+        task,
+        effect: effect_on(calls, past, task),
     }
 }
 
@@ -112,7 +130,7 @@ fn answer_finish(
             worker,
             task,
             run: starts(task, past).saturating_sub(1),
-            outcome: outcome_of(timing_of(calls, task), due_next(calls, past, task), ending),
+            outcome: outcome_in(calls, past, task, ending),
         },
     }
 }
@@ -135,6 +153,18 @@ fn kind_of(timing: Timing) -> Kind
         Timing::Rate(_) => Kind::Rate,
         Timing::Fixed(_) => Kind::Fixed,
     }
+}
+
+/// What the end of a run of a task leads to now.
+fn outcome_in(calls: &[(u64, CodeCall)], past: &[Past], k: u32, ending: Ending) -> Outcome
+    requires orderly { IsOrderly calls.now }
+    requires within { IsWithin calls.now (history past.now) }
+    ensures { result ≡ answers.outcome_in (histories.was_cancelled k (history past.now)) (terms_of calls.now k).timing (answers.due_next calls.now (histories.look calls.now (history past.now)) k) ending }
+{
+    if was_cancelled(k, past) {
+        return Outcome::Dropped;
+    }
+    outcome_of(timing_of(calls, k), due_next(calls, past, k), ending)
 }
 
 /// What the end of a run leads to, where the run after it would be due at a moment.

@@ -2,13 +2,14 @@ ghost use Rattle.std.specs.Prelude.{◌≡◌, ◌+◌, ◌≤◌, ◌^◌, leng
 ghost use Rattle.std.specs.List.{range_with_len};
 ghost use Rattle.executor_core.specs.Calls.{IsOrderly, task_count, terms_of, due_at};
 ghost use Rattle.executor_core.specs.View as views;
+ghost use Rattle.executor_core.specs.Answers as answers;
 ghost use Rattle.executor_core.specs.Histories as histories;
 ghost use Rattle.executor_core.specs.Plain.{IsOrderlyPart, IsWithin, history};
 
 use crate::plain::history::{
-    Past, finishes, last_finish, now_of, starts, was_accepted, was_done, was_failed,
+    Past, finishes, last_finish, now_of, starts, was_accepted, was_cancelled, was_done, was_failed,
 };
-use crate::words::CodeCall;
+use crate::words::{CancelEffect, CodeCall};
 use sched_time::Timing;
 
 /// How a task is timed: by its submission.
@@ -24,7 +25,10 @@ pub(crate) fn timing_of(calls: &[(u64, CodeCall)], k: u32) -> Timing
                 timing_of(later, k)
             }
         }
-        [(_, CodeCall::Illegal { .. }), later @ ..] => timing_of(later, k),
+        [
+            (_, CodeCall::Illegal { .. } | CodeCall::Cancel { .. }),
+            later @ ..,
+        ] => timing_of(later, k),
     }
 }
 
@@ -42,7 +46,10 @@ fn first_due(calls: &[(u64, CodeCall)], k: u32) -> u64
                 first_due(later, k)
             }
         }
-        [(_, CodeCall::Illegal { .. }), later @ ..] => first_due(later, k),
+        [
+            (_, CodeCall::Illegal { .. } | CodeCall::Cancel { .. }),
+            later @ ..,
+        ] => first_due(later, k),
     }
 }
 
@@ -85,8 +92,29 @@ fn is_waiting(calls: &[(u64, CodeCall)], past: &[Past], k: u32) -> bool
 {
     was_accepted(k, past)
         && !is_running(calls, past, k)
+        && !was_cancelled(k, past)
         && !was_failed(k, past)
         && !was_done(k, past)
+}
+
+/// What a cancel does to a task.
+pub(crate) fn effect_on(calls: &[(u64, CodeCall)], past: &[Past], k: u32) -> CancelEffect
+    ensures { result ≡ answers.effect_on ((histories.look calls.now (history past.now)).fate k) }
+{
+    if !was_accepted(k, past) {
+        CancelEffect::Absent
+    } else if is_live(calls, past, k) {
+        CancelEffect::Yes
+    } else {
+        CancelEffect::No
+    }
+}
+
+/// Whether a cancel of a task would have an effect.
+fn is_live(calls: &[(u64, CodeCall)], past: &[Past], k: u32) -> bool
+    ensures { result ≡ views.is_live ((histories.look calls.now (history past.now)).fate k) }
+{
+    is_waiting(calls, past, k) || (is_running(calls, past, k) && !was_cancelled(k, past))
 }
 
 /// Whether a task waits and its due moment is reached.
@@ -155,5 +183,6 @@ pub(crate) fn count_tasks(calls: &[(u64, CodeCall)]) -> u32
             (_, CodeCall::Submit { .. } | CodeCall::Illegal { .. }),
             later @ ..,
         ] => { 1 + count_tasks(later) }
+        [(_, CodeCall::Cancel { .. }), later @ ..] => count_tasks(later),
     }
 }

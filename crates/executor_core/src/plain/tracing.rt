@@ -35,6 +35,7 @@ fn happening_of(event: Event) -> Happening
         Event::Clock(moment) => Happening::Clock(moment),
         Event::Start(worker) => Happening::Start(worker),
         Event::Finish(worker, ending) => Happening::Finish(worker, ending),
+        Event::Cancel(task) => Happening::Cancel(task),
     }
 }
 
@@ -77,7 +78,7 @@ fn calls_before(calls: &[(u64, CodeCall)], made: usize, now: u64, event: Event) 
                 0
             }
         }
-        Event::Start(_) | Event::Finish(..) => 0,
+        Event::Start(_) | Event::Finish(..) | Event::Cancel(_) => 0,
     }
 }
 

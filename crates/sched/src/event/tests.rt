@@ -29,6 +29,8 @@ fn reads_each_event(rt: HostRuntime) {
             "finish 3 fail 4294967295",
             Event::Finish(3, Ending::Fault(u32::MAX)),
         ),
+        ("cancel 0", Event::Cancel(0)),
+        ("cancel 4294967295", Event::Cancel(u32::MAX)),
     ] {
         let read = read_event(line.as_bytes());
         assert!(rt; read == Some(event), "{line}: {read:?}");
@@ -53,6 +55,28 @@ fn refuses_other_clocks_and_starts(rt: HostRuntime) {
             "clock 18446744073709551616",
             "start 256",
             "start -1",
+        ],
+    );
+}
+
+#[test]
+fn refuses_other_cancels(rt: HostRuntime) {
+    refuses(
+        &rt,
+        &[
+            "cancel",
+            "cancel ",
+            "cancel 07",
+            "cancel -1",
+            "cancel  1",
+            "cancel 1 ",
+            "cancel 1 yes",
+            " cancel 1",
+            "Cancel 1",
+            "cancels 1",
+            "cancel1",
+            "cancel 4294967296",
+            "cancel 18446744073709551616",
         ],
     );
 }

@@ -1,7 +1,7 @@
 //! Lines of a trace by hand.
 use crate::line_buffer::LineBuffer;
 use crate::line_text::write_lines;
-use executor_core::{Answer, EventError, Kind, Line, Outcome, Refusal};
+use executor_core::{Answer, CancelEffect, EventError, Kind, Line, Outcome, Refusal};
 use std::process::Abort;
 
 /// Checks the text of one line.
@@ -35,6 +35,27 @@ fn writes_submissions(rt: HostRuntime) {
 }
 
 #[test]
+fn writes_cancels(rt: HostRuntime) {
+    for (effect, text, outside) in [
+        (CancelEffect::Yes, "7 cancel 3 yes\n", "7 outside 3 yes\n"),
+        (CancelEffect::No, "7 cancel 3 no\n", "7 outside 3 no\n"),
+        (
+            CancelEffect::Absent,
+            "7 cancel 3 none\n",
+            "7 outside 3 none\n",
+        ),
+    ] {
+        writes(&rt, 7, Answer::Cancel { task: 3, effect }, text);
+        writes(&rt, 7, Answer::Outside { task: 3, effect }, outside);
+    }
+    let last = Answer::Outside {
+        task: u32::MAX,
+        effect: CancelEffect::Absent,
+    };
+    writes(&rt, 0, last, "0 outside 4294967295 none\n");
+}
+
+#[test]
 fn writes_clocks_and_starts(rt: HostRuntime) {
     let start = Answer::Start {
         worker: 255,
@@ -59,6 +80,7 @@ fn writes_each_outcome(rt: HostRuntime) {
             Outcome::Again(20),
             "25 finish 0 task 3 run 1 again due 20\n",
         ),
+        (Outcome::Dropped, "25 finish 0 task 3 run 1 dropped\n"),
     ] {
         let finish = Answer::Finish {
             worker: 0,
@@ -78,6 +100,7 @@ fn writes_each_error(rt: HostRuntime) {
         (EventError::NoWorker, "7 error no worker\n"),
         (EventError::Busy, "7 error busy\n"),
         (EventError::NotRunning, "7 error not running\n"),
+        (EventError::NoTask, "7 error no task\n"),
     ] {
         writes(&rt, 7, Answer::Error(error), text);
     }

@@ -33,9 +33,12 @@ pub enum PlanFaultKind {
     /// A name is not 1 to 32 ASCII letters, digits, `-` and `_`.
     #[error("BadName")]
     BadName,
-    /// A name is used a second time.
+    /// A submission has the name of one before it.
     #[error("DuplicateName")]
     DuplicateName,
+    /// A cancel names no submission that stands before it.
+    #[error("UnknownName")]
+    UnknownName,
     /// An offset is below 0.
     #[error("Negative")]
     Negative,

@@ -3,7 +3,7 @@
 ghost use Rattle.std.specs.Prelude.{◌≡◌, option_map};
 ghost use Rattle.toml.specs.Data.{as_integer, as_str};
 ghost use Rattle.toml.specs.View.{view, table_view};
-ghost use Rattle.sched.specs.PlanReading.{expect, required, Gives, verb_of, schedule_of, rate_of, fixed_of, fields_of, integer_or_zero, field_values};
+ghost use Rattle.sched.specs.PlanReading.{expect, required, Gives, verb_of, schedule_of, rate_of, fixed_of, cancel_of, fields_of, integer_or_zero, field_values};
 ghost use Rattle.sched.specs.declared.plan_read.faults.PlanFaultKind.TheVariants as kinds;
 
 use crate::plan_read::faults::{Place, PlanFaultKind, Stop};
@@ -22,15 +22,16 @@ pub enum WrittenSpans {
     Fixed { first: i64, delay: i64 },
 }
 
-/// The values of a submission's keys, each of its type.
+/// The values of a call's keys, each of its type.
 #[derive(Clone, Copy)]
 pub struct Fields<'a> {
     pub name: &'a str,
-    pub spans: WrittenSpans,
+    /// None for a cancel.
+    pub spans: Option<WrittenSpans>,
     pub at: i64,
 }
 
-/// The operation of a call: it is there, and its word is one of the three.
+/// The operation of a call: it is there, and its word is one of the four.
 #[tactic(auto, unfolding(crate::specs::PlanReading::verb_of))]
 pub fn read_verb(place: Place, table: &Table) -> Result<Verb, Stop>
     ensures { Gives (λ v. v) result (verb_of place (table_view table.now)) }
@@ -43,7 +44,7 @@ pub fn read_verb(place: Place, table: &Table) -> Result<Verb, Stop>
     }
 }
 
-/// The values of a submission's keys, where it has no others.
+/// The values of a call's keys, where it has no others.
 #[tactic(auto, unfolding(crate::specs::PlanReading::fields_of))]
 pub fn read_fields<'a>(place: Place, verb: Verb, table: &'a Table) -> Result<Fields<'a>, Stop>
     ensures { Gives field_values result (fields_of place verb (table_view table.now)) }
@@ -55,6 +56,7 @@ pub fn read_fields<'a>(place: Place, verb: Verb, table: &'a Table) -> Result<Fie
         Verb::Schedule => read_schedule(place, table),
         Verb::Rate => read_rate(place, table),
         Verb::Fixed => read_fixed(place, table),
+        Verb::Cancel => read_cancel(place, table),
     }
 }
 
@@ -70,7 +72,7 @@ fn read_schedule<'a>(place: Place, table: &'a Table) -> Result<Fields<'a>, Stop>
     let at = integer_or_zero(place, member(table, "at"))?;
     Ok(Fields {
         name,
-        spans: WrittenSpans::Schedule { delay },
+        spans: Some(WrittenSpans::Schedule { delay }),
         at,
     })
 }
@@ -89,7 +91,7 @@ fn read_rate<'a>(place: Place, table: &'a Table) -> Result<Fields<'a>, Stop>
     let at = integer_or_zero(place, member(table, "at"))?;
     Ok(Fields {
         name,
-        spans: WrittenSpans::Rate { first, period },
+        spans: Some(WrittenSpans::Rate { first, period }),
         at,
     })
 }
@@ -108,7 +110,22 @@ fn read_fixed<'a>(place: Place, table: &'a Table) -> Result<Fields<'a>, Stop>
     let at = integer_or_zero(place, member(table, "at"))?;
     Ok(Fields {
         name,
-        spans: WrittenSpans::Fixed { first, delay },
+        spans: Some(WrittenSpans::Fixed { first, delay }),
+        at,
+    })
+}
+
+/// The values of a `cancel`'s keys.
+#[tactic(auto, unfolding(crate::specs::PlanReading::cancel_of))]
+fn read_cancel<'a>(place: Place, table: &'a Table) -> Result<Fields<'a>, Stop>
+    ensures { Gives field_values result (cancel_of place (table_view table.now)) }
+{
+    let name = required(place, table, "name")?;
+    let name = text(place, name)?;
+    let at = integer_or_zero(place, member(table, "at"))?;
+    Ok(Fields {
+        name,
+        spans: None,
         at,
     })
 }

@@ -1,17 +1,19 @@
 //! The calls of a plan.
 
-ghost use Rattle.std.specs.Prelude.{◌≡◌, ℕ, ◌+◌, ◌≤◌, ◌<◌, ◌++◌, length, IfOk};
-ghost use Rattle.sched.specs.PlanCalls.{code_call, tasks_after, tasks_after_calls, calls_of_block, calls_of};
-ghost use Rattle.executor_core.specs.Calls.{IsOrderly, IsOrderlyFrom};
+ghost use Rattle.std.specs.Prelude.{◌≡◌, ℕ, ◌+◌, ◌≤◌, ◌++◌, length, IfOk};
+ghost use Rattle.sched.specs.Plans.{tasks_after, tasks_after_calls, tasks_after_blocks};
+ghost use Rattle.sched.specs.PlanCalls.{number_of, code_call, calls_of_block, calls_of};
+ghost use Rattle.executor_core.specs.Calls.{IsOrderly, IsOrderlyCall, IsOrderlyFrom};
 
-use crate::plan_read::plans::{Block, Call, Op, Plan};
+use crate::plan_read::plans::{Block, Call, Op, Plan, Target};
 use executor_core::CodeCall;
 use sched_time::Timing;
 use std::alloc::{AllocError, Allocator};
 
 /// The calls of a plan with their moments, in the order in which they are made.
 ///
-/// Submissions are numbered 0, 1, .. in this list, illegal ones among them. There
+/// Submissions are numbered 0, 1, .. in this list, illegal ones among them. A cancel
+/// has the number of the submission that it names, which stands before it. There
 /// are at most 65,536 calls, and moments, which do not fall, and delays are at
 /// most 2^62 nanoseconds. The only error is want of memory.
 pub fn written_out<A: Allocator>(
@@ -25,39 +27,42 @@ pub fn written_out<A: Allocator>(
     let blocks = plan.blocks();
     let mut task = 0;
     for block in blocks {
-        task = write_block(&mut out, task, block)?;
+        task = write_block(&mut out, blocks, task, block)?;
     }
     Ok(out)
 }
 
-/// Appends the calls of a block, where `task` submissions stand before them.
+/// Appends the calls of one of the blocks, where `task` submissions stand before them.
 ///
 /// The answer is how many submissions there are then.
 fn write_block<A: Allocator>(
     out: &mut Vec<(u64, CodeCall), A>,
+    blocks: &[Block],
     task: u32,
     block: &Block,
 ) -> Result<u32, AllocError>
-    requires moments { (moment : ℕ) × IsOrderlyFrom task moment (calls_of_block block.now.at task block.now.calls) }
+    requires moments { (moment : ℕ) × IsOrderlyFrom task moment (calls_of_block blocks.now block.now.at task block.now.calls) }
     requires room { task + length block.now.calls ≤ 65536 }
-    ensures calls { IfOk result (λ _. out.new.items ≡ out.old.items ++ calls_of_block block.now.at task block.now.calls) }
+    ensures calls { IfOk result (λ _. out.new.items ≡ out.old.items ++ calls_of_block blocks.now block.now.at task block.now.calls) }
     ensures tasks { IfOk result (λ t. t ≡ tasks_after_calls task block.now.calls) }
 {
     let at = block.at();
     let calls = block.calls();
     let mut task = task;
     for call in calls {
-        out.push((at + call.at, code_call(task, &call.op)))?;
+        out.push((at + call.at, code_call(blocks, task, &call.op)))?;
         task = tasks_after(task, &call.op);
     }
     Ok(task)
 }
 
-/// The call that an operation asks for, where `task` submissions stand before it.
+/// The call that an operation of the plan asks for, where `task` submissions stand before it.
 ///
 /// A submission with a period, or a fixed delay, that is zero or negative is an illegal one.
-fn code_call(task: u32, op: &Op) -> CodeCall
-    ensures { result ≡ code_call task op.now }
+fn code_call(blocks: &[Block], task: u32, op: &Op) -> CodeCall
+    requires room { task ≤ 65536 }
+    requires orderly { IsOrderlyCall task (code_call blocks.now task op.now) }
+    ensures { result ≡ code_call blocks.now task op.now }
 {
     match op {
         Op::Schedule { delay, .. } => CodeCall::Submit {
@@ -84,15 +89,55 @@ fn code_call(task: u32, op: &Op) -> CodeCall
             delay: first.nanos(),
         },
         Op::Rate { period: None, .. } | Op::Fixed { delay: None, .. } => CodeCall::Illegal { task },
+        Op::Cancel(target) => CodeCall::Cancel {
+            task: number_of(blocks, *target),
+        },
     }
+}
+
+/// The number of a submission among all of the plan.
+#[tactic(auto, using(std::proofs::lemmas::List::take_min))]
+fn number_of(blocks: &[Block], target: Target) -> u32
+    requires { number_of blocks.now target ≤ 65536 }
+    ensures { result ≡ number_of blocks.now target }
+{
+    let before = &blocks[..target.block.min(blocks.len())];
+    tasks_of(before) + target.sub as u32
+}
+
+/// How many submissions there are in some blocks.
+#[tactic(auto, using(crate::proofs::Counting::room_in_block))]
+fn tasks_of(blocks: &[Block]) -> u32
+    requires { tasks_after_blocks 0 blocks.now ≤ 65536 }
+    ensures { result ≡ tasks_after_blocks 0 blocks.now }
+{
+    let mut task = 0;
+    for block in blocks {
+        task = tasks_after_calls(task, block.calls());
+    }
+    task
+}
+
+/// How many submissions there are up to and with some calls.
+#[tactic(auto, using(crate::proofs::Counting::grows))]
+fn tasks_after_calls(task: u32, calls: &[Call]) -> u32
+    requires { tasks_after_calls task calls.now ≤ 65536 }
+    ensures { result ≡ tasks_after_calls task calls.now }
+{
+    let mut task = task;
+    for call in calls {
+        task = tasks_after(task, &call.op);
+    }
+    task
 }
 
 /// How many submissions there are up to and with an operation.
 fn tasks_after(task: u32, op: &Op) -> u32
-    requires { task < 65536 }
+    requires { task ≤ 65536 }
     ensures { result ≡ tasks_after task op.now }
 {
     match op {
         Op::Schedule { .. } | Op::Rate { .. } | Op::Fixed { .. } => task + 1,
+        Op::Cancel(_) => task,
     }
 }

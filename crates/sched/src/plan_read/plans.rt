@@ -3,12 +3,21 @@
 ghost use Rattle.std.specs.Prelude.{◌≡◌};
 ghost use Rattle.sched.specs.PlanCalls.{calls_of};
 ghost use Rattle.sched.specs.PlanReading.{IsPlan};
-ghost use Rattle.sched.specs.Plans.{AreCallsFrom};
+ghost use Rattle.sched.specs.Plans.{is_submission, AreCallsFrom};
 ghost use Rattle.executor_core.specs.Calls.{IsOrderly};
 
 use crate::plan_read::names::Name;
 use sched_time::Span;
 use std::marker::Model;
+
+/// A submission of a plan.
+#[derive(Clone, Copy, Debug, PartialEq, Eq)]
+pub struct Target {
+    /// Its block, numbered from 0; a plan has one block at most.
+    pub block: usize,
+    /// Which of the block's submissions it is, numbered from 0, illegal ones among them.
+    pub sub: usize,
+}
 
 /// What a call asks for.
 #[derive(Debug, Drop)]
@@ -38,6 +47,20 @@ pub enum Op {
         /// At least 1 nanosecond; none where the plan writes one that is zero or negative.
         delay: Option<Span>,
     },
+    /// A task is cancelled, that of a submission which stands before the call.
+    Cancel(Target),
+}
+
+impl Op {
+    /// Whether a task is submitted, also where its period or its fixed delay is illegal.
+    pub fn is_submission(&self) -> bool
+        ensures { result ≡ is_submission self.now }
+    {
+        match self {
+            Op::Schedule { .. } | Op::Rate { .. } | Op::Fixed { .. } => true,
+            Op::Cancel(_) => false,
+        }
+    }
 }
 
 /// A call of a block.
@@ -62,13 +85,13 @@ impl Model for Block {
 
     ghost view = { λ b. record { at = b.at; calls = b.calls.items } };
 
-    ghost invariant = { λ b. AreCallsFrom 0 b.calls.items };
+    ghost invariant = { λ b. AreCallsFrom 0 0 b.calls.items };
 }
 
 impl Block {
     /// A block at a moment.
     pub(crate) fn new(at: u64, calls: Vec<Call>) -> Block
-        requires { AreCallsFrom 0 calls.items }
+        requires { AreCallsFrom 0 0 calls.items }
         ensures { result ≡ record { at = at; calls = calls.items } }
     {
         Block { at, calls }
@@ -84,10 +107,10 @@ impl Block {
     /// Its calls in the order of the text.
     ///
     /// Their offsets do not fall. Offsets and spans are at most 2^62 nanoseconds, and a period or a
-    /// fixed delay is at least 1.
+    /// fixed delay is at least 1. The target of a cancel stands before it.
     pub fn calls(&self) -> &[Call]
         ensures calls { result.now ≡ self.now.calls }
-        ensures ordered { AreCallsFrom 0 self.now.calls }
+        ensures ordered { AreCallsFrom 0 0 self.now.calls }
     {
         self.calls.as_slice()
     }

@@ -1,14 +1,16 @@
 //! Plans from their texts.
 
-ghost use Rattle.std.specs.Prelude.{◌≡◌, ◌≢◌, ◌≤◌, ◌⊎◌, true, length, [], ◌∷◌, option_map, IfOk, IfErr, Ok, Err};
+ghost use Rattle.std.specs.Prelude.{◌≡◌, ◌≢◌, ℕ, ◌≤◌, ◌⊎◌, true, length, [], ◌∷◌, option_map, IfOk, IfErr, Ok, Err};
 ghost use Rattle.toml.specs.View.{view, table_view, items_view};
 ghost use Rattle.sched_time.specs.Times.{longest};
-ghost use Rattle.sched.specs.Plans.{IsLegal, IsWithinLimits, IsCallFrom, AreCallsFrom};
+ghost use Rattle.sched.specs.Plans.{IsLegal, IsWithinLimits, IsAimed, IsCallFrom, AreCallsFrom, tasks_after_calls};
+ghost use Rattle.sched.specs.Names.{is_name};
 ghost use Rattle.sched.specs.PlanCalls.{calls_of};
 ghost use Rattle.executor_core.specs.Calls.{IsOrderly};
-ghost use Rattle.sched.specs.PlanReading.{expect, top, tree_of, Gives, plan_of_text, top_of, blocks_of, block_of, header_of, calls_after, call_of, op_of, nanos_at, period_at, tables_of, last_offset, is_taken, has_name};
+ghost use Rattle.sched.specs.PlanReading.{expect, top, tree_of, Gives, plan_of_text, top_of, blocks_of, block_of, header_of, calls_after, call_of, op_of, submission_of, IsKnown, nanos_at, period_at, tables_of, last_offset};
 ghost use Rattle.sched.specs.declared.plan_read.faults.PlanFaultKind.TheVariants as kinds;
 
+use crate::plan_read::asked::{Asked, read_asked};
 use crate::plan_read::faults::{Place, PlanFault, PlanFaultKind, Stop};
 use crate::plan_read::fields::{WrittenSpans, read_fields, read_verb};
 use crate::plan_read::names::{Name, is_name};
@@ -43,10 +45,11 @@ fn read_period(place: Place, value: i64, unit: Unit) -> Result<Option<Span>, Sto
 }
 
 /// The operation of a submission of this name, with these spans.
-#[tactic(auto, unfolding(crate::specs::PlanReading::op_of))]
-fn read_op(place: Place, name: Name, spans: WrittenSpans) -> Result<Op, Stop>
-    ensures op { Gives (λ op. op) result (op_of place name spans) }
+#[tactic(auto, unfolding(crate::specs::PlanReading::submission_of))]
+fn read_submission(place: Place, name: Name, spans: WrittenSpans) -> Result<Op, Stop>
+    ensures op { Gives (λ op. op) result (submission_of place name spans) }
     ensures limits { IfOk result IsWithinLimits }
+    ensures aimed { IfOk result (λ op. (count : ℕ) → IsAimed count op) }
 {
     match spans {
         WrittenSpans::Schedule { delay } => {
@@ -70,6 +73,22 @@ fn read_op(place: Place, name: Name, spans: WrittenSpans) -> Result<Op, Stop>
     }
 }
 
+/// The operation that a call of this name asks for.
+fn read_op(alloc: Global, place: Place, name: &str, asked: Asked) -> Result<Op, Stop>
+    requires { is_name name.now ≡ true }
+    ensures op { Gives (λ op. op) result (op_of place name.now asked) }
+    ensures limits { IfOk result IsWithinLimits }
+    ensures aimed { IfOk result (λ op. (count : ℕ) → IsKnown count asked → IsAimed count op) }
+{
+    match asked {
+        Asked::Submission(spans) => {
+            let name = Name::new(alloc, name)?;
+            read_submission(place, name, spans)
+        }
+        Asked::Cancel(target) => Ok(Op::Cancel(target)),
+    }
+}
+
 /// The tables of an array, where the value is one; no tables where there is no value.
 #[tactic(auto, unfolding(crate::specs::PlanReading::tables_of))]
 fn read_tables<'a>(place: Place, value: Option<&'a Value>) -> Result<&'a [Value], Stop>
@@ -81,23 +100,6 @@ fn read_tables<'a>(place: Place, value: Option<&'a Value>) -> Result<&'a [Value]
     match value.as_array() {
         Some(array) if are_tables(array) => Ok(array.as_slice()),
         _ => Err(place.stop(PlanFaultKind::WrongType)),
-    }
-}
-
-/// Whether one of the calls is a submission of this name.
-fn is_taken(name: &str, calls: &[Call]) -> bool
-    ensures { result ≡ is_taken name.now calls.now }
-{
-    calls.iter().any(|call| has_name(name, &call.op))
-}
-
-fn has_name(text: &str, op: &Op) -> bool
-    ensures { result ≡ has_name text.now op.now }
-{
-    match op {
-        Op::Schedule { name, .. } | Op::Rate { name, .. } | Op::Fixed { name, .. } => {
-            name.as_str() == text
-        }
     }
 }
 
@@ -115,22 +117,19 @@ fn last_offset(calls: &[Call]) -> u64
 #[tactic(auto, unfolding(crate::specs::PlanReading::call_of))]
 fn read_call(alloc: Global, place: Place, before: &[Call], table: &Table) -> Result<Call, Stop>
     ensures call { Gives (λ c. c) result (call_of place before.now (table_view table.now)) }
-    ensures after { IfOk result (λ c. IsCallFrom (last_offset before.now) c) }
+    ensures after { IfOk result (λ c. IsCallFrom (last_offset before.now) (tasks_after_calls 0 before.now) c) }
 {
     let verb = read_verb(place, table)?;
     let fields = read_fields(place, verb, table)?;
     if !is_name(fields.name) {
         return Err(place.stop(PlanFaultKind::BadName));
     }
-    if is_taken(fields.name, before) {
-        return Err(place.stop(PlanFaultKind::DuplicateName));
-    }
+    let asked = read_asked(place, before, fields.name, fields.spans)?;
     if fields.at < 0 {
         return Err(place.stop(PlanFaultKind::Negative));
     }
     let at = read_nanos(place, fields.at, Unit::Ns)?.nanos();
-    let name = Name::new(alloc, fields.name)?;
-    let op = read_op(place, name, fields.spans)?;
+    let op = read_op(alloc, place, fields.name, asked)?;
     if at < last_offset(before) {
         return Err(place.stop(PlanFaultKind::OutOfOrder));
     }
@@ -159,7 +158,7 @@ fn read_calls(alloc: Global, block: u32, tables: &[Value]) -> Result<Vec<Call>, 
     requires { length tables.now ≤ 256 }
     ensures calls { Gives (λ v. v.items) result (calls_after block [] (items_view tables.now)) }
     ensures few { IfOk result (λ v. length v.items ≤ 256) }
-    ensures ordered { IfOk result (λ v. AreCallsFrom 0 v.items) }
+    ensures ordered { IfOk result (λ v. AreCallsFrom 0 0 v.items) }
 {
     let mut calls = Vec::new(alloc);
     for (index, value) in tables.iter().enumerate() {
@@ -262,13 +261,15 @@ fn read_text(alloc: Global, text: &[u8]) -> Result<Plan, Stop>
 ///
 /// A plan is a TOML document in UTF-8 of at most 1,048,576 bytes with the key
 /// `version`, which is 1, and an array `block` of at most one table. Its `call`
-/// is an array of at most 256 tables, each with an `op`, a `name` that no other
-/// has and an offset `at` (0 if it is left out). A `schedule` has a `delay`, a
-/// `rate` a `first` and a `period`, and a `fixed` a `first` and a `delay`. All are
-/// in nanoseconds and at most 2^62. An offset is not negative, and not below the
-/// one before it. A negative `delay` of a `schedule`, or a negative `first`, counts
-/// as 0. A `period`, or a `delay` of a `fixed`, that is zero or negative is
-/// illegal: the plan keeps that there is none.
+/// is an array of at most 256 tables, each with an `op`, a `name` and an offset
+/// `at` (0 if it is left out). Submissions have a name that none before them has:
+/// a `schedule` with a `delay`, a `rate` with a `first` and a `period`, and a
+/// `fixed` with a `first` and a `delay`. A `cancel` has the name of a submission
+/// that stands before it, and no other key. All are in nanoseconds and at most
+/// 2^62. An offset is not negative, and not below the one before it. A negative
+/// `delay` of a `schedule`, or a negative `first`, counts as 0. A `period`, or a
+/// `delay` of a `fixed`, that is zero or negative is illegal: the plan keeps that
+/// there is none.
 ///
 /// The fault is the first one that is met, text, top, header, then call by call.
 /// [`PlanFaultKind::Memory`] may come in place of any other answer, and says

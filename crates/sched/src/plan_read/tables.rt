@@ -5,7 +5,7 @@ ghost use Rattle.std.specs.BTreeMap.{keys};
 ghost use Rattle.std.specs.Prelude.{◌≡◌, string_bytes, option_map, is_some};
 ghost use Rattle.toml.specs.Data.{get_member, as_table};
 ghost use Rattle.toml.specs.View.{view, table_view, array_view};
-ghost use Rattle.sched.specs.PlanReading.{has_only, is_plan_key, is_block_key, is_submission_key, is_call_key, are_tables};
+ghost use Rattle.sched.specs.PlanReading.{has_only, is_plan_key, is_block_key, is_shared_key, is_call_key, are_tables};
 
 use crate::plan_read::verbs::Verb;
 use toml::value::Array;
@@ -73,14 +73,15 @@ fn is_call_key(verb: Verb, key: &str) -> bool
     ensures { result ≡ is_call_key verb key.now }
 {
     match verb {
-        Verb::Schedule => is_submission_key(key) || key == "delay",
-        Verb::Rate => is_submission_key(key) || key == "first" || key == "period",
-        Verb::Fixed => is_submission_key(key) || key == "first" || key == "delay",
+        Verb::Schedule => is_shared_key(key) || key == "delay",
+        Verb::Rate => is_shared_key(key) || key == "first" || key == "period",
+        Verb::Fixed => is_shared_key(key) || key == "first" || key == "delay",
+        Verb::Cancel => is_shared_key(key),
     }
 }
 
-fn is_submission_key(key: &str) -> bool
-    ensures { result ≡ is_submission_key key.now }
+fn is_shared_key(key: &str) -> bool
+    ensures { result ≡ is_shared_key key.now }
 {
     key == "op" || key == "at" || key == "name"
 }

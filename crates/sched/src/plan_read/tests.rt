@@ -1,4 +1,4 @@
-use crate::plan_read::{Op, PlanFault, PlanFaultKind, read_plan, written_out};
+use crate::plan_read::{Op, PlanFault, PlanFaultKind, Target, read_plan, written_out};
 use executor_core::CodeCall;
 use sched_time::{Timing, Unit, span};
 use std::process::Abort;
@@ -514,6 +514,152 @@ fn refuses_a_name_of_another_operation(rt: HostRuntime) -> Result<(), Fail> {
     Ok(())
 }
 
+#[test]
+fn reads_cancels(rt: HostRuntime) -> Result<(), Fail> {
+    let text = "version = 1
+[[block]]
+call = [
+  { op = \"schedule\", name = \"a\", delay = 1 },
+  { op = \"rate\", name = \"b\", first = 1, period = 0 },
+  { op = \"cancel\", name = \"b\", at = 2 },
+  { op = \"rate\", name = \"c\", first = 1, period = 1, at = 3 },
+  { op = \"cancel\", name = \"c\", at = 3 },
+  { op = \"cancel\", name = \"c\", at = 4611686018427387904 },
+  { op = \"cancel\", name = \"a\", at = 4611686018427387904 },
+]
+";
+    assert_eq!(rt;
+        calls(&rt, text)?.as_slice(),
+        [
+            (0u64, once(0, 1)),
+            (0, CodeCall::Illegal { task: 1 }),
+            (2, CodeCall::Cancel { task: 1 }),
+            (3, submitted(2, Timing::Rate(span(1, Unit::Ns)?), 1)),
+            (3, CodeCall::Cancel { task: 2 }),
+            (4611686018427387904, CodeCall::Cancel { task: 2 }),
+            (4611686018427387904, CodeCall::Cancel { task: 0 }),
+        ]
+        .as_slice()
+    );
+    Ok(())
+}
+
+#[test]
+fn keeps_the_target_of_a_cancel(rt: HostRuntime) -> Result<(), Fail> {
+    let text = "version = 1
+[[block]]
+call = [
+  { op = \"schedule\", name = \"a\", delay = 1 },
+  { op = \"cancel\", name = \"a\" },
+  { op = \"schedule\", name = \"b\", delay = 1 },
+  { op = \"cancel\", name = \"b\", at = 5 },
+]
+";
+    let plan = read_plan(rt.alloc(), text.as_bytes())?;
+    let block = plan.blocks().first().ok_or("no block")?;
+    let [_, first, _, last] = block.calls() else {
+        return Err("not four calls".into());
+    };
+    let (Op::Cancel(first), Op::Cancel(target)) = (&first.op, &last.op) else {
+        return Err("not two cancels".into());
+    };
+    assert_eq!(rt; *first, Target { block: 0, sub: 0 });
+    assert_eq!(rt; *target, Target { block: 0, sub: 1 });
+    assert_eq!(rt; last.at, 5);
+    Ok(())
+}
+
+#[test]
+fn refuses_a_cancel(rt: HostRuntime) -> Result<(), Fail> {
+    for (lines, kind) in [
+        ("op = \"cancels\"", PlanFaultKind::WrongType),
+        ("op = \"cancel\"", PlanFaultKind::Missing),
+        ("op = \"cancel\"\ndelay = 1", PlanFaultKind::UnknownKey),
+        (
+            "op = \"cancel\"\nname = \"a\"\nperiod = 1",
+            PlanFaultKind::UnknownKey,
+        ),
+        ("op = \"cancel\"\nat = \"0\"", PlanFaultKind::Missing),
+        ("op = \"cancel\"\nname = 1", PlanFaultKind::WrongType),
+        (
+            "op = \"cancel\"\nname = \"\"\nat = 0.5",
+            PlanFaultKind::WrongType,
+        ),
+        ("op = \"cancel\"\nname = \"\"", PlanFaultKind::BadName),
+        (
+            "op = \"cancel\"\nname = \"\"\nat = -1",
+            PlanFaultKind::BadName,
+        ),
+        ("op = \"cancel\"\nname = \"a\"", PlanFaultKind::UnknownName),
+        (
+            "op = \"cancel\"\nname = \"a\"\nat = -1",
+            PlanFaultKind::UnknownName,
+        ),
+    ] {
+        refuses_call(&rt, lines, kind)?;
+    }
+    Ok(())
+}
+
+#[test]
+fn refuses_a_cancel_behind_a_submission(rt: HostRuntime) -> Result<(), Fail> {
+    for (keys, kind) in [
+        ("name = \"b\"", PlanFaultKind::UnknownName),
+        ("name = \"b\", at = 1", PlanFaultKind::UnknownName),
+        ("name = \"a\", at = -1", PlanFaultKind::Negative),
+        (
+            "name = \"a\", at = 4611686018427387905",
+            PlanFaultKind::TooLarge,
+        ),
+        ("name = \"a\", at = 1", PlanFaultKind::OutOfOrder),
+        ("name = \"a\"", PlanFaultKind::OutOfOrder),
+    ] {
+        let text = format!(in rt.alloc();
+            "version = 1
+[[block]]
+call = [
+  {{ op = \"schedule\", name = \"a\", delay = 1, at = 2 }},
+  {{ op = \"cancel\", {keys} }},
+  {{ op = \"schedule\", name = \"b\", delay = 1, at = 2 }},
+]
+"
+        )?;
+        refuses(&rt, text.as_str(), kind, 1, 2);
+    }
+    Ok(())
+}
+
+#[test]
+fn tells_names_of_cancels_from_those_of_submissions(rt: HostRuntime) -> Result<(), Fail> {
+    let front = "version = 1
+[[block]]
+call = [
+  { op = \"fixed\", name = \"a\", first = 1, delay = 1 },
+  { op = \"cancel\", name = \"a\" },
+";
+    let unknown = format!(in rt.alloc();
+        "{front}  {{ op = \"cancel\", name = \"b\" }},\n  {{ op = \"cancel\", name = \"b\" }},\n]\n"
+    )?;
+    refuses(&rt, unknown.as_str(), PlanFaultKind::UnknownName, 1, 3);
+    let again = format!(in rt.alloc();
+        "{front}  {{ op = \"schedule\", name = \"a\", delay = 1 }},\n]\n"
+    )?;
+    refuses(&rt, again.as_str(), PlanFaultKind::DuplicateName, 1, 3);
+    let other = format!(in rt.alloc();
+        "{front}  {{ op = \"schedule\", name = \"b\", delay = 1 }},\n]\n"
+    )?;
+    assert_eq!(rt;
+        calls(&rt, other.as_str())?.as_slice(),
+        [
+            (0u64, submitted(0, Timing::Fixed(span(1, Unit::Ns)?), 1)),
+            (0, CodeCall::Cancel { task: 0 }),
+            (0, once(1, 1)),
+        ]
+        .as_slice()
+    );
+    Ok(())
+}
+
 /// A plan of one call with a name of so many bytes.
 fn named(rt: &impl AllocGlobal, bytes: usize) -> Result<String, Fail> {
     let name = "n".repeat(rt.alloc(), bytes)?;
@@ -564,6 +710,14 @@ fn spells_a_fault(rt: HostRuntime) -> Result<(), Fail> {
     assert_eq!(rt;
         format!(in rt.alloc(); "{fault}")?.as_str(),
         "OutOfOrder block 1 call 2"
+    );
+    let unknown = PlanFault {
+        kind: PlanFaultKind::UnknownName,
+        ..fault
+    };
+    assert_eq!(rt;
+        format!(in rt.alloc(); "{unknown}")?.as_str(),
+        "UnknownName block 1 call 2"
     );
     Ok(())
 }

@@ -12,6 +12,8 @@ pub enum Verb {
     Rate,
     /// A task runs with a fixed delay between the end of a run and the next.
     Fixed,
+    /// A task is cancelled.
+    Cancel,
 }
 
 impl Verb {
@@ -23,6 +25,7 @@ impl Verb {
             "schedule" => Some(Verb::Schedule),
             "rate" => Some(Verb::Rate),
             "fixed" => Some(Verb::Fixed),
+            "cancel" => Some(Verb::Cancel),
             _ => None,
         }
     }

@@ -125,3 +125,75 @@ start 0
     };
     answers(&rt, &row)
 }
+
+/// A timeout that is cancelled in time, and one that is not.
+#[test]
+fn timeout(rt: HostRuntime) {
+    let row = Row {
+        plan: "\
+# Timeouts: two requests may take 30 nanoseconds each. The first one is answered
+# in time, so its timeout is cancelled from outside, at 20. The second one is
+# not: its timeout runs at 40, and a cancel comes too late. The plan itself
+# takes back a third one that was not sent.
+version = 1
+
+[[block]]
+
+[[block.call]]
+op = \"schedule\"
+name = \"first\"
+delay = 30
+
+[[block.call]]
+op = \"schedule\"
+name = \"second\"
+at = 10
+delay = 30
+
+[[block.call]]
+op = \"schedule\"
+name = \"third\"
+at = 10
+delay = 30
+
+[[block.call]]
+op = \"cancel\"
+name = \"third\"
+at = 15
+",
+        limit: 1_000_000,
+        events: "\
+clock 20
+cancel 0
+cancel 0
+clock 30
+start 0
+clock 40
+start 0
+finish 0 ok 0
+cancel 1
+start 0
+",
+        answer: Ok(Report {
+            events: 10,
+            lines: 14,
+        }),
+        trace: "\
+0 submit 0 schedule due 30
+10 submit 1 schedule due 40
+10 submit 2 schedule due 40
+15 cancel 2 yes
+20 clock
+20 outside 0 yes
+20 outside 0 no
+30 clock
+30 start 0 idle
+40 clock
+40 start 0 task 1 run 0 due 40
+40 finish 0 task 1 run 0 done 0
+40 outside 1 no
+40 start 0 idle
+",
+    };
+    answers(&rt, &row)
+}

@@ -3,7 +3,6 @@ use Rattle.std.proofs.lemmas.Bool.{and_parts, not-true}
 use Rattle.clap.specs.Words.{App, app_of, new_app, with_subcommand}
 use Rattle.sched.proofs.command.command.Goals as goal
 
--- src/command.rt:79:1
 pub returns : goal.returns
 returns c =
     let own = new_app (codes "sched") in

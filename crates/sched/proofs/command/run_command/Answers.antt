@@ -2,7 +2,6 @@ use Rattle.std.proofs.Common.{rules, ap₂, codes, ◌≡◌, ◌∙◌}
 use Rattle.clap.specs.Words.{app_of, new_app, with_rule}
 use Rattle.sched.proofs.command.run_command.Goals as goal
 
--- src/command.rt:92:1
 pub returns : goal.returns
 returns c =
     let bare : app_of c.after_help.result ≡ new_app (codes "run") = search rules in

@@ -20,3 +20,7 @@ returns-in-Some c =
 pub returns-in-Clock : goal.returns-in-Clock
 returns-in-Clock c =
     c.answer_clock.ensures c.args.workers ∙ ap (λ (x : Happening). (answer c.args.calls.now c.args.workers (history c.args.past.now) x).answer) (sym c.in-Clock.is)
+
+pub returns-in-Cancel : goal.returns-in-Cancel
+returns-in-Cancel c =
+    c.answer_cancel.ensures c.args.workers ∙ ap (λ (x : Happening). (answer c.args.calls.now c.args.workers (history c.args.past.now) x).answer) (sym c.in-Cancel.is)

@@ -1,12 +1,13 @@
 use Rattle.std.proofs.Common.{◌≡◌, ℕ, ◌+◌, ◌≤◌, ◌++◌, drop, length}
-use Rattle.sched.specs.PlanCalls.{calls_of_block, tasks_after_calls}
+use Rattle.sched.specs.Plans.{tasks_after_calls}
+use Rattle.sched.specs.PlanCalls.{calls_of_block}
 use Rattle.executor_core.specs.Calls.{IsOrderlyFrom}
 use Rattle.sched.proofs.plan_read.listing.write_block.Given as goal
 
 abbrev pub invariant-loop-call : goal.invariant-loop-call
 invariant-loop-call g l = record {
-  done : l.out.items ++ calls_of_block l.at l.task (drop l.call-index l.calls) ≡ l.fn.out.items ++ calls_of_block l.at l.fn.task l.calls;
+  done : l.out.items ++ calls_of_block l.blocks l.at l.task (drop l.call-index l.calls) ≡ l.fn.out.items ++ calls_of_block l.blocks l.at l.fn.task l.calls;
   tasks : tasks_after_calls l.task (drop l.call-index l.calls) ≡ tasks_after_calls l.fn.task l.calls;
-  left : (moment : ℕ) × IsOrderlyFrom l.task moment (calls_of_block l.at l.task (drop l.call-index l.calls));
+  left : (moment : ℕ) × IsOrderlyFrom l.task moment (calls_of_block l.blocks l.at l.task (drop l.call-index l.calls));
   room : l.task + length (drop l.call-index l.calls) ≤ 65536;
 }

@@ -5,7 +5,7 @@ use Rattle.sched.proofs.plan_read.listing.written_out.Given as goal
 
 abbrev pub invariant-loop-block : goal.invariant-loop-block
 invariant-loop-block g l = record {
-  done : l.out.items ++ calls_from l.task (drop l.block-index l.blocks) ≡ calls_of l.blocks;
-  left : (moment : ℕ) × IsOrderlyFrom l.task moment (calls_from l.task (drop l.block-index l.blocks));
-  room : l.task + length (calls_from l.task (drop l.block-index l.blocks)) ≤ 65536;
+  done : l.out.items ++ calls_from l.blocks l.task (drop l.block-index l.blocks) ≡ calls_of l.blocks;
+  left : (moment : ℕ) × IsOrderlyFrom l.task moment (calls_from l.blocks l.task (drop l.block-index l.blocks));
+  room : l.task + length (calls_from l.blocks l.task (drop l.block-index l.blocks)) ≤ 65536;
 }

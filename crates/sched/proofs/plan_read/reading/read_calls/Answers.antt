@@ -26,7 +26,7 @@ loop-index-preserved c =
     record {
       count = search rules;
       so_far = rw c.in_ok-push.ensures.items (goes_on c.args.block c.loop-index.calls.items c.args.tables.now c.loop-index.index c.index-tables-index.result (table_view c.in-Some.table.now) c.in_ok-call.call _ c.loop-index-test.true c.index-tables-index.is table read c.loop-index.invariant.so_far);
-      ordered = rw c.in_ok-push.ensures.items (one_more 0 c.loop-index.calls.items c.in_ok-call.call c.loop-index.invariant.ordered (rw (← c.as_slice.ensures.value) c.in_ok-call.ensures.after));
+      ordered = rw c.in_ok-push.ensures.items (one_more 0 0 c.loop-index.calls.items c.in_ok-call.call c.loop-index.invariant.ordered (rw (← c.as_slice.ensures.value) c.in_ok-call.ensures.after));
     }
 
 pub returns-clause-calls : goal.returns-clause-calls

@@ -8,5 +8,5 @@ abbrev pub invariant-loop-index : goal.invariant-loop-index
 invariant-loop-index l = record {
   count : length l.calls.items ≡ l.index;
   so_far : calls_after l.block l.calls.items (items_view (drop l.index l.tables)) ≡ calls_after l.block [] (items_view l.tables);
-  ordered : AreCallsFrom 0 l.calls.items;
+  ordered : AreCallsFrom 0 0 l.calls.items;
 }

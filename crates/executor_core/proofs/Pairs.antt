@@ -1,0 +1,172 @@
+-- Pairs: the tasks of two tables, item by item.
+use Rattle.std.proofs.Common.{◌≡◌, ℕ, ◌+◌, ◌<◌, zero, suc, Bool, true, false, List, [], ◌∷◌, length, map, get_or, replicate, ◌&&◌, ap, refl, sym, ◌∙◌, arith}
+use Rattle.std.specs.Prelude.{slice_index_or}
+use Rattle.std.proofs.Math.ListN.{set}
+use Rattle.task_word.specs.Words.{Parts}
+use Rattle.task_word.specs.Words as words
+use Rattle.task_word.specs.declared.phases.Phase.{Phase as WordPhase}
+use Rattle.task_word.specs.declared.phases.Phase.TheVariants as w
+use Rattle.executor_core.specs.declared.task.Phase.TheVariants as ph
+use Rattle.executor_core.specs.declared.task.Task.{Task}
+use Rattle.executor_core.specs.declared.tasks.Detail.{Detail}
+use Rattle.executor_core.specs.declared.words.Outcome.{Outcome}
+use Rattle.executor_core.specs.declared.words.Outcome.TheVariants as o
+use Rattle.executor_core.specs.State.{vacant, submit_task, end_task}
+use Rattle.executor_core.specs.Tasks.{phase_in, task_of, tasks_of, word_phase, word_of}
+
+-- the tables have one length, and so have the tasks
+pub length_of : (ws : List Parts) (ds : List Detail) → length ws ≡ length ds → length (tasks_of ws ds) ≡ length ws
+length_of [] ds e = refl
+length_of (x ∷ ws) [] e = absurd (omega (arith, e))
+length_of (x ∷ ws) (d ∷ ds) e = ap suc (length_of ws ds (omega (arith, e)))
+
+-- the task at a place
+pub at_place : (ws : List Parts) (ds : List Detail) (k : ℕ) (x : Parts) (d : Detail) → length ws ≡ length ds → k < length ws → slice_index_or (tasks_of ws ds) k vacant ≡ task_of (get_or ws k x) (get_or ds k d)
+at_place [] ds k x d e l = absurd (omega (arith, l))
+at_place (y ∷ ws) [] k x d e l = absurd (omega (arith, e))
+at_place (y ∷ ws) (c ∷ ds) zero x d e l = refl
+at_place (y ∷ ws) (c ∷ ds) (suc k) x d e l = at_place ws ds k x d (omega (arith, e)) (omega (arith, l))
+
+-- both tables are written
+pub both_set : (ws : List Parts) (ds : List Detail) (k : ℕ) (x : Parts) (d : Detail) → length ws ≡ length ds → tasks_of (set ws k x) (set ds k d) ≡ set (tasks_of ws ds) k (task_of x d)
+both_set [] [] k x d e = refl
+both_set [] (c ∷ ds) k x d e = absurd (omega (arith, e))
+both_set (y ∷ ws) [] k x d e = absurd (omega (arith, e))
+both_set (y ∷ ws) (c ∷ ds) zero x d e = refl
+both_set (y ∷ ws) (c ∷ ds) (suc k) x d e = ap (λ l. task_of y c ∷ l) (both_set ws ds k x d (omega (arith, e)))
+
+-- the table of words is written
+pub word_set : (ws : List Parts) (ds : List Detail) (k : ℕ) (x : Parts) (d : Detail) → length ws ≡ length ds → tasks_of (set ws k x) ds ≡ set (tasks_of ws ds) k (task_of x (get_or ds k d))
+word_set [] [] k x d e = refl
+word_set [] (c ∷ ds) k x d e = absurd (omega (arith, e))
+word_set (y ∷ ws) [] k x d e = absurd (omega (arith, e))
+word_set (y ∷ ws) (c ∷ ds) zero x d e = refl
+word_set (y ∷ ws) (c ∷ ds) (suc k) x d e = ap (λ l. task_of y c ∷ l) (word_set ws ds k x d (omega (arith, e)))
+
+-- the word of a task is the one that it was made of
+of_phase : (p : Parts) (over : Bool) → word_phase (phase_in p.phase over) ≡ p.phase
+of_phase p over = elim (p.phase) as (λ q. word_phase (phase_in q over) ≡ q) [ w.Vacant ↦ refl | w.New ↦ refl | w.Running ↦ running over | w.Done ↦ refl | w.Failed ↦ refl ]
+  where
+    running : (b : Bool) → word_phase (phase_in w.Running b) ≡ w.Running
+    running true = refl
+    running false = refl
+
+pub words_of : (ws : List Parts) (ds : List Detail) → length ws ≡ length ds → map word_of (tasks_of ws ds) ≡ ws
+words_of [] ds e = refl
+words_of (x ∷ ws) [] e = absurd (omega (arith, e))
+words_of (x ∷ ws) (d ∷ ds) e = λ i. record { phase = of_phase x d.over i; run = x.run; marked = x.marked } ∷ words_of ws ds (omega (arith, e)) i
+
+-- a task of the list has its places in the tables
+pub is_in : (ws : List Parts) (ds : List Detail) (tasks : List Task) (k : ℕ) → length ws ≡ length ds → tasks_of ws ds ≡ tasks → k < length tasks → k < length ws
+is_in ws ds tasks k e view low = omega (arith, low, ap length view, length_of ws ds e)
+
+-- the task that is made of the word and the detail at its place
+pub read : (ws : List Parts) (ds : List Detail) (tasks : List Task) (k : ℕ) (x : Parts) (d : Detail) → length ws ≡ length ds → tasks_of ws ds ≡ tasks → k < length tasks → x ≡ get_or ws k x → slice_index_or tasks k vacant ≡ task_of x (get_or ds k d)
+read ws ds tasks k x d e view low at =
+    sym (ap (λ l. slice_index_or l k vacant) view) ∙ (at_place ws ds k x d e (is_in ws ds tasks k e view low) ∙ ap (λ y. task_of y (get_or ds k d)) (sym at))
+
+-- what is kept beside the word of a vacant task
+abbrev pub blank : Detail
+blank = record { due = 0; over = false }
+
+-- a task is cancelled
+pub cancel_sets : (ws : List Parts) (ds : List Detail) (tasks : List Task) (k : ℕ) (x y : Parts) → length ws ≡ length ds → tasks_of ws ds ≡ tasks → k < length tasks → x ≡ get_or ws k x → y ≡ words.marked x →
+    tasks_of (set ws k y) ds ≡ set tasks k (record (slice_index_or tasks k vacant) { cancelled = true })
+cancel_sets ws ds tasks k x y e view low at is =
+    let task = read ws ds tasks k x blank e view low at in
+    word_set ws ds k y blank e ∙ (λ i. set (view i) k (task_of (is i) (get_or ds k blank))) ∙ ap (λ (t : Task). set tasks k (record t { cancelled = true })) (sym task)
+
+-- the phase of the word, by that of the task
+
+is_vacant : (p : WordPhase) (over : Bool) → phase_in p over ≡ ph.Vacant → p ≡ w.Vacant
+is_vacant w.Vacant over q = refl
+is_vacant w.New over q = absurd cc
+is_vacant w.Running true q = absurd cc
+is_vacant w.Running false q = absurd cc
+is_vacant w.Done over q = absurd cc
+is_vacant w.Failed over q = absurd cc
+
+is_waiting : (p : WordPhase) (over : Bool) → phase_in p over ≡ ph.Waiting → p ≡ w.New
+is_waiting w.Vacant over q = absurd cc
+is_waiting w.New over q = refl
+is_waiting w.Running true q = absurd cc
+is_waiting w.Running false q = absurd cc
+is_waiting w.Done over q = absurd cc
+is_waiting w.Failed over q = absurd cc
+
+is_running : (p : WordPhase) (over : Bool) → phase_in p over ≡ ph.Running → p ≡ w.Running
+is_running w.Vacant over q = absurd cc
+is_running w.New over q = absurd cc
+is_running w.Running over q = refl
+is_running w.Done over q = absurd cc
+is_running w.Failed over q = absurd cc
+
+-- what the word says of the task at its place
+
+pub word_vacant : (ws : List Parts) (ds : List Detail) (tasks : List Task) (k : ℕ) (x : Parts) → length ws ≡ length ds → tasks_of ws ds ≡ tasks → k < length tasks → x ≡ get_or ws k x → (slice_index_or tasks k vacant).phase ≡ ph.Vacant → x.phase ≡ w.Vacant
+word_vacant ws ds tasks k x e view low at q = is_vacant x.phase (get_or ds k blank).over (sym (ap (λ (t : Task). t.phase) (read ws ds tasks k x blank e view low at)) ∙ q)
+
+pub word_waits : (ws : List Parts) (ds : List Detail) (tasks : List Task) (k : ℕ) (x : Parts) → length ws ≡ length ds → tasks_of ws ds ≡ tasks → k < length tasks → x ≡ get_or ws k x → (slice_index_or tasks k vacant).phase ≡ ph.Waiting → x.phase ≡ w.New
+word_waits ws ds tasks k x e view low at q = is_waiting x.phase (get_or ds k blank).over (sym (ap (λ (t : Task). t.phase) (read ws ds tasks k x blank e view low at)) ∙ q)
+
+pub word_runs : (ws : List Parts) (ds : List Detail) (tasks : List Task) (k : ℕ) (x : Parts) → length ws ≡ length ds → tasks_of ws ds ≡ tasks → k < length tasks → x ≡ get_or ws k x → (slice_index_or tasks k vacant).phase ≡ ph.Running → x.phase ≡ w.Running
+word_runs ws ds tasks k x e view low at q = is_running x.phase (get_or ds k blank).over (sym (ap (λ (t : Task). t.phase) (read ws ds tasks k x blank e view low at)) ∙ q)
+
+pub word_marked : (ws : List Parts) (ds : List Detail) (tasks : List Task) (k : ℕ) (x : Parts) → length ws ≡ length ds → tasks_of ws ds ≡ tasks → k < length tasks → x ≡ get_or ws k x → x.marked ≡ (slice_index_or tasks k vacant).cancelled
+word_marked ws ds tasks k x e view low at = sym (ap (λ (t : Task). t.cancelled) (read ws ds tasks k x blank e view low at))
+
+pub word_run : (ws : List Parts) (ds : List Detail) (tasks : List Task) (k : ℕ) (x : Parts) → length ws ≡ length ds → tasks_of ws ds ≡ tasks → k < length tasks → x ≡ get_or ws k x → x.run ≡ (slice_index_or tasks k vacant).run
+word_run ws ds tasks k x e view low at = sym (ap (λ (t : Task). t.run) (read ws ds tasks k x blank e view low at))
+
+-- a word without the bit is not cancelled
+pub unmarked : (x : Parts) → x.marked ≡ false → words.is_cancelled x ≡ false
+unmarked x q = elim (x.phase) as (λ p. (words.is_live p && x.marked) ≡ false) [ w.Vacant ↦ refl | w.New ↦ q | w.Running ↦ q | w.Done ↦ refl | w.Failed ↦ refl ]
+
+-- a task is submitted
+pub submit_sets : (ws : List Parts) (ds : List Detail) (tasks : List Task) (k due : ℕ) (x y : Parts) → length ws ≡ length ds → tasks_of ws ds ≡ tasks → y ≡ words.submitted x →
+    tasks_of (set ws k y) (set ds k (record { due = due; over = false })) ≡ set tasks k (submit_task due vacant)
+submit_sets ws ds tasks k due x y e view is =
+    let d : Detail = record { due = due; over = false } in
+    both_set ws ds k y d e ∙ (λ i. set (view i) k (task_of (is i) d))
+
+-- a run of a task begins
+pub start_sets : (ws : List Parts) (ds : List Detail) (tasks : List Task) (k : ℕ) (x y : Parts) (d : Detail) → length ws ≡ length ds → tasks_of ws ds ≡ tasks → k < length tasks → x ≡ get_or ws k x → d ≡ get_or ds k d → y ≡ words.started x →
+    tasks_of (set ws k y) (set ds k (record { due = d.due; over = false })) ≡ set tasks k (record (slice_index_or tasks k vacant) { phase = ph.Running })
+start_sets ws ds tasks k x y d e view low at with_it is =
+    let c : Detail = record { due = d.due; over = false } in
+    let task = read ws ds tasks k x d e view low at ∙ ap (task_of x) (sym with_it) in
+    both_set ws ds k y c e ∙ (λ i. set (view i) k (task_of (is i) c)) ∙ ap (λ (t : Task). set tasks k (record t { phase = ph.Running })) (sym task)
+
+-- a run of a task ends
+pub finish_sets : (ws : List Parts) (ds : List Detail) (tasks : List Task) (k due : ℕ) (x y : Parts) (over : Bool) (outcome : Outcome) → length ws ≡ length ds → tasks_of ws ds ≡ tasks → k < length tasks → x ≡ get_or ws k x →
+    ((d : Detail) → task_of y (record { due = due; over = over }) ≡ end_task outcome due (task_of x d)) →
+    tasks_of (set ws k y) (set ds k (record { due = due; over = over })) ≡ set tasks k (end_task outcome due (slice_index_or tasks k vacant))
+finish_sets ws ds tasks k due x y over outcome e view low at ends =
+    let c : Detail = record { due = due; over = over } in
+    let d = get_or ds k blank in
+    both_set ws ds k y c e ∙ (λ i. set (view i) k (ends d i)) ∙ ap (λ t. set tasks k (end_task outcome due t)) (sym (read ws ds tasks k x blank e view low at))
+
+-- so many vacant tasks
+vacant_tasks : (n : ℕ) (x : Parts) → x ≡ words.vacant → tasks_of (replicate n x) (replicate n blank) ≡ replicate n vacant
+vacant_tasks zero x is = refl
+vacant_tasks (suc n) x is = λ i. task_of (is i) blank ∷ vacant_tasks n x is i
+
+pub vacant_tables : (n : ℕ) (x : Parts) (ws : List Parts) (ds : List Detail) → x ≡ words.vacant → ws ≡ replicate n x → ds ≡ replicate n blank → tasks_of ws ds ≡ replicate n vacant
+vacant_tables n x ws ds is all none = (λ i. tasks_of (all i) (none i)) ∙ vacant_tasks n x is
+
+-- the task once its run has ended, by the outcome
+
+pub ended_done : (due : ℕ) (x y : Parts) (over : Bool) (outcome : Outcome) {value : ℕ} (d : Detail) → outcome ≡ o.Done value → y ≡ words.ended_well x → task_of y (record { due = due; over = over }) ≡ end_task outcome due (task_of x d)
+ended_done due x y over outcome d of is = ap (λ z. task_of z (record { due = due; over = over })) is ∙ ap (λ q. end_task q due (task_of x d)) (sym of)
+
+pub ended_failed : (due : ℕ) (x y : Parts) (over : Bool) (outcome : Outcome) {code : ℕ} (d : Detail) → outcome ≡ o.Failed code → y ≡ words.ended_badly x → task_of y (record { due = due; over = over }) ≡ end_task outcome due (task_of x d)
+ended_failed due x y over outcome d of is = ap (λ z. task_of z (record { due = due; over = over })) is ∙ ap (λ q. end_task q due (task_of x d)) (sym of)
+
+pub ended_again : (due : ℕ) (x y : Parts) (over : Bool) (outcome : Outcome) {next : ℕ} (d : Detail) → outcome ≡ o.Again next → y ≡ words.rearmed x → task_of y (record { due = due; over = over }) ≡ end_task outcome due (task_of x d)
+ended_again due x y over outcome d of is =
+    let run : x.run + 1 ≡ 1 + x.run = omega arith in
+    ap (λ z. task_of z (record { due = due; over = over })) is ∙ (λ i. record { phase = ph.Waiting; run = run i; due = due; cancelled = x.marked }) ∙ ap (λ q. end_task q due (task_of x d)) (sym of)
+
+pub ended_dropped : (due : ℕ) (x y : Parts) (over : Bool) (outcome : Outcome) (d : Detail) → outcome ≡ o.Dropped → over ≡ true → x.phase ≡ w.Running → y ≡ x → task_of y (record { due = due; over = over }) ≡ end_task outcome due (task_of x d)
+ended_dropped due x y over outcome d of dropped runs is =
+    ap (λ z. task_of z (record { due = due; over = over })) is ∙ (λ i. record { phase = phase_in (runs i) (dropped i); run = x.run; due = due; cancelled = x.marked }) ∙ ap (λ q. end_task q due (task_of x d)) (sym of)
