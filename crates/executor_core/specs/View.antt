@@ -36,7 +36,7 @@ is_running f = not (f.starts == f.finishes)
 -- no further run comes: the task was cancelled, or the one run of a one-shot task ended, or a run failed
 -- (ScheduledExecutorService.schedule: "a value-returning one-shot task"; scheduleAtFixedRate: "An
 -- execution of the task throws an exception. [..] Subsequent executions are suppressed."; that a one-shot task
--- whose run failed is not done is this project's rule)
+-- whose run failed is not done, and that nothing of a cancelled task comes, are this project's rules)
 abbrev pub is_over : Fate → Bool
 is_over f = f.cancelled || (f.failed || f.done)
 

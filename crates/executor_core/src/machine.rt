@@ -113,7 +113,8 @@ impl<A: Allocator> Core<A> {
     /// The word of each task by its number: how far the task has come, and whether it was cancelled.
     /// A cancelled word stands still, also once the run that was under way has ended.
     pub fn words(&self) -> &[Word]
-        ensures { result.now ≡ map word_of self.now.tasks }
+        ensures words { result.now ≡ map word_of self.now.tasks }
+        ensures count { length result.now ≡ task_count self.now.calls }
     {
         self.tasks.words()
     }

@@ -17,7 +17,7 @@ pub enum CodeCall {
         /// The number of the task, as that of a submission.
         task: u32,
     },
-    /// A task is cancelled.
+    /// A cancel of a task is asked for.
     Cancel {
         /// The number of the task, whose submission comes before.
         task: u32,
@@ -33,7 +33,7 @@ pub enum Event {
     Start(u8),
     /// The run of this worker ended.
     Finish(u8, Ending),
-    /// This task is cancelled from outside the plan.
+    /// A cancel of this task is asked for from outside the plan.
     Cancel(u32),
 }
 
@@ -48,7 +48,7 @@ pub enum Happening {
     Start(u8),
     /// The run of this worker ended.
     Finish(u8, Ending),
-    /// This task is cancelled from outside the plan.
+    /// A cancel of this task is asked for from outside the plan.
     Cancel(u32),
 }
 
@@ -126,12 +126,12 @@ pub enum Answer {
         task: u32,
         refusal: Refusal,
     },
-    /// The plan cancelled a task.
+    /// The plan asked for a cancel of a task.
     Cancel {
         task: u32,
         effect: CancelEffect,
     },
-    /// A task was cancelled from outside the plan.
+    /// A cancel of a task was asked for from outside the plan.
     Outside {
         task: u32,
         effect: CancelEffect,

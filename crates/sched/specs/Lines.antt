@@ -1,5 +1,5 @@
 -- Lines: what stands at the front of some bytes, and what a refill of the bytes at hand did.
--- A line ends with a newline (byte 10), and has at most 62 bytes before it (this project's rule).
+-- A line ends with a newline (byte 10), and has at most 62 bytes before it. All of it is this project's rule.
 use Rattle.std.specs.Prelude.{◌≡◌, ◌≢◌, ℕ, ◌+◌, ◌<◌, ◌≤◌, List, [], ◌∷◌, ◌++◌, Option, All, take, drop, length}
 use Rattle.std.specs.Io.KnownBytes.{Consumes, IsAtEnd, Keeps}
 use Rattle.sched.specs.declared.lines.Front.{Front}

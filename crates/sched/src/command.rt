@@ -29,7 +29,7 @@ A call has
                         runs
             \"cancel\"    cancels the task of a call that stands before it
   name    the task's name: 1 to 32 ASCII letters, digits, '-' and '_';
-          no other task has it
+          no other task has it, and a cancel has that of its task
   at      when the call is made, in nanoseconds, 0 where it is left out;
           no call has a smaller one than the call before it
 and, in nanoseconds,

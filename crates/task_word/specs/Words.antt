@@ -1,5 +1,5 @@
 -- The word of a task: its phase, the number of its run, and the bit of a cancel.
--- The phases, the numbers and the ranks are this project's rule.
+-- All of it is this project's rule.
 use Rattle.std.specs.Prelude.{◌≡◌, ℕ, ◌+◌, ◌*◌, ◌^◌, ◌<◌, Bool, true, false, ◌&&◌}
 use Rattle.task_word.specs.declared.phases.Phase.{Phase}
 use Rattle.task_word.specs.declared.phases.Phase.TheVariants.{Vacant, New, Running, Done, Failed}
