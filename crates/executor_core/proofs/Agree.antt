@@ -1,8 +1,8 @@
 -- The state that steps lead to agrees with the history.
 use Rattle.std.proofs.Common.{◌≡◌, ℕ, List, [], ◌∷◌, refl, sym, ap, ◌∙◌, subst}
 use Rattle.std.proofs.lemmas.Option.{none-some}
-use Rattle.executor_core.specs.declared.words.Happening.{Happening}
-use Rattle.executor_core.specs.Calls.{Planned}
+use Rattle.executor_core.specs.declared.types.Happening.{Happening}
+use Rattle.queue_code.specs.Calls.{Planned}
 use Rattle.executor_core.specs.Answers.{reply}
 use Rattle.executor_core.specs.Histories.{Entry, entry_of, happenings, Means, look, answer}
 use Rattle.executor_core.specs.State.{State, seen, next, after, opening, reply_of}

@@ -8,18 +8,18 @@ use Rattle.std.proofs.lemmas.Bool.{eqb-true, eq-eqb, lt-ltb, le-ltb, false≢tru
 use Rattle.std.proofs.lemmas.Bool.Decides.{nat_tests}
 use Rattle.std.proofs.lemmas.List.{length-set}
 use Rattle.sched_time.specs.declared.timing.Timing.{Timing}
-use Rattle.executor_core.specs.declared.words.CodeCall.{CodeCall}
-use Rattle.executor_core.specs.declared.words.CodeCall.TheVariants as c
-use Rattle.executor_core.specs.declared.words.CancelEffect.{CancelEffect}
-use Rattle.executor_core.specs.declared.words.CancelEffect.TheVariants as f
-use Rattle.executor_core.specs.declared.words.EventError.TheVariants as x
-use Rattle.executor_core.specs.declared.words.Happening.{Happening}
-use Rattle.executor_core.specs.declared.words.Happening.TheVariants as h
-use Rattle.executor_core.specs.declared.words.Answer.TheVariants as a
+use Rattle.queue_code.specs.declared.call.CodeCall.{CodeCall}
+use Rattle.queue_code.specs.declared.call.CodeCall.TheVariants as c
+use Rattle.executor_core.specs.declared.types.CancelEffect.{CancelEffect}
+use Rattle.executor_core.specs.declared.types.CancelEffect.TheVariants as f
+use Rattle.executor_core.specs.declared.types.EventError.TheVariants as x
+use Rattle.executor_core.specs.declared.types.Happening.{Happening}
+use Rattle.executor_core.specs.declared.types.Happening.TheVariants as h
+use Rattle.executor_core.specs.declared.types.Answer.TheVariants as a
 use Rattle.executor_core.specs.declared.task.Phase.{Phase}
 use Rattle.executor_core.specs.declared.task.Phase.TheVariants as ph
 use Rattle.executor_core.specs.declared.task.Task.{Task}
-use Rattle.executor_core.specs.Calls.{Planned, Terms, terms_of, task_count, count_after, is_submission, IsOrderlyCall, IsOrderlyFrom}
+use Rattle.queue_code.specs.Calls.{Planned, Terms, terms_of, task_count, count_after, is_submission, IsOrderlyCall, IsOrderlyFrom}
 use Rattle.executor_core.specs.View.{Fate, is_live, is_running, is_waiting}
 use Rattle.executor_core.specs.Answers.{plain, effect_on}
 use Rattle.executor_core.specs.State.{State, vacant, seen, seen_task, seen_phase, reply_of, state_after}

@@ -1,12 +1,12 @@
 -- The steps of an event.
 use Rattle.std.proofs.Common.{suc, ◌≡◌, ℕ, ◌+◌, List, [], ◌∷◌, ◌++◌, sym, ap, ◌∙◌, arith, subst}
 use Rattle.std.specs.Prelude.{replicate}
-use Rattle.executor_core.specs.declared.words.Event.{Event}
-use Rattle.executor_core.specs.declared.words.Happening.{Happening}
-use Rattle.executor_core.specs.declared.words.Happening.TheVariants as h
-use Rattle.executor_core.specs.declared.words.Answer.{Answer}
-use Rattle.executor_core.specs.declared.words.Line.{Line}
-use Rattle.executor_core.specs.Calls.{IsOrderly}
+use Rattle.executor_core.specs.declared.types.Event.{Event}
+use Rattle.executor_core.specs.declared.types.Happening.{Happening}
+use Rattle.executor_core.specs.declared.types.Happening.TheVariants as h
+use Rattle.executor_core.specs.declared.types.Answer.{Answer}
+use Rattle.executor_core.specs.declared.types.Line.{Line}
+use Rattle.queue_code.specs.Calls.{IsOrderly}
 use Rattle.executor_core.specs.Histories.{Entry, Means}
 use Rattle.executor_core.specs.Flows.{happening_of, part_of, reached, ReachesNext}
 use Rattle.executor_core.specs.Machine.{Machine, workers_of, Takes, Counts, Steps, Stands, Continues}

@@ -4,18 +4,17 @@ use Rattle.std.specs.Prelude.{slice_get, replicate}
 use Rattle.std.proofs.lemmas.Bool.{false≢true, le-leb}
 use Rattle.std.proofs.lemmas.List.{take_more}
 use Rattle.std.proofs.lemmas.Option.{none-some, same_Some}
-use Rattle.executor_core.specs.declared.words.Event.{Event}
-use Rattle.executor_core.specs.declared.words.Event.TheVariants as v
-use Rattle.executor_core.specs.declared.words.Happening.{Happening}
-use Rattle.executor_core.specs.declared.words.Happening.TheVariants as h
-use Rattle.executor_core.specs.declared.words.Line.{Line}
-use Rattle.executor_core.specs.Calls.{Planned, how_many, IsOrderly, IsOrderlyFrom, count_after}
+use Rattle.executor_core.specs.declared.types.Event.{Event}
+use Rattle.executor_core.specs.declared.types.Event.TheVariants as v
+use Rattle.executor_core.specs.declared.types.Happening.{Happening}
+use Rattle.executor_core.specs.declared.types.Happening.TheVariants as h
+use Rattle.executor_core.specs.declared.types.Line.{Line}
+use Rattle.queue_code.specs.Calls.{Planned, how_many, IsOrderly, IsOrderlyFrom, count_after}
 use Rattle.executor_core.specs.Answers.{reply, is_accepted, moment_after}
 use Rattle.executor_core.specs.Histories.{Entry, entry_of, happenings, made, now_of, is_call, answer, Means, MayCome}
 use Rattle.executor_core.specs.State.{State, next, reply_of, after, after_from}
 use Rattle.executor_core.specs.Flows.{reached, part_of, flow, history_from, history_of, lines_at, lines_of, lines_from, reply_in}
 use Rattle.executor_core.specs.Machine.{Machine, workers_of, state_of, Stands, Steps, Continues}
-use Rattle.executor_core.specs.Laws.{OneHistory, FlowsAreAnswered}
 use Rattle.executor_core.proofs.Agree.{Agrees, after_agrees, next_agrees}
 
 -- one list of happenings after another
@@ -145,7 +144,7 @@ history_from-append : (calls : List Planned) (workers : ℕ) (past : List Entry)
 history_from-append calls workers past [] hs = refl
 history_from-append calls workers past (x ∷ gs) hs = ap (λ p. entry_of x (answer calls workers p x) ∷ p) (history_from-append calls workers past gs hs)
 
-flow_happens : (calls : List Planned) (workers : ℕ) (events : List Event) → happenings (history_of calls workers events) ≡ flow calls events
+pub flow_happens : (calls : List Planned) (workers : ℕ) (events : List Event) → happenings (history_of calls workers events) ≡ flow calls events
 flow_happens calls workers events = happenings_from calls workers [] (flow calls events) ∙ append-nil (flow calls events)
 
 -- one event more
@@ -175,24 +174,14 @@ one_answer calls workers (e ∷ past) (f ∷ other) m n q =
     let ends : e.ends ≡ f.ends = m.3 ∙ (ap (λ r. r.ends) same ∙ sym n.3) in
     λ i. record { happening = head i; answer = answers i; ends = ends i } ∷ tail i
 
-pub one_history : OneHistory
-one_history calls workers events o = (
-  flow_means calls workers events o,
-  flow_happens calls workers events,
-  λ past m q. one_answer calls workers past (history_of calls workers events) m (flow_means calls workers events o) (q ∙ sym (flow_happens calls workers events)),
-)
-
 -- happenings of which each may come where it stands
 
-may_mean : (calls : List Planned) (workers : ℕ) (hs : List Happening) → ((later past : List Happening) (y : Happening) → hs ≡ later ++ y ∷ past → MayCome calls past y) →
+pub may_mean : (calls : List Planned) (workers : ℕ) (hs : List Happening) → ((later past : List Happening) (y : Happening) → hs ≡ later ++ y ∷ past → MayCome calls past y) →
     Means calls workers (history_from calls workers [] hs)
 may_mean calls workers [] may = tt
 may_mean calls workers (y ∷ before) may =
     let same : before ≡ happenings (history_from calls workers [] before) = sym (append-nil before) ∙ sym (happenings_from calls workers [] before) in
     (may_mean calls workers before (λ later past z e. may (y ∷ later) past z (ap (λ l. y ∷ l) e)), subst (λ past. MayCome calls past y) same (may [] before y refl), refl, refl)
-
-pub flows_are_answered : FlowsAreAnswered
-flows_are_answered calls workers hs may = (history_from calls workers [] hs, happenings_from calls workers [] hs ∙ append-nil hs, may_mean calls workers hs may)
 
 -- steps of a state give the lines of the history
 

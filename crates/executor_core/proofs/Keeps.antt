@@ -8,17 +8,17 @@ use Rattle.sched_time.specs.declared.timing.Timing.{Timing}
 use Rattle.sched_time.specs.declared.timing.Timing.TheVariants as t
 use Rattle.sched_time.specs.declared.timing.Ending.{Ending}
 use Rattle.sched_time.specs.declared.timing.Ending.TheVariants as e
-use Rattle.executor_core.specs.declared.words.Happening.{Happening}
-use Rattle.executor_core.specs.declared.words.Happening.TheVariants as h
-use Rattle.executor_core.specs.declared.words.Outcome.{Outcome}
-use Rattle.executor_core.specs.declared.words.Outcome.TheVariants as o
-use Rattle.executor_core.specs.declared.words.Answer.{Answer}
-use Rattle.executor_core.specs.declared.words.Answer.TheVariants as a
+use Rattle.executor_core.specs.declared.types.Happening.{Happening}
+use Rattle.executor_core.specs.declared.types.Happening.TheVariants as h
+use Rattle.executor_core.specs.declared.types.Outcome.{Outcome}
+use Rattle.executor_core.specs.declared.types.Outcome.TheVariants as o
+use Rattle.executor_core.specs.declared.types.Answer.{Answer}
+use Rattle.executor_core.specs.declared.types.Answer.TheVariants as a
 use Rattle.executor_core.specs.declared.task.Phase.{Phase}
 use Rattle.executor_core.specs.declared.task.Phase.TheVariants as ph
 use Rattle.executor_core.specs.declared.task.Task.{Task}
 use Rattle.delay_queue.specs.Queues as queues
-use Rattle.executor_core.specs.Calls.{terms_of, task_count}
+use Rattle.queue_code.specs.Calls.{terms_of, task_count}
 use Rattle.executor_core.specs.Answers.{plain, outcome_in}
 use Rattle.executor_core.specs.State.{vacant, seen, reply_of, state_after, finish_task, end_task, due_past}
 use Rattle.executor_core.specs.Machine.{Machine, workers_of, state_of, Takes, IsKept, IsSound, IsDue, IsCounted, queued, queued_phase, queued_again}

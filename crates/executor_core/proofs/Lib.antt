@@ -3,7 +3,7 @@ pub mod Views
 pub mod Sound
 pub mod Agree
 pub mod First
-pub mod Facts
+pub mod Starting
 pub mod Flowing
 pub mod Pairs
 pub mod Tables
@@ -13,10 +13,4 @@ pub mod Keeps
 pub mod Cancels
 pub mod Opens
 pub mod Events
-pub mod Plains
-pub mod Places
-pub mod Reading
 pub mod Within
-mod Waiting
-pub mod Repeats
-pub mod Endings

@@ -3,14 +3,14 @@ use Rattle.std.proofs.Common.{◌≡◌, ℕ, ◌+◌, ◌&&◌, ◌||◌, ◌==
 use Rattle.std.specs.Prelude.{if◌then◌else◌}
 use Rattle.sched_time.specs.declared.timing.Timing.{Timing}
 use Rattle.sched_time.specs.declared.timing.Timing.TheVariants as t
-use Rattle.executor_core.specs.declared.words.Outcome.{Outcome}
-use Rattle.executor_core.specs.declared.words.Outcome.TheVariants as o
-use Rattle.executor_core.specs.declared.words.Answer.{Answer}
-use Rattle.executor_core.specs.declared.words.Answer.TheVariants as a
+use Rattle.executor_core.specs.declared.types.Outcome.{Outcome}
+use Rattle.executor_core.specs.declared.types.Outcome.TheVariants as o
+use Rattle.executor_core.specs.declared.types.Answer.{Answer}
+use Rattle.executor_core.specs.declared.types.Answer.TheVariants as a
 use Rattle.executor_core.specs.declared.task.Phase.{Phase}
 use Rattle.executor_core.specs.declared.task.Phase.TheVariants as ph
 use Rattle.executor_core.specs.declared.task.Task.{Task}
-use Rattle.executor_core.specs.Calls.{Terms, due_at}
+use Rattle.queue_code.specs.Calls.{Terms, due_at}
 use Rattle.executor_core.specs.View.{Fate}
 use Rattle.executor_core.specs.Histories.{is_submit, is_cancel, is_start, is_finish, is_finish_with, is_done, is_failed}
 use Rattle.executor_core.specs.State.{seen_task, seen_phase, due_ahead, due_past, finish_task, move_task, submit_phase}

@@ -9,7 +9,7 @@ use Rattle.sched_time.specs.declared.timing.Timing.TheVariants as t
 use Rattle.executor_core.specs.declared.task.Task.{Task}
 use Rattle.executor_core.specs.declared.task.Phase.TheVariants as ph
 use Rattle.executor_core.specs.Counts.{IsNoCount}
-use Rattle.executor_core.specs.Calls.{Planned, IsOrderly, IsOrderlyFrom, count_after, how_many, task_count}
+use Rattle.queue_code.specs.Calls.{Planned, IsOrderly, IsOrderlyFrom, count_after, how_many, task_count}
 use Rattle.executor_core.specs.Flows.{reached, ReachesNext}
 use Rattle.executor_core.specs.State.{opening, vacant, seen}
 use Rattle.executor_core.specs.Machine.{Machine, IsOpening, IsKept, IsSound, IsDue, queued}

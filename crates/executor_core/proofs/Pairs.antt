@@ -9,8 +9,8 @@ use Rattle.task_word.specs.declared.phases.Phase.TheVariants as w
 use Rattle.executor_core.specs.declared.task.Phase.TheVariants as ph
 use Rattle.executor_core.specs.declared.task.Task.{Task}
 use Rattle.executor_core.specs.declared.tasks.Detail.{Detail}
-use Rattle.executor_core.specs.declared.words.Outcome.{Outcome}
-use Rattle.executor_core.specs.declared.words.Outcome.TheVariants as o
+use Rattle.executor_core.specs.declared.types.Outcome.{Outcome}
+use Rattle.executor_core.specs.declared.types.Outcome.TheVariants as o
 use Rattle.executor_core.specs.State.{vacant, submit_task, end_task}
 use Rattle.executor_core.specs.Tasks.{phase_in, task_of, tasks_of, word_phase, word_of}
 

@@ -5,15 +5,15 @@ use Rattle.std.specs.Option.{option_map_or}
 use Rattle.std.proofs.lemmas.Bool.{false≢true, eqb-true, eq-eqb, and_parts, leb-true}
 use Rattle.std.proofs.lemmas.Bool.Decides.{nat_tests}
 use Rattle.std.proofs.lemmas.Option.{none-some, same_Some}
-use Rattle.executor_core.specs.declared.words.CodeCall.{CodeCall}
-use Rattle.executor_core.specs.declared.words.CodeCall.TheVariants as c
-use Rattle.executor_core.specs.declared.words.Happening.{Happening}
-use Rattle.executor_core.specs.declared.words.Happening.TheVariants as h
-use Rattle.executor_core.specs.declared.words.EventError.TheVariants as x
-use Rattle.executor_core.specs.declared.words.Outcome.{Outcome}
-use Rattle.executor_core.specs.declared.words.Outcome.TheVariants as o
-use Rattle.executor_core.specs.declared.words.Answer.{Answer}
-use Rattle.executor_core.specs.declared.words.Answer.TheVariants as a
+use Rattle.queue_code.specs.declared.call.CodeCall.{CodeCall}
+use Rattle.queue_code.specs.declared.call.CodeCall.TheVariants as c
+use Rattle.executor_core.specs.declared.types.Happening.{Happening}
+use Rattle.executor_core.specs.declared.types.Happening.TheVariants as h
+use Rattle.executor_core.specs.declared.types.EventError.TheVariants as x
+use Rattle.executor_core.specs.declared.types.Outcome.{Outcome}
+use Rattle.executor_core.specs.declared.types.Outcome.TheVariants as o
+use Rattle.executor_core.specs.declared.types.Answer.{Answer}
+use Rattle.executor_core.specs.declared.types.Answer.TheVariants as a
 use Rattle.executor_core.specs.declared.task.Phase.{Phase}
 use Rattle.executor_core.specs.declared.task.Phase.TheVariants as ph
 use Rattle.executor_core.specs.declared.task.Task.{Task}
@@ -21,7 +21,7 @@ use Rattle.sched_time.specs.declared.timing.Timing.{Timing}
 use Rattle.sched_time.specs.declared.timing.Timing.TheVariants as t
 use Rattle.sched_time.specs.declared.timing.Ending.{Ending}
 use Rattle.sched_time.specs.declared.timing.Ending.TheVariants as e
-use Rattle.executor_core.specs.Calls.{Planned, Terms, terms_of, due_at, numbers, task_count}
+use Rattle.queue_code.specs.Calls.{Planned, Terms, terms_of, due_at, numbers, task_count}
 use Rattle.executor_core.specs.View.{View, is_enabled, is_running, is_waiting, first_enabled, earlier, precedes}
 use Rattle.executor_core.specs.Answers.{Reply, plain, called, started, finished, effect_on, outcome_in, due_next, is_accepted, moment_after}
 use Rattle.executor_core.specs.Histories.{is_cancel, work_after}

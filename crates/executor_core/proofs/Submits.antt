@@ -7,16 +7,16 @@ use Rattle.std.proofs.lemmas.Bool.{eqb-true}
 use Rattle.std.proofs.lemmas.Bool.Decides.{nat_tests}
 use Rattle.std.proofs.lemmas.Option.{slice_get_within}
 use Rattle.std.proofs.lemmas.List.{length-set, map-set}
-use Rattle.executor_core.specs.declared.words.CodeCall.TheVariants as c
-use Rattle.executor_core.specs.declared.words.Refusal.TheVariants as refusal
-use Rattle.executor_core.specs.declared.words.Happening.TheVariants as h
-use Rattle.executor_core.specs.declared.words.Kind.{Kind}
-use Rattle.executor_core.specs.declared.words.Answer.TheVariants as a
+use Rattle.queue_code.specs.declared.call.CodeCall.TheVariants as c
+use Rattle.executor_core.specs.declared.types.Refusal.TheVariants as refusal
+use Rattle.executor_core.specs.declared.types.Happening.TheVariants as h
+use Rattle.executor_core.specs.declared.types.Kind.{Kind}
+use Rattle.executor_core.specs.declared.types.Answer.TheVariants as a
 use Rattle.executor_core.specs.declared.task.Phase.TheVariants as ph
 use Rattle.executor_core.specs.declared.task.Task.{Task}
 use Rattle.sched_time.specs.declared.timing.Timing.{Timing}
 use Rattle.sched_time.specs.declared.timing.Timing.TheVariants as t
-use Rattle.executor_core.specs.Calls.{Planned, Terms, terms_of, due_at, task_count}
+use Rattle.queue_code.specs.Calls.{Planned, Terms, terms_of, due_at, task_count}
 use Rattle.executor_core.specs.Answers.{Reply, plain, called, kind_of}
 use Rattle.executor_core.specs.State.{State, seen, next, reply_of, state_after, vacant, submit_phase, submit_task}
 use Rattle.executor_core.specs.Machine.{Machine, workers_of, state_of, IsSound, IsKept, IsDue, Takes, queued}

@@ -5,14 +5,14 @@ use Rattle.std.proofs.Math.ListN.{set}
 use Rattle.std.proofs.lemmas.Bool.{false≢true, eqb-true, eqb-false, eq-eqb, false_from_ne_true}
 use Rattle.std.proofs.lemmas.Option.{none-some, same_Some}
 use Rattle.std.proofs.lemmas.List.{get_or-set_same, get_or-set_other}
-use Rattle.executor_core.specs.declared.words.CodeCall.{CodeCall}
-use Rattle.executor_core.specs.declared.words.CodeCall.TheVariants as c
+use Rattle.queue_code.specs.declared.call.CodeCall.{CodeCall}
+use Rattle.queue_code.specs.declared.call.CodeCall.TheVariants as c
 use Rattle.sched_time.specs.declared.timing.Timing.{Timing}
 use Rattle.executor_core.specs.declared.task.Phase.TheVariants as ph
 use Rattle.executor_core.specs.declared.task.Task.{Task}
 use Rattle.executor_core.specs.State.{vacant}
 use Rattle.executor_core.specs.Machine.{RunsBelow}
-use Rattle.executor_core.specs.Calls.{Planned, IsOrderlyFrom, IsOrderlyCall, count_after, is_submission, task_count, terms_of}
+use Rattle.queue_code.specs.Calls.{Planned, IsOrderlyFrom, IsOrderlyCall, count_after, is_submission, task_count, terms_of}
 
 -- a table after a write
 pub at_set : {X : Type 0} (xs : List X) (k j : ℕ) (x d : X) → k < length xs → slice_index_or (set xs k x) j d ≡ cond (k == j) x (slice_index_or xs j d)

@@ -5,24 +5,24 @@ use Rattle.std.proofs.lemmas.Bool.{false≢true, eqb-true, and_parts, leb-true}
 use Rattle.std.proofs.lemmas.Bool.Decides.{nat_tests}
 use Rattle.sched_time.specs.declared.timing.Timing.{Timing}
 use Rattle.sched_time.specs.declared.timing.Timing.TheVariants as t
-use Rattle.executor_core.specs.declared.words.CodeCall.{CodeCall}
-use Rattle.executor_core.specs.declared.words.CodeCall.TheVariants as c
-use Rattle.executor_core.specs.declared.words.Happening.{Happening}
-use Rattle.executor_core.specs.declared.words.Happening.TheVariants as h
-use Rattle.executor_core.specs.declared.words.Answer.{Answer}
-use Rattle.executor_core.specs.declared.words.Answer.TheVariants as a
-use Rattle.executor_core.specs.Calls.{Planned, Terms, IsOrderly, IsOrderlyCall, IsOrderlyFrom, IsTimed, count_after, numbers, terms_of, terms_in, due_at}
+use Rattle.queue_code.specs.declared.call.CodeCall.{CodeCall}
+use Rattle.queue_code.specs.declared.call.CodeCall.TheVariants as c
+use Rattle.executor_core.specs.declared.types.Happening.{Happening}
+use Rattle.executor_core.specs.declared.types.Happening.TheVariants as h
+use Rattle.executor_core.specs.declared.types.Answer.{Answer}
+use Rattle.executor_core.specs.declared.types.Answer.TheVariants as a
+use Rattle.queue_code.specs.Calls.{Planned, Terms, IsOrderly, IsOrderlyCall, IsOrderlyFrom, IsTimed, count_after, numbers, terms_of, terms_in, due_at}
 use Rattle.executor_core.specs.View.{View, is_waiting}
 use Rattle.executor_core.specs.Answers.{reply, moment_after, is_accepted}
 use Rattle.executor_core.specs.Histories.{Entry, Means, look, happenings, made, now_of, is_start, is_finish, starts, last_finish, due_of}
 use Rattle.executor_core.specs.State.{due_ahead}
 use Rattle.executor_core.specs.Flows.{history_from}
-use Rattle.executor_core.specs.Plain.{IsAnswered, IsWithin}
+use Rattle.executor_core.specs.Within.{IsAnswered, IsWithin}
 use Rattle.executor_core.proofs.Tables.{call_moment}
 use Rattle.executor_core.proofs.Moves.{due_landed, due_after}
 use Rattle.executor_core.proofs.Views.{due_moves}
 use Rattle.executor_core.proofs.Sound.{first_is_enabled}
-use Rattle.executor_core.proofs.Facts.{start_says}
+use Rattle.executor_core.proofs.Starting.{start_says}
 
 -- the terms of a task
 

@@ -7,19 +7,19 @@ use Rattle.std.proofs.lemmas.Bool.{eqb-true, and_parts, and_from, lt-ltb, le-ltb
 use Rattle.std.proofs.lemmas.Option.{none-some, same_Some}
 use Rattle.sched_time.specs.declared.timing.Timing.{Timing}
 use Rattle.sched_time.specs.declared.timing.Timing.TheVariants as t
-use Rattle.executor_core.specs.declared.words.EventError.TheVariants as x
-use Rattle.executor_core.specs.declared.words.Happening.{Happening}
-use Rattle.executor_core.specs.declared.words.Happening.TheVariants as h
-use Rattle.executor_core.specs.declared.words.Outcome.{Outcome}
-use Rattle.executor_core.specs.declared.words.Outcome.TheVariants as o
-use Rattle.executor_core.specs.declared.words.Answer.{Answer}
-use Rattle.executor_core.specs.declared.words.Answer.TheVariants as a
+use Rattle.executor_core.specs.declared.types.EventError.TheVariants as x
+use Rattle.executor_core.specs.declared.types.Happening.{Happening}
+use Rattle.executor_core.specs.declared.types.Happening.TheVariants as h
+use Rattle.executor_core.specs.declared.types.Outcome.{Outcome}
+use Rattle.executor_core.specs.declared.types.Outcome.TheVariants as o
+use Rattle.executor_core.specs.declared.types.Answer.{Answer}
+use Rattle.executor_core.specs.declared.types.Answer.TheVariants as a
 use Rattle.executor_core.specs.declared.task.Phase.{Phase}
 use Rattle.executor_core.specs.declared.task.Phase.TheVariants as ph
 use Rattle.executor_core.specs.declared.task.Task.{Task}
 use Rattle.sched_time.specs.declared.timing.Ending.{Ending}
 use Rattle.delay_queue.specs.Queues as queues
-use Rattle.executor_core.specs.Calls.{Planned, Terms, terms_of, due_at, numbers, task_count}
+use Rattle.queue_code.specs.Calls.{Planned, Terms, terms_of, due_at, numbers, task_count}
 use Rattle.executor_core.specs.View.{is_waiting, is_enabled, first_enabled, comes_before}
 use Rattle.executor_core.specs.Answers.{plain, started, finished, outcome_in, due_next}
 use Rattle.executor_core.specs.State.{State, seen, seen_phase, due_seen, due_ahead, due_past, next, reply_of, state_after, vacant, finish_task, end_task}

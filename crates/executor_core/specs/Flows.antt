@@ -1,12 +1,12 @@
 -- Which happenings some events make, and the lines of a history.
 -- All of it is this project's rule.
 use Rattle.std.specs.Prelude.{◌≡◌, ℕ, ◌+◌, ◌<◌, length, nat_le, if◌then◌else◌, List, [], ◌∷◌, ◌++◌, replicate, drop}
-use Rattle.executor_core.specs.declared.words.Event.{Event}
-use Rattle.executor_core.specs.declared.words.Event.TheVariants as v
-use Rattle.executor_core.specs.declared.words.Happening.{Happening}
-use Rattle.executor_core.specs.declared.words.Happening.TheVariants as h
-use Rattle.executor_core.specs.declared.words.Line.{Line}
-use Rattle.executor_core.specs.Calls.{Planned, how_many}
+use Rattle.executor_core.specs.declared.types.Event.{Event}
+use Rattle.executor_core.specs.declared.types.Event.TheVariants as v
+use Rattle.executor_core.specs.declared.types.Happening.{Happening}
+use Rattle.executor_core.specs.declared.types.Happening.TheVariants as h
+use Rattle.executor_core.specs.declared.types.Line.{Line}
+use Rattle.queue_code.specs.Calls.{Planned, how_many}
 use Rattle.executor_core.specs.Answers.{Reply, is_accepted}
 use Rattle.executor_core.specs.Histories.{Entry, happenings, made, now_of, answer, entry_of}
 use Rattle.executor_core.specs.State.{State, after_from, next, reply_of}

@@ -1,15 +1,13 @@
 pub use Rattle.sched_time.specs.Times
 pub use Rattle.sched_time.specs.Dues
 pub use Rattle.task_word.specs.Words
+pub use Rattle.queue_code.specs.Calls
 pub mod Counts
-pub mod Calls
 pub mod View
 pub mod Answers
 pub mod Histories
 pub mod State
 pub mod Tasks
 pub mod Flows
+pub mod Within
 pub mod Machine
-pub mod Plain
-pub mod Positions
-pub mod Laws

@@ -5,15 +5,15 @@ use Rattle.std.specs.Option.{option_map_or}
 use Rattle.sched_time.specs.Dues.{next_due}
 use Rattle.sched_time.specs.declared.timing.Timing.{Timing}
 use Rattle.sched_time.specs.declared.timing.Timing.TheVariants as t
-use Rattle.executor_core.specs.declared.words.Happening.{Happening}
-use Rattle.executor_core.specs.declared.words.Outcome.{Outcome}
-use Rattle.executor_core.specs.declared.words.Outcome.TheVariants as o
-use Rattle.executor_core.specs.declared.words.Answer.{Answer}
-use Rattle.executor_core.specs.declared.words.Answer.TheVariants as a
+use Rattle.executor_core.specs.declared.types.Happening.{Happening}
+use Rattle.executor_core.specs.declared.types.Outcome.{Outcome}
+use Rattle.executor_core.specs.declared.types.Outcome.TheVariants as o
+use Rattle.executor_core.specs.declared.types.Answer.{Answer}
+use Rattle.executor_core.specs.declared.types.Answer.TheVariants as a
 use Rattle.executor_core.specs.declared.task.Phase.{Phase}
 use Rattle.executor_core.specs.declared.task.Phase.TheVariants as ph
 use Rattle.executor_core.specs.declared.task.Task.{Task}
-use Rattle.executor_core.specs.Calls.{Planned, Terms, terms_of, due_at}
+use Rattle.queue_code.specs.Calls.{Planned, Terms, terms_of, due_at}
 use Rattle.executor_core.specs.View.{Fate, View}
 use Rattle.executor_core.specs.Answers.{Reply, reply, moment_after}
 use Rattle.executor_core.specs.Histories.{is_call, is_cancel, work_after}

@@ -1,9 +1,9 @@
 ghost use Rattle.std.specs.Prelude.{◌≡◌, ◌≢◌, ℕ, ◌+◌, ◌-◌, ◌^◌, ◌<◌, ◌≤◌, ◌↔◌, ◌⊎◌, List, [], ◌∷◌, ◌++◌, true, length, map, replicate, None, Some, slice_get, slice_set, slice_index_or, Option, OnOk, OnErr, IsOk, IfOk, IfErr, IsErrOf, IsTrue, false, vec_len, vec_capacity};
-ghost use Rattle.executor_core.specs.declared.words.Happening.TheVariants as happening;
-ghost use Rattle.executor_core.specs.declared.words.CodeCall.TheVariants as call;
-ghost use Rattle.executor_core.specs.declared.words.CancelEffect.TheVariants as effect;
+ghost use Rattle.executor_core.specs.declared.types.Happening.TheVariants as happening;
+ghost use Rattle.queue_code.specs.declared.call.CodeCall.TheVariants as call;
+ghost use Rattle.executor_core.specs.declared.types.CancelEffect.TheVariants as effect;
 ghost use Rattle.executor_core.specs.declared.task.Phase.TheVariants as ph;
-ghost use Rattle.executor_core.specs.Calls.{IsOrderly, Terms, task_count, terms_of, is_submission};
+ghost use Rattle.queue_code.specs.Calls.{IsOrderly, Terms, task_count, terms_of, is_submission};
 ghost use Rattle.executor_core.specs.Histories as histories;
 ghost use Rattle.sched_time.specs.Dues.{next_due};
 ghost use Rattle.executor_core.specs.State.{vacant, seen_task, due_past};
@@ -14,14 +14,13 @@ ghost use Rattle.executor_core.specs.Counts.{IsNoCount};
 ghost use Rattle.executor_core.specs.Flows.{happening_of, reached, ReachesNext, calls_before, part_of};
 
 use crate::error::CoreError;
-use crate::limits::{LATEST, MOST_WORKERS};
+use crate::limits::MOST_WORKERS;
 use crate::task::{Phase, Task};
 use crate::tasks::Tasks;
-use crate::words::{
-    Answer, CancelEffect, CodeCall, Event, EventError, Kind, Line, Outcome, Refusal,
-};
+use crate::types::{Answer, CancelEffect, Event, EventError, Kind, Line, Outcome, Refusal};
 use delay_queue::{DelayQueue, Entry};
-use sched_time::{Ending, Timing, next_due};
+use queue_code::CodeCall;
+use sched_time::{Ending, LONGEST, Timing, next_due};
 use std::alloc::{AllocError, Allocator};
 use std::marker::Model;
 use task_word::Word;
@@ -182,7 +181,7 @@ impl<A: Allocator> Core<A> {
         let Event::Clock(moment) = event else {
             return;
         };
-        if self.moment <= moment && moment <= LATEST {
+        if self.moment <= moment && moment <= LONGEST {
             self.make_calls(moment, out);
         }
     }
@@ -332,7 +331,7 @@ impl<A: Allocator> Core<A> {
         if moment < self.moment {
             return Answer::Error(EventError::Backward);
         }
-        if moment > LATEST {
+        if moment > LONGEST {
             return Answer::Error(EventError::TooFar);
         }
         self.moment = moment;

@@ -1,12 +1,12 @@
 //! The tasks of a core: the word of each, and beside it what its word does not say.
 ghost use Rattle.std.specs.Prelude.{◌≡◌, ◌≢◌, ◌+◌, ◌^◌, ◌<◌, ◌↔◌, true, false, length, replicate, map, slice_index_or, slice_set, IfOk, IsTrue};
 ghost use Rattle.executor_core.specs.declared.task.Phase.TheVariants as ph;
-ghost use Rattle.executor_core.specs.declared.words.Outcome.TheVariants as o;
+ghost use Rattle.executor_core.specs.declared.types.Outcome.TheVariants as o;
 ghost use Rattle.executor_core.specs.State.{vacant, submit_task, end_task};
 ghost use Rattle.executor_core.specs.Tasks.{phase_in, word_of};
 
 use crate::task::{Phase, Task};
-use crate::words::Outcome;
+use crate::types::Outcome;
 use std::alloc::{AllocError, Allocator};
 use std::marker::Model;
 use task_word::Word;

@@ -9,7 +9,7 @@ use Rattle.clap.specs.declared.error.kind.ErrorKind.{ErrorKind}
 use Rattle.clap.specs.declared.error.kind.ErrorKind.TheVariants as k
 use Rattle.sched.specs.declared.fault_lines.Fault.{Fault}
 use Rattle.sched.specs.declared.fault_lines.Fault.TheVariants.{Run}
-use Rattle.sched.specs.declared.report.RunError.TheVariants as x
+use Rattle.sched_engine.specs.declared.report.RunError.TheVariants as x
 use Rattle.sched.specs.Faults.{status_of}
 
 -- PLAN: a text, which has to be there

@@ -6,9 +6,9 @@ use Rattle.std.specs.declared.io.Error.{Error}
 use Rattle.std.specs.declared.io.ErrorKind.TheVariants.{OutOfMemory}
 use Rattle.sched.specs.declared.fault_lines.Fault.{Fault}
 use Rattle.sched.specs.declared.fault_lines.Fault.TheVariants as f
-use Rattle.sched.specs.declared.plan_read.faults.PlanFaultKind.TheVariants as kinds
-use Rattle.sched.specs.declared.report.RunError.{RunError}
-use Rattle.sched.specs.declared.report.RunError.TheVariants as x
+use Rattle.plan_read.specs.declared.faults.PlanFaultKind.TheVariants as kinds
+use Rattle.sched_engine.specs.declared.report.RunError.{RunError}
+use Rattle.sched_engine.specs.declared.report.RunError.TheVariants as x
 
 -- the exit status that goes with a fault: 2 for the command line, else 1
 abbrev pub status_of : Fault → ℕ

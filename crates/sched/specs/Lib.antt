@@ -1,13 +1,3 @@
-pub use Rattle.executor_core.specs.Calls
-pub use Rattle.executor_core.specs.Histories
-pub use Rattle.executor_core.specs.Flows
-pub mod Ends
-pub mod Lines
-pub mod Spelling
-pub mod Names
-pub mod Plans
-pub mod PlanReading
-pub mod PlanCalls
-pub mod Running
+pub use Rattle.sched_engine.specs.Running
 pub mod Faults
 pub mod Commands

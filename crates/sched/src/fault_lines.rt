@@ -3,10 +3,10 @@
 ghost use Rattle.std.specs.Prelude.{◌≡◌};
 ghost use Rattle.sched.specs.Faults.{status_of, IsToldAs, IsOfSystem};
 ghost use Rattle.sched.specs.declared.fault_lines.Fault.TheVariants.{Run};
-ghost use Rattle.sched.specs.declared.report.RunError.TheVariants.{Memory};
+ghost use Rattle.sched_engine.specs.declared.report.RunError.TheVariants.{Memory};
 
-use crate::plan_read::{PlanFault, PlanFaultKind};
-use crate::report::RunError;
+use plan_read::{PlanFault, PlanFaultKind};
+use sched_engine::RunError;
 use std::alloc::AllocError;
 use std::io;
 use std::io::ErrorKind;

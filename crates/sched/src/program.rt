@@ -8,14 +8,11 @@ ghost use Rattle.sched.specs.Faults.{IsOrMemory, status_of};
 ghost use Rattle.sched.specs.declared.fault_lines.Fault.TheVariants.{Words};
 
 use crate::command::command;
-use crate::engine::run;
 use crate::fault_lines::Fault;
 use crate::plan_file::plan_text;
-use crate::readers::Reading;
-use crate::report::RunError;
-use crate::writers::Writing;
 use clap::error::ErrorKind;
 use clap::{ArgMatches, Error};
+use sched_engine::{Reading, RunError, Writing, run};
 use std::process::ExitCode;
 use std::rt::{Env, Files};
 use std::{env, io};

@@ -2,11 +2,9 @@ ghost use Rattle.std.specs.Prelude.{◌≡◌, ◌+◌, ◌<◌, ◌↔◌, IfOk
 ghost use Rattle.sched_time.specs.Times.{longest, span_of, period_of};
 
 use crate::error::TimeError;
+use crate::limits::LONGEST;
 use crate::spans::Span;
 use crate::unit::Unit;
-
-/// The greatest moment and the longest span, in nanoseconds.
-const LONGEST: u64 = 1 << 62;
 
 /// The span of `value` units, where a negative value counts as 0.
 ///

@@ -12,6 +12,7 @@
 
 mod conversions;
 mod error;
+mod limits;
 mod spans;
 #[cfg(test)]
 mod tests;
@@ -20,6 +21,7 @@ mod unit;
 
 pub use conversions::{moment, period, span};
 pub use error::TimeError;
+pub use limits::LONGEST;
 pub use spans::Span;
 pub use timing::{Ending, Timing, next_due};
 pub use unit::Unit;

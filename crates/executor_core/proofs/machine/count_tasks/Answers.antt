@@ -1,7 +1,7 @@
 use Rattle.std.proofs.Common.{ℕ, Bool, take, ap, cond, ◌∙◌, sym, arith, length-take}
-use Rattle.executor_core.specs.declared.words.CodeCall.TheVariants as call
+use Rattle.queue_code.specs.declared.call.CodeCall.TheVariants as call
 use Rattle.sched_time.specs.declared.timing.Timing.TheVariants as t
-use Rattle.executor_core.specs.Calls.{Planned, is_submission}
+use Rattle.queue_code.specs.Calls.{Planned, is_submission}
 use Rattle.executor_core.proofs.Flowing.{how_many-more, how_many-le}
 use Rattle.executor_core.proofs.Tables.{read_at}
 use Rattle.executor_core.proofs.machine.count_tasks.Goals.{then-is_submission, else-is_submission}

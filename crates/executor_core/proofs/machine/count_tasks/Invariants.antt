@@ -1,5 +1,5 @@
 use Rattle.std.proofs.Common.{◌≡◌, take}
-use Rattle.executor_core.specs.Calls.{task_count}
+use Rattle.queue_code.specs.Calls.{task_count}
 use Rattle.executor_core.proofs.machine.count_tasks.Given as goal
 
 abbrev pub invariant-loop-planned : goal.invariant-loop-planned

@@ -8,7 +8,7 @@ use Rattle.sched.specs.Commands.{IsShown, sched_app}
 use Rattle.sched.specs.Faults.{status_of}
 use Rattle.sched.specs.declared.fault_lines.Fault.{Fault}
 use Rattle.sched.specs.declared.fault_lines.Fault.TheVariants.{Run}
-use Rattle.sched.specs.declared.report.RunError.TheVariants as x
+use Rattle.sched_engine.specs.declared.report.RunError.TheVariants as x
 use Rattle.sched.proofs.program.answer_words.Goals as goal
 
 is_known : is_simple_and_free sched_app ≡ true

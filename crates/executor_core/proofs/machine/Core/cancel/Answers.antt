@@ -1,8 +1,8 @@
 use Rattle.std.proofs.Common.{◌≡◌, ◌<◌, length, ap, sym, ◌∙◌, subst, rules}
 use Rattle.std.specs.Prelude.{slice_index_or}
 use Rattle.executor_core.specs.declared.task.Task.{Task}
-use Rattle.executor_core.specs.declared.words.CancelEffect.TheVariants as effect
-use Rattle.executor_core.specs.Calls.{terms_of}
+use Rattle.executor_core.specs.declared.types.CancelEffect.TheVariants as effect
+use Rattle.queue_code.specs.Calls.{terms_of}
 use Rattle.executor_core.specs.Answers.{effect_on}
 use Rattle.executor_core.specs.State.{vacant, seen_task}
 use Rattle.executor_core.specs.Machine.{Machine}

@@ -1,6 +1,6 @@
 use Rattle.std.proofs.Common.{◌≡◌, ◌<◌, length, Some, max, refl, ap, sym, ◌∙◌, arith, subst}
 use Rattle.std.specs.Prelude.{slice_get}
-use Rattle.executor_core.specs.declared.words.CodeCall.TheVariants as call
+use Rattle.queue_code.specs.declared.call.CodeCall.TheVariants as call
 use Rattle.executor_core.specs.Machine.{Machine}
 use Rattle.executor_core.proofs.Cancels.{names_a_task, call_kept, plan_steps, is_cancelled_so}
 use Rattle.executor_core.proofs.machine.Core.cancel_by_plan.Goals as goal

@@ -1,6 +1,6 @@
 use Rattle.std.proofs.Common.{◌≡◌, ℕ, ◌+◌, ◌-◌, ◌<◌, length}
 use Rattle.std.specs.Prelude.{replicate, vec_len, vec_capacity}
-use Rattle.executor_core.specs.declared.words.Happening.TheVariants as h
+use Rattle.executor_core.specs.declared.types.Happening.TheVariants as h
 use Rattle.executor_core.specs.Flows.{reached}
 use Rattle.executor_core.specs.Machine.{Steps}
 use Rattle.executor_core.proofs.machine.Core.make_calls.Given as goal

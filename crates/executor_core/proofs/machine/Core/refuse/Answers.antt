@@ -1,6 +1,6 @@
 use Rattle.std.proofs.Common.{◌≡◌, Some, ap, ◌∙◌}
 use Rattle.std.specs.Prelude.{slice_get}
-use Rattle.executor_core.specs.declared.words.CodeCall.TheVariants as call
+use Rattle.queue_code.specs.declared.call.CodeCall.TheVariants as call
 use Rattle.executor_core.proofs.Submits.{refuse_keeps, refuse_steps}
 use Rattle.executor_core.proofs.machine.Core.refuse.Goals as goal
 

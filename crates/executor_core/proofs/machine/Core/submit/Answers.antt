@@ -1,7 +1,7 @@
 use Rattle.std.proofs.Common.{◌≡◌, length, Some, None, ap, ◌∙◌, arith}
 use Rattle.std.specs.Prelude.{slice_get, slice_index_or}
 use Rattle.std.proofs.lemmas.List.{length-map}
-use Rattle.executor_core.specs.declared.words.CodeCall.TheVariants as call
+use Rattle.queue_code.specs.declared.call.CodeCall.TheVariants as call
 use Rattle.executor_core.specs.Machine.{queued}
 use Rattle.executor_core.proofs.Tables.{submission}
 use Rattle.executor_core.proofs.Works.{queued_at}

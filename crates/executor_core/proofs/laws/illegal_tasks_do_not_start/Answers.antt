@@ -1,5 +1,0 @@
-use Rattle.executor_core.proofs.Endings
-use Rattle.executor_core.proofs.laws.illegal_tasks_do_not_start.Goals as goal
-
-pub returns : goal.returns
-returns c = Endings.illegal_tasks_do_not_start

@@ -1,5 +1,0 @@
-use Rattle.executor_core.proofs.Facts
-use Rattle.executor_core.proofs.laws.no_start_is_early.Goals as goal
-
-pub returns : goal.returns
-returns c = Facts.no_start_is_early

@@ -1,5 +1,0 @@
-use Rattle.executor_core.proofs.Repeats
-use Rattle.executor_core.proofs.laws.nothing_starts_after_a_failure.Goals as goal
-
-pub returns : goal.returns
-returns c = Repeats.nothing_starts_after_a_failure

@@ -1,5 +1,0 @@
-use Rattle.executor_core.proofs.Endings
-use Rattle.executor_core.proofs.laws.one_shots_run_once.Goals as goal
-
-pub returns : goal.returns
-returns c = Endings.one_shots_run_once

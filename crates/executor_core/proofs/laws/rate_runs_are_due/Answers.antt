@@ -1,5 +1,0 @@
-use Rattle.executor_core.proofs.Repeats
-use Rattle.executor_core.proofs.laws.rate_runs_are_due.Goals as goal
-
-pub returns : goal.returns
-returns c = Repeats.rate_runs_are_due

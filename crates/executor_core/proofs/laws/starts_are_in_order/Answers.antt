@@ -1,5 +1,0 @@
-use Rattle.executor_core.proofs.Facts
-use Rattle.executor_core.proofs.laws.starts_are_in_order.Goals as goal
-
-pub returns : goal.returns
-returns c = Facts.starts_are_in_order

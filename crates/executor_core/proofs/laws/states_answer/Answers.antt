@@ -1,5 +1,0 @@
-use Rattle.executor_core.proofs.Agree.{after_agrees}
-use Rattle.executor_core.proofs.laws.states_answer.Goals as goal
-
-pub returns : goal.returns
-returns c = λ calls workers past m. (after_agrees calls workers past m).view

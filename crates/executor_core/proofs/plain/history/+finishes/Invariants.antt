@@ -1,5 +1,0 @@
-use Rattle.std.proofs.Common.{length}
-use Rattle.executor_core.proofs.plain.history.+finishes.Given as goal
-
-abbrev pub decreases-finishes : goal.decreases-finishes
-decreases-finishes l = length l.past.now

@@ -1,5 +1,0 @@
-use Rattle.std.proofs.Common.{length}
-use Rattle.executor_core.proofs.plain.history.+last_finish.Given as goal
-
-abbrev pub decreases-last_finish : goal.decreases-last_finish
-decreases-last_finish l = length l.past.now

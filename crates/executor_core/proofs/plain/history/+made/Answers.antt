@@ -1,8 +1,0 @@
-use Rattle.std.proofs.Common.{◌-◌, length, take, drop, arith, length-take, length-drop}
-use Rattle.executor_core.proofs.Plains.{made_le}
-use Rattle.executor_core.proofs.plain.history.+made.Goals as goal
-
-pub overflow_add-result : goal.overflow_add-result
-overflow_add-result t c =
-    let past = c.args.past.now in
-    omega (arith, c.made.ensures, made_le (take (length past - 1) (drop 1 past)), length-take (length past - 1) (drop 1 past), length-drop 1 past)

@@ -1,5 +1,0 @@
-use Rattle.std.proofs.Common.{length}
-use Rattle.executor_core.proofs.plain.history.+made.Given as goal
-
-abbrev pub decreases-made : goal.decreases-made
-decreases-made l = length l.past.now

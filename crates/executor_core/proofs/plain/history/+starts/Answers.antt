@@ -1,8 +1,0 @@
-use Rattle.std.proofs.Common.{◌-◌, length, take, drop, arith, length-take, length-drop}
-use Rattle.executor_core.proofs.Plains.{starts_le}
-use Rattle.executor_core.proofs.plain.history.+starts.Goals as goal
-
-pub overflow_add-result : goal.overflow_add-result
-overflow_add-result t c =
-    let past = c.args.past.now in
-    omega (arith, c.starts.ensures, starts_le c.args.k (take (length past - 1) (drop 1 past)), length-take (length past - 1) (drop 1 past), length-drop 1 past)

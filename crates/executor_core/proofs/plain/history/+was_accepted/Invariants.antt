@@ -1,5 +1,0 @@
-use Rattle.std.proofs.Common.{length}
-use Rattle.executor_core.proofs.plain.history.+was_accepted.Given as goal
-
-abbrev pub decreases-was_accepted : goal.decreases-was_accepted
-decreases-was_accepted l = length l.past.now

@@ -1,5 +1,0 @@
-use Rattle.std.proofs.Common.{length}
-use Rattle.executor_core.proofs.plain.history.+was_cancelled.Given as goal
-
-abbrev pub decreases-was_cancelled : goal.decreases-was_cancelled
-decreases-was_cancelled l = length l.past.now

@@ -1,5 +1,0 @@
-use Rattle.std.proofs.Common.{length}
-use Rattle.executor_core.proofs.plain.history.+was_done.Given as goal
-
-abbrev pub decreases-was_done : goal.decreases-was_done
-decreases-was_done l = length l.past.now

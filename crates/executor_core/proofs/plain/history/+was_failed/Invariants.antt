@@ -1,5 +1,0 @@
-use Rattle.std.proofs.Common.{length}
-use Rattle.executor_core.proofs.plain.history.+was_failed.Given as goal
-
-abbrev pub decreases-was_failed : goal.decreases-was_failed
-decreases-was_failed l = length l.past.now

@@ -1,5 +1,0 @@
-use Rattle.std.proofs.Common.{length}
-use Rattle.executor_core.proofs.plain.history.+work_of.Given as goal
-
-abbrev pub decreases-work_of : goal.decreases-work_of
-decreases-work_of l = length l.past.now

@@ -1,5 +1,0 @@
-use Rattle.executor_core.proofs.Within.{none_within}
-use Rattle.executor_core.proofs.plain.table.answer_call.Goals as goal
-
-pub due_at-requires-clause-within : goal.due_at-requires-clause-within
-due_at-requires-clause-within c = none_within c.args.calls.now c.in-Submit.task c.requires

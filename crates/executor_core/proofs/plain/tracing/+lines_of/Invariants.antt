@@ -1,5 +1,0 @@
-use Rattle.std.proofs.Common.{length}
-use Rattle.executor_core.proofs.plain.tracing.+lines_of.Given as goal
-
-abbrev pub decreases-lines_of : goal.decreases-lines_of
-decreases-lines_of g l = length l.past.now

@@ -1,5 +1,0 @@
-use Rattle.executor_core.proofs.Places
-use Rattle.executor_core.proofs.positions.first_is_the_least.Goals as goal
-
-pub returns : goal.returns
-returns c = Places.first_is_the_least

@@ -1,5 +1,0 @@
-use Rattle.executor_core.proofs.Reading
-use Rattle.executor_core.proofs.positions.flow_makes_what_is_reached.Goals as goal
-
-pub returns : goal.returns
-returns c = Reading.flow_makes_what_is_reached

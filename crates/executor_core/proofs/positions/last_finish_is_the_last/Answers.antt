@@ -1,5 +1,0 @@
-use Rattle.executor_core.proofs.Waiting
-use Rattle.executor_core.proofs.positions.last_finish_is_the_last.Goals as goal
-
-pub returns : goal.returns
-returns c = Waiting.last_finish_is_the_last

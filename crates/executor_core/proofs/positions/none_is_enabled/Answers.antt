@@ -1,5 +1,0 @@
-use Rattle.executor_core.proofs.Places
-use Rattle.executor_core.proofs.positions.none_is_enabled.Goals as goal
-
-pub returns : goal.returns
-returns c = Places.none_is_enabled

@@ -1,5 +1,0 @@
-use Rattle.executor_core.proofs.Places
-use Rattle.executor_core.proofs.positions.now_is_the_greatest.Goals as goal
-
-pub returns : goal.returns
-returns c = Places.now_is_the_greatest

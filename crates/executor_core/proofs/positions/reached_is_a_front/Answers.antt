@@ -1,5 +1,0 @@
-use Rattle.executor_core.proofs.Reading
-use Rattle.executor_core.proofs.positions.reached_is_a_front.Goals as goal
-
-pub returns : goal.returns
-returns c = Reading.reached_is_a_front

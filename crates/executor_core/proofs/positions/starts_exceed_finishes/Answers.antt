@@ -1,5 +1,0 @@
-use Rattle.executor_core.proofs.Places
-use Rattle.executor_core.proofs.positions.starts_exceed_finishes.Goals as goal
-
-pub returns : goal.returns
-returns c = Places.starts_exceed_finishes

@@ -1,5 +1,0 @@
-use Rattle.executor_core.proofs.Reading
-use Rattle.executor_core.proofs.positions.tasks_are_submitted.Goals as goal
-
-pub returns : goal.returns
-returns c = Reading.tasks_are_submitted

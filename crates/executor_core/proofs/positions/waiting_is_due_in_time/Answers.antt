@@ -1,5 +1,0 @@
-use Rattle.executor_core.proofs.Waiting
-use Rattle.executor_core.proofs.positions.waiting_is_due_in_time.Goals as goal
-
-pub returns : goal.returns
-returns c = Waiting.waiting_is_due_in_time

@@ -1,0 +1,148 @@
+use sched_time::Ending;
+
+/// What the outside reports to the executor.
+#[derive(Clone, Copy, Debug, PartialEq, Eq)]
+pub enum Event {
+    /// The clock shows this moment, in nanoseconds.
+    Clock(u64),
+    /// This worker asks for work.
+    Start(u8),
+    /// The run of this worker ended.
+    Finish(u8, Ending),
+    /// A cancel of this task is asked for from outside the plan.
+    Cancel(u32),
+}
+
+/// One happening of the executor: an event, or the next call of the plan.
+#[derive(Clone, Copy, Debug, PartialEq, Eq)]
+pub enum Happening {
+    /// The next call of the plan is made.
+    Call,
+    /// The clock shows this moment, in nanoseconds.
+    Clock(u64),
+    /// This worker asks for work.
+    Start(u8),
+    /// The run of this worker ended.
+    Finish(u8, Ending),
+    /// A cancel of this task is asked for from outside the plan.
+    Cancel(u32),
+}
+
+/// The kind of a task.
+#[derive(Clone, Copy, Debug, PartialEq, Eq)]
+pub enum Kind {
+    /// One run after a delay.
+    Schedule,
+    /// Runs at a fixed rate.
+    Rate,
+    /// Runs with a fixed delay between the end of one and the start of the next.
+    Fixed,
+}
+
+/// Why a task was not accepted.
+#[derive(Clone, Copy, Debug, PartialEq, Eq)]
+pub enum Refusal {
+    /// Its period, or its fixed delay, is zero or negative.
+    Illegal,
+}
+
+/// Why an event had no effect.
+#[derive(Clone, Copy, Debug, PartialEq, Eq)]
+pub enum EventError {
+    /// The clock would go back.
+    Backward,
+    /// The clock would pass 2^62 nanoseconds.
+    TooFar,
+    /// There is no worker of this number.
+    NoWorker,
+    /// The worker has a run under way.
+    Busy,
+    /// The worker has no run under way.
+    NotRunning,
+    /// The plan has no task of this number.
+    NoTask,
+}
+
+/// What a cancel did.
+#[derive(Clone, Copy, Debug, PartialEq, Eq)]
+pub enum CancelEffect {
+    /// The task waited or was run, and is cancelled now.
+    Yes,
+    /// It was cancelled before, or was done, or had failed.
+    No,
+    /// Its submission was not accepted, or not made yet.
+    Absent,
+}
+
+/// What a finished run leads to.
+#[derive(Clone, Copy, Debug, PartialEq, Eq)]
+pub enum Outcome {
+    /// The task is done, with this value.
+    Done(u64),
+    /// The run failed, with this code; no run of the task comes after it.
+    Failed(u32),
+    /// The task waits for its next run, with this due moment, at most 2^63 nanoseconds.
+    Again(u64),
+    /// The task was cancelled while the run was under way, so that its outcome does not count.
+    Dropped,
+}
+
+/// What a happening is answered.
+#[derive(Clone, Copy, Debug, PartialEq, Eq)]
+pub enum Answer {
+    /// The task was accepted.
+    Submit {
+        task: u32,
+        kind: Kind,
+        /// The due moment of its first run, at most 2^63 nanoseconds.
+        due: u64,
+    },
+    /// The task was not accepted.
+    Refuse {
+        task: u32,
+        refusal: Refusal,
+    },
+    /// The plan asked for a cancel of a task.
+    Cancel {
+        task: u32,
+        effect: CancelEffect,
+    },
+    /// A cancel of a task was asked for from outside the plan.
+    Outside {
+        task: u32,
+        effect: CancelEffect,
+    },
+    /// The clock was moved.
+    Clock,
+    /// The worker starts a run of a task.
+    Start {
+        worker: u8,
+        task: u32,
+        /// The number of the run, from 0.
+        run: u64,
+        /// The due moment of the run, at most 2^63 nanoseconds.
+        due: u64,
+    },
+    /// The worker gets no work.
+    Idle {
+        worker: u8,
+    },
+    /// The run of the worker ended.
+    Finish {
+        worker: u8,
+        task: u32,
+        /// The number of the run, from 0.
+        run: u64,
+        outcome: Outcome,
+    },
+    /// The event had no effect.
+    Error(EventError),
+}
+
+/// A line of a trace: an answer, and the moment at which it was given.
+#[derive(Clone, Copy, Debug, PartialEq, Eq)]
+pub struct Line {
+    /// The moment, 0 to 2^62 nanoseconds.
+    pub moment: u64,
+    pub answer: Answer,
+}

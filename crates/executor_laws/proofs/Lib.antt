@@ -1,0 +1,7 @@
+pub mod Facts
+pub mod Flows
+pub mod Places
+pub mod Reading
+pub mod Waiting
+pub mod Repeats
+pub mod Endings

@@ -1,0 +1,5 @@
+use Rattle.executor_laws.proofs.Waiting
+use Rattle.executor_laws.proofs.positions.waiting_is_due_in_time.Goals as goal
+
+pub returns : goal.returns
+returns c = Waiting.waiting_is_due_in_time

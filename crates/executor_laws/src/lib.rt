@@ -1,0 +1,30 @@
+//! What holds of each history of the executor, whatever the events: laws over its definitions.
+//!
+//! # Usage
+//!
+//! Nothing here is called by a program. Each function is empty, and its contract is a law: the prover accepts
+//! it for every plan, number of workers and history. [`no_start_is_early`] says that no task starts before its due
+//! moment, for one. A proof that needs a law calls its function.
+//!
+//! # Contents
+//!
+//! The first group says what a client of the executor may rely on: due moments, order, ties, overlap, failures, cancels.
+//! The second one says what the definitions, which count and recur over a history, say of the positions in it.
+#![tactic(auto)]
+
+mod laws;
+mod positions;
+
+pub use laws::{
+    again_is_due, answers_by_position, cancels_have_one_effect, fixed_runs_are_due,
+    flows_are_answered, histories_are_one, illegal_tasks_do_not_start, no_start_is_early,
+    nothing_starts_after_a_cancel, nothing_starts_after_a_failure, nothing_starts_once_done,
+    one_history, one_shots_run_once, one_shots_start_once, rate_runs_are_due, runs_are_numbered,
+    runs_do_not_overlap, starts_are_in_order, states_answer, ties_go_by_submission,
+};
+pub use positions::{
+    finish_keeps_now, first_is_the_least, flow_keeps_the_events, flow_makes_what_is_reached,
+    flow_may_come, last_finish_is_the_last, none_is_enabled, now_is_the_greatest,
+    reached_is_a_front, starts_exceed_finishes, tasks_are_submitted, terms_are_its_own,
+    waiting_is_a_task, waiting_is_due_in_time, work_is_the_last_start,
+};

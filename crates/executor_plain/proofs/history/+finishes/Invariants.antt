@@ -1,0 +1,5 @@
+use Rattle.std.proofs.Common.{length}
+use Rattle.executor_plain.proofs.history.+finishes.Given as goal
+
+abbrev pub decreases-finishes : goal.decreases-finishes
+decreases-finishes l = length l.past.now

@@ -1,0 +1,3 @@
+pub use Rattle.queue_code.specs.Calls
+pub use Rattle.plan_read.specs.Plans
+pub mod PlanCalls

@@ -1,0 +1,3 @@
+pub use Rattle.sched_time.specs.Times
+pub use Rattle.sched_time.specs.Dues
+pub mod Calls

@@ -1,5 +1,0 @@
-use Rattle.sched.proofs.Ones
-use Rattle.sched.proofs.laws.front_is_one.Goals as goal
-
-pub returns : goal.returns
-returns c = Ones.front_is_one

@@ -1,7 +1,0 @@
-use Rattle.std.proofs.Common.{◌≡◌, ◌++◌, take}
-use Rattle.sched.specs.Spelling.{lines_text}
-use Rattle.sched.proofs.line_text.write_lines.Given as goal
-
--- the lines so far were appended
-abbrev pub invariant-loop-line : goal.invariant-loop-line
-invariant-loop-line g l = l.out.items ≡ l.fn.out.items ++ lines_text (take l.line-index l.lines)

@@ -1,6 +1,0 @@
-use Rattle.std.proofs.Common.{◌∙◌}
-use Rattle.sched.proofs.Tables.{are_tables-items}
-use Rattle.sched.proofs.plan_read.tables.are_tables.Goals as goal
-
-pub returns : goal.returns
-returns c = rw c.as_slice.ensures.value at c.each_is_table.ensures ∙ are_tables-items c.args.array.now.items

@@ -1,0 +1,11 @@
+pub use Rattle.queue_code.specs.Calls
+pub use Rattle.executor_core.specs.Histories
+pub use Rattle.executor_core.specs.Flows
+pub use Rattle.executor_core.specs.Machine
+pub use Rattle.plan_read.specs.Plans
+pub use Rattle.plan_read.specs.PlanReading
+pub use Rattle.plan_compile.specs.PlanCalls
+pub use Rattle.trace_text.specs.Spelling
+pub mod Ends
+pub mod Lines
+pub mod Running

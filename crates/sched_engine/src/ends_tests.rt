@@ -1,0 +1,179 @@
+ghost use Rattle.std.specs.Prelude.{◌≡◌, ◌≤◌, ◌++◌, ℕ, List, take, IfOk, IfSome};
+
+use crate::ends::{read_some, write_text};
+use crate::held::{Filled, Held};
+use crate::lines::{Front, front_line};
+use crate::memory::Pieces;
+use crate::readers::Reading;
+use crate::writers::Writing;
+use executor_core::{Answer, Line, Outcome};
+use linked_list_allocator::LocalHeap;
+use std::alloc::Global;
+use std::io;
+use std::io::{ErrorKind, Read, Write};
+use std::test::Fail;
+use trace_text::{LineBuffer, TextError, write_line, write_lines};
+
+/// A text through a fresh sink: its contents are known from the start.
+fn through(alloc: Global, text: &[u8]) -> Option<Vec<u8>>
+    ensures { IfSome result (λ v. v.items ≡ text.now) }
+{
+    let mut sink = Writing::new(Vec::new(alloc));
+    if !write_text(&mut sink, text) {
+        return None;
+    }
+    Some(sink.into_inner())
+}
+
+/// The first bytes of a fresh source: what it has left is known from the start.
+fn front_of(bytes: &[u8], most: usize, buf: &mut [u8]) -> Option<usize>
+    ensures { IfSome result (λ n. (rest : List ℕ) × (bytes.now ≡ take n buf.new ++ rest)) }
+{
+    let mut source = Pieces::new(bytes, most);
+    read_some(&mut source, buf)
+}
+
+/// The first bytes of a fresh source out of a reader.
+fn front_of_reader(bytes: &[u8], buf: &mut [u8]) -> Option<usize>
+    ensures { IfSome result (λ n. (rest : List ℕ) × (bytes.now ≡ take n buf.new ++ rest)) }
+{
+    let mut source = Reading::new(bytes);
+    read_some(&mut source, buf)
+}
+
+/// A reader and writer that is at fault at its second call, and takes nothing at
+/// its third.
+#[derive(Drop)]
+struct Faulty {
+    calls: u32,
+    kind: ErrorKind,
+}
+
+impl Faulty {
+    fn call(&mut self, len: usize) -> io::Result<usize>
+        ensures { IfOk result (λ n. n ≤ len) }
+    {
+        self.calls = self.calls.saturating_add(1);
+        if self.calls == 2 {
+            return Err(io::Error::from(self.kind));
+        }
+        if self.calls == 3 {
+            return Ok(0);
+        }
+        Ok(len.min(2))
+    }
+}
+
+impl Write for Faulty {
+    fn write(&mut self, buf: &[u8]) -> io::Result<usize> {
+        self.call(buf.len())
+    }
+
+    fn flush(&mut self) -> io::Result<()> {
+        Ok(())
+    }
+}
+
+impl Read for Faulty {
+    fn read(&mut self, buf: &mut [u8]) -> io::Result<usize> {
+        self.call(buf.len())
+    }
+}
+
+#[test]
+fn passes_bytes(rt: HostRuntime) -> Result<(), Fail> {
+    let text = through(rt.alloc(), b"5 clock\n");
+    assert!(rt; text.is_some_and(|text| text.as_slice() == b"5 clock\n".as_slice()));
+    let mut buf = [0u8; 4];
+    assert_eq!(rt; front_of(b"abcdef", 3, &mut buf), Some(3));
+    assert_eq!(rt; front_of(b"abcdef", 0, &mut buf), Some(1));
+    assert_eq!(rt; front_of_reader(b"abcdef", &mut buf), Some(4));
+    assert_eq!(rt; front_of(b"", 3, &mut buf), Some(0));
+    Ok(())
+}
+
+#[test]
+fn answers_each_fault_at_once(rt: HostRuntime) -> Result<(), Fail> {
+    for kind in [ErrorKind::Interrupted, ErrorKind::Other] {
+        let mut buf = [0u8; 4];
+        let mut source = Reading::new(Faulty { calls: 0, kind });
+        assert_eq!(rt; read_some(&mut source, &mut buf), Some(2));
+        assert_eq!(rt; read_some(&mut source, &mut buf), None);
+        assert_eq!(rt; read_some(&mut source, &mut buf), Some(0));
+
+        let mut sink = Writing::new(Faulty { calls: 0, kind });
+        assert!(rt; write_text(&mut sink, b"ab"));
+        assert!(rt; !write_text(&mut sink, b"ab"));
+        assert!(rt; !write_text(&mut sink, b"ab"));
+        assert!(rt; write_text(&mut sink, b"abcdef"));
+    }
+    Ok(())
+}
+
+#[test]
+fn cuts_lines(rt: HostRuntime) -> Result<(), Fail> {
+    let long = [b'a'; 63];
+    assert_eq!(rt; front_line(b""), Front::Part);
+    assert_eq!(rt; front_line(b"clock 5"), Front::Part);
+    assert_eq!(rt; front_line(b"\nclock 5"), Front::Line(0));
+    assert_eq!(rt; front_line(b"clock 5\nclock"), Front::Line(7));
+    assert_eq!(rt; front_line(&long[..62]), Front::Part);
+    assert_eq!(rt; front_line(&long), Front::Long);
+    Ok(())
+}
+
+#[test]
+fn holds_pieces(rt: HostRuntime) -> Result<(), Fail> {
+    for most in 1..9usize {
+        let mut source = Pieces::new(b"ab\ncdef\n", most);
+        let mut held = Held::new(rt.alloc())?;
+        let mut lines = Vec::new(rt.alloc());
+        for _ in 0..20u32 {
+            if let Front::Line(n) = front_line(held.bytes()) {
+                lines.push(n)?;
+                held.skip(n + 1);
+            } else if held.bytes().len() < 64 && held.fill(&mut source) == Filled::End {
+                break;
+            }
+        }
+        assert!(rt; lines.as_slice() == [2, 4].as_slice());
+        assert!(rt; held.bytes().is_empty());
+    }
+    Ok(())
+}
+
+/// The longest line.
+const LONGEST: &str =
+    "18446744073709551615 finish 255 task 4294967295 run 18446744073709551615 again due 18446744073709551615\n";
+
+#[test]
+fn refused_memory_changes_nothing(rt: HostRuntime) -> Result<(), Fail> {
+    let line = Line {
+        moment: u64::MAX,
+        answer: Answer::Finish {
+            worker: 255,
+            task: u32::MAX,
+            run: u64::MAX,
+            outcome: Outcome::Again(u64::MAX),
+        },
+    };
+    let mut buffer = LineBuffer::new();
+    let heap = LocalHeap::new(rt.alloc(), 64)?;
+    let mut out = Vec::from_slice(&heap, b"old")?;
+    let one = write_line(&mut out, &mut buffer, &line);
+    assert_eq!(rt; one, Err(TextError::Memory));
+    let two = write_lines(&mut out, &mut buffer, &[line, line]);
+    assert_eq!(rt; two, Err(TextError::Memory));
+    assert!(rt; out.as_slice() == b"old".as_slice());
+    assert!(rt; Held::new(&heap).is_err());
+
+    let wide = LocalHeap::new(rt.alloc(), 1_000_000)?;
+    let mut out = Vec::from_slice(&wide, b"old")?;
+    let two = write_lines(&mut out, &mut buffer, &[line, line]);
+    assert_eq!(rt; two, Ok(()));
+    assert_eq!(rt; out.len(), 3 + 2 * 104);
+    assert!(rt; out.as_slice().ends_with(LONGEST.as_bytes()));
+    assert!(rt; out.as_slice().starts_with(b"old184467"));
+    assert!(rt; Held::new(&wide).is_ok());
+    Ok(())
+}

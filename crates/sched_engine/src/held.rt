@@ -1,0 +1,89 @@
+ghost use Rattle.std.specs.Prelude.{◌≡◌, ◌<◌, ◌≤◌, [], length, drop, IfOk};
+ghost use Rattle.sched_engine.specs.Ends.{Rises};
+ghost use Rattle.sched_engine.specs.Lines.{Fills, FaultAtFault};
+
+use crate::ends::{Source, read_some};
+use std::alloc::{AllocError, Allocator};
+use std::marker::Model;
+
+/// How many bytes can be held at once: 64 KiB.
+pub const ROOM: usize = 65_536;
+
+/// What a refill brought.
+#[derive(Clone, Copy, Debug, PartialEq, Eq)]
+pub enum Filled {
+    /// More bytes, one at least.
+    More,
+    /// No byte is left.
+    End,
+    /// The source was at fault.
+    Fault,
+}
+
+/// The bytes of a source that were read and not taken yet, at most [`ROOM`].
+/// Contracts see the list of them.
+#[derive(Drop)]
+pub struct Held<A: Allocator> {
+    buffer: Vec<u8, A>,
+    from: usize,
+    to: usize,
+}
+
+impl<A: Allocator> Model for Held<A> {
+    ghost use Rattle.std.specs.Prelude.{◌≡◌, ◌≤◌, List, ℕ, slice_range, vec_len};
+    ghost use Rattle.sched_engine.specs.declared.held.TheConstants.{ROOM};
+
+    ghost Value = { List ℕ };
+
+    ghost view = { λ h. slice_range h.buffer.items h.from h.to };
+
+    ghost invariant = { λ h. (h.from ≤ h.to) × (h.to ≤ vec_len h.buffer) × (vec_len h.buffer ≡ ROOM) };
+}
+
+impl<A: Allocator> Held<A> {
+    /// Holds nothing yet.
+    pub fn new(alloc: A) -> Result<Held<A>, AllocError>
+        ensures { IfOk result (λ h. h ≡ []) }
+    {
+        Ok(Held {
+            buffer: Vec::from_elem(alloc, 0u8, ROOM)?,
+            from: 0,
+            to: 0,
+        })
+    }
+
+    /// The bytes that are held, the oldest first.
+    pub fn bytes(&self) -> &[u8]
+        ensures { result.now ≡ self.now }
+    {
+        &self.buffer[self.from..self.to]
+    }
+
+    /// Lets go of the first `n` bytes.
+    pub fn skip(&mut self, n: usize)
+        requires { n ≤ length self.old }
+        ensures { self.new ≡ drop n self.old }
+    {
+        self.from += n;
+    }
+
+    /// Reads once, behind what is held. A fault changes nothing.
+    pub fn fill<S: Source>(&mut self, source: &mut S) -> Filled
+        requires { length self.old < ROOM }
+        ensures bytes { Fills result (S.remaining source.old) (S.remaining source.new) self.old self.new }
+        ensures rises { Rises (S.failed source.old) (S.fruitless source.old) (S.failed source.new) (S.fruitless source.new) }
+        ensures fault { FaultAtFault result (S.failed source.old) (S.fruitless source.old) (S.failed source.new) (S.fruitless source.new) }
+    {
+        self.buffer.copy_within(self.from..self.to, 0);
+        self.to -= self.from;
+        self.from = 0;
+        match read_some(source, &mut self.buffer[self.to..]) {
+            Some(0) => Filled::End,
+            Some(n) => {
+                self.to += n;
+                Filled::More
+            }
+            None => Filled::Fault,
+        }
+    }
+}

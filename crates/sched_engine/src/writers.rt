@@ -1,0 +1,69 @@
+ghost use Rattle.std.specs.Prelude.{◌≡◌};
+
+use crate::ends::Sink;
+use std::io;
+use std::io::{ErrorKind, Write};
+use std::marker::Model;
+
+/// A sink out of any writer. Contracts see the writer and the two counts.
+#[derive(Drop)]
+pub struct Writing<W: Write> {
+    inner: W,
+    failed: u64,
+    fruitless: u64,
+}
+
+impl<W: Write> Model for Writing<W> {
+    ghost use Rattle.sched_engine.specs.Ends.{Counted};
+
+    ghost Value = { Counted W };
+
+    ghost view = { λ s. record { end = s.inner; failed = s.failed; fruitless = s.fruitless } };
+}
+
+impl<W: Write> Writing<W> {
+    /// Counts from 0.
+    pub fn new(inner: W) -> Writing<W>
+        ensures { result ≡ record { end = inner; failed = 0; fruitless = 0 } }
+    {
+        Writing {
+            inner,
+            failed: 0,
+            fruitless: 0,
+        }
+    }
+
+    /// The writer. Nothing is flushed.
+    pub fn into_inner(self) -> W
+        ensures { result ≡ self.end }
+    {
+        self.inner
+    }
+}
+
+impl<W: Write> Sink for Writing<W> {
+    ghost contents = { λ s. W.contents s.end };
+
+    ghost failed = { λ s. s.failed };
+
+    ghost fruitless = { λ s. s.fruitless };
+
+    fn write(&mut self, buf: &[u8]) -> io::Result<usize> {
+        let outcome = self.inner.write(buf);
+        match &outcome {
+            Ok(n) => {
+                if *n == 0 && !buf.is_empty() {
+                    self.failed = self.failed.saturating_add(1);
+                }
+            }
+            Err(e) => {
+                if e.kind() == ErrorKind::Interrupted {
+                    self.fruitless = self.fruitless.saturating_add(1);
+                } else {
+                    self.failed = self.failed.saturating_add(1);
+                }
+            }
+        }
+        outcome
+    }
+}

@@ -1,0 +1,6 @@
+pub mod Numbers
+pub mod Digits
+pub mod LineBuffers
+pub mod Texts
+pub mod EventTexts
+pub mod Refusals

@@ -1,0 +1,2 @@
+pub use Rattle.executor_core.specs.Histories
+pub mod Spelling

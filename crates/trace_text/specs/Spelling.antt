@@ -1,0 +1,117 @@
+-- Spelling: the text of events and of answers (this project's rule).
+-- Numbers are decimals with no leading zero, one space stands between two words, and a text is grouped to the right.
+use Rattle.std.specs.Prelude.{◌≡◌, ◌≢◌, ℕ, ◌^◌, ◌<◌, List, ◌++◌, All, Option, Some, None, codes, flat_map, slice_index}
+use Rattle.std.specs.Fmt.{decimal}
+use Rattle.std.specs.Int.{IsInRange}
+use Rattle.sched_time.specs.declared.timing.Ending.{Ending}
+use Rattle.sched_time.specs.declared.timing.Ending.TheVariants as ending
+use Rattle.executor_core.specs.declared.Event.{Event}
+use Rattle.executor_core.specs.declared.Event.TheVariants as event
+use Rattle.executor_core.specs.declared.Kind.{Kind}
+use Rattle.executor_core.specs.declared.Kind.TheVariants as kind
+use Rattle.executor_core.specs.declared.Refusal.{Refusal}
+use Rattle.executor_core.specs.declared.Refusal.TheVariants as refusal
+use Rattle.executor_core.specs.declared.EventError.{EventError}
+use Rattle.executor_core.specs.declared.EventError.TheVariants as error
+use Rattle.executor_core.specs.declared.CancelEffect.{CancelEffect}
+use Rattle.executor_core.specs.declared.CancelEffect.TheVariants as effect
+use Rattle.executor_core.specs.declared.Outcome.{Outcome}
+use Rattle.executor_core.specs.declared.Outcome.TheVariants as outcome
+use Rattle.executor_core.specs.declared.Answer.{Answer}
+use Rattle.executor_core.specs.declared.Answer.TheVariants as answer
+use Rattle.executor_core.specs.declared.Line.{Line}
+
+-- a line, written without its newline, holds no newline
+abbrev pub IsLine : List ℕ → Type 0
+IsLine line = All (λ b. b ≢ 10) line
+
+-- no digit stands in front, so that a number before these bytes ends there: past the last byte stands 0, which is no digit
+abbrev pub EndsNumber : List ℕ → Type 0
+EndsNumber rest = IsInRange 48 57 (slice_index rest 0) → ⊥
+
+-- how a run ended: `ok V` with a value, `fail C` with a code
+abbrev pub ending_text : Ending → List ℕ
+ending_text (ending.Value v) = codes "ok " ++ decimal v
+ending_text (ending.Fault c) = codes "fail " ++ decimal c
+
+-- an event's line, without its newline
+abbrev pub event_text : Event → List ℕ
+event_text (event.Clock t) = codes "clock " ++ decimal t
+event_text (event.Start w) = codes "start " ++ decimal w
+event_text (event.Finish w e) = codes "finish " ++ (decimal w ++ (codes " " ++ ending_text e))
+event_text (event.Cancel k) = codes "cancel " ++ decimal k
+
+-- a value below 2^64, a code below 2^32
+abbrev pub FitsEnding : Ending → Type 0
+FitsEnding (ending.Value v) = v < 2 ^ 64
+FitsEnding (ending.Fault c) = c < 2 ^ 32
+
+-- a moment below 2^64, a worker below 256, a task below 2^32
+abbrev pub FitsEvent : Event → Type 0
+FitsEvent (event.Clock t) = t < 2 ^ 64
+FitsEvent (event.Start w) = w < 2 ^ 8
+FitsEvent (event.Finish w e) = (w < 2 ^ 8) × FitsEnding e
+FitsEvent (event.Cancel k) = k < 2 ^ 32
+
+-- the word of a kind of task
+abbrev pub kind_text : Kind → List ℕ
+kind_text kind.Schedule = codes "schedule"
+kind_text kind.Rate = codes "rate"
+kind_text kind.Fixed = codes "fixed"
+
+-- why a task was refused, in a word
+abbrev pub refusal_text : Refusal → List ℕ
+refusal_text refusal.Illegal = codes "illegal"
+
+-- why an event had no effect, in words
+abbrev pub error_text : EventError → List ℕ
+error_text error.Backward = codes "backward"
+error_text error.TooFar = codes "too far"
+error_text error.NoWorker = codes "no worker"
+error_text error.Busy = codes "busy"
+error_text error.NotRunning = codes "not running"
+error_text error.NoTask = codes "no task"
+
+-- what a cancel did, in a word: `yes`, it cancelled the task; `no`, the task was over before; `none`, no such task
+-- was accepted by then
+abbrev pub effect_text : CancelEffect → List ℕ
+effect_text effect.Yes = codes "yes"
+effect_text effect.No = codes "no"
+effect_text effect.Absent = codes "none"
+
+-- what a finished run led to, and the newline
+abbrev pub outcome_text : Outcome → List ℕ
+outcome_text (outcome.Done v) = codes " done " ++ (decimal v ++ codes "\n")
+outcome_text (outcome.Failed c) = codes " failed " ++ (decimal c ++ codes "\n")
+outcome_text (outcome.Again d) = codes " again due " ++ (decimal d ++ codes "\n")
+outcome_text outcome.Dropped = codes " dropped\n"
+
+-- an answer behind its moment, and the newline
+abbrev pub answer_text : Answer → List ℕ
+answer_text (answer.Submit k kind d) = codes " submit " ++ (decimal k ++ (codes " " ++ (kind_text kind ++ (codes " due " ++ (decimal d ++ codes "\n")))))
+answer_text (answer.Refuse k reason) = codes " refuse " ++ (decimal k ++ (codes " " ++ (refusal_text reason ++ codes "\n")))
+answer_text (answer.Cancel k e) = codes " cancel " ++ (decimal k ++ (codes " " ++ (effect_text e ++ codes "\n")))
+answer_text (answer.Outside k e) = codes " outside " ++ (decimal k ++ (codes " " ++ (effect_text e ++ codes "\n")))
+answer_text answer.Clock = codes " clock\n"
+answer_text (answer.Start w k n d) = codes " start " ++ (decimal w ++ (codes " task " ++ (decimal k ++ (codes " run " ++ (decimal n ++ (codes " due " ++ (decimal d ++ codes "\n")))))))
+answer_text (answer.Idle w) = codes " start " ++ (decimal w ++ codes " idle\n")
+answer_text (answer.Finish w k n o) = codes " finish " ++ (decimal w ++ (codes " task " ++ (decimal k ++ (codes " run " ++ (decimal n ++ outcome_text o)))))
+answer_text (answer.Error e) = codes " error " ++ (error_text e ++ codes "\n")
+
+-- a line of the trace, with its newline: the moment, and the answer
+abbrev pub line_text : Line → List ℕ
+line_text line = decimal line.moment ++ answer_text line.answer
+
+-- the text of lines, one after another
+abbrev pub lines_text : List Line → List ℕ
+lines_text lines = flat_map line_text lines
+
+-- how a run ended, as some words say: `Some e`: this ending, which fits; `None`: no ending that fits
+abbrev pub ReadsEnding : List ℕ → Option Ending → Type 0
+ReadsEnding words (Some e) = (words ≡ ending_text e) × FitsEnding e
+ReadsEnding words None = (e : Ending) → FitsEnding e → words ≢ ending_text e
+
+-- what a line, without its newline, spells: `Some e`: this event, which fits; `None`: no event that fits
+abbrev pub Spells : List ℕ → Option Event → Type 0
+Spells line (Some e) = (line ≡ event_text e) × FitsEvent e
+Spells line None = (e : Event) → FitsEvent e → line ≢ event_text e
