@@ -22,14 +22,14 @@ use Rattle.executor_core.specs.declared.task.Task.{Task}
 use Rattle.queue_code.specs.Calls.{Planned, Terms, terms_of, task_count, count_after, is_submission, IsOrderlyCall, IsOrderlyFrom}
 use Rattle.executor_core.specs.View.{Fate, is_live, is_running, is_waiting}
 use Rattle.executor_core.specs.Answers.{plain, effect_on}
-use Rattle.executor_core.specs.State.{State, vacant, seen, seen_task, seen_phase, reply_of, state_after}
-use Rattle.executor_core.specs.Machine.{Machine, workers_of, state_of, Takes, IsKept, IsSound, IsDue, queued}
+use Rattle.executor_core.specs.State.{State, vacant, view_of_state, seen_task, seen_phase, reply_of, state_after}
+use Rattle.executor_core.specs.Machine.{Machine, workers_of, state_of, Takes, IsWellFormedCore, IsSound, IsDue, queued}
 use Rattle.executor_core.proofs.Agree.{next_sound, next_due_is}
 use Rattle.executor_core.proofs.Sound.{is_seen_waiting}
 use Rattle.executor_core.proofs.Tables.{at_set, runs_set, call_moment, count_grows}
-use Rattle.executor_core.proofs.Works.{by_reply}
+use Rattle.executor_core.proofs.WorkerSteps.{by_reply}
 use Rattle.executor_core.proofs.Submits.{state_at, reply_to, state_to}
-use Rattle.executor_core.proofs.Keeps.{unqueued, timing_stays, fresh_stays, with_tasks}
+use Rattle.executor_core.proofs.RunSteps.{unqueued, timing_stays, fresh_stays, with_tasks}
 
 -- what a cancel does, by the phase of a task
 
@@ -75,7 +75,7 @@ of_cancelled terms t used is = sym (by t.phase refl) ∙ ap (λ b. effect_on (se
     by ph.Running q = ap (effect_of true) (not_live true (running_of terms ph.Running t.run t.due))
     by ph.Done q = ap (effect_of true) (not_live true (running_of terms ph.Done t.run t.due))
     by ph.Failed q = ap (effect_of true) (not_live true (running_of terms ph.Failed t.run t.due))
-    by ph.Over q = ap (effect_of true) (not_live true (running_of terms ph.Over t.run t.due))
+    by ph.Dropped q = ap (effect_of true) (not_live true (running_of terms ph.Dropped t.run t.due))
 
 -- a task that is done, or has failed, is not live
 ended_eqb : (n : ℕ) (rest : Bool) → ((not (not (n == n)) && false) || (not (n == n) && rest)) ≡ false
@@ -136,11 +136,11 @@ outside_state calls made moment k tasks work f.Yes low = λ i. record { made = m
 outside_state calls made moment k tasks work f.No low = λ i. record { made = made; moment = moment; tasks = λ j. cancelled_at tasks k j f.No low i; workers = λ w. slice_index_or work w None }
 outside_state calls made moment k tasks work f.Absent low = λ i. record { made = made; moment = moment; tasks = λ j. cancelled_at tasks k j f.Absent low i; workers = λ w. slice_index_or work w None }
 
-outside_reply : (calls : List Planned) (workers k : ℕ) (s : State) → k < task_count calls → reply_of calls workers s (h.Cancel k) ≡ plain (a.Outside k (effect_on ((seen calls s).fate k)))
-outside_reply calls workers k s l = ap (λ b. plain (cond b (a.Outside k (effect_on ((seen calls s).fate k))) (a.Error x.NoTask))) (lt-ltb k (task_count calls) l)
+outside_reply : (calls : List Planned) (workers k : ℕ) (s : State) → k < task_count calls → reply_of calls workers s (h.Cancel k) ≡ plain (a.Outside k (effect_on ((view_of_state calls s).fate k)))
+outside_reply calls workers k s l = ap (λ b. plain (cond b (a.Outside k (effect_on ((view_of_state calls s).fate k))) (a.Error x.NoTask))) (lt-ltb k (task_count calls) l)
 
 pub no_task_reply : (calls : List Planned) (workers k : ℕ) (s : State) → task_count calls ≤ k → reply_of calls workers s (h.Cancel k) ≡ plain (a.Error x.NoTask)
-no_task_reply calls workers k s l = ap (λ b. plain (cond b (a.Outside k (effect_on ((seen calls s).fate k))) (a.Error x.NoTask))) (le-ltb k (task_count calls) l)
+no_task_reply calls workers k s l = ap (λ b. plain (cond b (a.Outside k (effect_on ((view_of_state calls s).fate k))) (a.Error x.NoTask))) (le-ltb k (task_count calls) l)
 
 -- the step of a cancel from outside
 pub outside_takes : (m : Machine) (k : ℕ) (effect : CancelEffect) → k < length m.tasks → length m.tasks ≡ task_count m.calls → effect ≡ effect_on (seen_task (terms_of m.calls k) (slice_index_or m.tasks k vacant)) →
@@ -153,9 +153,9 @@ outside_takes m k effect low count is =
     record { calls = refl; limit = refl; taken = refl; workers = refl; state = step.0; said = step.1 }
 
 -- what stays true after a cancel with an effect
-pub cancel_kept : (m : Machine) (entries left : List (Option ℕ)) (timings : List Timing) (k : ℕ) → IsKept m entries timings → k < length m.tasks →
+pub cancel_kept : (m : Machine) (entries left : List (Option ℕ)) (timings : List Timing) (k : ℕ) → IsWellFormedCore m entries timings → k < length m.tasks →
     f.Yes ≡ effect_on (seen_task (terms_of m.calls k) (slice_index_or m.tasks k vacant)) → left ≡ set entries k None →
-    IsKept (with_tasks m (set m.tasks k (cancelled (slice_index_or m.tasks k vacant)))) left timings
+    IsWellFormedCore (with_tasks m (set m.tasks k (cancelled (slice_index_or m.tasks k vacant)))) left timings
 cancel_kept m entries left timings k kept low live gone =
     let t = slice_index_or m.tasks k vacant in
     let takes = outside_takes m k f.Yes low kept.count live in
@@ -173,22 +173,22 @@ cancel_kept m entries left timings k kept low live gone =
       timing = timing_stays m entries timings k (cancelled t) kept low used;
       fresh = fresh_stays m entries timings k (cancelled t) kept low used;
       sound = subst IsSound (sym takes.state) (next_sound m.calls (workers_of m) (state_of m) (h.Cancel k) kept.sound);
-      due = subst (λ s. IsDue m.calls (seen m.calls s)) (sym takes.state) (next_due_is m.calls (workers_of m) (state_of m) (h.Cancel k) kept.sound kept.due);
+      due = subst (λ s. IsDue m.calls (view_of_state m.calls s)) (sym takes.state) (next_due_is m.calls (workers_of m) (state_of m) (h.Cancel k) kept.sound kept.due);
       runs = runs_set m.taken m.tasks k (cancelled t) low kept.runs (kept.runs.all k) (kept.runs.begun k);
     }
 
 -- the same, with the tasks as a call leaves them
-pub cancelled_in : (m : Machine) (entries left : List (Option ℕ)) (timings : List Timing) (k : ℕ) (tasks : List Task) → IsKept m entries timings → k < length m.tasks →
+pub cancelled_in : (m : Machine) (entries left : List (Option ℕ)) (timings : List Timing) (k : ℕ) (tasks : List Task) → IsWellFormedCore m entries timings → k < length m.tasks →
     f.Yes ≡ effect_on (seen_task (terms_of m.calls k) (slice_index_or m.tasks k vacant)) → left ≡ set entries k None → tasks ≡ set m.tasks k (cancelled (slice_index_or m.tasks k vacant)) →
-    IsKept (with_tasks m tasks) left timings
-cancelled_in m entries left timings k tasks kept low live gone written = subst (λ l. IsKept (with_tasks m l) left timings) (sym written) (cancel_kept m entries left timings k kept low live gone)
+    IsWellFormedCore (with_tasks m tasks) left timings
+cancelled_in m entries left timings k tasks kept low live gone written = subst (λ l. IsWellFormedCore (with_tasks m l) left timings) (sym written) (cancel_kept m entries left timings k kept low live gone)
 
 -- a call of the plan was made that submits nothing
 abbrev pub called_at : Machine → ℕ → Machine
 called_at m moment = record m { made = m.made + 1; moment = moment }
 
-pub call_kept : (m : Machine) (entries : List (Option ℕ)) (timings : List Timing) (moment at task : ℕ) → IsKept m entries timings → slice_get m.calls m.made ≡ Some (at, c.Cancel task) → moment ≡ max m.moment at →
-    IsKept (called_at m moment) entries timings
+pub call_kept : (m : Machine) (entries : List (Option ℕ)) (timings : List Timing) (moment at task : ℕ) → IsWellFormedCore m entries timings → slice_get m.calls m.made ≡ Some (at, c.Cancel task) → moment ≡ max m.moment at →
+    IsWellFormedCore (called_at m moment) entries timings
 call_kept m entries timings moment at task kept is greatest =
     let near = call_moment m.calls 0 0 m.made at (c.Cancel task) kept.orderly.1 is in
     record {

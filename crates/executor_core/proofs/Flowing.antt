@@ -11,7 +11,7 @@ use Rattle.executor_core.specs.declared.types.Happening.TheVariants as h
 use Rattle.executor_core.specs.declared.types.Line.{Line}
 use Rattle.queue_code.specs.Calls.{Planned, how_many, IsOrderly, IsOrderlyFrom, count_after}
 use Rattle.executor_core.specs.Answers.{reply, is_accepted, moment_after}
-use Rattle.executor_core.specs.Histories.{Entry, entry_of, happenings, made, now_of, is_call, answer, Means, MayCome}
+use Rattle.executor_core.specs.Histories.{HistoryEntry, entry_of, happenings, made, now_of, is_call, answer, IsHistoryOf, MayCome}
 use Rattle.executor_core.specs.State.{State, next, reply_of, after, after_from}
 use Rattle.executor_core.specs.Flows.{reached, part_of, flow, history_from, history_of, lines_at, lines_of, lines_from, reply_in}
 use Rattle.executor_core.specs.Machine.{Machine, workers_of, state_of, Stands, Steps, Continues}
@@ -19,7 +19,7 @@ use Rattle.executor_core.proofs.Agree.{Agrees, after_agrees, next_agrees}
 
 -- one list of happenings after another
 
-pub happenings_from : (calls : List Planned) (workers : ℕ) (past : List Entry) (hs : List Happening) → happenings (history_from calls workers past hs) ≡ hs ++ happenings past
+pub happenings_from : (calls : List Planned) (workers : ℕ) (past : List HistoryEntry) (hs : List Happening) → happenings (history_from calls workers past hs) ≡ hs ++ happenings past
 happenings_from calls workers past [] = refl
 happenings_from calls workers past (x ∷ hs) = ap (λ l. x ∷ l) (happenings_from calls workers past hs)
 
@@ -100,7 +100,7 @@ reached_within calls a t l = omega (arith, how_many-le (is_reached t) (drop a ca
 
 -- the part of a flow that an event makes may come
 
-pub made_past : (calls : List Planned) (workers : ℕ) (past : List Entry) → Means calls workers past → made (happenings past) ≤ length calls
+pub made_past : (calls : List Planned) (workers : ℕ) (past : List HistoryEntry) → IsHistoryOf calls workers past → made (happenings past) ≤ length calls
 made_past calls workers [] m = omega arith
 made_past calls workers (e ∷ past) m =
     let rest = made_past calls workers past m.0 in
@@ -109,14 +109,14 @@ made_past calls workers (e ∷ past) m =
     in
     one e.happening m.1
 
-calls_mean : (calls : List Planned) (workers : ℕ) (past : List Entry) (n : ℕ) → Means calls workers past → n + made (happenings past) ≤ length calls → Means calls workers (history_from calls workers past (replicate n h.Call))
+calls_mean : (calls : List Planned) (workers : ℕ) (past : List HistoryEntry) (n : ℕ) → IsHistoryOf calls workers past → n + made (happenings past) ≤ length calls → IsHistoryOf calls workers (history_from calls workers past (replicate n h.Call))
 calls_mean calls workers past zero m l = m
 calls_mean calls workers past (suc n) m l =
     let before = replicate n h.Call in
     let same : made (happenings (history_from calls workers past before)) ≡ n + made (happenings past) = ap made (happenings_from calls workers past before) ∙ made-calls n (happenings past) in
     (calls_mean calls workers past n m (omega (arith, l)), omega (arith, l, same), refl, refl)
 
-clock_comes : (calls : List Planned) (workers : ℕ) (past : List Entry) (t : ℕ) (b : Bool) → IsOrderly calls → is_accepted (now_of calls (happenings past)) t ≡ b →
+clock_comes : (calls : List Planned) (workers : ℕ) (past : List HistoryEntry) (t : ℕ) (b : Bool) → IsOrderly calls → is_accepted (now_of calls (happenings past)) t ≡ b →
     MayCome calls (happenings (history_from calls workers past (replicate (cond b (reached calls (made (happenings past)) t) 0) h.Call))) (h.Clock t)
 clock_comes calls workers past t true o q =
     let n = reached calls (made (happenings past)) t in
@@ -126,13 +126,13 @@ clock_comes calls workers past t true o q =
     omega (arith, there, all_reached 0 0 t calls (made (happenings past)) m p o.1 is l)
 clock_comes calls workers past t false o q = λ accepted m p is l. absurd (false≢true (sym q ∙ accepted))
 
-part_means : (calls : List Planned) (workers : ℕ) (past : List Entry) (event : Event) → IsOrderly calls → Means calls workers past →
-    Means calls workers (history_from calls workers past (part_of calls (made (happenings past)) (now_of calls (happenings past)) event))
+part_means : (calls : List Planned) (workers : ℕ) (past : List HistoryEntry) (event : Event) → IsOrderly calls → IsHistoryOf calls workers past →
+    IsHistoryOf calls workers (history_from calls workers past (part_of calls (made (happenings past)) (now_of calls (happenings past)) event))
 part_means calls workers past (v.Clock t) o m =
     let now = now_of calls (happenings past) in
     let n = reached calls (made (happenings past)) t in
     let within = made_past calls workers past m in
-    let front : (b : Bool) → Means calls workers (history_from calls workers past (replicate (cond b n 0) h.Call)) =
+    let front : (b : Bool) → IsHistoryOf calls workers (history_from calls workers past (replicate (cond b n 0) h.Call)) =
     elim [ true ↦ calls_mean calls workers past n m (reached_within calls (made (happenings past)) t within) | false ↦ m ]
     in
     (front (is_accepted now t), clock_comes calls workers past t (is_accepted now t) o refl, refl, refl)
@@ -140,7 +140,7 @@ part_means calls workers past (v.Start w) o m = (m, tt, refl, refl)
 part_means calls workers past (v.Finish w ending) o m = (m, tt, refl, refl)
 part_means calls workers past (v.Cancel k) o m = (m, tt, refl, refl)
 
-history_from-append : (calls : List Planned) (workers : ℕ) (past : List Entry) (gs hs : List Happening) → history_from calls workers past (gs ++ hs) ≡ history_from calls workers (history_from calls workers past hs) gs
+history_from-append : (calls : List Planned) (workers : ℕ) (past : List HistoryEntry) (gs hs : List Happening) → history_from calls workers past (gs ++ hs) ≡ history_from calls workers (history_from calls workers past hs) gs
 history_from-append calls workers past [] hs = refl
 history_from-append calls workers past (x ∷ gs) hs = ap (λ p. entry_of x (answer calls workers p x) ∷ p) (history_from-append calls workers past gs hs)
 
@@ -155,13 +155,13 @@ history_more calls workers events event =
     history_from-append calls workers [] (part_of calls (made (flow calls events)) (now_of calls (flow calls events)) event) (flow calls events)
     ∙ ap (λ hs. history_from calls workers (history_of calls workers events) (part_of calls (made hs) (now_of calls hs) event)) (sym (flow_happens calls workers events))
 
-pub flow_means : (calls : List Planned) (workers : ℕ) (events : List Event) → IsOrderly calls → Means calls workers (history_of calls workers events)
+pub flow_means : (calls : List Planned) (workers : ℕ) (events : List Event) → IsOrderly calls → IsHistoryOf calls workers (history_of calls workers events)
 flow_means calls workers [] o = tt
 flow_means calls workers (event ∷ events) o =
-    subst (Means calls workers) (sym (history_more calls workers events event)) (part_means calls workers (history_of calls workers events) event o (flow_means calls workers events o))
+    subst (IsHistoryOf calls workers) (sym (history_more calls workers events event)) (part_means calls workers (history_of calls workers events) event o (flow_means calls workers events o))
 
 -- two histories of the same happenings are one
-pub one_answer : (calls : List Planned) (workers : ℕ) (past other : List Entry) → Means calls workers past → Means calls workers other → happenings past ≡ happenings other → past ≡ other
+pub one_answer : (calls : List Planned) (workers : ℕ) (past other : List HistoryEntry) → IsHistoryOf calls workers past → IsHistoryOf calls workers other → happenings past ≡ happenings other → past ≡ other
 one_answer calls workers [] [] m n q = refl
 one_answer calls workers [] (f ∷ other) m n q = absurd cc
 one_answer calls workers (e ∷ past) [] m n q = absurd cc
@@ -177,7 +177,7 @@ one_answer calls workers (e ∷ past) (f ∷ other) m n q =
 -- happenings of which each may come where it stands
 
 pub may_mean : (calls : List Planned) (workers : ℕ) (hs : List Happening) → ((later past : List Happening) (y : Happening) → hs ≡ later ++ y ∷ past → MayCome calls past y) →
-    Means calls workers (history_from calls workers [] hs)
+    IsHistoryOf calls workers (history_from calls workers [] hs)
 may_mean calls workers [] may = tt
 may_mean calls workers (y ∷ before) may =
     let same : before ≡ happenings (history_from calls workers [] before) = sym (append-nil before) ∙ sym (happenings_from calls workers [] before) in
@@ -185,16 +185,16 @@ may_mean calls workers (y ∷ before) may =
 
 -- steps of a state give the lines of the history
 
-from_agrees : (calls : List Planned) (workers : ℕ) (s : State) (past : List Entry) (hs : List Happening) → Agrees calls s past → Agrees calls (after_from calls workers s hs) (history_from calls workers past hs)
+from_agrees : (calls : List Planned) (workers : ℕ) (s : State) (past : List HistoryEntry) (hs : List Happening) → Agrees calls s past → Agrees calls (after_from calls workers s hs) (history_from calls workers past hs)
 from_agrees calls workers s past [] a = a
 from_agrees calls workers s past (x ∷ hs) a = next_agrees calls workers (after_from calls workers s hs) (history_from calls workers past hs) x (from_agrees calls workers s past hs a)
 
-lines_alike : (calls : List Planned) (workers : ℕ) (s : State) (past : List Entry) (x : Happening) → Agrees calls s past →
+lines_alike : (calls : List Planned) (workers : ℕ) (s : State) (past : List HistoryEntry) (x : Happening) → Agrees calls s past →
     lines_at (now_of calls (happenings (entry_of x (answer calls workers past x) ∷ past))) (reply_in (entry_of x (answer calls workers past x))) ≡ lines_at (next calls workers s x).moment (reply_of calls workers s x)
 lines_alike calls workers s past x a =
     ap (λ w. lines_at (moment_after w.moment (slice_get calls w.made) x) (reply calls workers w x)) (sym a.view)
 
-pub lines_go : (calls : List Planned) (workers : ℕ) (s : State) (past : List Entry) (hs : List Happening) → Agrees calls s past →
+pub lines_go : (calls : List Planned) (workers : ℕ) (s : State) (past : List HistoryEntry) (hs : List Happening) → Agrees calls s past →
     lines_of calls (history_from calls workers past hs) ≡ lines_of calls past ++ lines_from calls workers s hs
 lines_go calls workers s past [] a = sym (append-nil (lines_of calls past))
 lines_go calls workers s past (x ∷ hs) a =
@@ -206,11 +206,11 @@ lines_go calls workers s past (x ∷ hs) a =
 
 -- what the core's steps are, given a history in which it stands
 
-pub stands_agrees : (m : Machine) (past : List Entry) → Means m.calls (workers_of m) past → Stands m past → Agrees m.calls (state_of m) past
+pub stands_agrees : (m : Machine) (past : List HistoryEntry) → IsHistoryOf m.calls (workers_of m) past → Stands m past → Agrees m.calls (state_of m) past
 stands_agrees m past means stands = subst (λ s. Agrees m.calls s past) (sym stands) (after_agrees m.calls (workers_of m) past means)
 
 pub continues : (old new : Machine) (before lines : List Line) (event : Event) → IsOrderly old.calls → Steps old new before lines (part_of old.calls old.made old.moment event) →
-    (past : List Entry) → Means old.calls (workers_of old) past → Stands old past → Continues old new before lines event past
+    (past : List HistoryEntry) → IsHistoryOf old.calls (workers_of old) past → Stands old past → Continues old new before lines event past
 continues old new before lines event o steps past means stands =
     let calls = old.calls in
     let workers = workers_of old in
@@ -223,7 +223,7 @@ continues old new before lines event o steps past means stands =
     ∙ (sym (after_from-append calls workers _ part (happenings past)) ∙ ap (after calls workers) (sym (happenings_from calls workers past part))))
     in
     record {
-      means = subst (λ hs. Means calls workers (history_from calls workers past hs)) same (part_means calls workers past event o means);
+      means = subst (λ hs. IsHistoryOf calls workers (history_from calls workers past hs)) same (part_means calls workers past event o means);
       stands = there ∙ (ap (λ cs. after cs workers (happenings longer)) (sym steps.calls) ∙ ap (λ n. after new.calls n (happenings longer)) (sym steps.workers));
       added = lines_from calls workers (state_of old) part;
       given = steps.lines;

@@ -8,8 +8,8 @@ pub mod Flowing
 pub mod Pairs
 pub mod Tables
 pub mod Submits
-pub mod Works
-pub mod Keeps
+pub mod WorkerSteps
+pub mod RunSteps
 pub mod Cancels
 pub mod Opens
 pub mod Events

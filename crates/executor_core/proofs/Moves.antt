@@ -56,7 +56,7 @@ still terms now ph.Waiting run due b cancels = refl
 still terms now ph.Running run due b cancels = refl
 still terms now ph.Done run due b cancels = refl
 still terms now ph.Failed run due b cancels = refl
-still terms now ph.Over run due b cancels = refl
+still terms now ph.Dropped run due b cancels = refl
 
 abbrev whole : Phase → ℕ → ℕ → Bool → Task
 whole p run due cancelled = record { phase = p; run = run; due = due; cancelled = cancelled }
@@ -69,7 +69,7 @@ submits terms now ph.Waiting run due b = refl
 submits terms now ph.Running run due b = refl
 submits terms now ph.Done run due b = refl
 submits terms now ph.Failed run due b = refl
-submits terms now ph.Over run due b = refl
+submits terms now ph.Dropped run due b = refl
 
 pub past_is_landed : (timing : Timing) (due now : ℕ) → due_past timing due now ≡ due_landed timing (due_ahead timing due) now
 past_is_landed t.Once due now = refl
@@ -84,7 +84,7 @@ finishes : (terms : Terms) (now run due : ℕ) (b : Bool) (outcome : Outcome) �
     ≡ fate_with terms.timing (seen_phase terms ph.Running run due b) now false false false true (is_done outcome) (is_failed outcome)
 finishes terms now run due b (o.Done value) = ap (with_due (seen_phase terms ph.Done run due b)) (past_is_landed terms.timing due now)
 finishes terms now run due b (o.Failed code) = ap (with_due (seen_phase terms ph.Failed run due b)) (past_is_landed terms.timing due now)
-finishes terms now run due b o.Dropped = ap (with_due (seen_phase terms ph.Over run due b)) (past_is_landed terms.timing due now)
+finishes terms now run due b o.Dropped = ap (with_due (seen_phase terms ph.Dropped run due b)) (past_is_landed terms.timing due now)
 finishes terms now run due b (o.Again next) = ap (with_due (seen_phase terms ph.Waiting (1 + run) due b)) (past_is_landed terms.timing due now)
 
 -- a task after an answer, a cancel among them

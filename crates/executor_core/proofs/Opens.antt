@@ -8,11 +8,10 @@ use Rattle.sched_time.specs.declared.timing.Timing.{Timing}
 use Rattle.sched_time.specs.declared.timing.Timing.TheVariants as t
 use Rattle.executor_core.specs.declared.task.Task.{Task}
 use Rattle.executor_core.specs.declared.task.Phase.TheVariants as ph
-use Rattle.executor_core.specs.Counts.{IsNoCount}
 use Rattle.queue_code.specs.Calls.{Planned, IsOrderly, IsOrderlyFrom, count_after, how_many, task_count}
 use Rattle.executor_core.specs.Flows.{reached, ReachesNext}
-use Rattle.executor_core.specs.State.{opening, vacant, seen}
-use Rattle.executor_core.specs.Machine.{Machine, IsOpening, IsKept, IsSound, IsDue, queued}
+use Rattle.executor_core.specs.State.{opening, vacant, view_of_state}
+use Rattle.executor_core.specs.Machine.{Machine, IsOpening, IsWellFormedCore, IsSound, IsDue, queued}
 use Rattle.executor_core.proofs.Agree.{opening_sound}
 use Rattle.executor_core.proofs.Tables.{at_replicate}
 use Rattle.executor_core.proofs.Submits.{state_at}
@@ -38,7 +37,7 @@ opens calls count workers limit tasks work is free = record {
 
 pub opening_kept : (calls : List Planned) (count workers limit : ℕ) (tasks : List Task) (timings : List Timing) (work entries : List (Option ℕ)) → IsOrderly calls → count ≡ task_count calls → 0 < workers → workers ≤ 64 →
     tasks ≡ replicate count vacant → timings ≡ replicate count t.Once → work ≡ replicate workers None → entries ≡ replicate count None →
-    IsKept (first calls limit tasks work) entries timings
+    IsWellFormedCore (first calls limit tasks work) entries timings
 opening_kept calls count workers limit tasks timings work entries orderly counted some few is timed free empty =
     let long : length work ≡ workers = ap length free ∙ length-replicate workers None in
     let at : (k : ℕ) → slice_index_or tasks k vacant ≡ vacant = λ k. ap (λ l. slice_index_or l k vacant) is ∙ at_replicate count k vacant in
@@ -55,19 +54,12 @@ opening_kept calls count workers limit tasks timings work entries orderly counte
       timing = λ k used. absurd (used (ap (λ x. x.phase) (at k)));
       fresh = λ k above. at k;
       sound = subst IsSound (sym ((λ i. state_at 0 0 (is i) (free i)) ∙ opening_state count workers)) opening_sound;
-      due = subst (λ s. IsDue calls (seen calls s)) (sym ((λ i. state_at 0 0 (is i) (free i)) ∙ opening_state count workers)) (λ k. (None, refl));
+      due = subst (λ s. IsDue calls (view_of_state calls s)) (sym ((λ i. state_at 0 0 (is i) (free i)) ∙ opening_state count workers)) (λ k. (None, refl));
       runs = record {
         all = λ k. omega (arith, ap (λ (x : Task). x.run) (at k));
         begun = λ k q. let none : ph.Vacant ≡ ph.Running = sym (ap (λ (x : Task). x.phase) (at k)) ∙ q in absurd cc;
       };
     }
-
--- which number of workers is one
-pub some_workers : (workers : ℕ) → (IsNoCount workers → ⊥) → (0 < workers) × (workers ≤ 64)
-some_workers workers no_such = (
-  elim (cases_lt 0 workers) [ inl enough ↦ enough | inr less ↦ absurd (no_such (inl (omega arith))) ],
-  elim (cases_lt 64 workers) [ inl more ↦ absurd (no_such (inr more)) | inr within ↦ within ],
-)
 
 -- calls that a moment reaches
 
@@ -77,7 +69,7 @@ none_reached count moment t (p ∷ calls) o l =
     let beyond : nat_le p.0 t ≡ false = grind (arith, nat_tests, o.0) in
     ap (λ b. cond b (1 + how_many (λ q. nat_le q.0 t) calls) (how_many (λ q. nat_le q.0 t) calls)) beyond ∙ none_reached (count_after count p.1) p.0 t calls o.3 (omega (arith, o.0, l))
 
--- the next call is reached just where some call is
+-- the next call is reached exactly when some call is
 pub next_reached : (count moment t : ℕ) (calls : List Planned) (n : ℕ) (p d : Planned) → IsOrderlyFrom count moment calls → n < length calls → p ≡ slice_index_or calls n d →
     (p.0 ≤ t → reached calls n t ≡ 1 + reached calls (n + 1) t) × (t < p.0 → reached calls n t ≡ 0)
 next_reached count moment t [] n p d o l is = absurd (omega arith)

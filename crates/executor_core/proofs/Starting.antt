@@ -12,7 +12,7 @@ use Rattle.executor_core.specs.declared.types.Answer.TheVariants as a
 use Rattle.queue_code.specs.Calls.{Planned, numbers, task_count}
 use Rattle.executor_core.specs.View.{View, is_waiting, first_enabled}
 use Rattle.executor_core.specs.Answers.{plain, reply, called, started, finished, moment_after, effect_on}
-use Rattle.executor_core.specs.Histories.{Entry, Means, look, now_of, happenings, made}
+use Rattle.executor_core.specs.Histories.{HistoryEntry, IsHistoryOf, view_of_history, now_of, happenings, made}
 
 -- what an answer that starts a task says of the view that it was given on, and of what happened
 pub record StartsFirst (calls : List Planned) (v : View) (happening : Happening) (k n d : ℕ) : Type 0 where

@@ -14,8 +14,8 @@ use Rattle.executor_core.specs.declared.task.Phase.TheVariants as ph
 use Rattle.executor_core.specs.declared.task.Task.{Task}
 use Rattle.queue_code.specs.Calls.{Planned, IsOrderly, task_count, terms_of, due_at}
 use Rattle.executor_core.specs.View.{View}
-use Rattle.executor_core.specs.Histories.{Entry, happenings, Means}
-use Rattle.executor_core.specs.State.{State, seen, vacant, after, after_from, next, reply_of}
+use Rattle.executor_core.specs.Histories.{HistoryEntry, happenings, IsHistoryOf}
+use Rattle.executor_core.specs.State.{State, view_of_state, vacant, after, after_from, next, reply_of}
 use Rattle.executor_core.specs.Flows.{part_of, history_from, lines_of, lines_from}
 
 -- what contracts see of a core: its plan's calls, how many of them it made, the moment, and its two tables
@@ -45,7 +45,7 @@ state_of m = record {
 }
 
 -- the core is where the happenings of a history lead
-abbrev pub Stands : Machine → List Entry → Type 0
+abbrev pub Stands : Machine → List HistoryEntry → Type 0
 Stands m past = state_of m ≡ after m.calls (workers_of m) (happenings past)
 
 -- the core of some calls before anything happened
@@ -78,8 +78,8 @@ abbrev pub Counts : Machine → Machine → Type 0
 Counts old new = new ≡ record old { taken = old.taken + 1 }
 
 -- after any history in which the core stood, the event's part of the flow is answered as the equations say
-pub record Continues (old new : Machine) (before after_lines : List Line) (event : Event) (past : List Entry) : Type 0 where
-  pub means : Means old.calls (workers_of old) (history_from old.calls (workers_of old) past (part_of old.calls old.made old.moment event))
+pub record Continues (old new : Machine) (before after_lines : List Line) (event : Event) (past : List HistoryEntry) : Type 0 where
+  pub means : IsHistoryOf old.calls (workers_of old) (history_from old.calls (workers_of old) past (part_of old.calls old.made old.moment event))
   pub stands : Stands new (history_from old.calls (workers_of old) past (part_of old.calls old.made old.moment event))
   pub added : List Line
   pub given : after_lines ≡ before ++ added
@@ -107,7 +107,7 @@ pub record IsSound (s : State) : Type 0 where
   pub at_work : (w k : ℕ) → s.workers w ≡ Some k → (s.tasks k).phase ≡ ph.Running
   pub apart : (v w k : ℕ) → s.workers v ≡ Some k → s.workers w ≡ Some k → v ≡ w
   pub reached : (k : ℕ) → (s.tasks k).phase ≡ ph.Running → (s.tasks k).due ≤ s.moment
-  pub over : (k : ℕ) → (s.tasks k).phase ≡ ph.Over → (s.tasks k).cancelled ≡ true
+  pub over : (k : ℕ) → (s.tasks k).phase ≡ ph.Dropped → (s.tasks k).cancelled ≡ true
 
 -- the due moment that is known of each task is that of its terms, after its starts and some last finish
 abbrev pub IsDue : List Planned → View → Type 0
@@ -123,7 +123,7 @@ abbrev pub IsCounted : Machine → Type 0
 IsCounted m = (k : ℕ) → (slice_index_or m.tasks k vacant).run < m.taken
 
 -- what stays true of a core, with its queue's entries by task number and its table of timings
-pub record IsKept (m : Machine) (entries : List (Option ℕ)) (timings : List Timing) : Type 0 where
+pub record IsWellFormedCore (m : Machine) (entries : List (Option ℕ)) (timings : List Timing) : Type 0 where
   pub orderly : IsOrderly m.calls
   pub made : m.made ≤ length m.calls
   pub some : 0 < workers_of m
@@ -138,6 +138,6 @@ pub record IsKept (m : Machine) (entries : List (Option ℕ)) (timings : List Ti
   -- what no call made submits is vacant
   pub fresh : (k : ℕ) → task_count (take m.made m.calls) ≤ k → slice_index_or m.tasks k vacant ≡ vacant
   pub sound : IsSound (state_of m)
-  pub due : IsDue m.calls (seen m.calls (state_of m))
+  pub due : IsDue m.calls (view_of_state m.calls (state_of m))
   -- each run that ended was started by an event and finished by another one
   pub runs : RunsBelow m.taken m.tasks

@@ -12,7 +12,7 @@ use Rattle.executor_core.specs.declared.tasks.Detail.{Detail}
 abbrev pub phase_in : WordPhase → Bool → Phase
 phase_in w.Vacant over = ph.Vacant
 phase_in w.New over = ph.Waiting
-phase_in w.Running true = ph.Over
+phase_in w.Running true = ph.Dropped
 phase_in w.Running false = ph.Running
 phase_in w.Done over = ph.Done
 phase_in w.Failed over = ph.Failed
@@ -32,7 +32,7 @@ abbrev pub word_phase : Phase → WordPhase
 word_phase ph.Vacant = w.Vacant
 word_phase ph.Waiting = w.New
 word_phase ph.Running = w.Running
-word_phase ph.Over = w.Running
+word_phase ph.Dropped = w.Running
 word_phase ph.Done = w.Done
 word_phase ph.Failed = w.Failed
 

@@ -10,7 +10,7 @@ ghost use Rattle.executor_core.specs.State.{vacant, seen_task, due_past};
 ghost use Rattle.executor_core.specs.Tasks.{word_of};
 ghost use Rattle.executor_core.specs.Machine.{queued_again};
 ghost use Rattle.executor_core.specs.Answers.{kind_of, effect_on, outcome_in};
-ghost use Rattle.executor_core.specs.Counts.{IsNoCount};
+ghost use Rattle.executor_core.specs.Counts.{IsWorkerCount};
 ghost use Rattle.executor_core.specs.Flows.{happening_of, reached, ReachesNext, calls_before, part_of};
 
 use crate::error::CoreError;
@@ -44,13 +44,13 @@ pub struct Core<A: Allocator> {
 }
 
 impl<A: Allocator> Model for Core<A> {
-    ghost use Rattle.executor_core.specs.Machine.{Machine, IsKept};
+    ghost use Rattle.executor_core.specs.Machine.{Machine, IsWellFormedCore};
 
     ghost Value = { Machine };
 
     ghost view = { λ c. record { calls = c.calls.items; limit = c.limit; taken = c.taken; made = c.made; moment = c.moment; tasks = c.tasks; work = c.work.items } };
 
-    ghost invariant = { λ c. IsKept (record { calls = c.calls.items; limit = c.limit; taken = c.taken; made = c.made; moment = c.moment; tasks = c.tasks; work = c.work.items }) c.queue c.timings.items };
+    ghost invariant = { λ c. IsWellFormedCore (record { calls = c.calls.items; limit = c.limit; taken = c.taken; made = c.made; moment = c.moment; tasks = c.tasks; work = c.work.items }) c.queue c.timings.items };
 }
 
 impl<A: Allocator> Core<A> {
@@ -73,8 +73,8 @@ impl<A: Allocator> Core<A> {
         A: Copy,
         requires { IsOrderly calls.items }
         ensures opening { IfOk result (λ core. IsOpening core calls.items workers limit) }
-        ensures workers { IsErrOf result CoreError.Workers ↔ IsNoCount workers }
-        ensures limit { IsErrOf result CoreError.Limit ↔ (¬ IsNoCount workers × (limit ≡ 0)) }
+        ensures workers { IsErrOf result CoreError.Workers ↔ ¬ IsWorkerCount workers }
+        ensures limit { IsErrOf result CoreError.Limit ↔ (IsWorkerCount workers × (limit ≡ 0)) }
         ensures full { IsErrOf result CoreError.Full → ⊥ }
     {
         if workers == 0 || workers > MOST_WORKERS {
@@ -136,7 +136,7 @@ impl<A: Allocator> Core<A> {
         ensures refused { OnErr result ((self.new ≡ self.old) × (out.new.items ≡ out.old.items)) }
         ensures taken { OnOk result (self.new.taken ≡ self.old.taken + 1) }
         ensures steps { OnOk result (Steps self.old self.new out.old.items out.new.items (part_of self.old.calls self.old.made self.old.moment event)) }
-        ensures history { OnOk result ((past : List histories.Entry) → histories.Means self.old.calls (workers_of self.old) past → Stands self.old past
+        ensures history { OnOk result ((past : List histories.HistoryEntry) → histories.IsHistoryOf self.old.calls (workers_of self.old) past → Stands self.old past
             → Continues self.old self.new out.old.items out.new.items event past) }
     {
         if self.taken == self.limit {
@@ -403,7 +403,7 @@ impl<A: Allocator> Core<A> {
         A: Copy,
         requires orderly { IsOrderly calls.items }
         requires count { count ≡ task_count calls.items }
-        requires workers { ¬ IsNoCount workers }
+        requires workers { IsWorkerCount workers }
         ensures { IfOk result (λ core. IsOpening core calls.items workers limit) }
     {
         let tasks = Tasks::new(alloc, count)?;
@@ -450,7 +450,7 @@ fn is_submission(call: &CodeCall) -> bool
 
 /// What a cancel does to a task.
 fn effect_on(task: Task) -> CancelEffect
-    requires { task.phase ≡ ph.Over → task.cancelled ≡ true }
+    requires { task.phase ≡ ph.Dropped → task.cancelled ≡ true }
     ensures { (terms : Terms) → result ≡ effect_on (seen_task terms task) }
 {
     match task.phase {
@@ -462,7 +462,7 @@ fn effect_on(task: Task) -> CancelEffect
                 CancelEffect::Yes
             }
         }
-        Phase::Done | Phase::Failed | Phase::Over => CancelEffect::No,
+        Phase::Done | Phase::Failed | Phase::Dropped => CancelEffect::No,
     }
 }
 

@@ -139,7 +139,7 @@ impl<A: Allocator> Tasks<A> {
         requires { task < length self.old }
         ensures { self.new ≡ slice_set self.old task (record (slice_index_or self.old task vacant) { cancelled = true }) }
     {
-        self.words[task] = self.words[task].cancelled();
+        self.words[task] = self.words[task].with_cancel_bit();
     }
 }
 
@@ -150,7 +150,7 @@ fn phase_in(phase: task_word::Phase, over: bool) -> Phase
     match phase {
         task_word::Phase::Vacant => Phase::Vacant,
         task_word::Phase::New => Phase::Waiting,
-        task_word::Phase::Running if over => Phase::Over,
+        task_word::Phase::Running if over => Phase::Dropped,
         task_word::Phase::Running => Phase::Running,
         task_word::Phase::Done => Phase::Done,
         task_word::Phase::Failed => Phase::Failed,

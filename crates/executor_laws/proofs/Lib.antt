@@ -1,4 +1,4 @@
-pub mod Facts
+pub mod StartLaws
 pub mod Flows
 pub mod Places
 pub mod Reading

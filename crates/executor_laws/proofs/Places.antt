@@ -16,7 +16,7 @@ use Rattle.executor_core.specs.declared.types.Answer.TheVariants as a
 use Rattle.queue_code.specs.Calls.{Planned, how_many, numbers, task_count}
 use Rattle.executor_core.specs.View.{View, is_enabled, first_enabled}
 use Rattle.executor_core.specs.Answers.{plain, reply, called, started, finished, moment_after, is_accepted, effect_on}
-use Rattle.executor_core.specs.Histories.{Entry, Means, look, now_of, happenings, made, work_of, work_after, answer}
+use Rattle.executor_core.specs.Histories.{HistoryEntry, IsHistoryOf, view_of_history, now_of, happenings, made, work_of, work_after, answer}
 use Rattle.executor_laws.specs.Positions.{starts_by, finishes_by, StartedLast, WorkIsTheLastStart, StartsExceedFinishes, busy, HasMoment, Shows, NowIsTheGreatest, FirstIsTheLeast, NoneIsEnabled}
 use Rattle.executor_core.proofs.Sound.{first_is_enabled}
 use Rattle.executor_core.proofs.First.{first_is, first_is_in, first_is_least, first_is_none, none_enabled, in_range, range_below}
@@ -89,11 +89,11 @@ tells calls workers v (h.Cancel k) w =
     pick _
 
 -- the same of an entry in a history
-entry_tells : (calls : List Planned) (workers : ℕ) (past : List Entry) (e : Entry) (w : ℕ) → Means calls workers (e ∷ past) → Told w (work_of w past) e.answer
-entry_tells calls workers past e w m = subst (Told w (work_of w past)) (sym m.2) (tells calls workers (look calls past) e.happening w)
+entry_tells : (calls : List Planned) (workers : ℕ) (past : List HistoryEntry) (e : HistoryEntry) (w : ℕ) → IsHistoryOf calls workers (e ∷ past) → Told w (work_of w past) e.answer
+entry_tells calls workers past e w m = subst (Told w (work_of w past)) (sym m.2) (tells calls workers (view_of_history calls past) e.happening w)
 
 -- a start that stands behind one entry more
-behind : (past : List Entry) (f : Entry) (w k : ℕ) → finishes_by w f.answer ≡ false → StartedLast past w k → StartedLast (f ∷ past) w k
+behind : (past : List HistoryEntry) (f : HistoryEntry) (w k : ℕ) → finishes_by w f.answer ≡ false → StartedLast past w k → StartedLast (f ∷ past) w k
 behind past f w k unended s = record {
   later = f ∷ s.later;
   e = s.e;
@@ -109,7 +109,7 @@ behind past f w k unended s = record {
     neither true d p q = p
     neither false d p q = q
 
-started_here : (past : List Entry) (e : Entry) (w k j n d : ℕ) → e.answer ≡ a.Start w j n d → j ≡ k → StartedLast (e ∷ past) w k
+started_here : (past : List HistoryEntry) (e : HistoryEntry) (w k j n d : ℕ) → e.answer ≡ a.Start w j n d → j ≡ k → StartedLast (e ∷ past) w k
 started_here past e w k j n d is same = record {
   later = [];
   e = e;
@@ -121,7 +121,7 @@ started_here past e w k j n d is same = record {
   unfinished = refl;
 }
 
-last_start : (past : List Entry) (w k : ℕ) → work_of w past ≡ Some k → StartedLast past w k
+last_start : (past : List HistoryEntry) (w k : ℕ) → work_of w past ≡ Some k → StartedLast past w k
 last_start [] w k q = absurd (none-some k q)
 last_start (e ∷ past) w k q =
     let go : (r : Answer) → e.answer ≡ r → work_after w r (work_of w past) ≡ Some k → StartedLast (e ∷ past) w k =
@@ -177,7 +177,7 @@ none_of_parts : (b d : Bool) → (b || d) ≡ false → (b ≡ false) × (d ≡ 
 none_of_parts true d q = absurd (false≢true (sym q))
 none_of_parts false d q = (refl, q)
 
-works_since : (calls : List Planned) (workers : ℕ) (later before : List Entry) (e : Entry) (w k n d : ℕ) → Means calls workers (later ++ e ∷ before) → e.answer ≡ a.Start w k n d →
+works_since : (calls : List Planned) (workers : ℕ) (later before : List HistoryEntry) (e : HistoryEntry) (w k n d : ℕ) → IsHistoryOf calls workers (later ++ e ∷ before) → e.answer ≡ a.Start w k n d →
     list_any (λ f. finishes_by w f.answer) later ≡ false → work_of w (later ++ e ∷ before) ≡ Some k
 works_since calls workers [] before e w k n d m start unended =
     ap (λ r. work_after w r (work_of w before)) start ∙ ap (λ b. cond b (Some k) (work_of w before)) (eq-eqb w w refl)
@@ -188,7 +188,7 @@ works_since calls workers (f ∷ later) before e w k n d m start unended =
 pub work_is_the_last_start : WorkIsTheLastStart
 work_is_the_last_start calls workers past w k m = (
   last_start past w k,
-  λ s. subst (λ l. work_of w l ≡ Some k) (sym s.parts) (works_since calls workers s.later s.before s.e w k s.run s.due (subst (Means calls workers) s.parts m) s.start s.unfinished),
+  λ s. subst (λ l. work_of w l ≡ Some k) (sym s.parts) (works_since calls workers s.later s.before s.e w k s.run s.due (subst (IsHistoryOf calls workers) s.parts m) s.start s.unfinished),
 )
 
 -- counts of starts and finishes, moved by one answer
@@ -246,7 +246,7 @@ rises now call (h.Finish w ending) = omega arith
 rises now call (h.Cancel k) = omega arith
 
 -- the moment of an entry is at most now
-below_here : (calls : List Planned) (workers : ℕ) (e : Entry) (before : List Entry) (t : ℕ) → Means calls workers (e ∷ before) → HasMoment calls e before t → t ≤ now_of calls (happenings (e ∷ before))
+below_here : (calls : List Planned) (workers : ℕ) (e : HistoryEntry) (before : List HistoryEntry) (t : ℕ) → IsHistoryOf calls workers (e ∷ before) → HasMoment calls e before t → t ≤ now_of calls (happenings (e ∷ before))
 below_here calls workers e before t m (inl call) =
     let now = now_of calls (happenings before) in
     let after : now_of calls (happenings (e ∷ before)) ≡ max now call.1.0.0 =
@@ -260,23 +260,23 @@ below_here calls workers e before t m (inr clock) =
     let after : now_of calls (happenings (e ∷ before)) ≡ t = ap (moment_after now next) clock.0 ∙ ap (λ b. cond b t now) accepted in
     omega (arith, after)
 
-below_now : (calls : List Planned) (workers : ℕ) (later before : List Entry) (e : Entry) (t : ℕ) → Means calls workers (later ++ e ∷ before) → HasMoment calls e before t → t ≤ now_of calls (happenings (later ++ e ∷ before))
+below_now : (calls : List Planned) (workers : ℕ) (later before : List HistoryEntry) (e : HistoryEntry) (t : ℕ) → IsHistoryOf calls workers (later ++ e ∷ before) → HasMoment calls e before t → t ≤ now_of calls (happenings (later ++ e ∷ before))
 below_now calls workers [] before e t m has = below_here calls workers e before t m has
 below_now calls workers (f ∷ later) before e t m has =
     let rest = later ++ e ∷ before in
     omega (arith, below_now calls workers later before e t m.0 has, rises (now_of calls (happenings rest)) (slice_get calls (made (happenings rest))) f.happening)
 
-shown_behind : (calls : List Planned) (past : List Entry) (f : Entry) (t : ℕ) → Shows calls past t → Shows calls (f ∷ past) t
+shown_behind : (calls : List Planned) (past : List HistoryEntry) (f : HistoryEntry) (t : ℕ) → Shows calls past t → Shows calls (f ∷ past) t
 shown_behind calls past f t s = record { later = f ∷ s.later; e = s.e; before = s.before; parts = ap (λ l. f ∷ l) s.parts; moment = s.moment }
 
-abbrev Greatest : List Planned → List Entry → ℕ → Type 0
+abbrev Greatest : List Planned → List HistoryEntry → ℕ → Type 0
 Greatest calls past t = (t ≡ 0) ⊎ Shows calls past t
 
-greatest_behind : (calls : List Planned) (past : List Entry) (f : Entry) (t : ℕ) → Greatest calls past t → Greatest calls (f ∷ past) t
+greatest_behind : (calls : List Planned) (past : List HistoryEntry) (f : HistoryEntry) (t : ℕ) → Greatest calls past t → Greatest calls (f ∷ past) t
 greatest_behind calls past f t (inl none) = inl none
 greatest_behind calls past f t (inr s) = inr (shown_behind calls past f t s)
 
-greatest_here : (calls : List Planned) (past : List Entry) (e : Entry) (t : ℕ) → HasMoment calls e past t → Greatest calls (e ∷ past) t
+greatest_here : (calls : List Planned) (past : List HistoryEntry) (e : HistoryEntry) (t : ℕ) → HasMoment calls e past t → Greatest calls (e ∷ past) t
 greatest_here calls past e t has = inr (record { later = []; e = e; before = past; parts = refl; moment = has })
 
 two_orders : (n k : ℕ) → (n ≤ k) ⊎ (k ≤ n)
@@ -285,7 +285,7 @@ two_orders n k = grind arith
 max_cases : (n k : ℕ) → (max n k ≡ n) ⊎ (max n k ≡ k)
 max_cases n k = elim (two_orders n k) [ inl l ↦ inr (omega (arith, l)) | inr l ↦ inl (omega (arith, l)) ]
 
-now_shown : (calls : List Planned) (workers : ℕ) (past : List Entry) → Means calls workers past → Greatest calls past (now_of calls (happenings past))
+now_shown : (calls : List Planned) (workers : ℕ) (past : List HistoryEntry) → IsHistoryOf calls workers past → Greatest calls past (now_of calls (happenings past))
 now_shown calls workers [] m = inl refl
 now_shown calls workers (e ∷ past) m =
     let now = now_of calls (happenings past) in
@@ -318,6 +318,6 @@ now_shown calls workers (e ∷ past) m =
 
 pub now_is_the_greatest : NowIsTheGreatest
 now_is_the_greatest calls workers past m = (
-  λ t s. subst (λ l. t ≤ now_of calls (happenings l)) (sym s.parts) (below_now calls workers s.later s.before s.e t (subst (Means calls workers) s.parts m) s.moment),
+  λ t s. subst (λ l. t ≤ now_of calls (happenings l)) (sym s.parts) (below_now calls workers s.later s.before s.e t (subst (IsHistoryOf calls workers) s.parts m) s.moment),
   now_shown calls workers past m,
 )

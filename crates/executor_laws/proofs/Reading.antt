@@ -13,7 +13,7 @@ use Rattle.executor_core.specs.declared.types.Happening.{Happening}
 use Rattle.executor_core.specs.declared.types.Happening.TheVariants as h
 use Rattle.queue_code.specs.Calls.{Planned, how_many, task_count, is_submission, count_after, IsOrderlyCall, IsOrderlyFrom, IsOrderly}
 use Rattle.executor_core.specs.Answers.{is_accepted}
-use Rattle.executor_core.specs.Histories.{Entry, Means, MayCome, happenings, made, now_of}
+use Rattle.executor_core.specs.Histories.{HistoryEntry, IsHistoryOf, MayCome, happenings, made, now_of}
 use Rattle.executor_core.specs.Flows.{reached, flow, happening_of, calls_before, history_of}
 use Rattle.executor_laws.specs.Positions.{ReachedIsAFront, IsSubmissionOf, TasksAreSubmitted, TermsAreItsOwn, is_event, FlowKeepsTheEvents, IsAcceptedClock, IsMadeBefore, FlowMakesWhatIsReached, FlowMayCome}
 use Rattle.executor_core.proofs.Flowing.{all_reached, reached_within, made_past}
@@ -235,7 +235,7 @@ flow_makes_what_is_reached calls before event o =
     let past = flow calls before in
     (calls_before calls (made past) (now_of calls past) event, made_before calls past event o (made_flow calls before o), refl)
 
-may_come_at : (calls : List Planned) (workers : ℕ) (history : List Entry) (later past : List Happening) (happening : Happening) → Means calls workers history →
+may_come_at : (calls : List Planned) (workers : ℕ) (history : List HistoryEntry) (later past : List Happening) (happening : Happening) → IsHistoryOf calls workers history →
     happenings history ≡ later ++ happening ∷ past → MayCome calls past happening
 may_come_at calls workers [] [] past happening m q = absurd cc
 may_come_at calls workers [] (x ∷ later) past happening m q = absurd cc

@@ -83,14 +83,14 @@ pub(crate) fn due_of(calls: &[(u64, CodeCall)], past: &[Past], k: u32) -> u64
 
 /// Whether a run of a task is under way.
 fn is_running(calls: &[(u64, CodeCall)], past: &[Past], k: u32) -> bool
-    ensures { result ≡ views.is_running ((histories.look calls.now (history past.now)).fate k) }
+    ensures { result ≡ views.is_running ((histories.view_of_history calls.now (history past.now)).fate k) }
 {
     starts(k, past) != finishes(k, past)
 }
 
 /// Whether a task was accepted, is not running and is not over.
 fn is_waiting(calls: &[(u64, CodeCall)], past: &[Past], k: u32) -> bool
-    ensures { result ≡ views.is_waiting ((histories.look calls.now (history past.now)).fate k) }
+    ensures { result ≡ views.is_waiting ((histories.view_of_history calls.now (history past.now)).fate k) }
 {
     was_accepted(k, past)
         && !is_running(calls, past, k)
@@ -101,7 +101,7 @@ fn is_waiting(calls: &[(u64, CodeCall)], past: &[Past], k: u32) -> bool
 
 /// What a cancel does to a task.
 pub(crate) fn effect_on(calls: &[(u64, CodeCall)], past: &[Past], k: u32) -> CancelEffect
-    ensures { result ≡ answers.effect_on ((histories.look calls.now (history past.now)).fate k) }
+    ensures { result ≡ answers.effect_on ((histories.view_of_history calls.now (history past.now)).fate k) }
 {
     if !was_accepted(k, past) {
         CancelEffect::Absent
@@ -114,7 +114,7 @@ pub(crate) fn effect_on(calls: &[(u64, CodeCall)], past: &[Past], k: u32) -> Can
 
 /// Whether a cancel of a task would have an effect.
 fn is_live(calls: &[(u64, CodeCall)], past: &[Past], k: u32) -> bool
-    ensures { result ≡ views.is_live ((histories.look calls.now (history past.now)).fate k) }
+    ensures { result ≡ views.is_live ((histories.view_of_history calls.now (history past.now)).fate k) }
 {
     is_waiting(calls, past, k) || (is_running(calls, past, k) && !was_cancelled(k, past))
 }
@@ -123,7 +123,7 @@ fn is_live(calls: &[(u64, CodeCall)], past: &[Past], k: u32) -> bool
 pub(crate) fn is_enabled(calls: &[(u64, CodeCall)], past: &[Past], k: u32) -> bool
     requires orderly { IsOrderly calls.now }
     requires within { IsWithin calls.now (history past.now) }
-    ensures { result ≡ views.is_enabled (histories.look calls.now (history past.now)) k }
+    ensures { result ≡ views.is_enabled (histories.view_of_history calls.now (history past.now)) k }
 {
     is_waiting(calls, past, k) && due_of(calls, past, k) <= now_of(calls, past)
 }
@@ -132,7 +132,7 @@ pub(crate) fn is_enabled(calls: &[(u64, CodeCall)], past: &[Past], k: u32) -> bo
 fn precedes(calls: &[(u64, CodeCall)], past: &[Past], j: u32, k: u32) -> bool
     requires orderly { IsOrderly calls.now }
     requires within { IsWithin calls.now (history past.now) }
-    ensures { result ≡ views.precedes (histories.look calls.now (history past.now)) j k }
+    ensures { result ≡ views.precedes (histories.view_of_history calls.now (history past.now)) j k }
 {
     let one = due_of(calls, past, j);
     let other = due_of(calls, past, k);
@@ -143,7 +143,7 @@ fn precedes(calls: &[(u64, CodeCall)], past: &[Past], j: u32, k: u32) -> bool
 fn earlier(calls: &[(u64, CodeCall)], past: &[Past], k: u32, other: Option<u32>) -> u32
     requires orderly { IsOrderly calls.now }
     requires within { IsWithin calls.now (history past.now) }
-    ensures { result ≡ views.earlier (histories.look calls.now (history past.now)) k other }
+    ensures { result ≡ views.earlier (histories.view_of_history calls.now (history past.now)) k other }
 {
     match other {
         None => k,
@@ -161,7 +161,7 @@ pub(crate) fn first_enabled(
     requires orderly { IsOrderly calls.now }
     requires due { IsWithin calls.now (history past.now) }
     requires within { from + count ≤ 65536 }
-    ensures { result ≡ views.first_enabled (histories.look calls.now (history past.now)) (range_with_len from count) }
+    ensures { result ≡ views.first_enabled (histories.view_of_history calls.now (history past.now)) (range_with_len from count) }
 {
     if count == 0 {
         return None;

@@ -10,7 +10,7 @@ use Rattle.executor_core.specs.declared.Happening.{Happening}
 use Rattle.executor_core.specs.declared.Happening.TheVariants as h
 use Rattle.executor_core.specs.declared.Line.{Line}
 use Rattle.queue_code.specs.Calls.{Planned, IsOrderly}
-use Rattle.executor_core.specs.Histories.{Entry, happenings, made, now_of, Means}
+use Rattle.executor_core.specs.Histories.{HistoryEntry, happenings, made, now_of, IsHistoryOf}
 use Rattle.executor_core.specs.Flows.{flow, part_of, calls_before, history_from, history_of, lines_of}
 use Rattle.executor_core.specs.Machine.{Machine, workers_of, Stands, Steps, Continues}
 use Rattle.executor_core.proofs.Flowing.{flow_means, history_more, stands_agrees, made_past, made-calls, happenings_from}
@@ -23,11 +23,11 @@ input_of-append (e ∷ more) before = ap (λ l. l ++ event_line e) (input_of-app
 
 -- lines are counted
 
-lines_are : (calls : List Planned) (past : List Entry) → length (lines_of calls past) ≡ length past
+lines_are : (calls : List Planned) (past : List HistoryEntry) → length (lines_of calls past) ≡ length past
 lines_are calls [] = refl
 lines_are calls (e ∷ past) = omega (arith, lines_are calls past, length-append (lines_of calls past) (record { moment = now_of calls (happenings (e ∷ past)); answer = e.answer } ∷ []))
 
-length-happenings : (past : List Entry) → length (happenings past) ≡ length past
+length-happenings : (past : List HistoryEntry) → length (happenings past) ≡ length past
 length-happenings [] = refl
 length-happenings (e ∷ past) = omega (arith, length-happenings past)
 
@@ -70,7 +70,7 @@ lines_few calls workers events o =
 -- ---- one event more
 
 pub continue_history : (m new : Machine) (lines : List Line) (event : Event) (events : List Event) → IsOrderly m.calls → Stands m (history_of m.calls (workers_of m) events) →
-    ((past : List Entry) → Means m.calls (workers_of m) past → Stands m past → Continues m new [] lines event past) →
+    ((past : List HistoryEntry) → IsHistoryOf m.calls (workers_of m) past → Stands m past → Continues m new [] lines event past) →
     Stands new (history_of m.calls (workers_of m) (event ∷ events))
     × (lines_of m.calls (history_of m.calls (workers_of m) (event ∷ events)) ≡ lines_of m.calls (history_of m.calls (workers_of m) events) ++ lines)
 continue_history m new lines event events o stands goes =
@@ -95,7 +95,7 @@ pub goes_on : (old mid new : Machine) (more events : List Event) (event : Event)
     Stands mid (history_of old.calls (workers_of old) (more ++ events))
     × (text_of old.calls (history_of old.calls (workers_of old) (more ++ events)) ≡ text_of old.calls (history_of old.calls (workers_of old) events) ++ text)
     × (length (lines_of old.calls (history_of old.calls (workers_of old) (more ++ events))) ≡ length (lines_of old.calls (history_of old.calls (workers_of old) events)) + count) →
-    ((past : List Entry) → Means mid.calls (workers_of mid) past → Stands mid past → Continues mid new [] lines event past) →
+    ((past : List HistoryEntry) → IsHistoryOf mid.calls (workers_of mid) past → Stands mid past → Continues mid new [] lines event past) →
     Stands new (history_of old.calls (workers_of old) (event ∷ (more ++ events)))
     × (text_of old.calls (history_of old.calls (workers_of old) (event ∷ (more ++ events))) ≡ text_of old.calls (history_of old.calls (workers_of old) events) ++ (text ++ lines_text lines))
     × (length (lines_of old.calls (history_of old.calls (workers_of old) (event ∷ (more ++ events)))) ≡ length (lines_of old.calls (history_of old.calls (workers_of old) events)) + (count + length lines))
@@ -114,7 +114,7 @@ goes_on old mid new more events event lines text count calls workers o so_far go
 -- what one event more makes of the answers so far
 pub answers_more : (old mid new : Machine) (held before put put' : List ℕ) (taken taken' count n : ℕ) (event : Event) (start lines : List Line) (part : List Happening) → (a : Answers old mid held taken before put count) →
     FitsEvent event → take taken' held ≡ input_of a.more ++ event_line event → new.taken ≡ mid.taken + 1 → start ≡ [] → Steps mid new start lines part →
-    ((past : List Entry) → Means mid.calls (workers_of mid) past → Stands mid past → Continues mid new start lines event past) →
+    ((past : List HistoryEntry) → IsHistoryOf mid.calls (workers_of mid) past → Stands mid past → Continues mid new start lines event past) →
     put' ≡ put ++ lines_text lines → n ≡ length lines → Answers old new held taken' before put' (count + n)
 answers_more old mid new held before put put' taken taken' count n event start lines part a fits front one none steps goes written many = record {
   more = event ∷ a.more;
@@ -127,7 +127,7 @@ answers_more old mid new held before put put' taken taken' count n event start l
   text = a.text ++ lines_text lines;
   written = written ∙ (ap (λ l. l ++ lines_text lines) a.written ∙ append_assoc before a.text (lines_text lines));
   goes = λ o events stands.
-      let go : (past : List Entry) → Means mid.calls (workers_of mid) past → Stands mid past → Continues mid new [] lines event past =
+      let go : (past : List HistoryEntry) → IsHistoryOf mid.calls (workers_of mid) past → Stands mid past → Continues mid new [] lines event past =
       λ past means there. subst (λ l. Continues mid new l lines event past) none (goes past means there) in
       let all = goes_on old mid new a.more events event lines a.text count a.calls a.workers o (a.goes o events stands) go in
       (all.0, all.1, omega (arith, all.2, many));

@@ -3,4 +3,4 @@ pub mod Newlines
 pub mod Runs
 pub mod Inputs
 pub mod Turns
-pub mod Ones
+pub mod OneText

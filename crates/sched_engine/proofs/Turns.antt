@@ -10,7 +10,7 @@ use Rattle.executor_core.specs.Machine.{Machine, workers_of, Stands}
 use Rattle.executor_core.proofs.Flowing.{flow_means}
 use Rattle.trace_text.specs.Spelling.{IsLine}
 use Rattle.trace_text.specs.Spelling.{event_text, FitsEvent}
-use Rattle.sched_engine.specs.Running.{event_line, input_of, IsTrace, text_of, IsRefused, BeginsWithEvent, Took, TookPart, Answers, IsFirst, Done}
+use Rattle.sched_engine.specs.Running.{event_line, input_of, IsTrace, text_of, IsRefused, BeginsWithEvent, TookEvents, TookPart, Answers, IsNewCore, Done}
 use Rattle.trace_text.proofs.EventTexts.{event_is_line, event_short}
 use Rattle.trace_text.proofs.Texts.{first_line, no_short_line, no_line}
 use Rattle.sched_engine.proofs.Runs.{at_end, so_far, at_fault, took, gave, gave_front}
@@ -36,10 +36,10 @@ pub trace_of : (calls : List Planned) (workers : ℕ) (events : List Event) → 
 trace_of calls workers events o = record { means = flow_means calls workers events o; flows = flow_happens calls workers events }
 
 -- bytes came in, the events at their front were answered, and the text was written
-pub piece : (calls : List Planned) (workers limit : ℕ) (a b c o p q : Option (List ℕ)) (held bytes whole seen rest before put : List ℕ) (core next : Machine) (taken count more : ℕ) → IsOrderly calls →
-    Done calls workers limit a b held o p core count → Consumes b c bytes → whole ≡ held ++ bytes → seen ≡ whole → rest ≡ drop taken whole → (d : Answers core next seen taken before put more) → before ≡ [] → Appends p q put →
+pub piece : (calls : List Planned) (workers limit : ℕ) (a b c o p q : Option (List ℕ)) (held bytes whole view_of_state rest before put : List ℕ) (core next : Machine) (taken count more : ℕ) → IsOrderly calls →
+    Done calls workers limit a b held o p core count → Consumes b c bytes → whole ≡ held ++ bytes → view_of_state ≡ whole → rest ≡ drop taken whole → (d : Answers core next view_of_state taken before put more) → before ≡ [] → Appends p q put →
     Done calls workers limit a c rest o q next (count + more)
-piece calls workers limit a b c o p q held bytes whole seen rest before put core next taken count more orderly done new all same left d none written =
+piece calls workers limit a b c o p q held bytes whole view_of_state rest before put core next taken count more orderly done new all same left d none written =
     let P : List Planned → ℕ → Type 0 = λ cs n. Stands core (history_of cs n done.events)
     → Stands next (history_of cs n (d.more ++ done.events))
     × (text_of cs (history_of cs n (d.more ++ done.events)) ≡ text_of cs (history_of cs n done.events) ++ d.text)
@@ -74,7 +74,7 @@ nothing_written None = tt
 nothing_written (Some xs) = sym (append-nil xs)
 
 -- before anything was read
-pub first_done : (core : Machine) (limit : ℕ) (a o : Option (List ℕ)) (held : List ℕ) → IsFirst core limit → held ≡ [] → Done core.calls (workers_of core) limit a a held o o core 0
+pub first_done : (core : Machine) (limit : ℕ) (a o : Option (List ℕ)) (held : List ℕ) → IsNewCore core limit → held ≡ [] → Done core.calls (workers_of core) limit a a held o o core 0
 first_done core limit a o held first none = record {
   events = [];
   fit = All-nil FitsEvent;
@@ -91,7 +91,7 @@ first_done core limit a o held first none = record {
 -- what was taken so far, with a rest of which P holds
 took_so_far : (calls : List Planned) (workers limit : ℕ) (a b o p : Option (List ℕ)) (held : List ℕ) (core : Machine) (count : ℕ) (P : List ℕ → Type 0) (Q : ℕ → ℕ → List ℕ → Type 0) → IsOrderly calls →
     (done : Done calls workers limit a b held o p core count) → core.taken ≤ limit → ((more : List ℕ) → P (held ++ more)) →
-    Q (length done.events) (length (lines_of calls (history_of calls workers done.events))) (text_of calls (history_of calls workers done.events)) → Took calls workers limit a P Q
+    Q (length done.events) (length (lines_of calls (history_of calls workers done.events))) (text_of calls (history_of calls workers done.events)) → TookEvents calls workers limit a P Q
 took_so_far calls workers limit a b o p held core count P Q orderly done within rest gives = record {
   events = done.events;
   fit = done.fit;
@@ -104,21 +104,21 @@ took_so_far calls workers limit a b o p held core count P Q orderly done within 
 
 -- want of memory
 pub out_of_memory : (calls : List Planned) (workers limit : ℕ) (a b o p : Option (List ℕ)) (held : List ℕ) (core : Machine) (count : ℕ) → IsOrderly calls → Done calls workers limit a b held o p core count → core.taken ≤ limit →
-    Took calls workers limit a (λ rest. Unit {0}) (λ events lines trace. Appends o p trace)
+    TookEvents calls workers limit a (λ rest. Unit {0}) (λ events lines trace. Appends o p trace)
 out_of_memory calls workers limit a b o p held core count orderly done within =
     took_so_far calls workers limit a b o p held core count (λ rest. Unit {0}) (λ events lines trace. Appends o p trace) orderly done within (λ more. tt) done.written
 
 -- a rest that is refused
 pub refused : (calls : List Planned) (workers limit : ℕ) (a b o p : Option (List ℕ)) (held : List ℕ) (core : Machine) (count n : ℕ) → IsOrderly calls → Done calls workers limit a b held o p core count → core.taken ≤ limit →
     ((more : List ℕ) → IsRefused (held ++ more)) → 0 < length held → n ≡ core.taken + 1 →
-    Took calls workers limit a (λ rest. IsRefused rest × (0 < length rest)) (λ events lines trace. (n ≡ events + 1) × Appends o p trace)
+    TookEvents calls workers limit a (λ rest. IsRefused rest × (0 < length rest)) (λ events lines trace. (n ≡ events + 1) × Appends o p trace)
 refused calls workers limit a b o p held core count n orderly done within no_event some is =
     took_so_far calls workers limit a b o p held core count (λ rest. IsRefused rest × (0 < length rest)) (λ events lines trace. (n ≡ events + 1) × Appends o p trace) orderly done within
     (λ more. (no_event more, omega (arith, some, length-append held more))) (omega (arith, is, done.taken), done.written)
 
 -- a further event at the limit
 pub full : (calls : List Planned) (workers limit : ℕ) (a b o p : Option (List ℕ)) (held : List ℕ) (core : Machine) (count : ℕ) → IsOrderly calls → Done calls workers limit a b held o p core count →
-    core.taken ≡ core.limit → BeginsWithEvent held → Took calls workers limit a BeginsWithEvent (λ events lines trace. (events ≡ limit) × Appends o p trace)
+    core.taken ≡ core.limit → BeginsWithEvent held → TookEvents calls workers limit a BeginsWithEvent (λ events lines trace. (events ≡ limit) × Appends o p trace)
 full calls workers limit a b o p held core count orderly done at begins =
     took_so_far calls workers limit a b o p held core count BeginsWithEvent (λ events lines trace. (events ≡ limit) × Appends o p trace) orderly done (omega (arith, at, done.same_limit))
     (λ more. (begins.0, begins.1 ++ more, begins.2, ap (λ l. l ++ more) begins.3 ∙ append_assoc (event_line begins.0) begins.1 more)) (omega (arith, at, done.same_limit, done.taken), done.written)
@@ -126,7 +126,7 @@ full calls workers limit a b o p held core count orderly done at begins =
 -- the end of the input, with nothing held
 pub ended : (calls : List Planned) (workers limit : ℕ) (a b c o p : Option (List ℕ)) (held : List ℕ) (core : Machine) (count n : ℕ) → IsOrderly calls → Done calls workers limit a b held o p core count → core.taken ≤ limit →
     Consumes b c [] → IsAtEnd c → held ≡ [] → n ≡ core.taken →
-    Took calls workers limit a (λ rest. rest ≡ []) (λ events lines trace. (events ≡ n) × (lines ≡ count) × Appends o p trace)
+    TookEvents calls workers limit a (λ rest. rest ≡ []) (λ events lines trace. (events ≡ n) × (lines ≡ count) × Appends o p trace)
 ended calls workers limit a b c o p held core count n orderly done within consumed end none is = record {
   events = done.events;
   fit = done.fit;
@@ -140,7 +140,7 @@ ended calls workers limit a b c o p held core count n orderly done within consum
 -- the end of the input, with a part of a line held
 pub cut_off : (calls : List Planned) (workers limit : ℕ) (a b c o p : Option (List ℕ)) (held : List ℕ) (core : Machine) (count n : ℕ) → IsOrderly calls → Done calls workers limit a b held o p core count → core.taken ≤ limit →
     Consumes b c [] → IsAtEnd c → IsLine held → 0 < length held → n ≡ core.taken + 1 →
-    Took calls workers limit a (λ rest. IsRefused rest × (0 < length rest)) (λ events lines trace. (n ≡ events + 1) × Appends o p trace)
+    TookEvents calls workers limit a (λ rest. IsRefused rest × (0 < length rest)) (λ events lines trace. (n ≡ events + 1) × Appends o p trace)
 cut_off calls workers limit a b c o p held core count n orderly done within consumed end part some is = record {
   events = done.events;
   fit = done.fit;
@@ -183,20 +183,20 @@ forget calls workers limit a b o p held core count done = record {
 }
 
 -- the number of lines fits, for some numbers of events
-pub lines_fit : (calls : List Planned) (workers limit : ℕ) (a b c o p : Option (List ℕ)) (held bytes whole seen rest before put : List ℕ) (core next : Machine) (taken count more : ℕ) → IsOrderly calls →
-    Done calls workers limit a b held o p core count → Consumes b c bytes → whole ≡ held ++ bytes → seen ≡ whole → rest ≡ drop taken whole → Answers core next seen taken before put more → before ≡ [] → next.taken ≤ next.limit → limit < 2 ^ 32 →
+pub lines_fit : (calls : List Planned) (workers limit : ℕ) (a b c o p : Option (List ℕ)) (held bytes whole view_of_state rest before put : List ℕ) (core next : Machine) (taken count more : ℕ) → IsOrderly calls →
+    Done calls workers limit a b held o p core count → Consumes b c bytes → whole ≡ held ++ bytes → view_of_state ≡ whole → rest ≡ drop taken whole → Answers core next view_of_state taken before put more → before ≡ [] → next.taken ≤ next.limit → limit < 2 ^ 32 →
     count + more < 2 ^ 33
-lines_fit calls workers limit a b c o p held bytes whole seen rest before put core next taken count more orderly done new all same left d none within small =
-    let all_done = piece calls workers limit a b c None None None held bytes whole seen rest before put core next taken count more orderly (forget calls workers limit a b o p held core count done) new all same left d none tt in
+lines_fit calls workers limit a b c o p held bytes whole view_of_state rest before put core next taken count more orderly done new all same left d none within small =
+    let all_done = piece calls workers limit a b c None None None held bytes whole view_of_state rest before put core next taken count more orderly (forget calls workers limit a b o p held core count done) new all same left d none tt in
     omega (arith, all_done.lines, lines_few calls workers all_done.events orderly, all_done.taken, all_done.same_limit, within, small)
 
 -- a text that was written in part
-pub unwritten : (calls : List Planned) (workers limit : ℕ) (a b c o p q : Option (List ℕ)) (held bytes whole seen rest before put : List ℕ) (core next : Machine) (taken count more n : ℕ) → IsOrderly calls →
-    Done calls workers limit a b held o p core count → Consumes b c bytes → whole ≡ held ++ bytes → seen ≡ whole → rest ≡ drop taken whole → (d : Answers core next seen taken before put more) → before ≡ [] → next.taken ≤ next.limit → Appends p q (take n put) →
-    Took calls workers limit a (λ rest. Unit {0}) (λ events lines trace. (k : ℕ) × Appends o q (take k trace))
+pub unwritten : (calls : List Planned) (workers limit : ℕ) (a b c o p q : Option (List ℕ)) (held bytes whole view_of_state rest before put : List ℕ) (core next : Machine) (taken count more n : ℕ) → IsOrderly calls →
+    Done calls workers limit a b held o p core count → Consumes b c bytes → whole ≡ held ++ bytes → view_of_state ≡ whole → rest ≡ drop taken whole → (d : Answers core next view_of_state taken before put more) → before ≡ [] → next.taken ≤ next.limit → Appends p q (take n put) →
+    TookEvents calls workers limit a (λ rest. Unit {0}) (λ events lines trace. (k : ℕ) × Appends o q (take k trace))
 unfolding piece forget
-unwritten calls workers limit a b c o p q held bytes whole seen rest before put core next taken count more n orderly done new all same left d none within written =
-    let all_done = piece calls workers limit a b c None None None held bytes whole seen rest before put core next taken count more orderly (forget calls workers limit a b o p held core count done) new all same left d none tt in
+unwritten calls workers limit a b c o p q held bytes whole view_of_state rest before put core next taken count more n orderly done new all same left d none within written =
+    let all_done = piece calls workers limit a b c None None None held bytes whole view_of_state rest before put core next taken count more orderly (forget calls workers limit a b o p held core count done) new all same left d none tt in
     let P : List Planned → ℕ → Type 0 = λ cs n. Stands core (history_of cs n done.events)
     → text_of cs (history_of cs n (d.more ++ done.events)) ≡ text_of cs (history_of cs n done.events) ++ d.text
     in
@@ -207,16 +207,16 @@ unwritten calls workers limit a b c o p q held bytes whole seen rest before put 
     (length first + n, subst (λ (l : List ℕ). Appends o q (take (length first + n) l)) (sym (longer done.stands)) (gave_front o p q first d.text put n done.written written text))
 
 -- each piece brings an event or a byte
-pub smaller : (core next : Machine) (held bytes whole seen rest before put : List ℕ) (taken more limit : ℕ) → whole ≡ held ++ bytes → seen ≡ whole → rest ≡ drop taken whole → 0 < length bytes → taken ≤ length whole → Answers core next seen taken before put more →
+pub smaller : (core next : Machine) (held bytes whole view_of_state rest before put : List ℕ) (taken more limit : ℕ) → whole ≡ held ++ bytes → view_of_state ≡ whole → rest ≡ drop taken whole → 0 < length bytes → taken ≤ length whole → Answers core next view_of_state taken before put more →
     next.taken ≤ limit → length rest < 63 → length held < 63 → (limit - next.taken) * 64 + (63 - length rest) < (limit - core.taken) * 64 + (63 - length held)
-smaller core next held bytes whole seen rest before put taken more limit all same left some within d room short part =
+smaller core next held bytes whole view_of_state rest before put taken more limit all same left some within d room short part =
     by d.more d.front d.events
   where
     long : length whole ≡ length held + length bytes
     long = ap length all ∙ length-append held bytes
 
-    by : (events : List Event) → take taken seen ≡ input_of events → next.taken ≡ core.taken + length events → (limit - next.taken) * 64 + (63 - length rest) < (limit - core.taken) * 64 + (63 - length held)
-    by [] front count = omega (arith, count, ap length left, length-drop taken whole, ap length front, length-take taken seen, ap length same, long, some, within, room, short, part)
+    by : (events : List Event) → take taken view_of_state ≡ input_of events → next.taken ≡ core.taken + length events → (limit - next.taken) * 64 + (63 - length rest) < (limit - core.taken) * 64 + (63 - length held)
+    by [] front count = omega (arith, count, ap length left, length-drop taken whole, ap length front, length-take taken view_of_state, ap length same, long, some, within, room, short, part)
     by (e ∷ events) front count = omega (arith, count, room, short, part)
 
 -- a text without bytes

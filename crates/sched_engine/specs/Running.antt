@@ -3,9 +3,9 @@
 use Rattle.std.specs.Prelude.{◌≡◌, ◌≢◌, ℕ, ◌+◌, ◌^◌, ◌<◌, ◌≤◌, List, [], ◌∷◌, ◌++◌, ◌⊎◌, Option, Result, Ok, Err, IfSome, All, length, take}
 use Rattle.std.specs.Io.KnownBytes.{Appends, Consumes, Keeps, prepend_known}
 use Rattle.executor_core.specs.declared.Event.{Event}
-use Rattle.executor_core.specs.Counts.{IsNoCount}
+use Rattle.executor_core.specs.Counts.{IsWorkerCount}
 use Rattle.queue_code.specs.Calls.{Planned, IsOrderly}
-use Rattle.executor_core.specs.Histories.{Entry, happenings, Means}
+use Rattle.executor_core.specs.Histories.{HistoryEntry, happenings, IsHistoryOf}
 use Rattle.executor_core.specs.Flows.{flow, history_of, lines_of}
 use Rattle.executor_core.specs.Machine.{Machine, workers_of, Stands}
 use Rattle.sched_engine.specs.declared.engine.Why.{Why}
@@ -37,12 +37,12 @@ abbrev pub AreEvents : List Event → Type 0
 AreEvents events = All FitsEvent events
 
 -- the history is the one that the plan's equations allow for the events, which stand the newest first
-pub record IsTrace (calls : List Planned) (workers : ℕ) (events : List Event) (past : List Entry) : Type 0 where
-  pub means : Means calls workers past
+pub record IsTrace (calls : List Planned) (workers : ℕ) (events : List Event) (past : List HistoryEntry) : Type 0 where
+  pub means : IsHistoryOf calls workers past
   pub flows : happenings past ≡ flow calls events
 
 -- the text of a history
-abbrev pub text_of : List Planned → List Entry → List ℕ
+abbrev pub text_of : List Planned → List HistoryEntry → List ℕ
 text_of calls past = lines_text (lines_of calls past)
 
 -- some bytes do not begin with the line of an event
@@ -70,10 +70,10 @@ Splits input events P = IfSome input (λ xs. (rest : List ℕ) × (xs ≡ input_
 
 -- events that were taken from the input, and the one trace that they have: `P` holds of the rest of the input, and `Q` of the
 -- numbers of events and lines, and of the trace's text
-pub record Took (calls : List Planned) (workers limit : ℕ) (input : Option (List ℕ)) (P : List ℕ → Type 0) (Q : ℕ → ℕ → List ℕ → Type 0) : Type 0 where
+pub record TookEvents (calls : List Planned) (workers limit : ℕ) (input : Option (List ℕ)) (P : List ℕ → Type 0) (Q : ℕ → ℕ → List ℕ → Type 0) : Type 0 where
   pub events : List Event
   pub fit : AreEvents events
-  pub past : List Entry
+  pub past : List HistoryEntry
   pub trace : IsTrace calls workers events past
   pub splits : Splits input events P
   pub within : length events ≤ limit
@@ -83,7 +83,7 @@ pub record Took (calls : List Planned) (workers limit : ℕ) (input : Option (Li
 pub record TookPart (calls : List Planned) (workers limit : ℕ) (input left old new : Option (List ℕ)) : Type 0 where
   pub events : List Event
   pub fit : AreEvents events
-  pub past : List Entry
+  pub past : List HistoryEntry
   pub trace : IsTrace calls workers events past
   pub part : List ℕ
   pub read : Consumes input left (input_of events ++ part)
@@ -93,7 +93,7 @@ pub record TookPart (calls : List Planned) (workers limit : ℕ) (input left old
   pub written : Appends old new (text_of calls past)
 
 -- a core before anything happened
-pub record IsFirst (core : Machine) (most : ℕ) : Type 0 where
+pub record IsNewCore (core : Machine) (most : ℕ) : Type 0 where
   pub orderly : IsOrderly core.calls
   pub stands : Stands core []
   pub none : core.taken ≡ 0
@@ -105,7 +105,7 @@ pub record IsAccepted (text : List ℕ) (calls : List Planned) (workers limit : 
   pub plan : PlanTree
   pub reads : plan_of_text text ≡ Ok plan
   pub makes : calls ≡ calls_of plan
-  pub some : IsNoCount workers → ⊥
+  pub counted : IsWorkerCount workers
   pub positive : 0 < limit
 
 -- nothing was read or written
@@ -115,16 +115,16 @@ IsUntouched input left old new = Keeps input left × Keeps old new
 -- what a run over these calls did, which stand for a plan
 abbrev pub Runs : Result Report RunError → List Planned → ℕ → ℕ → Option (List ℕ) → Option (List ℕ) → Option (List ℕ) → Option (List ℕ) → Type 0
 Runs (Ok r) calls workers limit input left old new =
-    Took calls workers limit input (λ rest. rest ≡ []) (λ events lines trace. (events ≡ r.events) × (lines ≡ r.lines) × Appends old new trace)
+    TookEvents calls workers limit input (λ rest. rest ≡ []) (λ events lines trace. (events ≡ r.events) × (lines ≡ r.lines) × Appends old new trace)
 Runs (Err (x.EventLine n)) calls workers limit input left old new =
-    Took calls workers limit input (λ rest. IsRefused rest × (0 < length rest)) (λ events lines trace. (n ≡ events + 1) × Appends old new trace)
+    TookEvents calls workers limit input (λ rest. IsRefused rest × (0 < length rest)) (λ events lines trace. (n ≡ events + 1) × Appends old new trace)
 Runs (Err x.Full) calls workers limit input left old new =
-    Took calls workers limit input BeginsWithEvent (λ events lines trace. (events ≡ limit) × Appends old new trace)
+    TookEvents calls workers limit input BeginsWithEvent (λ events lines trace. (events ≡ limit) × Appends old new trace)
 Runs (Err x.Read) calls workers limit input left old new = TookPart calls workers limit input left old new
 Runs (Err x.Write) calls workers limit input left old new =
-    Took calls workers limit input (λ rest. Unit {0}) (λ events lines trace. (n : ℕ) × Appends old new (take n trace))
+    TookEvents calls workers limit input (λ rest. Unit {0}) (λ events lines trace. (n : ℕ) × Appends old new (take n trace))
 Runs (Err x.Memory) calls workers limit input left old new =
-    Took calls workers limit input (λ rest. Unit {0}) (λ events lines trace. Appends old new trace)
+    TookEvents calls workers limit input (λ rest. Unit {0}) (λ events lines trace. Appends old new trace)
 Runs (Err (x.Plan fault)) calls workers limit input left old new = ⊥
 Runs (Err x.Workers) calls workers limit input left old new = ⊥
 Runs (Err x.Limit) calls workers limit input left old new = ⊥
@@ -132,8 +132,8 @@ Runs (Err x.Limit) calls workers limit input left old new = ⊥
 -- why there is no core for a text and these numbers, the plan first, then the workers, then the limit
 abbrev pub Refuses : RunError → List ℕ → ℕ → ℕ → Type 0
 Refuses (x.Plan fault) text workers limit = (plan_of_text text ≡ Err fault) ⊎ (fault ≡ record { kind = kinds.Memory; block = 0; call = 0 })
-Refuses x.Workers text workers limit = (plan : PlanTree) × (plan_of_text text ≡ Ok plan) × IsNoCount workers
-Refuses x.Limit text workers limit = (plan : PlanTree) × (plan_of_text text ≡ Ok plan) × (IsNoCount workers → ⊥) × (limit ≡ 0)
+Refuses x.Workers text workers limit = (plan : PlanTree) × (plan_of_text text ≡ Ok plan) × (IsWorkerCount workers → ⊥)
+Refuses x.Limit text workers limit = (plan : PlanTree) × (plan_of_text text ≡ Ok plan) × IsWorkerCount workers × (limit ≡ 0)
 Refuses x.Memory text workers limit = (plan : PlanTree) × (plan_of_text text ≡ Ok plan)
 Refuses _ text workers limit = ⊥
 
@@ -152,7 +152,7 @@ Ran result text workers limit input left old new =
 pub record Opens (core : Machine) (text : List ℕ) (workers limit : ℕ) : Type 0 where
   pub accepted : IsAccepted text core.calls workers limit
   pub count : workers_of core ≡ workers
-  pub first : IsFirst core limit
+  pub first : IsNewCore core limit
 
 -- `Read` comes of a fault of the source alone
 abbrev pub FaultAtRead : Result Report RunError → ℕ → ℕ → ℕ → ℕ → Type 0

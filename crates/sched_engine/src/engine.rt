@@ -1,7 +1,7 @@
 //! The engine: event lines in, trace lines out.
 ghost use Rattle.std.specs.Prelude.{◌≡◌, ◌≤◌, IfOk, IfErr, length, drop};
 ghost use Rattle.executor_core.specs.Machine.{workers_of};
-ghost use Rattle.sched_engine.specs.Running.{IsStanding, IsFirst, Answers, Stops, Opens, Refuses, Runs, Ran, FaultAtRead, FaultAtWrite};
+ghost use Rattle.sched_engine.specs.Running.{IsStanding, IsNewCore, Answers, Stops, Opens, Refuses, Runs, Ran, FaultAtRead, FaultAtWrite};
 
 use crate::ends::{Sink, Source, write_text};
 use crate::held::{Filled, Held, ROOM};
@@ -143,7 +143,7 @@ fn answer_all<A: Allocator + Copy, S: Source, W: Sink>(
     reader: &mut S,
     writer: &mut W,
 ) -> Result<Report, RunError>
-    requires { IsFirst core.old limit }
+    requires { IsNewCore core.old limit }
     ensures runs { Runs result core.old.calls (workers_of core.old) limit (S.remaining reader.old) (S.remaining reader.new) (W.contents writer.old) (W.contents writer.new) }
     ensures read { FaultAtRead result (S.failed reader.old) (S.fruitless reader.old) (S.failed reader.new) (S.fruitless reader.new) }
     ensures write { FaultAtWrite result (W.failed writer.old) (W.fruitless writer.old) (W.failed writer.new) (W.fruitless writer.new) }

@@ -8,7 +8,7 @@ use Rattle.atomic_table.specs.Table.{Allows}
 use Rattle.atomic_table.proofs.Lists.{at_set, set_here, exchanged}
 use Rattle.task_word.specs.Words.{Parts, IsWord, bit, value, marked, is_live, is_ended, is_cancelled, rank, rank_in, new_in}
 use Rattle.task_word.specs.Views.{entry, times, wins, and_if, core_of, with_entry, core_cancelled, MeetsEntry}
-use Rattle.task_word.specs.Rule.{word_of, word_at, Matches, flag, taken_by, is_handle, EntriesFit, HasMet, taken_in_all, handles, IsKept}
+use Rattle.task_word.specs.Rule.{word_of, word_at, Matches, flag, taken_by, is_handle, EntriesFit, HasMet, taken_in_all, handles, IsWellFormedTable}
 use Rattle.task_word.specs.Steps.{Holder, AtTask, CoreIs, Submitted, Moved, Tells, CoreMeets, CoreCancelled, CoreLooked}
 use Rattle.task_word.specs.declared.phases.Phase.TheVariants.{Vacant, New, Running, Done, Failed}
 use Rattle.task_word.specs.declared.phases.Phase.{Phase}
@@ -34,13 +34,13 @@ pub not_core : (v : View) (w : CoreView) → is_core v ≡ false → v ≢ Core 
 not_core v w e same = let f : true ≡ false = sym (ap is_core same) ∙ e in grind (arith)
 
 -- what the rule says of the core's entries
-pub fits : (n : ℕ) (words : List ℕ) (views : List View) (v : CoreView) → IsKept n words views → get_elem? views 0 ≡ some (Core v) → EntriesFit n words v.entries
+pub fits : (n : ℕ) (words : List ℕ) (views : List View) (v : CoreView) → IsWellFormedTable n words views → get_elem? views 0 ≡ some (Core v) → EntriesFit n words v.entries
 fits n words views v kept at = subst (λ (u : CoreView). EntriesFit n words u.entries) (core_same _ _ (sym kept.core.1 ∙ at)) kept.core.2
 
-pub out_is : (n : ℕ) (words : List ℕ) (views : List View) (v : CoreView) → IsKept n words views → get_elem? views 0 ≡ some (Core v) → v.out ≡ handles views
+pub out_is : (n : ℕ) (words : List ℕ) (views : List View) (v : CoreView) → IsWellFormedTable n words views → get_elem? views 0 ≡ some (Core v) → v.out ≡ handles views
 out_is n words views v kept at = subst (λ (u : CoreView). u.out ≡ handles views) (core_same _ _ (sym kept.core.1 ∙ at)) kept.core.3
 
-pub out_most : (n : ℕ) (words : List ℕ) (views : List View) (v : CoreView) → IsKept n words views → get_elem? views 0 ≡ some (Core v) → v.out ≤ 63
+pub out_most : (n : ℕ) (words : List ℕ) (views : List View) (v : CoreView) → IsWellFormedTable n words views → get_elem? views 0 ≡ some (Core v) → v.out ≤ 63
 out_most n words views v kept at = subst (λ (u : CoreView). u.out ≤ 63) (core_same _ _ (sym kept.core.1 ∙ at)) kept.core.4
 
 pub in_views : (views : List View) (v : View) → get_elem? views 0 ≡ some v → 0 < length views
@@ -48,12 +48,12 @@ in_views [] v at = absurd (some-ne-none v (sym at))
 in_views (u ∷ us) v at = omega arith
 
 -- a step of the core keeps the rule: the word of the task k becomes x, its entry e, and the core's own list goes along
-pub core_keeps : (n k x : ℕ) (words : List ℕ) (views : List View) (v : CoreView) (e : Parts) (own : List ℕ) → IsKept n words views → get_elem? views 0 ≡ some (Core v) → k < n
+pub core_keeps : (n k x : ℕ) (words : List ℕ) (views : List View) (v : CoreView) (e : Parts) (own : List ℕ) → IsWellFormedTable n words views → get_elem? views 0 ≡ some (Core v) → k < n
     → IsWord e → Matches x e
     → times k own + flag (is_cancelled (word_at words k)) ≡ times k v.own + flag (is_cancelled (word_of x))
     → ((j : ℕ) → j ≢ k → times j own ≡ times j v.own)
     → Goes (word_at words k) (word_of x)
-    → IsKept n (set words k x) (set views 0 (Core record { entries = set v.entries k e; own = own; joined = v.joined; ranks = v.ranks; out = v.out }))
+    → IsWellFormedTable n (set words k x) (set views 0 (Core record { entries = set v.entries k e; own = own; joined = v.joined; ranks = v.ranks; out = v.out }))
 core_keeps n k x words views v e own kept at in_n is fit here there goes =
     let w : CoreView = record { entries = set v.entries k e; own = own; joined = v.joined; ranks = v.ranks; out = v.out } in
     let lt : k < length words = omega (arith, kept.count) in
@@ -112,8 +112,8 @@ submits n slots id k me zero_id core in_n phase =
       at_task k (λ j. CoreIs (with_entry (core_of me.0) j (new_in 0)) (Core (core_of me.0), me.1) (Core (with_entry (core_of me.0) k (new_in 0)), me.1)) refl,
     )))
   where
-    submit_keeps : (n k : ℕ) (words : List ℕ) (views : List View) (v : CoreView) → IsKept n words views → get_elem? views 0 ≡ some (Core v) → k < n → (entry v k).phase ≡ Vacant
-        → IsKept n (set words k (value (new_in 0))) (set views 0 (Core (with_entry v k (new_in 0))))
+    submit_keeps : (n k : ℕ) (words : List ℕ) (views : List View) (v : CoreView) → IsWellFormedTable n words views → get_elem? views 0 ≡ some (Core v) → k < n → (entry v k).phase ≡ Vacant
+        → IsWellFormedTable n (set words k (value (new_in 0))) (set views 0 (Core (with_entry v k (new_in 0))))
     submit_keeps n k words views v kept at in_n phase =
         let f = fits n words views v kept at in
         let is = f.word k in_n in
@@ -138,10 +138,10 @@ not_ended Done e = absurd (let f : false ≡ true = e in grind (arith))
 not_ended Failed e = absurd (let f : false ≡ true = e in grind (arith))
 
 -- the exchange that finds what it expected keeps the rule
-exchange_keeps : (n k new : ℕ) (next : Parts) (words : List ℕ) (views : List View) (v : CoreView) → IsKept n words views → get_elem? views 0 ≡ some (Core v) → k < n
+exchange_keeps : (n k new : ℕ) (next : Parts) (words : List ℕ) (views : List View) (v : CoreView) → IsWellFormedTable n words views → get_elem? views 0 ≡ some (Core v) → k < n
     → is_live (entry v k).phase ≡ true → is_cancelled (entry v k) ≡ false → slice_index words k ≡ value (entry v k) → new ≡ value next → (IsWord (entry v k) → IsWord next)
     → rank (entry v k) ≤ rank next → is_cancelled next ≡ false
-    → IsKept n (set words k new) (set views 0 (Core (with_entry v k (word_of new))))
+    → IsWellFormedTable n (set words k new) (set views 0 (Core (with_entry v k (word_of new))))
 exchange_keeps n k new next words views v kept at in_n phase live found is_new word up free =
     let f = fits n words views v kept at in
     let is = f.word k in_n in
@@ -155,9 +155,9 @@ exchange_keeps n k new next words views v kept at in_n phase live found is_new w
     (goes_on _ _ still (not_ended _ (ap (λ p. is_live p.phase) was ∙ phase)) (omega (arith, ap rank was, ap rank read, up)))
 
 -- a load of the core's keeps the rule, whatever word of the entry's it takes over
-load_keeps : (n k : ℕ) (words : List ℕ) (views : List View) (v : CoreView) (e : Parts) → IsKept n words views → get_elem? views 0 ≡ some (Core v) → k < n
+load_keeps : (n k : ℕ) (words : List ℕ) (views : List View) (v : CoreView) (e : Parts) → IsWellFormedTable n words views → get_elem? views 0 ≡ some (Core v) → k < n
     → IsWord e → Matches (slice_index words k) e
-    → IsKept n (set words k (slice_index words k)) (set views 0 (Core (with_entry v k e)))
+    → IsWellFormedTable n (set words k (slice_index words k)) (set views 0 (Core (with_entry v k e)))
 load_keeps n k words views v e kept at in_n is fit =
     core_keeps n k (slice_index words k) words views v e v.own kept at in_n is fit refl (λ j other. refl) (goes_same (word_at words k))
 
@@ -179,7 +179,7 @@ alone_taken k (u ∷ us) v at none only =
     omega (arith, sum_by-cons (λ w. times k (taken_by w)) u us, rest, ap (λ w. times k (taken_by w)) same)
 
 -- what the rule tells the core of a word that it met
-pub tells : (n k : ℕ) (words : List ℕ) (views : List View) (v : CoreView) → IsKept n words views → get_elem? views 0 ≡ some (Core v) → k < n → Tells v k (word_at words k)
+pub tells : (n k : ℕ) (words : List ℕ) (views : List View) (v : CoreView) → IsWellFormedTable n words views → get_elem? views 0 ≡ some (Core v) → k < n → Tells v k (word_at words k)
 tells n k words views v kept at in_n =
     let all = kept.once k in_n in
     let both = times_append k v.own v.joined in
@@ -190,7 +190,7 @@ tells n k words views v kept at in_n =
       still = λ some_won. (kept.met 0 (Core v) at).still k in_n (inr some_won);
     }
 
-core_meets : (n k : ℕ) (words : List ℕ) (views : List View) (v : CoreView) → IsKept n words views → get_elem? views 0 ≡ some (Core v) → k < n → CoreMeets v k (slice_index words k)
+core_meets : (n k : ℕ) (words : List ℕ) (views : List View) (v : CoreView) → IsWellFormedTable n words views → get_elem? views 0 ≡ some (Core v) → k < n → CoreMeets v k (slice_index words k)
 core_meets n k words views v kept at in_n =
     let f = fits n words views v kept at in
     let is = f.word k in_n in
@@ -216,7 +216,7 @@ move_either n slots k old new next v xs in_n phase live is_old is_new word up fr
     let f = fits n words views v kept at in
     let is = f.word k in_n in
     exchanged x old new
-    (λ y. (w : View) × IsKept n (set words k y) (set views 0 w) × Moved (k + 1) old new (Core v, xs) x (w, xs))
+    (λ y. (w : View) × IsWellFormedTable n (set words k y) (set views 0 w) × Moved (k + 1) old new (Core v, xs) x (w, xs))
     (λ hit. (
       Core (with_entry v k (word_of new)),
       exchange_keeps n k new next words views v kept at in_n phase live (hit ∙ is_old) is_new word up free,
@@ -252,8 +252,8 @@ core_looks n slots id k me zero_id core in_n =
     )))
 
 -- the setting of the bit by the core keeps the rule
-bit_keeps : (n k : ℕ) (words : List ℕ) (views : List View) (v : CoreView) → IsKept n words views → get_elem? views 0 ≡ some (Core v) → k < n
-    → IsKept n (set words k (bit_or (slice_index words k) bit)) (set views 0 (Core (core_cancelled v k (word_at words k))))
+bit_keeps : (n k : ℕ) (words : List ℕ) (views : List View) (v : CoreView) → IsWellFormedTable n words views → get_elem? views 0 ≡ some (Core v) → k < n
+    → IsWellFormedTable n (set words k (bit_or (slice_index words k) bit)) (set views 0 (Core (core_cancelled v k (word_at words k))))
 bit_keeps n k words views v kept at in_n =
     let f = fits n words views v kept at in
     let is = f.word k in_n in

@@ -7,7 +7,7 @@ use Rattle.atomic_table.specs.Table.{Splits, Joins}
 use Rattle.atomic_table.proofs.Lists.{at_set, set_here, set_else, at_longer, at_snoc}
 use Rattle.task_word.specs.Words.{rank}
 use Rattle.task_word.specs.Views.{times, core_of, handle_of, new_handle, one_out, joined_with, greater, lender, lent, together, spent}
-use Rattle.task_word.specs.Rule.{word_at, taken_by, is_handle, HasMet, IsKept, task_words}
+use Rattle.task_word.specs.Rule.{word_at, taken_by, is_handle, HasMet, IsWellFormedTable, task_words}
 use Rattle.task_word.specs.declared.views.CoreView.{CoreView}
 use Rattle.task_word.specs.declared.views.HandleView.{HandleView}
 use Rattle.task_word.specs.declared.views.View.{View}
@@ -38,8 +38,8 @@ met_nothing n m words =
       ended = λ h e. absurd (let f : false ≡ true = e in grind (arith));
     }
 
-split_keeps : (n : ℕ) (words : List ℕ) (views : List View) (v : CoreView) → IsKept n words views → get_elem? views 0 ≡ some (Core v) → v.out < 63
-    → IsKept n words (set views 0 (Core (one_out v)) ++ Handle (new_handle (length v.entries)) ∷ [])
+split_keeps : (n : ℕ) (words : List ℕ) (views : List View) (v : CoreView) → IsWellFormedTable n words views → get_elem? views 0 ≡ some (Core v) → v.out < 63
+    → IsWellFormedTable n words (set views 0 (Core (one_out v)) ++ Handle (new_handle (length v.entries)) ∷ [])
 split_keeps n words views v kept at room =
     let w : View = Core (one_out v) in
     let h : View = Handle (new_handle (length v.entries)) in
@@ -80,7 +80,7 @@ split_keeps n words views v kept at room =
 pub splits : (n id : ℕ) (v : View) → id ≡ 0 → v ≡ Core (core_of v) → (core_of v).out < 63 → Splits (Rule n) id v (lender v) (lent v)
 splits n id v zero_id core room s kept at =
     let here : get_elem? s.views 0 ≡ some (Core (core_of v)) = subst (λ (i : ℕ). get_elem? s.views i ≡ some v) zero_id at ∙ ap some core in
-    subst (λ (i : ℕ). IsKept n (task_words s.words) (set s.views i (lender v) ++ lent v ∷ [])) (sym zero_id) (split_keeps n (task_words s.words) s.views (core_of v) kept here room)
+    subst (λ (i : ℕ). IsWellFormedTable n (task_words s.words) (set s.views i (lender v) ++ lent v ∷ [])) (sym zero_id) (split_keeps n (task_words s.words) s.views (core_of v) kept here room)
 
 -- one that is gone knows nothing
 met_none : (n : ℕ) (words : List ℕ) → HasMet n words Spent
@@ -117,9 +117,9 @@ met_both n words v h met met_h =
       | inr g ↦ omega (arith, below k lt, met_h.still k lt (inr g), greater_right v.ranks h.ranks k)
     ]
 
-join_keeps : (n other : ℕ) (words : List ℕ) (views : List View) (v : CoreView) (h : HandleView) → IsKept n words views → get_elem? views 0 ≡ some (Core v) → other ≢ 0
+join_keeps : (n other : ℕ) (words : List ℕ) (views : List View) (v : CoreView) (h : HandleView) → IsWellFormedTable n words views → get_elem? views 0 ≡ some (Core v) → other ≢ 0
     → get_elem? (set views 0 (Core (joined_with v h))) other ≡ some (Handle h)
-    → IsKept n words (set (set views 0 (Core (joined_with v h))) other Spent)
+    → IsWellFormedTable n words (set (set views 0 (Core (joined_with v h))) other Spent)
 join_keeps n other words views v h kept at apart there =
     let w : View = Core (joined_with v h) in
     let early : List View = set views 0 w in
@@ -170,4 +170,4 @@ pub joins : (n id other : ℕ) (v w : View) → id ≡ 0 → v ≡ Core (core_of
 joins n id other v w zero_id core handle s kept at apart there =
     let here : get_elem? s.views 0 ≡ some (Core (core_of v)) = subst (λ (i : ℕ). get_elem? s.views i ≡ some v) zero_id at ∙ ap some core in
     let there' : get_elem? (set s.views 0 (together v w)) other ≡ some (Handle (handle_of w)) = subst (λ (i : ℕ). get_elem? (set s.views i (together v w)) other ≡ some w) zero_id there ∙ ap some handle in
-    subst (λ (i : ℕ). IsKept n (task_words s.words) (set (set s.views i (together v w)) other Spent)) (sym zero_id) (join_keeps n other (task_words s.words) s.views (core_of v) (handle_of w) kept here (λ e. apart (e ∙ sym zero_id)) there')
+    subst (λ (i : ℕ). IsWellFormedTable n (task_words s.words) (set (set s.views i (together v w)) other Spent)) (sym zero_id) (join_keeps n other (task_words s.words) s.views (core_of v) (handle_of w) kept here (λ e. apart (e ∙ sym zero_id)) there')

@@ -7,7 +7,7 @@ use Rattle.atomic_table.specs.Table.{Allows}
 use Rattle.atomic_table.proofs.Lists.{at_set, set_else}
 use Rattle.task_word.specs.Words.{Parts, IsWord, bit, value, marked, is_cancelled, rank}
 use Rattle.task_word.specs.Views.{times, wins, handle_of, handle_looked, handle_cancelled, MeetsHandle}
-use Rattle.task_word.specs.Rule.{word_of, word_at, Matches, flag, is_handle, HasMet, IsKept}
+use Rattle.task_word.specs.Rule.{word_of, word_at, Matches, flag, is_handle, HasMet, IsWellFormedTable}
 use Rattle.task_word.specs.Steps.{Holder, HandleIs, HandleCancelled, HandleLooked}
 use Rattle.task_word.specs.declared.views.HandleView.{HandleView}
 use Rattle.task_word.specs.declared.views.View.{View}
@@ -35,11 +35,11 @@ set_true (x ∷ xs) (suc k) zero b e = inl e
 set_true (x ∷ xs) (suc k) (suc j) b e = elim (set_true xs k j b e) [ inl before ↦ inl before | inr new ↦ inr (ap suc new.0, new.1) ]
 
 -- the core's word of the task is a word that the table's fits
-some_entry : (n k : ℕ) (words : List ℕ) (views : List View) → IsKept n words views → k < n → (e : Parts) × IsWord e × Matches (slice_index words k) e
+some_entry : (n k : ℕ) (words : List ℕ) (views : List View) → IsWellFormedTable n words views → k < n → (e : Parts) × IsWord e × Matches (slice_index words k) e
 some_entry n k words views kept in_n = (_, kept.core.2.word k in_n, kept.core.2.each k in_n)
 
 -- the seat of a handle is not the first
-not_first : (n id : ℕ) (words : List ℕ) (views : List View) (h : HandleView) → IsKept n words views → get_elem? views id ≡ some (Handle h) → id ≢ 0
+not_first : (n id : ℕ) (words : List ℕ) (views : List View) (h : HandleView) → IsWellFormedTable n words views → get_elem? views id ≡ some (Handle h) → id ≢ 0
 not_first n id words views h kept at zero_id =
     let here : get_elem? views 0 ≡ some (Handle h) = subst (λ (i : ℕ). get_elem? views i ≡ some (Handle h)) zero_id at in
     not_core (Handle h) kept.core.0 refl (some-injective _ _ (sym here ∙ kept.core.1))
@@ -78,11 +78,11 @@ met_more n k words h h' w in_n room is new met =
     ]
 
 -- a step of a handle keeps the rule: the word of the task k becomes x, and what the handle won goes along
-handle_keeps : (n k x id : ℕ) (words : List ℕ) (views : List View) (h h' : HandleView) → IsKept n words views → get_elem? views id ≡ some (Handle h) → k < n
+handle_keeps : (n k x id : ℕ) (words : List ℕ) (views : List View) (h h' : HandleView) → IsWellFormedTable n words views → get_elem? views id ≡ some (Handle h) → k < n
     → ((e : Parts) → IsWord e → Matches (slice_index words k) e → Matches x e)
     → times k h'.won + flag (is_cancelled (word_at words k)) ≡ times k h.won + flag (is_cancelled (word_of x))
     → k < length h.ranks → Goes (word_at words k) (word_of x) → rank (word_at words k) ≡ rank (word_of x) → Meets k (word_at words k) h h'
-    → IsKept n (set words k x) (set views id (Handle h'))
+    → IsWellFormedTable n (set words k x) (set views id (Handle h'))
 handle_keeps n k x id words views h h' kept at in_n fit here room goes level new =
     let lt : k < length words = omega (arith, kept.count) in
     let other_id : 0 ≢ id = (λ e. not_first n id words views h kept at (sym e)) in
@@ -110,7 +110,7 @@ handle_is : (P : Holder → Type 0) (me : Holder) → me.0 ≡ Handle (handle_of
 handle_is P me handle p = subst P (λ i. (sym handle i, me.1)) p
 
 -- what a handle meets
-handle_meets : (n k id : ℕ) (words : List ℕ) (views : List View) (h : HandleView) → IsKept n words views → get_elem? views id ≡ some (Handle h) → k < n → MeetsHandle h k (word_at words k)
+handle_meets : (n k id : ℕ) (words : List ℕ) (views : List View) (h : HandleView) → IsWellFormedTable n words views → get_elem? views id ≡ some (Handle h) → k < n → MeetsHandle h k (word_at words k)
 handle_meets n k id words views h kept at in_n =
     let e = some_entry n k words views kept in_n in
     let met : HasMet n words (Handle h) = kept.met id (Handle h) at in
@@ -123,7 +123,7 @@ handle_meets n k id words views h kept at in_n =
       ended = λ same over. subst (λ (i : ℕ). ((word_at words i).phase ≡ h.last.1.phase) × ((word_at words i).run ≡ h.last.1.run)) same (met.ended (omega (arith, same, in_n)) over);
     }
 
-read_number : (n k : ℕ) (words : List ℕ) (views : List View) → IsKept n words views → k < n → value (word_at words k) ≡ slice_index words k
+read_number : (n k : ℕ) (words : List ℕ) (views : List View) → IsWellFormedTable n words views → k < n → value (word_at words k) ≡ slice_index words k
 read_number n k words views kept in_n = let e = some_entry n k words views kept in_n in reads_number _ e.0 e.1 e.2
 
 -- a load of a handle's keeps the rule
@@ -141,8 +141,8 @@ handle_looks n slots id k me handle in_n room =
     )))
 
 -- the setting of the bit by a handle keeps the rule
-bit_keeps : (n k id : ℕ) (words : List ℕ) (views : List View) (h : HandleView) → IsKept n words views → get_elem? views id ≡ some (Handle h) → k < n → k < length h.ranks
-    → IsKept n (set words k (bit_or (slice_index words k) bit)) (set views id (Handle (handle_cancelled h k (word_at words k))))
+bit_keeps : (n k id : ℕ) (words : List ℕ) (views : List View) (h : HandleView) → IsWellFormedTable n words views → get_elem? views id ≡ some (Handle h) → k < n → k < length h.ranks
+    → IsWellFormedTable n (set words k (bit_or (slice_index words k) bit)) (set views id (Handle (handle_cancelled h k (word_at words k))))
 bit_keeps n k id words views h kept at in_n room =
     let x : ℕ = slice_index words k in
     let w : Parts = word_of x in

@@ -7,7 +7,7 @@ use mathlib.Core.Option.{some}
 use lib.ListN.{get_elem?}
 use Rattle.task_word.specs.Words.{Parts, IsWord, vacant, marked, is_live, is_ended, is_cancelled, rank}
 use Rattle.task_word.specs.Views.{times, wins, and_if}
-use Rattle.task_word.specs.Rule.{word_of, word_at, Matches, flag, taken_by, ranks_of, seen_of, won_of, last_of, EntriesFit, HasMet, taken_in_all, IsKept}
+use Rattle.task_word.specs.Rule.{word_of, word_at, Matches, flag, taken_by, ranks_of, seen_of, won_of, last_of, EntriesFit, HasMet, taken_in_all, IsWellFormedTable}
 use Rattle.task_word.specs.declared.views.View.{View}
 use Rattle.task_word.specs.declared.views.View.TheVariants.{Core, Handle, Spent}
 use Rattle.task_word.proofs.Lists.{sum_set, sum_part}
@@ -133,7 +133,7 @@ win_counts true false = refl
 win_counts false true = refl
 win_counts false false = refl
 
--- to set the bit of a word cancels its task just where it wins
+-- to set the bit of a word cancels its task exactly when it wins
 pub wins_count : (w : Parts) → flag (wins w) + flag (is_cancelled w) ≡ flag (is_cancelled (marked w))
 wins_count w = win_counts (is_live w.phase) w.marked
 
@@ -174,12 +174,12 @@ won_taken k (Handle h) = omega arith
 won_taken k Spent = omega arith
 
 -- what a seat won is cancelled
-pub won_cancelled : (n k id : ℕ) (words : List ℕ) (views : List View) (v : View) → IsKept n words views → get_elem? views id ≡ some v → k < n
+pub won_cancelled : (n k id : ℕ) (words : List ℕ) (views : List View) (v : View) → IsWellFormedTable n words views → get_elem? views id ≡ some v → k < n
     → 0 < times k (won_of v) → is_cancelled (word_at words k) ≡ true
 won_cancelled n k id words views v kept at in_n some_won =
     flag_true _ (let part = sum_part (λ u. times k (taken_by u)) views id v at in let all = kept.once k in_n in let w = won_taken k v in omega (arith, some_won, part, all, w))
 
 -- a word that a seat won keeps its rank
-pub won_still : (n k id x : ℕ) (words : List ℕ) (views : List View) (v : View) → IsKept n words views → get_elem? views id ≡ some v → k < n → Goes (word_at words k) (word_of x)
+pub won_still : (n k id x : ℕ) (words : List ℕ) (views : List View) (v : View) → IsWellFormedTable n words views → get_elem? views id ≡ some v → k < n → Goes (word_at words k) (word_of x)
     → 0 < times k (won_of v) → rank (word_at words k) ≡ rank (word_of x)
 won_still n k id x words views v kept at in_n goes some_won = goes.steady (won_cancelled n k id words views v kept at in_n some_won)

@@ -5,7 +5,7 @@ use lib.ListN.{get_elem?}
 use Rattle.std.proofs.lemmas.List.{length-replicate, get_or-replicate}
 use Rattle.task_word.specs.Words.{Parts, IsWord, vacant, is_cancelled, rank}
 use Rattle.task_word.specs.Views.{new_core, first_view}
-use Rattle.task_word.specs.Rule.{word_at, HasMet, IsKept, task_words}
+use Rattle.task_word.specs.Rule.{word_at, HasMet, IsWellFormedTable, task_words}
 use Rattle.task_word.specs.declared.views.CoreView.{CoreView}
 use Rattle.task_word.specs.declared.views.View.{View}
 use Rattle.task_word.specs.declared.views.View.TheVariants.{Core}
@@ -30,9 +30,9 @@ none_cancelled n k = ap (λ m. is_cancelled (Rattle.task_word.specs.Rule.word_of
 zero_words : (n : ℕ) → task_words (replicate (n + 1) 0) ≡ replicate n 0
 zero_words n = let e : n + 1 ≡ suc n = omega arith in ap (λ m. task_words (replicate m 0)) e
 
-pub opens : (n : ℕ) (words : List ℕ) → words ≡ replicate (n + 1) 0 → IsKept n (task_words words) (first_view n ∷ [])
+pub opens : (n : ℕ) (words : List ℕ) → words ≡ replicate (n + 1) 0 → IsWellFormedTable n (task_words words) (first_view n ∷ [])
 opens n words is =
-    subst (λ (ws : List ℕ). IsKept n ws (first_view n ∷ [])) (sym (ap task_words is ∙ zero_words n)) record {
+    subst (λ (ws : List ℕ). IsWellFormedTable n ws (first_view n ∷ [])) (sym (ap task_words is ∙ zero_words n)) record {
       count = length-replicate n 0;
       core = (
         new_core n,

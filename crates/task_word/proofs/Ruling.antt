@@ -3,7 +3,7 @@ use Rattle.std.proofs.Common.{◌≡◌, ◌+◌, ◌*◌, ◌≤◌, ℕ, Bool,
 use Rattle.std.proofs.lemmas.Bool.{cases_lt}
 use Rattle.task_word.specs.Words.{rank, rank_in, is_cancelled}
 use Rattle.task_word.specs.Views.{times}
-use Rattle.task_word.specs.Rule.{taken_by, taken_in_all, flag, word_at, IsKept}
+use Rattle.task_word.specs.Rule.{taken_by, taken_in_all, flag, word_at, IsWellFormedTable}
 use Rattle.task_word.specs.declared.views.View.{View}
 use Rattle.task_word.specs.Laws.{OneWinner, NoMoveLowersRank}
 use Rattle.task_word.proofs.Lists.{sum_parts}
@@ -12,7 +12,7 @@ flag_most : (b : Bool) → flag b ≤ 1
 flag_most true = omega arith
 flag_most false = omega arith
 
-once_at_most : (n k : ℕ) (words : List ℕ) (views : List View) → IsKept n words views → taken_in_all k views ≤ 1
+once_at_most : (n k : ℕ) (words : List ℕ) (views : List View) → IsWellFormedTable n words views → taken_in_all k views ≤ 1
 once_at_most n k words views kept =
     elim (cases_lt k n) [
       | inl lt ↦ let all = kept.once k lt in omega (arith, all, flag_most (is_cancelled (word_at words k)))

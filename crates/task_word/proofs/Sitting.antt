@@ -84,7 +84,7 @@ yes_in Running false = refl
 yes_in Done bit = refl
 yes_in Failed bit = refl
 
--- a handle's cancel wins just where it answers so
+-- a handle's cancel wins exactly when it answers so
 pub yes_wins : (w : Parts) → wins w ≡ is_yes (cancel_answer w)
 yes_wins w = yes_in w.phase w.marked
 
@@ -97,6 +97,6 @@ won_in Running false = refl
 won_in Done bit = refl
 won_in Failed bit = refl
 
--- the core's cancel wins just where it answers so
+-- the core's cancel wins exactly when it answers so
 pub won_wins : (w : Parts) → wins w ≡ is_won (core_answer w)
 won_wins w = won_in w.phase w.marked

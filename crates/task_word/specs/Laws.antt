@@ -4,7 +4,7 @@ use mathlib.Core.Option.{some}
 use lib.ListN.{get_elem?}
 use Rattle.task_word.specs.Words.{Parts, rank, submitted, started, rearmed, ended_well, ended_badly, marked}
 use Rattle.task_word.specs.Views.{times}
-use Rattle.task_word.specs.Rule.{IsKept, taken_by, taken_in_all}
+use Rattle.task_word.specs.Rule.{IsWellFormedTable, taken_by, taken_in_all}
 use Rattle.task_word.specs.declared.phases.Phase.TheVariants.{Vacant, New, Running}
 use Rattle.task_word.specs.declared.views.View.{View}
 
@@ -15,7 +15,7 @@ pub record WonOnce (k : ℕ) (views : List View) : Type 0 where
   pub two : (i j : ℕ) (v w : View) → i ≢ j → get_elem? views i ≡ some v → get_elem? views j ≡ some w → times k (taken_by v) + times k (taken_by w) ≤ 1
 
 abbrev pub OneWinner : Type 0
-OneWinner = (n : ℕ) (words : List ℕ) (views : List View) → IsKept n words views → (k : ℕ) → WonOnce k views
+OneWinner = (n : ℕ) (words : List ℕ) (views : List View) → IsWellFormedTable n words views → (k : ℕ) → WonOnce k views
 
 -- each move raises the rank, and the bit leaves it
 pub record MovesRaise (w : Parts) : Type 0 where

@@ -100,7 +100,7 @@ abbrev pub handles : List View → ℕ
 handles views = sum_by is_handle views
 
 -- the words of n tasks and the views of the seats
-pub record IsKept (n : ℕ) (words : List ℕ) (views : List View) : Type 0 where
+pub record IsWellFormedTable (n : ℕ) (words : List ℕ) (views : List View) : Type 0 where
   -- one word for each task
   pub count : length words ≡ n
   -- the first seat is the core's, and no other

@@ -140,7 +140,7 @@ impl<A: Allocator> CoreSeat<A> {
             .shared
             .fetch_or::<plays::CoreCancels>(&mut self.seat, k as usize + 1, BIT);
         let met = Word::of_value(found);
-        self.entries[k as usize] = met.cancelled();
+        self.entries[k as usize] = met.with_cancel_bit();
         CoreCancel::of_word(met)
     }
 
@@ -165,7 +165,7 @@ impl<A: Allocator> CoreSeat<A> {
 
     /// Cuts off a new handle, which has met and cancelled nothing.
     ///
-    /// The error is [`WordError::Seats`], just where 63 handles are out; then nothing changed. So at most 63
+    /// The error is [`WordError::Seats`], exactly when 63 handles are out; then nothing changed. So at most 63
     /// handles are out.
     pub fn split(&mut self, words: &TaskWords<A>) -> Result<HandleSeat, WordError>
         requires table { self.old.table ≡ words.now.table }
@@ -231,7 +231,7 @@ impl<A: Allocator> CoreSeat<A> {
             self.entries[k as usize] = next;
             Moved::Yes
         } else {
-            self.entries[k as usize] = word.cancelled();
+            self.entries[k as usize] = word.with_cancel_bit();
             Moved::Cancelled
         }
     }

@@ -18,9 +18,9 @@ fn words_have_their_values_and_ranks(rt: HostRuntime) {
     assert!(rt; (running.failed().value(), running.failed().rank()) == (4, 3));
     assert!(rt; (next.value(), next.rank()) == (9, 3));
     assert!(rt; (late.value(), late.rank()) == (26, 8));
-    assert!(rt; (late.cancelled().value(), late.cancelled().rank()) == (9223372036854775834, 8));
-    assert!(rt; late.cancelled().is_cancelled() && !running.done().cancelled().is_cancelled());
-    assert!(rt; Word::vacant().cancelled().submitted() == new);
+    assert!(rt; (late.with_cancel_bit().value(), late.with_cancel_bit().rank()) == (9223372036854775834, 8));
+    assert!(rt; late.with_cancel_bit().is_cancelled() && !running.done().with_cancel_bit().is_cancelled());
+    assert!(rt; Word::vacant().with_cancel_bit().submitted() == new);
 }
 
 #[test]
@@ -39,7 +39,7 @@ fn a_handle_cancels_a_task_that_is_run(rt: HostRuntime) -> Result<(), Fail> {
     assert!(rt; core.cancel(&words, 0) == CoreCancel::Late);
     assert!(rt; core.look(&words, 0).value() == 9223372036854775810);
     let absent = core.look(&words, 1);
-    assert!(rt; absent == Word::vacant().cancelled());
+    assert!(rt; absent == Word::vacant().with_cancel_bit());
     core.submit(&words, 1);
     assert!(rt; core.look(&words, 1).value() == 1);
     assert!(rt; handle.state(&words, 1) == TaskState::Waiting);

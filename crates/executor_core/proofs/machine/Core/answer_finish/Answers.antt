@@ -6,7 +6,7 @@ use Rattle.sched_time.specs.declared.timing.Timing.TheVariants as t
 use Rattle.executor_core.specs.State.{due_past}
 use Rattle.executor_core.specs.Machine.{IsCounted, queued}
 use Rattle.executor_core.proofs.Tables.{read_at}
-use Rattle.executor_core.proofs.Keeps.{of_view, work_within, run_unqueued, finish_takes_in, finish_keeps_in}
+use Rattle.executor_core.proofs.RunSteps.{of_view, work_within, run_unqueued, finish_takes_in, finish_keeps_in}
 use Rattle.executor_core.proofs.machine.Core.answer_finish.Goals as goal
 
 pub get-task-requires : goal.get-task-requires

@@ -2,7 +2,7 @@ use Rattle.std.proofs.Common.{◌≡◌, ◌<◌, length, None, ◌∙◌, sym, 
 use Rattle.std.specs.Prelude.{slice_index_or}
 use Rattle.executor_core.specs.Machine.{IsCounted}
 use Rattle.executor_core.proofs.Tables.{read_at, none_of}
-use Rattle.executor_core.proofs.Keeps.{of_view, start_idles, start_takes_in, start_keeps_in, least_within, least_waits}
+use Rattle.executor_core.proofs.RunSteps.{of_view, start_idles, start_takes_in, start_keeps_in, least_within, least_waits}
 use Rattle.executor_core.proofs.machine.Core.answer_start.Goals as goal
 
 pub returns-in_default : goal.returns-in_default

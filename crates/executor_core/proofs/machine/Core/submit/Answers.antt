@@ -4,7 +4,7 @@ use Rattle.std.proofs.lemmas.List.{length-map}
 use Rattle.queue_code.specs.declared.call.CodeCall.TheVariants as call
 use Rattle.executor_core.specs.Machine.{queued}
 use Rattle.executor_core.proofs.Tables.{submission}
-use Rattle.executor_core.proofs.Works.{queued_at}
+use Rattle.executor_core.proofs.WorkerSteps.{queued_at}
 use Rattle.executor_core.proofs.Submits.{submit_keeps_in, submit_steps_in}
 use Rattle.executor_core.proofs.machine.Core.submit.Goals as goal
 

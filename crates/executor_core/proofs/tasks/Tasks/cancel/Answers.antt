@@ -15,4 +15,4 @@ index_mut-requires g c =
 pub returns : goal.returns
 returns g c =
     let m = c.self.inside in
-    cancel_sets m.words.items m.details.items c.args.self.now c.args.task c.index.result.now c.cancelled.result c.self.invariant c.self.view_is c.requires c.index.ensures c.cancelled.ensures
+    cancel_sets m.words.items m.details.items c.args.self.now c.args.task c.index.result.now c.with_cancel_bit.result c.self.invariant c.self.view_is c.requires c.index.ensures c.with_cancel_bit.ensures

@@ -22,7 +22,7 @@ use Rattle.delay_queue.specs.Queues as queues
 use Rattle.queue_code.specs.Calls.{Planned, Terms, terms_of, due_at, numbers, task_count}
 use Rattle.executor_core.specs.View.{is_waiting, is_enabled, first_enabled, comes_before}
 use Rattle.executor_core.specs.Answers.{plain, started, finished, outcome_in, due_next}
-use Rattle.executor_core.specs.State.{State, seen, seen_phase, due_seen, due_ahead, due_past, next, reply_of, state_after, vacant, finish_task, end_task}
+use Rattle.executor_core.specs.State.{State, view_of_state, seen_phase, due_seen, due_ahead, due_past, next, reply_of, state_after, vacant, finish_task, end_task}
 use Rattle.executor_core.specs.Machine.{queued, queued_phase, IsDue, IsSound}
 use Rattle.executor_core.proofs.Moves.{due_landed, past_is_landed}
 use Rattle.executor_core.proofs.Sound.{waits_in, is_seen_waiting}
@@ -43,7 +43,7 @@ queued_is ph.Waiting due d q = (refl, same_Some due d q)
 queued_is ph.Running due d q = absurd (none-some d q)
 queued_is ph.Done due d q = absurd (none-some d q)
 queued_is ph.Failed due d q = absurd (none-some d q)
-queued_is ph.Over due d q = absurd (none-some d q)
+queued_is ph.Dropped due d q = absurd (none-some d q)
 
 queued_task : (t : Task) (d : ℕ) → queued t ≡ Some d → (t.phase ≡ ph.Waiting) × (t.due ≡ d) × (t.cancelled ≡ false)
 queued_task t d q =
@@ -71,11 +71,11 @@ seen_due : (terms : Terms) (t : Task) → t.phase ≡ ph.Waiting → due_seen te
 seen_due terms t q = ap (λ p. due_seen terms p t.due) q
 
 -- an enabled task stands in the queue with its due moment, which is reached
-pub enabled_queued : (calls : List Planned) (made moment : ℕ) (tasks : List Task) (work : List (Option ℕ)) (j : ℕ) → IsSound (state_at made moment tasks work) → is_enabled (seen calls (state_at made moment tasks work)) j ≡ true →
+pub enabled_queued : (calls : List Planned) (made moment : ℕ) (tasks : List Task) (work : List (Option ℕ)) (j : ℕ) → IsSound (state_at made moment tasks work) → is_enabled (view_of_state calls (state_at made moment tasks work)) j ≡ true →
     (slice_index_or (map queued tasks) j None ≡ Some (slice_index_or tasks j vacant).due) × ((slice_index_or tasks j vacant).due ≤ moment)
 enabled_queued calls made moment tasks work j sound e =
     let s = state_at made moment tasks work in
-    let v = seen calls s in
+    let v = view_of_state calls s in
     let t = slice_index_or tasks j vacant in
     let parts = and_parts (is_waiting (v.fate j)) (nat_le (v.fate j).due v.moment) e in
     let waits = waits_in calls s j sound parts.0 in
@@ -83,10 +83,10 @@ enabled_queued calls made moment tasks work j sound e =
 
 -- the least entry of the queue, where it is due, is the first enabled task
 pub least_is_first : (calls : List Planned) (made moment : ℕ) (tasks : List Task) (work : List (Option ℕ)) (k d : ℕ) → IsSound (state_at made moment tasks work) → length tasks ≡ task_count calls →
-    queues.IsLeast (map queued tasks) d k → d ≤ moment → first_enabled (seen calls (state_at made moment tasks work)) (numbers calls) ≡ Some k
+    queues.IsLeast (map queued tasks) d k → d ≤ moment → first_enabled (view_of_state calls (state_at made moment tasks work)) (numbers calls) ≡ Some k
 least_is_first calls made moment tasks work k d sound count least due =
     let s = state_at made moment tasks work in
-    let v = seen calls s in
+    let v = view_of_state calls s in
     let t = slice_index_or tasks k vacant in
     let here = in_queue tasks k d least.there in
     let seen_here : (v.fate k).due ≡ d = seen_due (terms_of calls k) t here.0 ∙ here.1 in
@@ -104,27 +104,27 @@ least_is_first calls made moment tasks work k d sound count least due =
 
 -- where no entry of the queue is due, no task is enabled
 pub none_is_first : (calls : List Planned) (made moment : ℕ) (tasks : List Task) (work : List (Option ℕ)) → IsSound (state_at made moment tasks work) → queues.NoneIsDue (map queued tasks) moment →
-    first_enabled (seen calls (state_at made moment tasks work)) (numbers calls) ≡ None
+    first_enabled (view_of_state calls (state_at made moment tasks work)) (numbers calls) ≡ None
 none_is_first calls made moment tasks work sound none =
-    first_is_none (seen calls (state_at made moment tasks work)) (numbers calls)
+    first_is_none (view_of_state calls (state_at made moment tasks work)) (numbers calls)
     (λ j member e. let other = enabled_queued calls made moment tasks work j sound e in absurd (omega (arith, none j (slice_index_or tasks j vacant).due other.0, other.1)))
 
 -- the replies to a start
 
 pub no_worker_starts : (calls : List Planned) (workers w : ℕ) (s : State) → workers ≤ w → reply_of calls workers s (h.Start w) ≡ plain (a.Error x.NoWorker)
 no_worker_starts calls workers w s l =
-    ap (λ b. plain (cond b (option_map_or (λ _. a.Error x.Busy) (s.workers w) (started (seen calls s) w (first_enabled (seen calls s) (numbers calls)))) (a.Error x.NoWorker))) (le-ltb w workers l)
+    ap (λ b. plain (cond b (option_map_or (λ _. a.Error x.Busy) (s.workers w) (started (view_of_state calls s) w (first_enabled (view_of_state calls s) (numbers calls)))) (a.Error x.NoWorker))) (le-ltb w workers l)
 
-start_reply : (calls : List Planned) (workers w : ℕ) (s : State) (work first : Option ℕ) → w < workers → s.workers w ≡ work → first_enabled (seen calls s) (numbers calls) ≡ first →
-    reply_of calls workers s (h.Start w) ≡ plain (option_map_or (λ _. a.Error x.Busy) work (started (seen calls s) w first))
+start_reply : (calls : List Planned) (workers w : ℕ) (s : State) (work first : Option ℕ) → w < workers → s.workers w ≡ work → first_enabled (view_of_state calls s) (numbers calls) ≡ first →
+    reply_of calls workers s (h.Start w) ≡ plain (option_map_or (λ _. a.Error x.Busy) work (started (view_of_state calls s) w first))
 start_reply calls workers w s work first l e f =
-    ap (λ b. plain (cond b (option_map_or (λ _. a.Error x.Busy) (s.workers w) (started (seen calls s) w (first_enabled (seen calls s) (numbers calls)))) (a.Error x.NoWorker))) (lt-ltb w workers l)
-    ∙ (λ i. plain (option_map_or (λ _. a.Error x.Busy) (e i) (started (seen calls s) w (f i))))
+    ap (λ b. plain (cond b (option_map_or (λ _. a.Error x.Busy) (s.workers w) (started (view_of_state calls s) w (first_enabled (view_of_state calls s) (numbers calls)))) (a.Error x.NoWorker))) (lt-ltb w workers l)
+    ∙ (λ i. plain (option_map_or (λ _. a.Error x.Busy) (e i) (started (view_of_state calls s) w (f i))))
 
 pub busy_starts : (calls : List Planned) (workers w k : ℕ) (s : State) → w < workers → s.workers w ≡ Some k → reply_of calls workers s (h.Start w) ≡ plain (a.Error x.Busy)
-busy_starts calls workers w k s l e = start_reply calls workers w s (Some k) (first_enabled (seen calls s) (numbers calls)) l e refl
+busy_starts calls workers w k s l e = start_reply calls workers w s (Some k) (first_enabled (view_of_state calls s) (numbers calls)) l e refl
 
-pub idle_starts : (calls : List Planned) (workers w : ℕ) (s : State) → w < workers → s.workers w ≡ None → first_enabled (seen calls s) (numbers calls) ≡ None → reply_of calls workers s (h.Start w) ≡ plain (a.Idle w)
+pub idle_starts : (calls : List Planned) (workers w : ℕ) (s : State) → w < workers → s.workers w ≡ None → first_enabled (view_of_state calls s) (numbers calls) ≡ None → reply_of calls workers s (h.Start w) ≡ plain (a.Idle w)
 idle_starts calls workers w s l e f = start_reply calls workers w s None None l e f
 
 pub task_starts : (calls : List Planned) (workers w made moment k d : ℕ) (tasks : List Task) (work : List (Option ℕ)) → w < workers → slice_index_or work w None ≡ None → IsSound (state_at made moment tasks work) →
@@ -156,13 +156,13 @@ start_state calls made moment w k n d tasks work l low = λ i. record {
 -- the replies to a finish
 
 pub no_worker_finishes : (calls : List Planned) (workers w : ℕ) (ending : Ending) (s : State) → workers ≤ w → reply_of calls workers s (h.Finish w ending) ≡ plain (a.Error x.NoWorker)
-no_worker_finishes calls workers w ending s l = ap (λ b. plain (cond b (finished calls (seen calls s) w ending (s.workers w)) (a.Error x.NoWorker))) (le-ltb w workers l)
+no_worker_finishes calls workers w ending s l = ap (λ b. plain (cond b (finished calls (view_of_state calls s) w ending (s.workers w)) (a.Error x.NoWorker))) (le-ltb w workers l)
 
 finish_reply : (calls : List Planned) (workers w : ℕ) (ending : Ending) (s : State) (work : Option ℕ) → w < workers → s.workers w ≡ work →
-    reply_of calls workers s (h.Finish w ending) ≡ plain (finished calls (seen calls s) w ending work)
+    reply_of calls workers s (h.Finish w ending) ≡ plain (finished calls (view_of_state calls s) w ending work)
 finish_reply calls workers w ending s work l e =
-    ap (λ b. plain (cond b (finished calls (seen calls s) w ending (s.workers w)) (a.Error x.NoWorker))) (lt-ltb w workers l)
-    ∙ ap (λ x. plain (finished calls (seen calls s) w ending x)) e
+    ap (λ b. plain (cond b (finished calls (view_of_state calls s) w ending (s.workers w)) (a.Error x.NoWorker))) (lt-ltb w workers l)
+    ∙ ap (λ x. plain (finished calls (view_of_state calls s) w ending x)) e
 
 pub idle_finishes : (calls : List Planned) (workers w : ℕ) (ending : Ending) (s : State) → w < workers → s.workers w ≡ None → reply_of calls workers s (h.Finish w ending) ≡ plain (a.Error x.NotRunning)
 idle_finishes calls workers w ending s l e = finish_reply calls workers w ending s None l e
@@ -174,25 +174,25 @@ landing t.Once first n now last = refl
 landing (t.Rate period) first n now last = refl
 landing (t.Fixed delay) first n now last = refl
 
-next_is_past : (calls : List Planned) (s : State) (k : ℕ) → (s.tasks k).phase ≡ ph.Running → IsDue calls (seen calls s) →
-    due_next calls (seen calls s) k ≡ due_past (terms_of calls k).timing (s.tasks k).due s.moment
+next_is_past : (calls : List Planned) (s : State) (k : ℕ) → (s.tasks k).phase ≡ ph.Running → IsDue calls (view_of_state calls s) →
+    due_next calls (view_of_state calls s) k ≡ due_past (terms_of calls k).timing (s.tasks k).due s.moment
 next_is_past calls s k busy due =
     let terms = terms_of calls k in
     let t = s.tasks k in
-    let v = seen calls s in
+    let v = view_of_state calls s in
     let ahead : (v.fate k).due ≡ due_ahead terms.timing t.due = ap (λ p. due_seen terms p t.due) busy in
     landing terms.timing terms.first (v.fate k).starts s.moment (due k).0
     ∙ (ap (λ d. due_landed terms.timing d s.moment) (sym (due k).1 ∙ ahead) ∙ sym (past_is_landed terms.timing t.due s.moment))
 
 pub task_finishes : (calls : List Planned) (workers w k : ℕ) (ending : Ending) (outcome : Outcome) (s : State) → w < workers → s.workers w ≡ Some k → (s.tasks k).phase ≡ ph.Running →
-    IsDue calls (seen calls s) → outcome ≡ outcome_in (s.tasks k).cancelled (terms_of calls k).timing (due_past (terms_of calls k).timing (s.tasks k).due s.moment) ending →
+    IsDue calls (view_of_state calls s) → outcome ≡ outcome_in (s.tasks k).cancelled (terms_of calls k).timing (due_past (terms_of calls k).timing (s.tasks k).due s.moment) ending →
     reply_of calls workers s (h.Finish w ending) ≡ plain (a.Finish w k (s.tasks k).run outcome)
 task_finishes calls workers w k ending outcome s l e busy due is =
     let t = s.tasks k in
     let terms = terms_of calls k in
     let next = ap (λ d. outcome_in t.cancelled terms.timing d ending) (next_is_past calls s k busy due) in
     finish_reply calls workers w ending s (Some k) l e
-    ∙ (ap (λ x. plain (a.Finish w k (((seen calls s).fate k).starts - 1) x)) (next ∙ sym is)
+    ∙ (ap (λ x. plain (a.Finish w k (((view_of_state calls s).fate k).starts - 1) x)) (next ∙ sym is)
     ∙ (ap (λ p. plain (a.Finish w k ((seen_phase terms p t.run t.due t.cancelled).starts - 1) outcome)) busy
     ∙ ap (λ n. plain (a.Finish w k n outcome)) (less t.run)))
   where

@@ -20,12 +20,12 @@ use Rattle.executor_core.specs.declared.task.Task.{Task}
 use Rattle.delay_queue.specs.Queues as queues
 use Rattle.queue_code.specs.Calls.{terms_of, task_count}
 use Rattle.executor_core.specs.Answers.{plain, outcome_in}
-use Rattle.executor_core.specs.State.{vacant, seen, reply_of, state_after, finish_task, end_task, due_past}
-use Rattle.executor_core.specs.Machine.{Machine, workers_of, state_of, Takes, IsKept, IsSound, IsDue, IsCounted, queued, queued_phase, queued_again}
+use Rattle.executor_core.specs.State.{vacant, view_of_state, reply_of, state_after, finish_task, end_task, due_past}
+use Rattle.executor_core.specs.Machine.{Machine, workers_of, state_of, Takes, IsWellFormedCore, IsSound, IsDue, IsCounted, queued, queued_phase, queued_again}
 use Rattle.executor_core.proofs.Agree.{next_sound, next_due_is}
 use Rattle.executor_core.proofs.Sound.{no_run_again}
 use Rattle.executor_core.proofs.Tables.{at_set, runs_set}
-use Rattle.executor_core.proofs.Works.{queued_at, by_reply, in_queue, within, idle_starts, task_starts, none_is_first, running, start_state, task_finishes, finish_state}
+use Rattle.executor_core.proofs.WorkerSteps.{queued_at, by_reply, in_queue, within, idle_starts, task_starts, none_is_first, running, start_state, task_finishes, finish_state}
 
 -- a step that leaves the state, by its reply
 pub leaves : (m : Machine) (happening : Happening) (answer : Answer) → reply_of m.calls (workers_of m) (state_of m) happening ≡ plain answer →
@@ -36,7 +36,7 @@ leaves m happening answer is there =
 
 -- what a start finds
 
-pub start_idles : (m : Machine) (entries : List (Option ℕ)) (timings : List Timing) (w : ℕ) → IsKept m entries timings → w < workers_of m → slice_index_or m.work w None ≡ None →
+pub start_idles : (m : Machine) (entries : List (Option ℕ)) (timings : List Timing) (w : ℕ) → IsWellFormedCore m entries timings → w < workers_of m → slice_index_or m.work w None ≡ None →
     queues.NoneIsDue entries m.moment → Takes m m (h.Start w) (a.Idle w)
 start_idles m entries timings w kept l free none =
     leaves m (h.Start w) (a.Idle w)
@@ -50,7 +50,7 @@ pub unqueued : (entries : List (Option ℕ)) (tasks : List Task) (k : ℕ) (task
 unqueued entries tasks k task q none = ap (λ l. set l k None) q ∙ (ap (λ e. set (map queued tasks) k e) (sym none) ∙ sym (map-set queued tasks k task))
 
 -- a task that was not vacant is written: the tables of timings and of vacant tasks still fit
-pub timing_stays : (m : Machine) (entries : List (Option ℕ)) (timings : List Timing) (k : ℕ) (task : Task) → IsKept m entries timings → k < length m.tasks → (slice_index_or m.tasks k vacant).phase ≢ ph.Vacant →
+pub timing_stays : (m : Machine) (entries : List (Option ℕ)) (timings : List Timing) (k : ℕ) (task : Task) → IsWellFormedCore m entries timings → k < length m.tasks → (slice_index_or m.tasks k vacant).phase ≢ ph.Vacant →
     (j : ℕ) → (slice_index_or (set m.tasks k task) j vacant).phase ≢ ph.Vacant → slice_index_or timings j t.Once ≡ (terms_of m.calls j).timing
 timing_stays m entries timings k task kept low busy j used =
     by (k == j) refl (subst (λ x. x.phase ≢ ph.Vacant) (at_set m.tasks k j task vacant low) used)
@@ -59,7 +59,7 @@ timing_stays m entries timings k task kept low busy j used =
     by true same used = kept.timing j (subst (λ i. (slice_index_or m.tasks i vacant).phase ≢ ph.Vacant) (eqb-true k j same) busy)
     by false apart used = kept.timing j used
 
-pub fresh_stays : (m : Machine) (entries : List (Option ℕ)) (timings : List Timing) (k : ℕ) (task : Task) → IsKept m entries timings → k < length m.tasks → (slice_index_or m.tasks k vacant).phase ≢ ph.Vacant →
+pub fresh_stays : (m : Machine) (entries : List (Option ℕ)) (timings : List Timing) (k : ℕ) (task : Task) → IsWellFormedCore m entries timings → k < length m.tasks → (slice_index_or m.tasks k vacant).phase ≢ ph.Vacant →
     (j : ℕ) → task_count (take m.made m.calls) ≤ j → slice_index_or (set m.tasks k task) j vacant ≡ vacant
 fresh_stays m entries timings k task kept low busy j above = at_set m.tasks k j task vacant low ∙ by (k == j) refl
   where
@@ -75,7 +75,7 @@ running_unqueued t e =
 not_vacant : (p q : Phase) → p ≡ q → (q ≡ ph.Vacant → ⊥) → p ≢ ph.Vacant
 not_vacant p q e no_vacancy f = no_vacancy (sym e ∙ f)
 
-pub start_takes : (m : Machine) (entries : List (Option ℕ)) (timings : List Timing) (w k d : ℕ) (task : Task) → IsKept m entries timings → w < workers_of m → slice_index_or m.work w None ≡ None →
+pub start_takes : (m : Machine) (entries : List (Option ℕ)) (timings : List Timing) (w k d : ℕ) (task : Task) → IsWellFormedCore m entries timings → w < workers_of m → slice_index_or m.work w None ≡ None →
     queues.IsLeast entries d k → d ≤ m.moment → task ≡ slice_index_or m.tasks k vacant → Takes m (started m w k task) (h.Start w) (a.Start w k task.run d)
 start_takes m entries timings w k d task kept l free least due is =
     let there = subst (λ q. queues.IsLeast q d k) kept.queue least in
@@ -86,8 +86,8 @@ start_takes m entries timings w k d task kept l free least due is =
     in
     record { calls = refl; limit = refl; taken = refl; workers = length-set m.work w (Some k); state = step.0; said = step.1 }
 
-pub start_kept : (m : Machine) (entries : List (Option ℕ)) (timings : List Timing) (w k d : ℕ) (task : Task) → IsKept m entries timings → w < workers_of m → slice_index_or m.work w None ≡ None →
-    queues.IsLeast entries d k → d ≤ m.moment → task ≡ slice_index_or m.tasks k vacant → IsCounted m → IsKept (started m w k task) (set entries k None) timings
+pub start_kept : (m : Machine) (entries : List (Option ℕ)) (timings : List Timing) (w k d : ℕ) (task : Task) → IsWellFormedCore m entries timings → w < workers_of m → slice_index_or m.work w None ≡ None →
+    queues.IsLeast entries d k → d ≤ m.moment → task ≡ slice_index_or m.tasks k vacant → IsCounted m → IsWellFormedCore (started m w k task) (set entries k None) timings
 start_kept m entries timings w k d task kept l free least due is counted =
     let there = subst (λ q. queues.IsLeast q d k) kept.queue least in
     let low = within m.tasks k d there.there in
@@ -108,7 +108,7 @@ start_kept m entries timings w k d task kept l free least due is counted =
       timing = timing_stays m entries timings k (running task) kept low busy;
       fresh = fresh_stays m entries timings k (running task) kept low busy;
       sound = subst IsSound (sym takes.state) (next_sound m.calls (workers_of m) (state_of m) (h.Start w) kept.sound);
-      due = subst (λ s. IsDue m.calls (seen m.calls s)) (sym takes.state) (next_due_is m.calls (workers_of m) (state_of m) (h.Start w) kept.sound kept.due);
+      due = subst (λ s. IsDue m.calls (view_of_state m.calls s)) (sym takes.state) (next_due_is m.calls (workers_of m) (state_of m) (h.Start w) kept.sound kept.due);
       runs = runs_set m.taken m.tasks k (running task) low kept.runs (omega (arith, run, counted k)) (λ q. omega (arith, run, counted k));
     }
 
@@ -117,7 +117,7 @@ start_kept m entries timings w k d task kept l free least due is counted =
 abbrev pub finished : Machine → ℕ → ℕ → Task → Machine
 finished m w k task = record m { tasks = set m.tasks k task; work = set m.work w None }
 
-at_work : (m : Machine) (entries : List (Option ℕ)) (timings : List Timing) (w k : ℕ) → IsKept m entries timings → slice_index_or m.work w None ≡ Some k → (slice_index_or m.tasks k vacant).phase ≡ ph.Running
+at_work : (m : Machine) (entries : List (Option ℕ)) (timings : List Timing) (w k : ℕ) → IsWellFormedCore m entries timings → slice_index_or m.work w None ≡ Some k → (slice_index_or m.tasks k vacant).phase ≡ ph.Running
 at_work m entries timings w k kept busy = kept.sound.at_work w k busy
 
 known : (tasks : List Task) (k : ℕ) → (slice_index_or tasks k vacant).phase ≢ ph.Vacant → k < length tasks
@@ -126,13 +126,13 @@ known (x ∷ tasks) zero busy = omega arith
 known (x ∷ tasks) (suc k) busy = omega (arith, known tasks k busy)
 
 -- the task of a busy worker has its place in the tables
-pub work_within : (m : Machine) (entries : List (Option ℕ)) (timings : List Timing) (w k : ℕ) → IsKept m entries timings → slice_index_or m.work w None ≡ Some k → k < length m.tasks
+pub work_within : (m : Machine) (entries : List (Option ℕ)) (timings : List Timing) (w k : ℕ) → IsWellFormedCore m entries timings → slice_index_or m.work w None ≡ Some k → k < length m.tasks
 work_within m entries timings w k kept busy = known m.tasks k (not_vacant _ ph.Running (at_work m entries timings w k kept busy) (λ q. cc))
 
-pub work_timing : (m : Machine) (entries : List (Option ℕ)) (timings : List Timing) (w k : ℕ) → IsKept m entries timings → slice_index_or m.work w None ≡ Some k → slice_index_or timings k t.Once ≡ (terms_of m.calls k).timing
+pub work_timing : (m : Machine) (entries : List (Option ℕ)) (timings : List Timing) (w k : ℕ) → IsWellFormedCore m entries timings → slice_index_or m.work w None ≡ Some k → slice_index_or timings k t.Once ≡ (terms_of m.calls k).timing
 work_timing m entries timings w k kept busy = kept.timing k (not_vacant _ ph.Running (at_work m entries timings w k kept busy) (λ q. cc))
 
-pub finish_takes : (m : Machine) (entries : List (Option ℕ)) (timings : List Timing) (w k : ℕ) (ending : Ending) (timing : Timing) (outcome : Outcome) (task new : Task) → IsKept m entries timings → w < workers_of m →
+pub finish_takes : (m : Machine) (entries : List (Option ℕ)) (timings : List Timing) (w k : ℕ) (ending : Ending) (timing : Timing) (outcome : Outcome) (task new : Task) → IsWellFormedCore m entries timings → w < workers_of m →
     slice_index_or m.work w None ≡ Some k → task ≡ slice_index_or m.tasks k vacant → timing ≡ slice_index_or timings k t.Once → outcome ≡ outcome_in task.cancelled timing (due_past timing task.due m.moment) ending → new ≡ finish_task timing m.moment outcome task →
     Takes m (finished m w k new) (h.Finish w ending) (a.Finish w k task.run outcome)
 finish_takes m entries timings w k ending timing outcome task new kept l busy is timed out moved =
@@ -146,12 +146,12 @@ finish_takes m entries timings w k ending timing outcome task new kept l busy is
     record { calls = refl; limit = refl; taken = refl; workers = length-set m.work w None; state = step.0; said = step.1 }
 
 -- a task whose run is under way does not stand in the queue
-pub run_unqueued : (m : Machine) (entries : List (Option ℕ)) (timings : List Timing) (w k : ℕ) → IsKept m entries timings → slice_index_or m.work w None ≡ Some k → slice_index_or entries k None ≡ None
+pub run_unqueued : (m : Machine) (entries : List (Option ℕ)) (timings : List Timing) (w k : ℕ) → IsWellFormedCore m entries timings → slice_index_or m.work w None ≡ Some k → slice_index_or entries k None ≡ None
 run_unqueued m entries timings w k kept busy =
     ap (λ q. slice_index_or q k None) kept.queue ∙ (queued_at m.tasks k ∙ running_unqueued (slice_index_or m.tasks k vacant) (at_work m entries timings w k kept busy))
 
 -- the due moment of a run that is under way was reached
-pub run_due : (m : Machine) (entries : List (Option ℕ)) (timings : List Timing) (w k : ℕ) (task : Task) → IsKept m entries timings → slice_index_or m.work w None ≡ Some k → task ≡ slice_index_or m.tasks k vacant → task.due ≤ m.moment
+pub run_due : (m : Machine) (entries : List (Option ℕ)) (timings : List Timing) (w k : ℕ) (task : Task) → IsWellFormedCore m entries timings → slice_index_or m.work w None ≡ Some k → task ≡ slice_index_or m.tasks k vacant → task.due ≤ m.moment
 run_due m entries timings w k task kept busy is =
     let due : task.due ≡ (slice_index_or m.tasks k vacant).due = ap (λ (x : Task). x.due) is in omega (arith, due, kept.sound.reached k (at_work m entries timings w k kept busy))
 
@@ -162,9 +162,9 @@ finish_run timing now count (o.Failed code) task l = omega arith
 finish_run timing now count o.Dropped task l = omega arith
 finish_run timing now count (o.Again due) task l = omega arith
 
-pub finish_kept : (m : Machine) (entries : List (Option ℕ)) (timings : List Timing) (w k : ℕ) (ending : Ending) (timing : Timing) (outcome : Outcome) (task new : Task) → IsKept m entries timings → w < workers_of m →
+pub finish_kept : (m : Machine) (entries : List (Option ℕ)) (timings : List Timing) (w k : ℕ) (ending : Ending) (timing : Timing) (outcome : Outcome) (task new : Task) → IsWellFormedCore m entries timings → w < workers_of m →
     slice_index_or m.work w None ≡ Some k → task ≡ slice_index_or m.tasks k vacant → timing ≡ slice_index_or timings k t.Once → outcome ≡ outcome_in task.cancelled timing (due_past timing task.due m.moment) ending → new ≡ finish_task timing m.moment outcome task →
-    IsCounted m → IsKept (finished m w k new) (set entries k (queued new)) timings
+    IsCounted m → IsWellFormedCore (finished m w k new) (set entries k (queued new)) timings
 finish_kept m entries timings w k ending timing outcome task new kept l busy is timed out moved counted =
     let low = work_within m entries timings w k kept busy in
     let runs = at_work m entries timings w k kept busy in
@@ -184,34 +184,34 @@ finish_kept m entries timings w k ending timing outcome task new kept l busy is 
       timing = timing_stays m entries timings k new kept low used;
       fresh = fresh_stays m entries timings k new kept low used;
       sound = subst IsSound (sym takes.state) (next_sound m.calls (workers_of m) (state_of m) (h.Finish w ending) kept.sound);
-      due = subst (λ s. IsDue m.calls (seen m.calls s)) (sym takes.state) (next_due_is m.calls (workers_of m) (state_of m) (h.Finish w ending) kept.sound kept.due);
+      due = subst (λ s. IsDue m.calls (view_of_state m.calls s)) (sym takes.state) (next_due_is m.calls (workers_of m) (state_of m) (h.Finish w ending) kept.sound kept.due);
       runs = runs_set m.taken m.tasks k new low kept.runs (subst (λ (x : Task). x.run ≤ m.taken) (sym moved) (finish_run timing m.moment m.taken outcome task (omega (arith, run, counted k))))
           (λ q. absurd (no_run_again timing m.moment outcome task (sym (ap (λ (x : Task). x.phase) moved) ∙ q)));
     }
 
 -- the same, with the entries as a call leaves them
-pub finish_keeps : (m : Machine) (entries left : List (Option ℕ)) (timings : List Timing) (w k : ℕ) (ending : Ending) (timing : Timing) (outcome : Outcome) (task new : Task) → IsKept m entries timings → w < workers_of m →
+pub finish_keeps : (m : Machine) (entries left : List (Option ℕ)) (timings : List Timing) (w k : ℕ) (ending : Ending) (timing : Timing) (outcome : Outcome) (task new : Task) → IsWellFormedCore m entries timings → w < workers_of m →
     slice_index_or m.work w None ≡ Some k → task ≡ slice_index_or m.tasks k vacant → timing ≡ slice_index_or timings k t.Once → outcome ≡ outcome_in task.cancelled timing (due_past timing task.due m.moment) ending →
-    new ≡ finish_task timing m.moment outcome task → IsCounted m → left ≡ set entries k (queued new) → IsKept (finished m w k new) left timings
+    new ≡ finish_task timing m.moment outcome task → IsCounted m → left ≡ set entries k (queued new) → IsWellFormedCore (finished m w k new) left timings
 finish_keeps m entries left timings w k ending timing outcome task new kept l busy is timed out moved counted put =
-    subst (λ q. IsKept (finished m w k new) q timings) (sym put) (finish_kept m entries timings w k ending timing outcome task new kept l busy is timed out moved counted)
+    subst (λ q. IsWellFormedCore (finished m w k new) q timings) (sym put) (finish_kept m entries timings w k ending timing outcome task new kept l busy is timed out moved counted)
 
 -- the same, with the entries as a call leaves them, and the core as it was
 
-pub start_keeps : (m : Machine) (entries left : List (Option ℕ)) (timings : List Timing) (w k d : ℕ) (task : Task) → IsKept m entries timings → w < workers_of m → slice_index_or m.work w None ≡ None →
-    queues.IsLeast entries d k → d ≤ m.moment → task ≡ slice_index_or m.tasks k vacant → IsCounted m → left ≡ set entries k None → IsKept (started m w k task) left timings
+pub start_keeps : (m : Machine) (entries left : List (Option ℕ)) (timings : List Timing) (w k d : ℕ) (task : Task) → IsWellFormedCore m entries timings → w < workers_of m → slice_index_or m.work w None ≡ None →
+    queues.IsLeast entries d k → d ≤ m.moment → task ≡ slice_index_or m.tasks k vacant → IsCounted m → left ≡ set entries k None → IsWellFormedCore (started m w k task) left timings
 start_keeps m entries left timings w k d task kept l free least due is counted gone =
-    subst (λ q. IsKept (started m w k task) q timings) (sym gone) (start_kept m entries timings w k d task kept l free least due is counted)
+    subst (λ q. IsWellFormedCore (started m w k task) q timings) (sym gone) (start_kept m entries timings w k d task kept l free least due is counted)
 
 -- the least entry of the queue has its place in the tables
-pub least_within : (m : Machine) (entries : List (Option ℕ)) (timings : List Timing) (k d : ℕ) → IsKept m entries timings → queues.IsLeast entries d k → k < length m.tasks
+pub least_within : (m : Machine) (entries : List (Option ℕ)) (timings : List Timing) (k d : ℕ) → IsWellFormedCore m entries timings → queues.IsLeast entries d k → k < length m.tasks
 least_within m entries timings k d kept least = within m.tasks k d (subst (λ q. queues.IsLeast q d k) kept.queue least).there
 
 pub of_view : (m old new : Machine) (happening : Happening) (answer : Answer) → m ≡ old → Takes m new happening answer → Takes old new happening answer
 of_view m old new happening answer same takes = subst (λ x. Takes x new happening answer) same takes
 
 -- the least entry of the queue is that of a task that waits
-pub least_waits : (m : Machine) (entries : List (Option ℕ)) (timings : List Timing) (k d : ℕ) → IsKept m entries timings → queues.IsLeast entries d k →
+pub least_waits : (m : Machine) (entries : List (Option ℕ)) (timings : List Timing) (k d : ℕ) → IsWellFormedCore m entries timings → queues.IsLeast entries d k →
     ((slice_index_or m.tasks k vacant).phase ≡ ph.Waiting) × ((slice_index_or m.tasks k vacant).due ≡ d) × ((slice_index_or m.tasks k vacant).cancelled ≡ false)
 least_waits m entries timings k d kept least = in_queue m.tasks k d (subst (λ q. queues.IsLeast q d k) kept.queue least).there
 
@@ -220,7 +220,7 @@ least_waits m entries timings k d kept least = in_queue m.tasks k d (subst (λ q
 abbrev pub with_tasks : Machine → List Task → Machine
 with_tasks m tasks = record m { tasks = tasks }
 
-pub start_takes_in : (m : Machine) (entries : List (Option ℕ)) (timings : List Timing) (w k d n : ℕ) (task : Task) (tasks : List Task) → IsKept m entries timings → w < workers_of m → slice_index_or m.work w None ≡ None →
+pub start_takes_in : (m : Machine) (entries : List (Option ℕ)) (timings : List Timing) (w k d n : ℕ) (task : Task) (tasks : List Task) → IsWellFormedCore m entries timings → w < workers_of m → slice_index_or m.work w None ≡ None →
     queues.IsLeast entries d k → d ≤ m.moment → task ≡ slice_index_or m.tasks k vacant → tasks ≡ set m.tasks k (running (slice_index_or m.tasks k vacant)) → n ≡ task.run →
     Takes m (with_tasks (started m w k task) tasks) (h.Start w) (a.Start w k n d)
 start_takes_in m entries timings w k d n task tasks kept l free least due is written run =
@@ -228,12 +228,12 @@ start_takes_in m entries timings w k d n task tasks kept l free least due is wri
     subst (λ x. Takes m (with_tasks (started m w k task) x) (h.Start w) (a.Start w k n d)) (sym there)
     (subst (λ i. Takes m (started m w k task) (h.Start w) (a.Start w k i d)) (sym run) (start_takes m entries timings w k d task kept l free least due is))
 
-pub start_keeps_in : (m : Machine) (entries left : List (Option ℕ)) (timings : List Timing) (w k d : ℕ) (task : Task) (tasks : List Task) → IsKept m entries timings → w < workers_of m → slice_index_or m.work w None ≡ None →
+pub start_keeps_in : (m : Machine) (entries left : List (Option ℕ)) (timings : List Timing) (w k d : ℕ) (task : Task) (tasks : List Task) → IsWellFormedCore m entries timings → w < workers_of m → slice_index_or m.work w None ≡ None →
     queues.IsLeast entries d k → d ≤ m.moment → task ≡ slice_index_or m.tasks k vacant → tasks ≡ set m.tasks k (running (slice_index_or m.tasks k vacant)) → IsCounted m → left ≡ set entries k None →
-    IsKept (with_tasks (started m w k task) tasks) left timings
+    IsWellFormedCore (with_tasks (started m w k task) tasks) left timings
 start_keeps_in m entries left timings w k d task tasks kept l free least due is written counted gone =
     let there : tasks ≡ set m.tasks k (running task) = written ∙ ap (λ x. set m.tasks k (running x)) (sym is) in
-    subst (λ x. IsKept (with_tasks (started m w k task) x) left timings) (sym there) (start_keeps m entries left timings w k d task kept l free least due is counted gone)
+    subst (λ x. IsWellFormedCore (with_tasks (started m w k task) x) left timings) (sym there) (start_keeps m entries left timings w k d task kept l free least due is counted gone)
 
 -- a task stands in the queue after a finish where its outcome says so
 again_queued : (c : Bool) (timing : Timing) (due : ℕ) (ending : Ending) (p : Phase) (run old : ℕ) →
@@ -244,7 +244,7 @@ again_queued false t.Once due (e.Value value) p run old = refl
 again_queued false (t.Rate period) due (e.Value value) p run old = refl
 again_queued false (t.Fixed delay) due (e.Value value) p run old = refl
 
-pub finish_takes_in : (m : Machine) (entries : List (Option ℕ)) (timings : List Timing) (w k n due : ℕ) (ending : Ending) (timing : Timing) (outcome : Outcome) (task : Task) (tasks : List Task) → IsKept m entries timings → w < workers_of m →
+pub finish_takes_in : (m : Machine) (entries : List (Option ℕ)) (timings : List Timing) (w k n due : ℕ) (ending : Ending) (timing : Timing) (outcome : Outcome) (task : Task) (tasks : List Task) → IsWellFormedCore m entries timings → w < workers_of m →
     slice_index_or m.work w None ≡ Some k → task ≡ slice_index_or m.tasks k vacant → timing ≡ slice_index_or timings k t.Once → outcome ≡ outcome_in task.cancelled timing (due_past timing task.due m.moment) ending →
     due ≡ due_past timing task.due m.moment → tasks ≡ set m.tasks k (end_task outcome due (slice_index_or m.tasks k vacant)) → n ≡ task.run →
     Takes m (with_tasks (finished m w k task) tasks) (h.Finish w ending) (a.Finish w k n outcome)
@@ -254,10 +254,10 @@ finish_takes_in m entries timings w k n due ending timing outcome task tasks kep
     (subst (λ i. Takes m (finished m w k (finish_task timing m.moment outcome task)) (h.Finish w ending) (a.Finish w k i outcome)) (sym run)
     (finish_takes m entries timings w k ending timing outcome task (finish_task timing m.moment outcome task) kept l busy is timed out refl))
 
-pub finish_keeps_in : (m : Machine) (entries left : List (Option ℕ)) (timings : List Timing) (w k due : ℕ) (ending : Ending) (timing : Timing) (outcome : Outcome) (task : Task) (tasks : List Task) → IsKept m entries timings → w < workers_of m →
+pub finish_keeps_in : (m : Machine) (entries left : List (Option ℕ)) (timings : List Timing) (w k due : ℕ) (ending : Ending) (timing : Timing) (outcome : Outcome) (task : Task) (tasks : List Task) → IsWellFormedCore m entries timings → w < workers_of m →
     slice_index_or m.work w None ≡ Some k → task ≡ slice_index_or m.tasks k vacant → timing ≡ slice_index_or timings k t.Once → outcome ≡ outcome_in task.cancelled timing (due_past timing task.due m.moment) ending →
     due ≡ due_past timing task.due m.moment → tasks ≡ set m.tasks k (end_task outcome due (slice_index_or m.tasks k vacant)) → IsCounted m → left ≡ set entries k (queued_again outcome) →
-    IsKept (with_tasks (finished m w k task) tasks) left timings
+    IsWellFormedCore (with_tasks (finished m w k task) tasks) left timings
 finish_keeps_in m entries left timings w k due ending timing outcome task tasks kept l busy is timed out next written counted put =
     let new = finish_task timing m.moment outcome task in
     let there : tasks ≡ set m.tasks k new = written ∙ (λ i. set m.tasks k (end_task outcome (next i) (sym is i))) in
@@ -265,10 +265,10 @@ finish_keeps_in m entries left timings w k due ending timing outcome task tasks 
     let stands : queued new ≡ queued_again outcome =
     subst (λ x. queued (end_task x landed task) ≡ queued_again x) (sym out) (again_queued task.cancelled timing landed ending task.phase task.run task.due)
     in
-    subst (λ x. IsKept (with_tasks (finished m w k task) x) left timings) (sym there)
+    subst (λ x. IsWellFormedCore (with_tasks (finished m w k task) x) left timings) (sym there)
     (finish_keeps m entries left timings w k ending timing outcome task new kept l busy is timed out refl counted (put ∙ ap (λ x. set entries k x) (sym stands)))
 
--- what a finish needs of the task of a worker: it is dropped just where it was cancelled
+-- what a finish needs of the task of a worker: it is dropped exactly when it was cancelled
 pub dropped_only : (c : Bool) (timing : Timing) (due : ℕ) (ending : Ending) → (outcome_in c timing due ending ≡ o.Dropped → ⊥) → c ≡ false
 dropped_only true timing due ending live = absurd (live refl)
 dropped_only false timing due ending live = refl
