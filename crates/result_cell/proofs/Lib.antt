@@ -1,1 +1,1 @@
-mod Notes
+pub mod Notes

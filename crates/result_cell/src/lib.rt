@@ -3,6 +3,8 @@
 
 mod cell;
 pub mod laws;
+#[cfg(test)]
+mod tests;
 mod verdict;
 
 pub use cell::{ResultCell, same};
