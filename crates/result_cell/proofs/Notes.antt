@@ -1,21 +1,14 @@
--- A note that is seen to know nothing, and lists of notes.
-use Rattle.std.proofs.Common.{◌≡◌, ◌≢◌, ℕ, ◌<◌, sym, ap, ◌∙◌, Option, Some, None, IfNone, MatchOption, Bor, List, map, length, get_or, slice_index_or, slice_set}
+-- Notes that know nothing, and lists of notes.
+use Rattle.std.proofs.Common.{◌≡◌, ◌≢◌, ℕ, ◌<◌, sym, ap, ◌∙◌, None, List, map, length, get_or, slice_index_or, slice_set}
 use Rattle.std.proofs.lemmas.List.{map-set, get_or-set_same, get_or-set_other, length-map}
 use Rattle.std.proofs.Math.Seq.{map-set_same}
-use Rattle.std.specs.Option.{option_copied}
 use Rattle.once_cell.specs.declared.race.note.Note.{Note}
 use Rattle.result_cell.specs.Cells.{AreNotesOf, known_at}
 use Rattle.result_cell.specs.declared.verdict.Verdict.{Verdict}
 
 -- two notes of one cell that know nothing are equal
-know_nothing : (before after : Note Verdict) → after.cell ≡ before.cell → before.known ≡ None → after.known ≡ None → after ≡ before
+pub know_nothing : (before after : Note Verdict) → after.cell ≡ before.cell → before.known ≡ None → after.known ≡ None → after ≡ before
 know_nothing before after cell knew knows = λ i. record { marker = before.marker; cell = cell i; known = (knows ∙ sym knew) i }
-
--- a look that finds nothing leaves its note as it was
-pub none_leaves_note : (P : Bor Verdict → Type 0) (found : Option (Bor Verdict)) (before after : Note Verdict) → after.cell ≡ before.cell
-    → MatchOption found ((before.known ≡ None) × (after.known ≡ None)) P → IfNone (option_copied found) (after ≡ before)
-none_leaves_note P None before after cell value = know_nothing before after cell value.0 value.1
-none_leaves_note P (Some x) before after cell value = tt
 
 -- there are as many notes as cells
 pub length_notes : (notes : List (Note Verdict)) (cells : List ℕ) → AreNotesOf notes cells → length notes ≡ length cells

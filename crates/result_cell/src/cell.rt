@@ -42,7 +42,8 @@ impl ResultCell {
         self.verdict.note()
     }
 
-    /// Sets the cell, if it is empty. Either way the note then knows the cell's verdict.
+    /// Sets the cell, if it is empty. Either way the note then knows the verdict that stands in the cell. With a note
+    /// that knew one before, the answer is an error.
     ///
     /// # Errors
     ///
@@ -59,8 +60,9 @@ impl ResultCell {
         self.verdict.set_as(verdict, note)
     }
 
-    /// The cell's verdict, or `None` where the note knows none and the cell is empty. What is answered is what the
-    /// note then knows.
+    /// The verdict that the cell holds, or `None` while it is empty. What is answered is what the note then knows, so a
+    /// note that knows a verdict gets that one again.
+    #[tactic(auto, using(crate::proofs::Notes::know_nothing))]
     pub fn read(&self, note: &mut Note<Verdict>) -> Option<Verdict>
         requires cell { note.old.cell ≡ self.now }
         ensures cell { note.new.cell ≡ note.old.cell }
@@ -72,7 +74,8 @@ impl ResultCell {
     }
 }
 
-/// Shows that two notes of one cell that know a verdict know the same one. It does nothing when it runs.
+/// Shows that two notes of one cell that know a verdict know the same one. It does nothing when it runs: what it is for
+/// is its contract.
 pub fn same(one: &mut Note<Verdict>, other: &mut Note<Verdict>)
     requires one_cell { one.old.cell ≡ other.old.cell }
     ensures agree { KnowTheSame one.old.known other.old.known }
