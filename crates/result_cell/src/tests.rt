@@ -1,5 +1,5 @@
 //! Tests of the cells: what no contract says, and how callers rest on what the contracts say.
-ghost use Rattle.std.specs.Prelude.{◌≡◌, ◌≢◌, ℕ, ◌<◌, Some, length, IfOk, OnOk, IfSome};
+ghost use Rattle.std.specs.Prelude.{◌≡◌, ◌≢◌, ℕ, ◌<◌, true, false, ◌&&◌, Some, length, IfOk, OnOk, IfSome};
 ghost use Rattle.result_cell.specs.Cells.{AreNotesOf, KnowTheSame, known_at};
 
 use crate::{Note, ResultCell, Verdict, same};
@@ -155,6 +155,50 @@ fn another_thread_reads_what_was_put(rt: HostRuntime) -> Result<(), Fail> {
         let (answer, found) = hand_over(&rt, &cell, Box::new(alloc, FIRST)?);
         assert!(rt; answer.is_ok());
         assert!(rt; found.is_none() || found == Some(FIRST));
+    }
+    Ok(())
+}
+
+// Puts a verdict with a note of its own. Says whether it was accepted.
+fn put_once(cell: &ResultCell, verdict: Box<Verdict>) -> (bool, Note<Verdict>)
+    ensures cell { result.1.cell ≡ cell.now }
+    ensures accepted { result.0 ≡ true → result.1.known ≡ Some verdict.value }
+{
+    let mut note = cell.note();
+    let accepted = cell.put(&mut note, verdict).is_ok();
+    (accepted, note)
+}
+
+// Puts two verdicts in two threads. Where they are different, one at most is accepted.
+fn put_both<R: Threads + Sync>(
+    rt: &R,
+    cell: &ResultCell,
+    one: Box<Verdict>,
+    two: Box<Verdict>,
+) -> (bool, bool)
+    ensures { one.value ≢ two.value → (result.0 && result.1) ≡ false }
+{
+    let ((first, mut mine), (second, mut theirs)) = thread::join(
+        rt,
+        move || -> (bool, Note<Verdict>)
+            ensures { (result.1.cell ≡ cell.entry.now) × (result.0 ≡ true → result.1.known ≡ Some one.value) }
+        { put_once(cell, one) },
+        move || -> (bool, Note<Verdict>)
+            ensures { (result.1.cell ≡ cell.entry.now) × (result.0 ≡ true → result.1.known ≡ Some two.value) }
+        { put_once(cell, two) },
+    );
+    same(&mut mine, &mut theirs);
+    (first, second)
+}
+
+#[test]
+fn one_of_two_threads_puts(rt: HostRuntime) -> Result<(), Fail> {
+    let alloc = rt.alloc();
+    for _round in 0..100u32 {
+        let cell = ResultCell::new(alloc);
+        let (one, two) = (Box::new(alloc, FIRST)?, Box::new(alloc, SECOND)?);
+        let (first, second) = put_both(&rt, &cell, one, two);
+        assert!(rt; first != second);
     }
     Ok(())
 }
