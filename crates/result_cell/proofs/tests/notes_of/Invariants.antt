@@ -1,4 +1,4 @@
-use Rattle.std.proofs.Common.{◌≡◌, take}
+use Rattle.std.proofs.Common.{take}
 use Rattle.result_cell.specs.Cells.{AreNotesOf}
 use Rattle.result_cell.proofs.tests.notes_of.Given as goal
 

@@ -1,4 +1,4 @@
-use Rattle.std.proofs.Common.{◌≡◌, sym, ap, ◌∙◌}
+use Rattle.std.proofs.Common.{sym, ap, ◌∙◌}
 use Rattle.result_cell.proofs.Notes.{length_notes, set_note, known_here}
 use Rattle.result_cell.proofs.tests.read_of.Goals as goal
 
