@@ -1,6 +1,5 @@
 //! The cell, and what its notes know.
 ghost use Rattle.std.specs.Prelude.{◌≡◌, Some, None, IsSome, IfNone, OnOk, IfErr};
-ghost use Rattle.once_cell.specs.Once.{cell_name};
 ghost use Rattle.result_cell.specs.Cells.{StaysKnown, KnowTheSame};
 
 use crate::verdict::Verdict;
@@ -27,7 +26,8 @@ impl Model for ResultCell {
 }
 
 impl ResultCell {
-    /// An empty cell. It takes no memory; `alloc` is where a box that is put goes back to.
+    /// An empty cell. This takes no memory: `alloc` is only where the box that sets the cell is given back, once the cell
+    /// is dropped.
     pub fn new(alloc: Global) -> ResultCell {
         ResultCell {
             verdict: OnceBox::new(alloc),
