@@ -12,6 +12,7 @@
 
 mod conversions;
 mod error;
+pub mod laws;
 mod limits;
 mod spans;
 #[cfg(test)]
