@@ -1,10 +1,17 @@
 //! What is so of the types here, in functions that do nothing: each ensures one law.
 ghost use Rattle.std.specs.Prelude.{◌≡◌, true};
+ghost use Rattle.sched_time.specs.Times.{longest};
 
 use crate::error::TimeError;
+use crate::limits::LONGEST;
 use crate::spans::Span;
 use crate::timing::{Ending, Timing};
 use crate::unit::Unit;
+
+/// [`LONGEST`](crate::LONGEST) is the limit of which the contracts speak.
+pub fn longest_is_the_limit()
+    ensures { LONGEST ≡ longest }
+{}
 
 /// Two spans that `==` calls equal are one span.
 pub fn span_equality_tells()
