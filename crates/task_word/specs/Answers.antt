@@ -3,6 +3,7 @@
 use Rattle.std.specs.Prelude.{◌≡◌, ℕ, ◌<◌, Bool, true, false, List, slice_index, if◌then◌else◌}
 use Rattle.atomic_table.specs.Seated.{TableId}
 use Rattle.task_word.specs.Words.{Parts, IsWord, marked, is_cancelled, rank}
+use Rattle.task_word.specs.Writes.{Kind, Writes, core_cancel}
 use Rattle.task_word.specs.Views.{entry, with_entry, core_cancelled, handle_looked, handle_cancelled, seen_at, MeetsEntry, MeetsHandle}
 use Rattle.task_word.specs.Rule.{word_of, Matches}
 use Rattle.task_word.specs.Steps.{Tells}
@@ -39,6 +40,12 @@ pub record HandleKnows : Type 0 where
 abbrev pub after_move : CoreView → ℕ → Moved → Parts → CoreView
 after_move v k move.Yes w = with_entry v k w
 after_move v k move.Cancelled w = with_entry v k (marked (entry v k))
+
+-- where a move answered Yes, its write took the core's word of the task to the one that the core knows now; where it
+-- met the bit, the core's word has it now
+abbrev pub MoveWrites : Kind → Parts → Moved → Parts → Type 0
+MoveWrites kind e move.Yes now = Writes kind e now
+MoveWrites kind e move.Cancelled now = now ≡ marked e
 
 -- the answer of a move of the core's, by the word that it met
 abbrev pub move_answer : Parts → Moved
@@ -95,21 +102,21 @@ state_in Failed bit = state.Failed
 abbrev pub state_of : Parts → TaskState
 state_of w = state_in w.phase w.marked
 
--- the core's cancel met some word, answered by it, and knows the word with the bit
+-- the core's cancel met some word, answered by it, and knows the word that its write made of it
 abbrev pub CoreCancels : CoreView → ℕ → CoreCancel → CoreView → Type 0
-CoreCancels v k answer next = (w : Parts) × MeetsEntry (entry v k) w × Tells v k w × (answer ≡ core_answer w) × (next ≡ core_cancelled v k w)
+CoreCancels v k answer next = (w : Parts) × MeetsEntry (entry v k) w × Tells v k w × (answer ≡ core_answer w) × (next ≡ core_cancelled v k w) × Writes core_cancel w (entry next k)
 
 -- what a handle keeps of the word that it met: its rank, and whether it was cancelled
-abbrev pub Keeps : HandleView → ℕ → Parts → Type 0
-Keeps h k w = (slice_index h.ranks k ≡ rank w) × (seen_at h k ≡ is_cancelled w)
+abbrev pub HandleKeeps : HandleView → ℕ → Parts → Type 0
+HandleKeeps h k w = (slice_index h.ranks k ≡ rank w) × (seen_at h k ≡ is_cancelled w)
 
 -- a handle's cancel met some word, answered by it, and keeps it
 abbrev pub HandleCancels : HandleView → ℕ → CancelAnswer → HandleView → Type 0
-HandleCancels h k answer next = (w : Parts) × MeetsHandle h k w × (answer ≡ cancel_answer w) × (next ≡ handle_cancelled h k w) × Keeps next k w
+HandleCancels h k answer next = (w : Parts) × MeetsHandle h k w × (answer ≡ cancel_answer w) × (next ≡ handle_cancelled h k w) × HandleKeeps next k w
 
 -- a handle's look met some word, answered by it, and keeps it
 abbrev pub HandleLooks : HandleView → ℕ → TaskState → HandleView → Type 0
-HandleLooks h k answer next = (w : Parts) × MeetsHandle h k w × (answer ≡ state_of w) × (next ≡ handle_looked h k w) × Keeps next k w
+HandleLooks h k answer next = (w : Parts) × MeetsHandle h k w × (answer ≡ state_of w) × (next ≡ handle_looked h k w) × HandleKeeps next k w
 
 -- the words with which a table of n tasks was closed: each is the core's, as it is or with the bit
 pub record Closes (n : ℕ) (v : CoreView) (words : List ℕ) : Type 0 where

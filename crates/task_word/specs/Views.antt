@@ -41,6 +41,10 @@ with_entry v k w = record { entries = slice_set v.entries k w; own = v.own; join
 abbrev pub core_cancelled : CoreView → ℕ → Parts → CoreView
 core_cancelled v k w = record { entries = slice_set v.entries k (marked w); own = and_if (wins w) k v.own; joined = v.joined; ranks = v.ranks; out = v.out }
 
+-- the handles that may be out at once
+abbrev pub most_handles : ℕ
+most_handles = 63
+
 -- one more handle is out
 abbrev pub one_out : CoreView → CoreView
 one_out v = record { entries = v.entries; own = v.own; joined = v.joined; ranks = v.ranks; out = v.out + 1 }

@@ -18,8 +18,15 @@ fn words_have_their_values_and_ranks(rt: HostRuntime) {
     assert!(rt; (running.failed().value(), running.failed().rank()) == (4, 3));
     assert!(rt; (next.value(), next.rank()) == (9, 3));
     assert!(rt; (late.value(), late.rank()) == (26, 8));
-    assert!(rt; (late.with_cancel_bit().value(), late.with_cancel_bit().rank()) == (9223372036854775834, 8));
-    assert!(rt; late.with_cancel_bit().is_cancelled() && !running.done().with_cancel_bit().is_cancelled());
+    assert!(rt;
+        (
+            late.with_cancel_bit().value(),
+            late.with_cancel_bit().rank()
+        ) == (9223372036854775834, 8)
+    );
+    assert!(rt;
+        late.with_cancel_bit().is_cancelled() && !running.done().with_cancel_bit().is_cancelled()
+    );
     assert!(rt; Word::vacant().with_cancel_bit().submitted() == new);
 }
 

@@ -1,6 +1,6 @@
 use Rattle.std.proofs.Common.{◌≡◌, ◌+◌, ◌<◌, ℕ, slice_index, ap, ◌∙◌, arith, subst}
 use Rattle.task_word.specs.Answers.{Closes}
-use Rattle.task_word.proofs.Closing.{closes, copies_more}
+use Rattle.task_word.proofs.ClosedTables.{closes, copies_more}
 use Rattle.task_word.proofs.table.TaskWords.close.Goals as goal
 
 pub loop-k-preserved : goal.loop-k-preserved

@@ -9,7 +9,7 @@ use Rattle.task_word.specs.Rule.{word_at, HasMet, IsWellFormedTable, task_words}
 use Rattle.task_word.specs.declared.views.CoreView.{CoreView}
 use Rattle.task_word.specs.declared.views.View.{View}
 use Rattle.task_word.specs.declared.views.View.TheVariants.{Core}
-use Rattle.task_word.proofs.Handing.{zeros}
+use Rattle.task_word.proofs.SeatSplits.{zeros}
 
 vacant_word : (n k : ℕ) → k < n → IsWord (get_or (replicate n vacant) k vacant)
 vacant_word n k h = subst IsWord (sym (get_or-replicate n k vacant vacant h)) (record { vacant = λ e. refl; run = omega arith })
