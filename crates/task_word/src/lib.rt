@@ -26,6 +26,8 @@ mod plays;
 mod rule;
 mod table;
 #[cfg(test)]
+mod table_tests;
+#[cfg(test)]
 mod tests;
 mod values;
 mod views;
