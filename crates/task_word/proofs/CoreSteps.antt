@@ -31,6 +31,7 @@ is_core (Core v) = true
 is_core (Handle h) = false
 is_core Spent = false
 
+-- a view that is not the core's is no core's view
 pub not_core : (v : View) (w : CoreView) → is_core v ≡ false → v ≢ Core w
 not_core v w e same = let f : true ≡ false = sym (ap is_core same) ∙ e in grind (arith)
 
@@ -38,12 +39,15 @@ not_core v w e same = let f : true ≡ false = sym (ap is_core same) ∙ e in gr
 pub fits : (n : ℕ) (words : List ℕ) (views : List View) (v : CoreView) → IsWellFormedTable n words views → get_elem? views 0 ≡ some (Core v) → EntriesFit n words v.entries
 fits n words views v kept at = subst (λ (u : CoreView). EntriesFit n words u.entries) (core_same _ _ (sym kept.core.1 ∙ at)) kept.core.2
 
+-- the core counts the handles that are out
 pub out_is : (n : ℕ) (words : List ℕ) (views : List View) (v : CoreView) → IsWellFormedTable n words views → get_elem? views 0 ≡ some (Core v) → v.out ≡ handles views
 out_is n words views v kept at = subst (λ (u : CoreView). u.out ≡ handles views) (core_same _ _ (sym kept.core.1 ∙ at)) kept.core.3
 
+-- the handles that are out are at most `most_handles`
 pub out_most : (n : ℕ) (words : List ℕ) (views : List View) (v : CoreView) → IsWellFormedTable n words views → get_elem? views 0 ≡ some (Core v) → v.out ≤ most_handles
 out_most n words views v kept at = subst (λ (u : CoreView). u.out ≤ most_handles) (core_same _ _ (sym kept.core.1 ∙ at)) kept.core.4
 
+-- there is a first view
 pub in_views : (views : List View) (v : View) → get_elem? views 0 ≡ some v → 0 < length views
 in_views [] v at = absurd (some-ne-none v (sym at))
 in_views (u ∷ us) v at = omega arith
@@ -85,6 +89,7 @@ core_keeps n k x words views v e own kept at in_n is fit here there becoming =
 pub seat_is : (P : ℕ → Holder → Type 0) (id : ℕ) (me : Holder) → id ≡ 0 → me.0 ≡ Core (core_of me.0) → P 0 (Core (core_of me.0), me.1) → P id me
 seat_is P id me zero_id core p = subst (λ (i : ℕ). P i me) (sym zero_id) (subst (P 0) (λ i. (sym core i, me.1)) p)
 
+-- what is so of the task k is so of the task whose word is k + 1
 pub at_task : (k : ℕ) (P : ℕ → Type 0) → P k → AtTask (k + 1) P
 at_task k P p = λ j e. let same : k ≡ j = omega arith in subst P same p
 
@@ -252,6 +257,7 @@ bit_keeps n k words views v kept at in_n =
     (λ j other. and_if_other (wins w) k j v.own other)
     (becomes core_cancel w _ read)
 
+-- the core's setting of the bit keeps the rule, and tells the core what it met
 pub core_cancels : (n slots id k : ℕ) (me : Holder) → id ≡ 0 → me.0 ≡ Core (core_of me.0) → k < n
     → Allows {S = Unit {0}} (Rule n) slots id me (k + 1) (λ x. bit_or x bit) (CoreCancelled (k + 1) me)
 core_cancels n slots id k me zero_id core in_n =

@@ -160,6 +160,7 @@ bit_keeps n k id words views h kept at in_n room =
     (sym (ap rank read))
     (record { ranks = refl; seen = refl; last = refl; won = λ j other. and_if_other (wins w) k j h.won other })
 
+-- a handle's setting of the bit keeps the rule, and tells the handle what it met
 pub handle_cancels : (n slots id k : ℕ) (me : Holder) → me.0 ≡ Handle (handle_of me.0) → k < n → k < length (handle_of me.0).ranks
     → Allows {S = Unit {0}} (Rule n) slots id me (k + 1) (λ x. bit_or x bit) (HandleCancelled (k + 1) me)
 handle_cancels n slots id k me handle in_n room =

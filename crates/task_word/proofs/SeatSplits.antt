@@ -18,6 +18,7 @@ use Rattle.task_word.proofs.TaskPlaces.{Rule}
 use Rattle.task_word.proofs.WordChanges.{times_append}
 use Rattle.task_word.proofs.CoreSteps.{not_core, fits, out_is, out_most, in_views}
 
+-- each of a list of zeros is 0
 pub zeros : (n k : ℕ) → slice_index (replicate n 0) k ≡ 0
 zeros zero k = refl
 zeros (suc n) zero = refl

@@ -13,10 +13,11 @@ use Rattle.task_word.specs.declared.views.View.TheVariants.{Core, Handle, Spent}
 use Rattle.task_word.proofs.ViewLists.{sum_set, sum_part}
 use Rattle.task_word.proofs.Writes.{Becomes}
 
--- the word of the task that changes, and those of the others
+-- the word of the task that changes is the one given
 pub word_same : (words : List ℕ) (k x : ℕ) → k < length words → word_at (set words k x) k ≡ word_of x
 word_same words k x lt = ap word_of (get_or-set_same words k x 0 lt)
 
+-- the word of another task stays as it was
 pub word_other : (words : List ℕ) (k x j : ℕ) → j ≢ k → word_at (set words k x) j ≡ word_at words j
 word_other words k x j other = ap word_of (get_or-set_other words k j x 0 other)
 
@@ -105,15 +106,17 @@ word_after n k x words entries lt in_n fits f =
       ];
     }
 
--- a list that may get a task at its head
+-- a task that may be put at the head of a list stands in it once more, if it is put there
 pub and_if_same : (b : Bool) (k : ℕ) (xs : List ℕ) → times k (and_if b k xs) ≡ flag b + times k xs
 and_if_same true k xs = let one : cond {A = ℕ} (k == k) 1 0 ≡ 1 = grind (arith, nat_tests) in omega (arith, sum_by-cons (λ j. cond (j == k) 1 0) k xs, one)
 and_if_same false k xs = omega arith
 
+-- another task stands in it as often as before
 pub and_if_other : (b : Bool) (k j : ℕ) (xs : List ℕ) → j ≢ k → times j (and_if b k xs) ≡ times j xs
 and_if_other true k j xs other = let none : cond {A = ℕ} (k == j) 1 0 ≡ 0 = grind (arith, nat_tests) in omega (arith, sum_by-cons (λ i. cond (i == j) 1 0) k xs, none)
 and_if_other false k j xs other = refl
 
+-- a task stands in two lists joined as often as in both
 pub times_append : (k : ℕ) (xs ys : List ℕ) → times k (xs ++ ys) ≡ times k xs + times k ys
 times_append k xs ys = sum_by-append (λ j. cond (j == k) 1 0) xs ys
 
@@ -127,6 +130,7 @@ win_counts false false = refl
 pub wins_count : (w : Parts) → flag (wins w) + flag (is_cancelled w) ≡ flag (is_cancelled (marked w))
 wins_count w = win_counts (is_live w.phase) w.marked
 
+-- what counts is so
 pub flag_true : (b : Bool) → 0 < flag b → b ≡ true
 flag_true true h = refl
 flag_true false h = absurd (omega arith)

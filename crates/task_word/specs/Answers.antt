@@ -20,7 +20,7 @@ use Rattle.task_word.specs.declared.answers.CancelAnswer.TheVariants as cancel
 use Rattle.task_word.specs.declared.answers.TaskState.{TaskState}
 use Rattle.task_word.specs.declared.answers.TaskState.TheVariants as state
 
--- a table of words: which it is, and how many tasks it has
+-- a table of words: which it is, and the number of its tasks
 pub record TableOf : Type 0 where
   pub table : TableId
   pub tasks : ℕ
@@ -47,7 +47,7 @@ abbrev pub MoveWrites : Kind → Parts → Moved → Parts → Type 0
 MoveWrites kind e move.Yes now = Writes kind e now
 MoveWrites kind e move.Cancelled now = now ≡ marked e
 
--- the answer of a move of the core's, by the word that it met
+-- the answer of a move of the core's that met the word w
 abbrev pub move_answer : Parts → Moved
 move_answer w = if w.marked then move.Cancelled else move.Yes
 
@@ -55,7 +55,7 @@ move_answer w = if w.marked then move.Cancelled else move.Yes
 abbrev pub MoveMeets : CoreView → ℕ → Moved → Type 0
 MoveMeets v k answer = (w : Parts) × MeetsEntry (entry v k) w × Tells v k w × (answer ≡ move_answer w)
 
--- the answer of the core's cancel, by the word that it met
+-- the same, by the word's phase and bit
 abbrev pub core_answer_in : Phase → Bool → CoreCancel
 core_answer_in Vacant bit = core.Vacant
 core_answer_in New bit = if bit then core.Late else core.Won
@@ -63,6 +63,7 @@ core_answer_in Running bit = if bit then core.Late else core.Won
 core_answer_in Done bit = core.Over
 core_answer_in Failed bit = core.Over
 
+-- the answer of the core's cancel that met the word w
 abbrev pub core_answer : Parts → CoreCancel
 core_answer w = core_answer_in w.phase w.marked
 
@@ -73,7 +74,7 @@ is_won core.Late = false
 is_won core.Over = false
 is_won core.Vacant = false
 
--- the answer of a handle's cancel, by the word that it met
+-- the same, by the word's phase and bit
 abbrev pub cancel_answer_in : Phase → Bool → CancelAnswer
 cancel_answer_in Vacant bit = cancel.Absent
 cancel_answer_in New bit = if bit then cancel.No else cancel.Yes
@@ -81,6 +82,7 @@ cancel_answer_in Running bit = if bit then cancel.No else cancel.Yes
 cancel_answer_in Done bit = cancel.No
 cancel_answer_in Failed bit = cancel.No
 
+-- the answer of a handle's cancel that met the word w
 abbrev pub cancel_answer : Parts → CancelAnswer
 cancel_answer w = cancel_answer_in w.phase w.marked
 
@@ -91,7 +93,7 @@ is_yes cancel.No = false
 is_yes cancel.Absent = false
 is_yes cancel.NoTask = false
 
--- the state that a word shows
+-- the same, by the word's phase and bit
 abbrev pub state_in : Phase → Bool → TaskState
 state_in Vacant bit = state.Unsubmitted
 state_in New bit = if bit then state.Cancelled else state.Waiting
@@ -99,6 +101,7 @@ state_in Running bit = if bit then state.Cancelled else state.Running
 state_in Done bit = state.Done
 state_in Failed bit = state.Failed
 
+-- the state that the word w shows
 abbrev pub state_of : Parts → TaskState
 state_of w = state_in w.phase w.marked
 

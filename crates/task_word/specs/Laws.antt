@@ -40,6 +40,7 @@ pub record MovesWrite (w : Parts) : Type 0 where
   pub core_cancelled : Writes core_cancel w (marked w)
   pub handle_cancelled : Writes handle_cancel w (marked w)
 
+-- this is so of every word
 abbrev pub MovesAreWrites : Type 0
 MovesAreWrites = (w : Parts) → MovesWrite w
 

@@ -33,7 +33,7 @@ word_at words k = word_of (slice_index words k)
 abbrev pub Matches : ℕ → Parts → Type 0
 Matches n w = (n ≡ value w) ⊎ (n ≡ value (marked w))
 
--- 1 where it is so, else 0
+-- 1 if it is so, else 0
 abbrev pub flag : Bool → ℕ
 flag true = 1
 flag false = 0
@@ -95,7 +95,7 @@ pub record HasMet (n : ℕ) (words : List ℕ) (v : View) : Type 0 where
 abbrev pub taken_in_all : ℕ → List View → ℕ
 taken_in_all k views = sum_by (λ v. times k (taken_by v)) views
 
--- how many handles are out
+-- the number of handles that are out
 abbrev pub handles : List View → ℕ
 handles views = sum_by is_handle views
 

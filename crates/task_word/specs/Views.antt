@@ -106,6 +106,7 @@ first_view n = Core (new_core n)
 abbrev pub lender : View → View
 lender v = Core (one_out (core_of v))
 
+-- the view of the handle that is cut off
 abbrev pub lent : View → View
 lent v = Handle (new_handle (length (core_of v).entries))
 
@@ -113,5 +114,6 @@ lent v = Handle (new_handle (length (core_of v).entries))
 abbrev pub together : View → View → View
 together v w = Core (joined_with (core_of v) (handle_of w))
 
+-- what is left of the view of a handle that is back
 abbrev pub spent : View
 spent = Spent

@@ -24,7 +24,7 @@ use std::marker::Model;
 ///
 /// It knows a word of each task, its entry: the task's word is the entry, or the entry with the bit of a
 /// cancel. Contracts see the entries, the tasks that this seat cancelled, those that the handles cancelled
-/// which came back, the ranks that these handles met, and how many handles are out. Each call takes the
+/// which came back, the ranks that these handles met, and the number of handles that are out. Each call takes the
 /// seat's own table, and is one atomic step.
 #[derive(Drop)]
 pub struct CoreSeat<A: Allocator> {

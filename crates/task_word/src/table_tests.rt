@@ -1,5 +1,5 @@
 //! Tables of many sizes, all handles out at once, and what memory the calls take.
-ghost use Rattle.std.specs.Prelude.{◌≡◌, ◌<◌, IfSome};
+ghost use Rattle.std.specs.Prelude.{◌≡◌, ◌<◌, ◌≤◌};
 
 use crate::*;
 use linked_list_allocator::LocalHeap;
@@ -86,6 +86,20 @@ fn live<A: Allocator>(words: &TaskWords<A>, core: &mut CoreSeat<A>, task: u32) -
     core.cancel(words, task) == CoreCancel::Won
 }
 
+// Does so with the tasks below `tasks`. The number that was cancelled.
+fn live_all<A: Allocator>(words: &TaskWords<A>, core: &mut CoreSeat<A>, tasks: u32) -> u32
+    requires { (core.old.table ≡ words.now.table) × (tasks ≤ words.now.tasks) }
+    ensures { core.new.table ≡ core.old.table }
+{
+    let mut cancelled = 0u32;
+    for task in 0..tasks {
+        if live(words, core, task) {
+            cancelled = cancelled.saturating_add(1);
+        }
+    }
+    cancelled
+}
+
 // Asks a handle for the states of the tasks below `tasks`, and cancels them. The number that it cancelled.
 fn cancel_all(words: &TaskWords<&LocalHeap>, handle: &mut HandleSeat, tasks: u32) -> u32
     requires { handle.old.table ≡ words.now.table }
@@ -110,13 +124,8 @@ fn seat_calls_take_no_memory(rt: HostRuntime) -> Result<(), Fail> {
     let before = heap.used();
     let (words, mut core) = TaskWords::new(&heap, TASKS)?;
     let held = heap.used();
-    let mut cancelled = 0u32;
-    for task in 0..TASKS - 1 {
-        if live(&words, &mut core, task) {
-            cancelled = cancelled.saturating_add(1);
-        }
-    }
-    assert!(rt; cancelled == 35 && before < held && heap.used() == held);
+    assert!(rt; live_all(&words, &mut core, TASKS - 1) == 35);
+    assert!(rt; before < held && heap.used() == held);
     if core.look(&words, TASKS - 1).phase() == Phase::Vacant {
         core.submit(&words, TASKS - 1);
     }

@@ -1,4 +1,4 @@
-use Rattle.std.proofs.Common.{◌≡◌, ℕ, ◌+◌, ◌<◌, ◌≤◌, slice_index, vec_len}
+use Rattle.std.proofs.Common.{◌≡◌, ℕ, ◌+◌, ◌<◌, slice_index, vec_len}
 use Rattle.std.specs.Vec.{vec_capacity}
 use Rattle.task_word.proofs.table.TaskWords.close.Given as goal
 
