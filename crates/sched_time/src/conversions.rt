@@ -24,7 +24,7 @@ pub fn span(value: i64, unit: Unit) -> Result<Span, TimeError>
     }
 }
 
-/// The period, or the fixed delay, of `value` units, and none where the value is zero or negative.
+/// The period, or the fixed delay, of `value` units, and none exactly when the value is zero or negative.
 ///
 /// The Java documentation of `ScheduledExecutorService` answers a period or a fixed delay that is
 /// zero or negative by `IllegalArgumentException`. What is there is at least 1 nanosecond. It is

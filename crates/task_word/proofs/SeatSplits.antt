@@ -6,18 +6,19 @@ use lib.ListN.{get_elem?}
 use Rattle.atomic_table.specs.Table.{Splits, Joins}
 use Rattle.atomic_table.proofs.Lists.{at_set, set_here, set_else, at_longer, at_snoc}
 use Rattle.task_word.specs.Words.{rank}
-use Rattle.task_word.specs.Views.{times, core_of, handle_of, new_handle, one_out, joined_with, greater, lender, lent, together, spent}
+use Rattle.task_word.specs.Views.{most_handles, times, core_of, handle_of, new_handle, one_out, joined_with, greater, lender, lent, together, spent}
 use Rattle.task_word.specs.Rule.{word_at, taken_by, is_handle, HasMet, IsWellFormedTable, task_words}
 use Rattle.task_word.specs.declared.views.CoreView.{CoreView}
 use Rattle.task_word.specs.declared.views.HandleView.{HandleView}
 use Rattle.task_word.specs.declared.views.View.{View}
 use Rattle.task_word.specs.declared.views.View.TheVariants.{Core, Handle, Spent}
-use Rattle.task_word.proofs.Lists.{sum_set, sum_last, greater_below}
+use Rattle.task_word.proofs.ViewLists.{sum_set, sum_last, greater_below}
 use Rattle.task_word.proofs.Uses.{greater_left, greater_right}
-use Rattle.task_word.proofs.Placing.{Rule}
-use Rattle.task_word.proofs.Keeping.{times_append}
+use Rattle.task_word.proofs.TaskPlaces.{Rule}
+use Rattle.task_word.proofs.WordChanges.{times_append}
 use Rattle.task_word.proofs.CoreSteps.{not_core, fits, out_is, out_most, in_views}
 
+-- each of a list of zeros is 0
 pub zeros : (n k : ℕ) → slice_index (replicate n 0) k ≡ 0
 zeros zero k = refl
 zeros (suc n) zero = refl
@@ -38,7 +39,7 @@ met_nothing n m words =
       ended = λ h e. absurd (let f : false ≡ true = e in grind (arith));
     }
 
-split_keeps : (n : ℕ) (words : List ℕ) (views : List View) (v : CoreView) → IsWellFormedTable n words views → get_elem? views 0 ≡ some (Core v) → v.out < 63
+split_keeps : (n : ℕ) (words : List ℕ) (views : List View) (v : CoreView) → IsWellFormedTable n words views → get_elem? views 0 ≡ some (Core v) → v.out < most_handles
     → IsWellFormedTable n words (set views 0 (Core (one_out v)) ++ Handle (new_handle (length v.entries)) ∷ [])
 split_keeps n words views v kept at room =
     let w : View = Core (one_out v) in
@@ -76,8 +77,8 @@ split_keeps n words views v kept at room =
       ];
     }
 
--- the core's seat may cut off a handle while fewer than 63 are out
-pub splits : (n id : ℕ) (v : View) → id ≡ 0 → v ≡ Core (core_of v) → (core_of v).out < 63 → Splits (Rule n) id v (lender v) (lent v)
+-- the core's seat may cut off a handle while fewer than `most_handles` are out
+pub splits : (n id : ℕ) (v : View) → id ≡ 0 → v ≡ Core (core_of v) → (core_of v).out < most_handles → Splits (Rule n) id v (lender v) (lent v)
 splits n id v zero_id core room s kept at =
     let here : get_elem? s.views 0 ≡ some (Core (core_of v)) = subst (λ (i : ℕ). get_elem? s.views i ≡ some v) zero_id at ∙ ap some core in
     subst (λ (i : ℕ). IsWellFormedTable n (task_words s.words) (set s.views i (lender v) ++ lent v ∷ [])) (sym zero_id) (split_keeps n (task_words s.words) s.views (core_of v) kept here room)

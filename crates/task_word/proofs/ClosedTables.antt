@@ -12,8 +12,8 @@ use Rattle.task_word.specs.Steps.{Tells}
 use Rattle.task_word.specs.Answers.{Closes}
 use Rattle.task_word.specs.declared.views.View.{View}
 use Rattle.task_word.specs.declared.views.View.TheVariants.{Core}
-use Rattle.task_word.proofs.Placing.{Rule, task_at}
-use Rattle.task_word.proofs.Numbers.{reads_word}
+use Rattle.task_word.proofs.TaskPlaces.{Rule, task_at}
+use Rattle.task_word.proofs.WordNumbers.{reads_word}
 use Rattle.task_word.proofs.CoreSteps.{fits, tells}
 
 -- the words after the first, copied, close the table

@@ -9,7 +9,7 @@ use Rattle.task_word.specs.Rule.{word_at, HasMet, IsWellFormedTable, task_words}
 use Rattle.task_word.specs.declared.views.CoreView.{CoreView}
 use Rattle.task_word.specs.declared.views.View.{View}
 use Rattle.task_word.specs.declared.views.View.TheVariants.{Core}
-use Rattle.task_word.proofs.Handing.{zeros}
+use Rattle.task_word.proofs.SeatSplits.{zeros}
 
 vacant_word : (n k : ℕ) → k < n → IsWord (get_or (replicate n vacant) k vacant)
 vacant_word n k h = subst IsWord (sym (get_or-replicate n k vacant vacant h)) (record { vacant = λ e. refl; run = omega arith })
@@ -30,6 +30,7 @@ none_cancelled n k = ap (λ m. is_cancelled (Rattle.task_word.specs.Rule.word_of
 zero_words : (n : ℕ) → task_words (replicate (n + 1) 0) ≡ replicate n 0
 zero_words n = let e : n + 1 ≡ suc n = omega arith in ap (λ m. task_words (replicate m 0)) e
 
+-- the words and the first view of a new table keep the rule
 pub opens : (n : ℕ) (words : List ℕ) → words ≡ replicate (n + 1) 0 → IsWellFormedTable n (task_words words) (first_view n ∷ [])
 opens n words is =
     subst (λ (ws : List ℕ). IsWellFormedTable n ws (first_view n ∷ [])) (sym (ap task_words is ∙ zero_words n)) record {

@@ -53,10 +53,12 @@ pub meets : (n : ℕ) (e : Parts) → IsWord e → Matches n e → MeetsEntry e 
 meets n e is (inl same) = inl (ap word_of same ∙ reads_back e is)
 meets n e is (inr cut) = inr (ap word_of cut ∙ reads_back (marked e) (marked_word e is))
 
+-- a number that fits an entry is a word
 pub reads_word : (n : ℕ) (e : Parts) → IsWord e → Matches n e → IsWord (word_of n)
 reads_word n e is (inl same) = subst IsWord (sym (ap word_of same ∙ reads_back e is)) is
 reads_word n e is (inr cut) = subst IsWord (sym (ap word_of cut ∙ reads_back (marked e) (marked_word e is))) (marked_word e is)
 
+-- and the number of that word
 pub reads_number : (n : ℕ) (e : Parts) → IsWord e → Matches n e → value (word_of n) ≡ n
 reads_number n e is (inl same) = ap (λ x. value (word_of x)) same ∙ ap value (reads_back e is) ∙ sym same
 reads_number n e is (inr cut) = ap (λ x. value (word_of x)) cut ∙ ap value (reads_back (marked e) (marked_word e is)) ∙ sym cut

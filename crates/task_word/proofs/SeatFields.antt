@@ -2,11 +2,11 @@
 use Rattle.std.proofs.Common.{◌≡◌, ℕ, ◌+◌, ◌<◌, ◌≤◌, Bool, true, false, inl, inr, List, [], length, set, slice_index, slice_index_or, ◌&&◌, not, get_or-set_same, refl, sym, ap, ◌∙◌, arith, length-set}
 use Rattle.atomic_table.specs.Seated.{TableId}
 use Rattle.task_word.specs.Words.{Parts, rank, is_live, is_cancelled}
-use Rattle.task_word.specs.Answers.{Keeps, state_in, state_of, cancel_answer_in, cancel_answer, is_yes, core_answer_in, core_answer, is_won}
+use Rattle.task_word.specs.Answers.{HandleKeeps, state_in, state_of, cancel_answer_in, cancel_answer, is_yes, core_answer_in, core_answer, is_won}
 use Rattle.task_word.specs.declared.phases.Phase.{Phase}
 use Rattle.task_word.specs.declared.phases.Phase.TheVariants.{Vacant, New, Running, Done, Failed}
 use Rattle.task_word.specs.declared.answers.TaskState.TheVariants as state
-use Rattle.task_word.specs.Views.{with_entry, core_of, handle_of, wins}
+use Rattle.task_word.specs.Views.{most_handles, with_entry, core_of, handle_of, wins}
 use Rattle.task_word.specs.Rule.{word_of}
 use Rattle.task_word.specs.Steps.{Holder, Moved}
 use Rattle.task_word.specs.declared.views.CoreView.{CoreView}
@@ -16,7 +16,7 @@ use Rattle.task_word.specs.declared.views.View.TheVariants.{Core, Handle}
 -- the core's seat: it is the first, and its data are what it knows
 abbrev pub CoreSits : TableId → ℕ → Holder → List Parts → ℕ → Type 0
 CoreSits table id me entries out =
-    (id ≡ 0) × (me.0 ≡ Core (core_of me.0)) × (entries ≡ (core_of me.0).entries) × (out ≡ (core_of me.0).out) × (out ≤ 63) × (length entries + 1 ≡ table.words)
+    (id ≡ 0) × (me.0 ≡ Core (core_of me.0)) × (entries ≡ (core_of me.0).entries) × (out ≡ (core_of me.0).out) × (out ≤ most_handles) × (length entries + 1 ≡ table.words)
 
 -- a step that sets one entry keeps this
 pub core_sits : (table table' : TableId) (id id' : ℕ) (me me' : Holder) (entries : List Parts) (out k : ℕ) (e : Parts) (w : CoreView) → table' ≡ table → id' ≡ id → me' ≡ (Core w, me.1)
@@ -56,7 +56,7 @@ handle_sits table table' me me' h same_table is ranks seen sits =
     )
 
 -- what is set is kept
-pub keeps_met : (h h' : HandleView) (k : ℕ) (w : Parts) → k < length h.ranks → k < length h.seen → h'.ranks ≡ set h.ranks k (rank w) → h'.seen ≡ set h.seen k (is_cancelled w) → Keeps h' k w
+pub keeps_met : (h h' : HandleView) (k : ℕ) (w : Parts) → k < length h.ranks → k < length h.seen → h'.ranks ≡ set h.ranks k (rank w) → h'.seen ≡ set h.seen k (is_cancelled w) → HandleKeeps h' k w
 keeps_met h h' k w ranks seen set_rank set_seen = (
   ap (λ xs. slice_index xs k) set_rank ∙ get_or-set_same h.ranks k (rank w) 0 ranks,
   ap (λ xs. slice_index_or xs k false) set_seen ∙ get_or-set_same h.seen k (is_cancelled w) false seen,

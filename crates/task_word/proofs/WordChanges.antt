@@ -10,12 +10,14 @@ use Rattle.task_word.specs.Views.{times, wins, and_if}
 use Rattle.task_word.specs.Rule.{word_of, word_at, Matches, flag, taken_by, ranks_of, seen_of, won_of, last_of, EntriesFit, HasMet, taken_in_all, IsWellFormedTable}
 use Rattle.task_word.specs.declared.views.View.{View}
 use Rattle.task_word.specs.declared.views.View.TheVariants.{Core, Handle, Spent}
-use Rattle.task_word.proofs.Lists.{sum_set, sum_part}
+use Rattle.task_word.proofs.ViewLists.{sum_set, sum_part}
+use Rattle.task_word.proofs.Writes.{Becomes}
 
--- the word of the task that changes, and those of the others
+-- the word of the task that changes is the one given
 pub word_same : (words : List ℕ) (k x : ℕ) → k < length words → word_at (set words k x) k ≡ word_of x
 word_same words k x lt = ap word_of (get_or-set_same words k x 0 lt)
 
+-- the word of another task stays as it was
 pub word_other : (words : List ℕ) (k x j : ℕ) → j ≢ k → word_at (set words k x) j ≡ word_at words j
 word_other words k x j other = ap word_of (get_or-set_other words k j x 0 other)
 
@@ -28,37 +30,26 @@ after_set n k x words P lt here there j h =
       | inr other ↦ subst (P j) (sym (word_other words k x j other)) (there j h other)
     ]
 
--- how a word may become another: its rank does not fall, a cancelled word stays so in its rank, and an
--- ended one keeps its phase and its run
-pub record Goes (w u : Parts) : Type 0 where
-  pub up : rank w ≤ rank u
-  pub stays : is_cancelled w ≡ true → is_cancelled u ≡ true
-  pub steady : is_cancelled w ≡ true → rank w ≡ rank u
-  pub ended : is_ended w.phase ≡ true → (u.phase ≡ w.phase) × (u.run ≡ w.run)
-
-pub goes_same : (w : Parts) → Goes w w
-goes_same w = record { up = omega arith; stays = λ e. e; steady = λ e. refl; ended = λ e. (refl, refl) }
-
 -- what a seat met stays so
-pub met_after : (n k x : ℕ) (words : List ℕ) (v : View) → k < length words → k < n → Goes (word_at words k) (word_of x)
+pub met_after : (n k x : ℕ) (words : List ℕ) (v : View) → k < length words → k < n → Becomes (word_at words k) (word_of x)
     → (0 < times k (won_of v) → rank (word_at words k) ≡ rank (word_of x)) → HasMet n words v → HasMet n (set words k x) v
-met_after n k x words v lt in_n goes won met =
+met_after n k x words v lt in_n becoming won met =
     record {
-      ranks = after_set n k x words (λ j w. slice_index (ranks_of v) j ≤ rank w) lt (let m = met.ranks k in_n in let u = goes.up in omega (arith, m, u)) (λ j h other. met.ranks j h);
-      seen = after_set n k x words (λ j w. slice_index_or (seen_of v) j false ≡ true → is_cancelled w ≡ true) lt (λ e. goes.stays (met.seen k in_n e)) (λ j h other. met.seen j h);
+      ranks = after_set n k x words (λ j w. slice_index (ranks_of v) j ≤ rank w) lt (let m = met.ranks k in_n in let u = becoming.up in omega (arith, m, u)) (λ j h other. met.ranks j h);
+      seen = after_set n k x words (λ j w. slice_index_or (seen_of v) j false ≡ true → is_cancelled w ≡ true) lt (λ e. becoming.stays (met.seen k in_n e)) (λ j h other. met.seen j h);
       still = after_set n k x words (λ j w. (slice_index_or (seen_of v) j false ≡ true) ⊎ (0 < times j (won_of v)) → slice_index (ranks_of v) j ≡ rank w) lt
-          (λ s. met.still k in_n s ∙ elim s [ inl e ↦ goes.steady (met.seen k in_n e) | inr g ↦ won g ])
+          (λ s. met.still k in_n s ∙ elim s [ inl e ↦ becoming.steady (met.seen k in_n e) | inr g ↦ won g ])
           (λ j h other. met.still j h);
       ended = λ h e.
           after_set n k x words (λ j w. (last_of v).0 ≡ j → (w.phase ≡ (last_of v).1.phase) × (w.run ≡ (last_of v).1.run)) lt
           (λ is.
           let m = subst (λ (i : ℕ). ((word_at words i).phase ≡ (last_of v).1.phase) × ((word_at words i).run ≡ (last_of v).1.run)) is (met.ended h e) in
-          let g = goes.ended (ap is_ended m.0 ∙ e) in (g.0 ∙ m.0, g.1 ∙ m.1))
+          let g = becoming.ended (ap is_ended m.0 ∙ e) in (g.0 ∙ m.0, g.1 ∙ m.1))
           (λ j below other is. subst (λ (i : ℕ). ((word_at words i).phase ≡ (last_of v).1.phase) × ((word_at words i).run ≡ (last_of v).1.run)) is (met.ended h e))
           (last_of v).0 h refl;
     }
 
--- the number of times that a task was taken goes along with its word
+-- the number of times that a task was taken becoming along with its word
 pub once_after : (n k x id : ℕ) (words : List ℕ) (views : List View) (v w : View) → k < length words → k < n → get_elem? views id ≡ some v
     → times k (taken_by w) + flag (is_cancelled (word_at words k)) ≡ times k (taken_by v) + flag (is_cancelled (word_of x))
     → ((j : ℕ) → j ≢ k → times j (taken_by w) ≡ times j (taken_by v))
@@ -115,15 +106,17 @@ word_after n k x words entries lt in_n fits f =
       ];
     }
 
--- a list that may get a task at its head
+-- a task that may be put at the head of a list stands in it once more, if it is put there
 pub and_if_same : (b : Bool) (k : ℕ) (xs : List ℕ) → times k (and_if b k xs) ≡ flag b + times k xs
 and_if_same true k xs = let one : cond {A = ℕ} (k == k) 1 0 ≡ 1 = grind (arith, nat_tests) in omega (arith, sum_by-cons (λ j. cond (j == k) 1 0) k xs, one)
 and_if_same false k xs = omega arith
 
+-- another task stands in it as often as before
 pub and_if_other : (b : Bool) (k j : ℕ) (xs : List ℕ) → j ≢ k → times j (and_if b k xs) ≡ times j xs
 and_if_other true k j xs other = let none : cond {A = ℕ} (k == j) 1 0 ≡ 0 = grind (arith, nat_tests) in omega (arith, sum_by-cons (λ i. cond (i == j) 1 0) k xs, none)
 and_if_other false k j xs other = refl
 
+-- a task stands in two lists joined as often as in both
 pub times_append : (k : ℕ) (xs ys : List ℕ) → times k (xs ++ ys) ≡ times k xs + times k ys
 times_append k xs ys = sum_by-append (λ j. cond (j == k) 1 0) xs ys
 
@@ -137,36 +130,10 @@ win_counts false false = refl
 pub wins_count : (w : Parts) → flag (wins w) + flag (is_cancelled w) ≡ flag (is_cancelled (marked w))
 wins_count w = win_counts (is_live w.phase) w.marked
 
-stay_cancelled : (live bit : Bool) → live && bit ≡ true → live && true ≡ true
-stay_cancelled true bit e = refl
-stay_cancelled false bit e = e
-
-pub marked_stays : (w : Parts) → is_cancelled w ≡ true → is_cancelled (marked w) ≡ true
-marked_stays w e = stay_cancelled (is_live w.phase) w.marked e
-
+-- what counts is so
 pub flag_true : (b : Bool) → 0 < flag b → b ≡ true
 flag_true true h = refl
 flag_true false h = absurd (omega arith)
-
--- a word with the bit
-pub goes_marked : (w u : Parts) → u ≡ marked w → Goes w u
-goes_marked w u is =
-    record {
-      up = (let r : rank u ≡ rank w = ap rank is in omega (arith, r));
-      stays = λ e. ap is_cancelled is ∙ marked_stays w e;
-      steady = λ e. sym (ap rank is);
-      ended = λ e. (ap (λ p. p.phase) is, ap (λ p. p.run) is);
-    }
-
--- a word that is neither cancelled nor ended may become any of no lower rank
-pub goes_on : (w u : Parts) → is_cancelled w ≡ false → is_ended w.phase ≡ false → rank w ≤ rank u → Goes w u
-goes_on w u free lasts up =
-    record {
-      up = up;
-      stays = λ e. absurd (let f : true ≡ false = sym e ∙ free in grind (arith));
-      steady = λ e. absurd (let f : true ≡ false = sym e ∙ free in grind (arith));
-      ended = λ e. absurd (let f : true ≡ false = sym e ∙ lasts in grind (arith));
-    }
 
 won_taken : (k : ℕ) (v : View) → times k (won_of v) ≤ times k (taken_by v)
 won_taken k (Core v) = omega (arith, times_append k v.own v.joined)
@@ -180,6 +147,6 @@ won_cancelled n k id words views v kept at in_n some_won =
     flag_true _ (let part = sum_part (λ u. times k (taken_by u)) views id v at in let all = kept.once k in_n in let w = won_taken k v in omega (arith, some_won, part, all, w))
 
 -- a word that a seat won keeps its rank
-pub won_still : (n k id x : ℕ) (words : List ℕ) (views : List View) (v : View) → IsWellFormedTable n words views → get_elem? views id ≡ some v → k < n → Goes (word_at words k) (word_of x)
+pub won_still : (n k id x : ℕ) (words : List ℕ) (views : List View) (v : View) → IsWellFormedTable n words views → get_elem? views id ≡ some v → k < n → Becomes (word_at words k) (word_of x)
     → 0 < times k (won_of v) → rank (word_at words k) ≡ rank (word_of x)
-won_still n k id x words views v kept at in_n goes some_won = goes.steady (won_cancelled n k id words views v kept at in_n some_won)
+won_still n k id x words views v kept at in_n becoming some_won = becoming.steady (won_cancelled n k id words views v kept at in_n some_won)
