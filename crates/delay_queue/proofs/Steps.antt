@@ -4,11 +4,15 @@ use Rattle.std.specs.List.{insert, remove}
 use Rattle.std.specs.Prelude.{OnSome}
 use Rattle.std.proofs.lemmas.List.{set-get_or, take-append-drop, drop_all, append-nil}
 use Rattle.std.proofs.lemmas.Option.{slice_get_within, get_or_from_slice_get}
-use Rattle.delay_queue.specs.Queues.{due_in, IsLeast}
+use Rattle.delay_queue.specs.Queues.{Queue, due_in, IsLeast}
 use Rattle.delay_queue.specs.Sorted.{table, Descends, AreKnown}
 use Rattle.delay_queue.specs.declared.entry.Entry.{Entry}
 use Rattle.delay_queue.proofs.Order.{AreOther, place_for, place_of, place_from_some, place_from_none, descends_insert, descends_between, known_between, known_put, other_from_place, task_at_place}
 use Rattle.delay_queue.proofs.Table.{length-table, other_from_none, none_from_other, table_between, table_without, due_between, least_last, parted}
+
+-- the table of a queue
+abbrev pub entries_of : Queue → List (Option ℕ)
+entries_of q = q.entries
 
 -- what a list and its table say after a change
 pub record Becomes (tasks : ℕ) (after : List Entry) (queue : List (Option ℕ)) : Type 0 where

@@ -25,7 +25,7 @@ AreKnown tasks [] = Unit {0}
 AreKnown tasks (e ∷ entries) = (e.task < tasks) × AreKnown tasks entries
 
 -- what is true of each queue's list, where there is room for so many entries
-pub record IsKept (tasks : ℕ) (entries : List Entry) (room : ℕ) : Type 0 where
+pub record IsSortedQueue (tasks : ℕ) (entries : List Entry) (room : ℕ) : Type 0 where
   pub descends : Descends entries
   pub known : AreKnown tasks entries
   pub roomy : tasks ≤ room

@@ -35,10 +35,13 @@
 #![tactic(auto)]
 
 mod entry;
+mod error;
+mod laws;
 mod queue;
 mod sorted;
 #[cfg(test)]
 mod tests;
 
 pub use entry::Entry;
-pub use queue::{DelayQueue, QueueError};
+pub use error::QueueError;
+pub use queue::DelayQueue;

@@ -55,8 +55,8 @@ fn ties_go_by_task_number(rt: HostRuntime) -> Result<(), Fail> {
 
 /// Fills a queue with an entry for each of its tasks, four at each moment.
 fn fill<A: Allocator>(queue: &mut DelayQueue<A>, tasks: u32)
-    requires { queue.old ≡ replicate tasks None }
-    ensures { length queue.new ≡ tasks }
+    requires { queue.old.entries ≡ replicate tasks None }
+    ensures { length queue.new.entries ≡ tasks }
 {
     for task in 0..tasks {
         let due = (task / 4) as u64;
@@ -83,5 +83,12 @@ fn as_many_entries_as_tasks(rt: HostRuntime) -> Result<(), Fail> {
         assert_eq!(rt; queue.poll(due), Some(Entry { due, task }));
     }
     assert_eq!(rt; queue.is_empty(), true);
+    Ok(())
+}
+
+#[test]
+fn the_error_as_text(rt: HostRuntime) -> Result<(), Fail> {
+    let text = format!(in rt.alloc(); "{}", QueueError::Memory)?;
+    assert_eq!(rt; text.as_str(), "out of memory");
     Ok(())
 }
