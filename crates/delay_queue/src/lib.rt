@@ -36,11 +36,9 @@
 
 mod entry;
 mod error;
+mod heap;
 mod laws;
 mod queue;
-mod sorted;
-#[cfg(test)]
-mod tests;
 
 pub use entry::Entry;
 pub use error::QueueError;
