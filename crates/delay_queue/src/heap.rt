@@ -23,11 +23,18 @@ pub(crate) fn place_of(heap: &[Entry], places: &[u32], task: u32) -> Option<usiz
     }
 }
 
+/// An entry as one number, by which entries are compared without a branch.
+fn key(entry: Entry) -> u128
+    ensures { result ≡ entry.due * 2 ^ 64 + entry.task }
+{
+    (u128::from(entry.due) << 64) + u128::from(entry.task)
+}
+
 /// Whether one entry comes before another.
 fn is_before(one: Entry, other: Entry) -> bool
     ensures { result ≡ comes_before one.due one.task other.due other.task }
 {
-    one < other
+    key(one) < key(other)
 }
 
 /// Writes an entry at a place, and notes the place for its task.
@@ -89,11 +96,7 @@ fn sink(heap: &mut [Entry], places: &mut [u32], mut hole: usize) -> (usize, u64)
     let mut touches = 0;
     while 2 * hole + 2 < heap.len() {
         let left = 2 * hole + 1;
-        let lesser = if is_before(heap[left + 1], heap[left]) {
-            left + 1
-        } else {
-            left
-        };
+        let lesser = left + usize::from(is_before(heap[left + 1], heap[left]));
         let entry = heap[lesser];
         put(heap, places, hole, entry);
         touches += 2;
