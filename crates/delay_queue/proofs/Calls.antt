@@ -1,16 +1,16 @@
 -- What a call of the queue does to its table, and what it finds there.
-use Rattle.std.proofs.Common.{◌≡◌, ◌≢◌, ◌⊎◌, inl, inr, ⊎_elim, ℕ, ◌+◌, ◌<◌, ◌≤◌, true, List, [], ◌∷◌, ◌++◌, Option, Some, None, set, take, drop, length, get_or, refl, sym, ap, subst, subst₂, ◌∙◌, arith, length-append, length-set, take_at}
+use Rattle.std.proofs.Common.{◌≡◌, ◌≢◌, inl, inr, ⊎_elim, ℕ, ◌+◌, ◌<◌, ◌≤◌, true, List, [], ◌∷◌, ◌++◌, Option, Some, None, set, take, drop, length, get_or, refl, sym, ap, subst, subst₂, ◌∙◌, arith, length-append, take_at}
 use Rattle.std.specs.Prelude.{slice_get, IfSome, IfNone}
 use Rattle.std.proofs.lemmas.Bool.{cases_eq, cases_lt}
-use Rattle.std.proofs.lemmas.List.{get_or_append_left, get_or_push, set-get_or, set_past}
+use Rattle.std.proofs.lemmas.List.{get_or_append_left, set-get_or}
 use Rattle.std.proofs.lemmas.Option.{none-some, slice_get_within, get_or_from_slice_get}
 use Rattle.delay_queue.specs.Queues.{Queue, comes_before, due_in, IsLeast, IsEmpty, NoneIsDue}
-use Rattle.delay_queue.specs.Heaps.{no_entry, entry_at, parent, IsOrdered, IsHeap, IsHeapAround, IsPlaced, IsPlacedWith, due_of, due_with, table}
+use Rattle.delay_queue.specs.Heaps.{no_entry, entry_at, IsHeap, IsPlaced, due_of, due_with, table}
 use Rattle.delay_queue.specs.declared.entry.Entry.{Entry}
 use Rattle.delay_queue.proofs.Order.{before_from_ordered, due_from_ordered}
 use Rattle.delay_queue.proofs.Holes.{first_is_least}
 use Rattle.delay_queue.proofs.Dues.{due_here, due_past, due_alike, due_found, IsFound}
-use Rattle.delay_queue.proofs.Places.{IsPlacedBeside, placed_from_beside, due_in_hole, due_not_in_hole, due_away, due_of_front}
+use Rattle.delay_queue.proofs.Places.{IsPlacedBeside, due_in_hole, due_not_in_hole, due_away}
 use Rattle.delay_queue.proofs.Tables.{length-table, due_in-table, due_in-past, table_set}
 
 -- the entries of a queue

@@ -1,7 +1,7 @@
 -- How many entries there are.
-use Rattle.std.proofs.Common.{◌≡◌, ◌≢◌, ℕ, zero, suc, ◌+◌, ◌<◌, ◌≤◌, cond, List, [], ◌∷◌, ◌++◌, Option, Some, None, is_some, set, take, replicate, length, get_or, refl, sym, ap, subst, ◌∙◌, arith, count_by, length-set, length-append}
+use Rattle.std.proofs.Common.{◌≡◌, ℕ, zero, suc, ◌+◌, ◌<◌, ◌≤◌, cond, List, [], ◌∷◌, ◌++◌, Option, Some, None, is_some, set, take, replicate, length, get_or, refl, sym, ap, subst, ◌∙◌, arith, count_by, length-set, length-append}
 use Rattle.std.specs.List.{sum_by}
-use Rattle.std.proofs.lemmas.List.{take_more, take_all, length-take-le, get_or_push}
+use Rattle.std.proofs.lemmas.List.{take_more, take_all, get_or_push}
 use Rattle.std.proofs.lemmas.List.Sums.{sum_by-set, count_by-le-length}
 use Rattle.delay_queue.specs.Queues.{due_in, entry_count}
 use Rattle.delay_queue.specs.Heaps.{no_entry, entry_at, IsPlaced, due_of, table}

@@ -1,5 +1,5 @@
 -- How the order of a heap stands while entries move into its hole.
-use Rattle.std.proofs.Common.{◌≡◌, ◌≢◌, ℕ, zero, suc, ◌+◌, ◌-◌, ◌*◌, ◌/◌, ◌<◌, ◌≤◌, ◌⊎◌, ⊎_elim, List, [], ◌∷◌, ◌++◌, set, take, length, sym, ◌∙◌, ap, subst, subst₂, arith, length-set}
+use Rattle.std.proofs.Common.{◌≡◌, ◌≢◌, ℕ, zero, suc, ◌+◌, ◌*◌, ◌<◌, ◌≤◌, ◌⊎◌, ⊎_elim, List, set, length, sym, ◌∙◌, ap, subst, subst₂, arith, length-set}
 use Rattle.std.proofs.lemmas.Bool.{cases_eq}
 use Rattle.delay_queue.specs.Heaps.{entry_at, parent, IsOrdered, IsHeap, IsHeapAround, IsAboveChildren}
 use Rattle.delay_queue.specs.declared.entry.Entry.{Entry}

@@ -1,5 +1,5 @@
 -- The order of entries.
-use Rattle.std.proofs.Common.{◌≡◌, ℕ, ◌≤◌, ◌≢◌, true, arith}
+use Rattle.std.proofs.Common.{◌≡◌, ◌≤◌, ◌≢◌, true, arith}
 use Rattle.std.proofs.lemmas.Bool.Decides.{nat_tests}
 use Rattle.delay_queue.specs.Queues.{comes_before}
 use Rattle.delay_queue.specs.Heaps.{IsOrdered}

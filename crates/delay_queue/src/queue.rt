@@ -1,6 +1,6 @@
 //! The queue: a binary heap of entries, with the place of each task's entry beside it.
-ghost use Rattle.std.specs.Prelude.{◌≡◌, ◌-◌, ◌<◌, ◌≤◌, ◌==◌, false, min, Some, None, length, replicate, slice_set, is_some, IfOk, IsOk, IfSome, IfNone};
-ghost use Rattle.delay_queue.specs.Queues.{due_in, entry_count, most_touches, IsLeast, IsEmpty, NoneIsDue, Touches};
+ghost use Rattle.std.specs.Prelude.{◌≡◌, ◌+◌, ◌-◌, ◌<◌, ◌≤◌, ◌==◌, false, min, Some, None, length, replicate, slice_set, is_some, IfOk, IsOk, IfSome, IfNone};
+ghost use Rattle.delay_queue.specs.Queues.{due_in, entry_count, most_touches, greatest_count, IsLeast, IsEmpty, NoneIsDue, Touches};
 
 use crate::entry::Entry;
 use crate::error::QueueError;
@@ -76,7 +76,7 @@ impl<A: Allocator> DelayQueue<A> {
         let place = self.heap.len();
         self.heap.push_reserved(entry);
         let touches = rise(&mut self.heap, &mut self.places, place, entry);
-        self.touched = self.touched.saturating_add(touches);
+        count(&mut self.touched, touches);
     }
 
     /// The least entry, due or not, or `None` where the queue is empty. The entry stays.
@@ -104,7 +104,7 @@ impl<A: Allocator> DelayQueue<A> {
             return None;
         }
         let touches = take_out(&mut self.heap, &mut self.places, 0);
-        self.touched = self.touched.saturating_add(touches);
+        count(&mut self.touched, touches);
         Some(least)
     }
 
@@ -120,7 +120,7 @@ impl<A: Allocator> DelayQueue<A> {
             return false;
         };
         let touches = take_out(&mut self.heap, &mut self.places, place);
-        self.touched = self.touched.saturating_add(touches);
+        count(&mut self.touched, touches);
         true
     }
 
@@ -160,4 +160,11 @@ impl<A: Allocator> DelayQueue<A> {
     {
         self.touched
     }
+}
+
+/// Adds to a count of touches, which stays at its greatest value.
+fn count(touched: &mut u64, touches: u64)
+    ensures { touched.new ≡ min (touched.old + touches) greatest_count }
+{
+    *touched = touched.saturating_add(touches);
 }

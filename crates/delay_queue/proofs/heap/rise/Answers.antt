@@ -1,10 +1,10 @@
 -- The hole rises by one place, and the end of the loop.
-use Rattle.std.proofs.Common.{◌≡◌, ℕ, ◌+◌, ◌-◌, ◌*◌, ◌/◌, ◌<◌, ◌≤◌, ◌≢◌, Bool, List, cond, eqb, length, arith, ap, subst, sym, ◌∙◌, refl, eq-eqb, ne_eqb, get_or-set_same}
-use Rattle.std.specs.Prelude.{slice_index_or, slice_set}
+use Rattle.std.proofs.Common.{◌≡◌, ℕ, ◌+◌, ◌-◌, ◌*◌, ◌/◌, ◌<◌, ◌≢◌, Bool, List, cond, eqb, length, arith, ap, subst, sym, ◌∙◌, refl, eq-eqb, ne_eqb, get_or-set_same}
+use Rattle.std.specs.Prelude.{slice_index_or}
 use Rattle.delay_queue.specs.Queues.{binary_digits}
 use Rattle.delay_queue.specs.Heaps.{entry_at, parent, IsOrdered, IsHeap, IsHeapAround, IsAboveChildren}
 use Rattle.delay_queue.specs.declared.entry.Entry.{Entry}
-use Rattle.delay_queue.proofs.Digits.{digits_within, digits_below, digits_one}
+use Rattle.delay_queue.proofs.Digits.{digits_within, digits_below}
 use Rattle.delay_queue.proofs.Order.{ordered_from_before}
 use Rattle.delay_queue.proofs.Holes.{around_up, above_up, heap_filled}
 use Rattle.delay_queue.proofs.Places.{beside, moves_on}

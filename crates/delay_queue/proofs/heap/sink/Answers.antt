@@ -1,11 +1,10 @@
 -- The hole sinks by one place, and to an only entry below it.
-use Rattle.std.proofs.Common.{◌≡◌, ◌≢◌, ℕ, ◌+◌, ◌-◌, ◌*◌, ◌/◌, ◌<◌, ◌≤◌, ◌⊎◌, ⊎_elim, inl, inr, true, false, Bool, List, cond, eqb, length, arith, ap, subst, sym, ◌∙◌, refl, eq-eqb, ne_eqb, get_or-set_same}
+use Rattle.std.proofs.Common.{◌≡◌, ℕ, ◌+◌, ◌*◌, ◌<◌, ◌≤◌, ◌⊎◌, ⊎_elim, inl, inr, true, false, Bool, List, length, arith, subst, sym}
 use mir.Val.{bool_byte}
-use Rattle.std.specs.Prelude.{slice_index_or, slice_set}
-use Rattle.delay_queue.specs.Queues.{comes_before, binary_digits}
-use Rattle.delay_queue.specs.Heaps.{entry_at, parent, IsOrdered, IsHeap, IsHeapAround, IsAboveChildren, MovesHole}
+use Rattle.delay_queue.specs.Queues.{comes_before}
+use Rattle.delay_queue.specs.Heaps.{entry_at, parent, IsOrdered, IsHeapAround}
 use Rattle.delay_queue.specs.declared.entry.Entry.{Entry}
-use Rattle.delay_queue.proofs.Digits.{digits_within, digits_below, digits_one}
+use Rattle.delay_queue.proofs.Digits.{digits_within, digits_below}
 use Rattle.delay_queue.proofs.Order.{ordered_from_before}
 use Rattle.delay_queue.proofs.Holes.{around_down, lesser_is_least}
 use Rattle.delay_queue.proofs.Places.{beside, moves_on}

@@ -1,7 +1,6 @@
 -- The last entry comes into the place of the one that is taken out.
-use Rattle.std.proofs.Common.{◌≡◌, ◌≢◌, ℕ, ◌+◌, ◌<◌, ◌≤◌, length, None, Option, arith, List, [], ◌∷◌, ◌++◌, take, drop, refl, sym, ap, subst, ◌∙◌, take_at, length-append}
+use Rattle.std.proofs.Common.{◌≡◌, ◌≢◌, ℕ, ◌<◌, length, arith, List, [], ◌∷◌, ◌++◌, take, drop, sym, ap, subst, ◌∙◌, take_at, length-append}
 use Rattle.std.proofs.lemmas.List.{get_or_append_left}
-use Rattle.delay_queue.specs.Queues.{binary_digits, most_touches}
 use Rattle.delay_queue.specs.Heaps.{no_entry, entry_at, IsPlaced, IsPlacedWith, due_of, due_with}
 use Rattle.delay_queue.specs.declared.entry.Entry.{Entry}
 use Rattle.delay_queue.proofs.Digits.{digits_more}

@@ -1,5 +1,5 @@
 -- The place of a task's entry, or that it has none.
-use Rattle.std.proofs.Common.{Some, ap, sym, ◌∙◌, arith}
+use Rattle.std.proofs.Common.{Some, ap, sym, ◌∙◌}
 use Rattle.delay_queue.specs.declared.entry.Entry.{Entry}
 use Rattle.delay_queue.proofs.Lookups.{at_read}
 use Rattle.delay_queue.proofs.Calls.{entries_of, place_found, place_missing}

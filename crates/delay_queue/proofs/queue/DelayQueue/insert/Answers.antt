@@ -1,13 +1,13 @@
 -- The entry has room, comes last, and rises.
-use Rattle.std.proofs.Common.{◌≡◌, ◌≢◌, ⊎_elim, ℕ, min, Bool, true, false, cond, eqb, eqb-true, ◌+◌, ◌*◌, ◌<◌, ◌≤◌, length, None, Some, Option, arith, List, [], ◌∷◌, ◌++◌, take, drop, refl, sym, ap, subst, subst₂, ◌∙◌, take_at, length-append}
+use Rattle.std.proofs.Common.{◌≡◌, ◌≢◌, ⊎_elim, ℕ, min, Bool, true, false, cond, eqb, eqb-true, ◌+◌, ◌*◌, ◌<◌, ◌≤◌, length, None, Option, arith, List, [], ◌∷◌, ◌++◌, refl, sym, ap, subst, subst₂, ◌∙◌, length-append}
 use Rattle.std.specs.Prelude.{slice_index_or}
 use Rattle.std.proofs.lemmas.Bool.{cases_eq}
 use Rattle.delay_queue.specs.Queues.{Queue, due_in, entry_count, most_touches, greatest_count, binary_digits}
-use Rattle.delay_queue.specs.Heaps.{no_entry, entry_at, IsPlaced, IsPlacedWith, due_of, due_with, table}
+use Rattle.delay_queue.specs.Heaps.{IsPlacedWith, table}
 use Rattle.delay_queue.specs.declared.entry.Entry.{Entry}
 use Rattle.delay_queue.proofs.Digits.{digits_one, digits_two, digits_some, digits_next}
 use Rattle.delay_queue.proofs.Tables.{length-table}
-use Rattle.delay_queue.proofs.Counts.{count_placed, count_within, room_left}
+use Rattle.delay_queue.proofs.Counts.{count_placed, room_left}
 use Rattle.delay_queue.proofs.Calls.{entries_of, beside_pushed, inserted_lent}
 use Rattle.delay_queue.proofs.Places.{placed_from_beside}
 use Rattle.delay_queue.proofs.queue.DelayQueue.insert.Goals as goal
@@ -83,5 +83,5 @@ returns-clause-touched g c =
       times = c.rise-touches.result;
       many = both.0;
       few = both.1;
-      counted = c.saturating_add-self-inside.ensures ∙ ap (λ (v : Queue). min (v.touched + c.rise-touches.result) greatest_count) c.self.view_is;
+      counted = c.count.ensures ∙ ap (λ (v : Queue). min (v.touched + c.rise-touches.result) greatest_count) c.self.view_is;
     }

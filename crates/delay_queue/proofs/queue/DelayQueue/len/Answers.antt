@@ -1,5 +1,5 @@
 -- The heap has as many entries as the table.
-use Rattle.std.proofs.Common.{◌≡◌, ap, sym, ◌∙◌, arith}
+use Rattle.std.proofs.Common.{ap, sym, arith}
 use Rattle.delay_queue.specs.Queues.{Queue, entry_count}
 use Rattle.delay_queue.proofs.Counts.{count_placed}
 use Rattle.delay_queue.proofs.queue.DelayQueue.len.Goals as goal

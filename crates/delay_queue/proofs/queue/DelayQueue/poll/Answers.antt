@@ -1,9 +1,8 @@
 -- The first entry is the least, and is taken out.
-use Rattle.std.proofs.Common.{◌≡◌, ℕ, ◌+◌, ◌-◌, ◌<◌, ◌≤◌, ⊎_elim, List, Option, None, Some, length, set, min, refl, ap, sym, subst, ◌∙◌, arith}
-use Rattle.std.specs.Prelude.{slice_get, IfNone}
+use Rattle.std.proofs.Common.{◌≡◌, ℕ, ◌+◌, ◌-◌, ◌<◌, ◌≤◌, ⊎_elim, Option, None, length, set, min, ap, sym, subst, ◌∙◌, arith}
+use Rattle.std.specs.Prelude.{IfNone}
 use Rattle.std.proofs.lemmas.Bool.{cases_lt}
 use Rattle.delay_queue.specs.Queues.{Queue, IsLeast, NoneIsDue, entry_count, most_touches, greatest_count}
-use Rattle.delay_queue.specs.Heaps.{entry_at, table}
 use Rattle.delay_queue.specs.declared.entry.Entry.{Entry}
 use Rattle.delay_queue.proofs.Counts.{count_placed, count_within}
 use Rattle.delay_queue.proofs.Calls.{entries_of, least, empty, nothing_first, none_due, first_read, removed_lent}
@@ -58,5 +57,5 @@ returns-clause-touched g c =
       times = c.take_out-touches.result;
       many = some_touched (entry_count c.args.self.now.entries) c.take_out-touches.result (subst (λ (n : ℕ). 0 + 1 < n → 0 < c.take_out-touches.result) size c.take_out-touches.ensures.many);
       few = subst (λ (n : ℕ). c.take_out-touches.result ≤ most_touches n) size c.take_out-touches.ensures.few;
-      counted = c.saturating_add-self-inside.ensures ∙ ap (λ (v : Queue). min (v.touched + c.take_out-touches.result) greatest_count) c.self.view_is;
+      counted = c.count.ensures ∙ ap (λ (v : Queue). min (v.touched + c.take_out-touches.result) greatest_count) c.self.view_is;
     }

@@ -1,7 +1,6 @@
 -- The place of a task's entry, from which it is taken out, or that it has none.
-use Rattle.std.proofs.Common.{◌≡◌, ℕ, ◌+◌, ◌<◌, ◌≤◌, List, Option, None, length, is_some, set, min, refl, ap, sym, subst, ◌∙◌, arith}
+use Rattle.std.proofs.Common.{◌≡◌, ℕ, ◌+◌, ◌≤◌, None, length, is_some, set, min, ap, sym, subst, ◌∙◌, arith}
 use Rattle.delay_queue.specs.Queues.{Queue, entry_count, most_touches, greatest_count}
-use Rattle.delay_queue.specs.Heaps.{entry_at, table}
 use Rattle.delay_queue.proofs.Counts.{count_placed, count_within}
 use Rattle.delay_queue.proofs.Calls.{entries_of, place_found, place_missing, nothing_there, removed_lent}
 use Rattle.delay_queue.proofs.queue.DelayQueue.remove.Goals as goal
@@ -51,5 +50,5 @@ returns-clause-touched g c =
       times = c.take_out-touches.result;
       many = omega arith;
       few = subst (λ (n : ℕ). c.take_out-touches.result ≤ most_touches n) size c.take_out-touches.ensures.few;
-      counted = c.saturating_add-self-inside.ensures ∙ ap (λ (v : Queue). min (v.touched + c.take_out-touches.result) greatest_count) c.self.view_is;
+      counted = c.count.ensures ∙ ap (λ (v : Queue). min (v.touched + c.take_out-touches.result) greatest_count) c.self.view_is;
     }
