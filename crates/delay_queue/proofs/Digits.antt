@@ -10,14 +10,16 @@ pub digits_step : (n m : ℕ) → 0 < n → n / 2 ≡ m → binary_digits n ≡ 
 unfolding binary_digits
 digits_step n m some half = length-digits_of_step 2 n (omega arith) some ∙ ap (λ (k : ℕ). length (digits_of 2 k) + 1) half
 
--- a number below a power of two
+-- a number below a power of two has no more digits than its exponent
 pub digits_within : (n k : ℕ) → n < 2 ^ k → binary_digits n ≤ k
 unfolding binary_digits
 digits_within n k small = length-digits_of-le 2 k n (omega arith) small
 
+-- 0 has none
 pub digits_zero : binary_digits 0 ≡ 0
 digits_zero = omega (arith, digits_within 0 0 (omega arith))
 
+-- 1 has one
 pub digits_one : binary_digits 1 ≡ 1
 digits_one = digits_step 1 0 (omega arith) (omega arith) ∙ ap (λ (k : ℕ). k + 1) digits_zero
 

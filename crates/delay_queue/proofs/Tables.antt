@@ -7,6 +7,7 @@ use Rattle.delay_queue.specs.Queues.{due_in}
 use Rattle.delay_queue.specs.Heaps.{due_of, table}
 use Rattle.delay_queue.specs.declared.entry.Entry.{Entry}
 
+-- the table has a place for each task
 pub length-table : (heap : List Entry) (places : List ℕ) → length (table heap places) ≡ length places
 length-table heap places = length-map-range_with_len (due_of heap places) 0 (length places)
 

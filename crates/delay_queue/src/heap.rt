@@ -13,7 +13,6 @@ use std::alloc::Allocator;
 /// Where the entry of a task stands, or `None` where it has none.
 pub(crate) fn place_of(heap: &[Entry], places: &[u32], task: u32) -> Option<usize>
     ensures found { IfSome result (λ place. (place < length heap.now) × ((entry_at heap.now place).task ≡ task)) }
-    ensures due { IfSome result (λ place. due_of heap.now places.now task ≡ Some (entry_at heap.now place).due) }
     ensures missing { IfNone result (task < length places.now → due_of heap.now places.now task ≡ None) }
 {
     let place = *places.get(task as usize)? as usize;
@@ -112,7 +111,7 @@ fn sink(heap: &mut [Entry], places: &mut [u32], mut hole: usize) -> (usize, u64)
     (hole, touches)
 }
 
-/// Puts an entry that stayed elsewhere in the place of another. Says how often it touched the heap: the comparisons, the
+/// Puts an entry of the queue in the place of one that leaves. Says how often it touched the heap: the comparisons, the
 /// entries that moved, and the entry itself.
 fn replace(heap: &mut [Entry], places: &mut [u32], place: usize, entry: Entry) -> u64
     requires inside { place < length heap.old }
