@@ -50,7 +50,7 @@ impl<A: Allocator> Model for Core<A> {
 
     ghost view = { λ c. record { calls = c.calls.items; limit = c.limit; taken = c.taken; made = c.made; moment = c.moment; tasks = c.tasks; work = c.work.items } };
 
-    ghost invariant = { λ c. IsWellFormedCore (record { calls = c.calls.items; limit = c.limit; taken = c.taken; made = c.made; moment = c.moment; tasks = c.tasks; work = c.work.items }) c.queue c.timings.items };
+    ghost invariant = { λ c. IsWellFormedCore (record { calls = c.calls.items; limit = c.limit; taken = c.taken; made = c.made; moment = c.moment; tasks = c.tasks; work = c.work.items }) c.queue.entries c.timings.items };
 }
 
 impl<A: Allocator> Core<A> {
@@ -481,9 +481,9 @@ fn outcome_in(cancelled: bool, next: Option<u64>, ending: Ending) -> Outcome
 
 /// Puts a task that is not in the queue into it, where it runs again.
 fn queue_if_again<A: Allocator>(queue: &mut DelayQueue<A>, task: u32, outcome: Outcome)
-    requires known { task < length queue.old }
-    requires absent { slice_index_or queue.old task None ≡ None }
-    ensures { queue.new ≡ slice_set queue.old task (queued_again outcome) }
+    requires known { task < length queue.old.entries }
+    requires absent { slice_index_or queue.old.entries task None ≡ None }
+    ensures { queue.new.entries ≡ slice_set queue.old.entries task (queued_again outcome) }
 {
     if let Outcome::Again(due) = outcome {
         queue.insert(Entry { due, task });
