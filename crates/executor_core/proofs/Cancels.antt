@@ -1,10 +1,9 @@
 -- Cancels: what a cancel does to a task, and what stays true of a core.
-use Rattle.std.proofs.Common.{zero, suc, take, ◌≡◌, ◌≢◌, ℕ, ◌+◌, ◌<◌, ◌≤◌, ◌==◌, ◌&&◌, ◌||◌, nat_lt, Bool, true, false, cond, List, length, map, Option, Some, None, refl, sym, ap, ◌∙◌, arith, subst, add-one, [], ◌∷◌}
+use Rattle.std.proofs.Common.{zero, suc, take, ◌≡◌, ◌≢◌, ℕ, ◌+◌, ◌<◌, ◌≤◌, ◌==◌, ◌&&◌, ◌||◌, Bool, true, false, cond, List, length, Option, Some, None, refl, sym, ap, ◌∙◌, arith, subst, add-one, [], ◌∷◌}
 use Rattle.std.specs.Prelude.{slice_get, slice_index_or, not, max}
 use Rattle.std.proofs.lemmas.Option.{none-some, same_Some, slice_get_within}
-use Rattle.std.specs.Option.{option_map_or}
 use Rattle.std.proofs.Math.ListN.{set}
-use Rattle.std.proofs.lemmas.Bool.{eqb-true, eq-eqb, lt-ltb, le-ltb, false≢true}
+use Rattle.std.proofs.lemmas.Bool.{eqb-true, eq-eqb, lt-ltb, le-ltb, false_from_ne_true}
 use Rattle.std.proofs.lemmas.Bool.Decides.{nat_tests}
 use Rattle.std.proofs.lemmas.List.{length-set}
 use Rattle.sched_time.specs.declared.timing.Timing.{Timing}
@@ -13,17 +12,16 @@ use Rattle.queue_code.specs.declared.call.CodeCall.TheVariants as c
 use Rattle.executor_core.specs.declared.types.CancelEffect.{CancelEffect}
 use Rattle.executor_core.specs.declared.types.CancelEffect.TheVariants as f
 use Rattle.executor_core.specs.declared.types.EventError.TheVariants as x
-use Rattle.executor_core.specs.declared.types.Happening.{Happening}
 use Rattle.executor_core.specs.declared.types.Happening.TheVariants as h
 use Rattle.executor_core.specs.declared.types.Answer.TheVariants as a
 use Rattle.executor_core.specs.declared.task.Phase.{Phase}
 use Rattle.executor_core.specs.declared.task.Phase.TheVariants as ph
 use Rattle.executor_core.specs.declared.task.Task.{Task}
 use Rattle.queue_code.specs.Calls.{Planned, Terms, terms_of, task_count, count_after, is_submission, IsOrderlyCall, IsOrderlyFrom}
-use Rattle.executor_core.specs.View.{Fate, is_live, is_running, is_waiting}
+use Rattle.executor_core.specs.View.{is_live, is_running}
 use Rattle.executor_core.specs.Answers.{plain, effect_on}
 use Rattle.executor_core.specs.State.{State, vacant, view_of_state, seen_task, seen_phase, reply_of, state_after}
-use Rattle.executor_core.specs.Machine.{Machine, workers_of, state_of, Takes, IsWellFormedCore, IsSound, IsDue, queued}
+use Rattle.executor_core.specs.Machine.{Machine, workers_of, state_of, Takes, IsWellFormedCore, IsSound, IsDue}
 use Rattle.executor_core.proofs.Agree.{next_sound, next_due_is}
 use Rattle.executor_core.proofs.Sound.{is_seen_waiting}
 use Rattle.executor_core.proofs.Tables.{at_set, runs_set, call_moment, count_grows}
@@ -98,6 +96,11 @@ of_failed terms t q = sym (by t.cancelled) ∙ ap (λ p. effect_on (seen_phase t
 -- only a task that waits or is run is cancelled
 pub live_is_used : (terms : Terms) (t : Task) → f.Yes ≡ effect_on (seen_task terms t) → t.phase ≢ ph.Vacant
 live_is_used terms t live q = let clash : f.Yes ≡ f.Absent = live ∙ sym (of_vacant terms t q) in absurd cc
+
+-- a cancel that has an effect finds the task not cancelled
+pub live_is_uncancelled : (terms : Terms) (t : Task) → f.Yes ≡ effect_on (seen_task terms t) → t.cancelled ≡ false
+live_is_uncancelled terms t live =
+    false_from_ne_true t.cancelled (λ is. let clash : f.Yes ≡ f.No = live ∙ sym (of_cancelled terms t (live_is_used terms t live) is) in absurd cc)
 
 -- the tasks after a cancel
 

@@ -6,6 +6,7 @@ pub mod First
 pub mod Starting
 pub mod Flowing
 pub mod Pairs
+pub mod Counting
 pub mod Tables
 pub mod Submits
 pub mod WorkerSteps

@@ -1,6 +1,6 @@
 -- What contracts see of an executor's core, and the state and history in which it stands.
 -- All of it is this project's rule.
-use Rattle.std.specs.Prelude.{◌≡◌, ◌≢◌, ℕ, ◌+◌, ◌^◌, ◌<◌, ◌≤◌, true, if◌then◌else◌, List, [], ◌++◌, length, map, take, Option, Some, None, slice_index_or}
+use Rattle.std.specs.Prelude.{◌≡◌, ◌≢◌, ℕ, ◌+◌, ◌-◌, ◌^◌, ◌<◌, ◌≤◌, true, if◌then◌else◌, List, [], ◌++◌, length, map, take, Option, Some, None, slice_index_or}
 use Rattle.sched_time.specs.declared.timing.Timing.{Timing}
 use Rattle.sched_time.specs.declared.timing.Timing.TheVariants as t
 use Rattle.executor_core.specs.declared.types.Event.{Event}
@@ -16,6 +16,7 @@ use Rattle.queue_code.specs.Calls.{Planned, IsOrderly, task_count, terms_of, due
 use Rattle.executor_core.specs.View.{View}
 use Rattle.executor_core.specs.Histories.{HistoryEntry, happenings, IsHistoryOf}
 use Rattle.executor_core.specs.State.{State, view_of_state, vacant, after, after_from, next, reply_of}
+use Rattle.executor_core.specs.Tasks.{uncancelled_in}
 use Rattle.executor_core.specs.Flows.{part_of, history_from, lines_of, lines_from}
 
 -- what contracts see of a core: its plan's calls, how many of them it made, the moment, and its two tables
@@ -43,6 +44,11 @@ state_of m = record {
   tasks = λ k. slice_index_or m.tasks k vacant;
   workers = λ w. slice_index_or m.work w None;
 }
+
+-- how many lines an event adds at most: one of its own, one of each call that is left, and one of each task that
+-- is not cancelled, which the event may end
+abbrev pub room_of : Machine → ℕ
+room_of m = 1 + (length m.calls - m.made) + uncancelled_in m.tasks
 
 -- the core is where the happenings of a history lead
 abbrev pub Stands : Machine → List HistoryEntry → Type 0

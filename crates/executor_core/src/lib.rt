@@ -1,6 +1,7 @@
 //! The executor: what happens to it, and what it answers.
 #![tactic(auto)]
 
+mod equality;
 mod error;
 mod limits;
 mod machine;

@@ -54,7 +54,7 @@ impl<A: Allocator> Model for Core<A> {
 }
 
 impl<A: Allocator> Core<A> {
-    ghost use Rattle.executor_core.specs.Machine.{workers_of, Takes, Counts, IsCounted, Steps, Stands, Continues, IsOpening};
+    ghost use Rattle.executor_core.specs.Machine.{workers_of, room_of, Takes, Counts, IsCounted, Steps, Stands, Continues, IsOpening};
 
     /// A core before anything happened, for these calls.
     ///
@@ -120,11 +120,12 @@ impl<A: Allocator> Core<A> {
 
     /// Takes an event: makes the calls that an accepted clock reaches, then answers it.
     ///
-    /// The lines of the answers are added to `out`, the oldest first. Where as many events were
-    /// taken as the limit allows the answer is [`CoreError::Full`]; where `out` cannot grow it is
-    /// [`CoreError::Memory`], which does not come where `out` has room for a line of each call that is
-    /// left and one more. Both leave the core and the lines as they were, and the event may
-    /// be given again.
+    /// The lines of the answers are added to `out`, the oldest first. The answer is
+    /// [`CoreError::Full`] exactly when as many events were taken as the limit allows. It is
+    /// [`CoreError::Memory`] where `out` cannot grow. That does not come, and `out` keeps its capacity,
+    /// where `out` has `room_of` lines free: one, one for each call that is left, and one for each task
+    /// that is not cancelled. Both errors leave the core and `out` as they were, and the event may
+    /// be given again. `out` never loses capacity.
     pub fn event<B: Allocator>(
         &mut self,
         event: Event,
@@ -132,8 +133,10 @@ impl<A: Allocator> Core<A> {
     ) -> Result<(), CoreError>
         ensures full { IsErrOf result CoreError.Full ↔ (self.old.taken ≡ self.old.limit) }
         ensures others { IfErr result (λ e. (e ≡ CoreError.Full) ⊎ (e ≡ CoreError.Memory)) }
-        ensures room { vec_len out.old + (length self.old.calls - self.old.made) < vec_capacity out.old → self.old.taken < self.old.limit → IsOk result }
-        ensures refused { OnErr result ((self.new ≡ self.old) × (out.new.items ≡ out.old.items)) }
+        ensures room { vec_len out.old + room_of self.old ≤ vec_capacity out.old → self.old.taken < self.old.limit → IsOk result }
+        ensures capacity { vec_len out.old + room_of self.old ≤ vec_capacity out.old → vec_capacity out.new ≡ vec_capacity out.old }
+        ensures keeps { vec_capacity out.old ≤ vec_capacity out.new }
+        ensures refused { OnErr result ((self.new ≡ self.old) × (out.new.items ≡ out.old.items) × (vec_capacity out.new ≡ vec_capacity out.old)) }
         ensures taken { OnOk result (self.new.taken ≡ self.old.taken + 1) }
         ensures steps { OnOk result (Steps self.old self.new out.old.items out.new.items (part_of self.old.calls self.old.made self.old.moment event)) }
         ensures history { OnOk result ((past : List histories.HistoryEntry) → histories.IsHistoryOf self.old.calls (workers_of self.old) past → Stands self.old past
@@ -142,7 +145,7 @@ impl<A: Allocator> Core<A> {
         if self.taken == self.limit {
             return Err(CoreError::Full);
         }
-        if out.reserve(self.room()).is_err() {
+        if make_room(out, self.room()).is_err() {
             return Err(CoreError::Memory);
         }
         self.make_calls_before(event, out);
@@ -166,9 +169,9 @@ impl<A: Allocator> Core<A> {
 
     /// How many lines the next event adds at most.
     fn room(&self) -> usize
-        ensures { result ≡ length self.now.calls - self.now.made + 1 }
+        ensures { result ≡ room_of self.now }
     {
-        self.calls.len() - self.made + 1
+        1 + (self.calls.len() - self.made) + self.tasks.uncancelled()
     }
 
     /// Makes the calls that are made just before an event.
@@ -177,6 +180,7 @@ impl<A: Allocator> Core<A> {
         ensures steps { Steps self.old self.new out.old.items out.new.items (replicate (calls_before self.old.calls self.old.made self.old.moment event) happening.Call) }
         ensures taken { self.new.taken ≡ self.old.taken }
         ensures room { vec_len out.new < vec_capacity out.new }
+        ensures capacity { vec_capacity out.new ≡ vec_capacity out.old }
     {
         let Event::Clock(moment) = event else {
             return;
@@ -192,6 +196,7 @@ impl<A: Allocator> Core<A> {
         ensures steps { Steps self.old self.new out.old.items out.new.items (replicate (reached self.old.calls self.old.made moment) happening.Call) }
         ensures taken { self.new.taken ≡ self.old.taken }
         ensures room { vec_len out.new < vec_capacity out.new }
+        ensures capacity { vec_capacity out.new ≡ vec_capacity out.old }
     {
         while self.reaches(moment) {
             self.make_call(out);
@@ -422,6 +427,21 @@ impl<A: Allocator> Core<A> {
             taken: 0,
         })
     }
+}
+
+/// Makes room for `lines` more lines, where there is less.
+fn make_room<B: Allocator>(out: &mut Vec<Line, B>, lines: usize) -> Result<(), AllocError>
+    ensures items { out.new.items ≡ out.old.items }
+    ensures len { vec_len out.new ≡ vec_len out.old }
+    ensures room { OnOk result (vec_len out.new + lines ≤ vec_capacity out.new) }
+    ensures keeps { vec_capacity out.old ≤ vec_capacity out.new }
+    ensures enough { vec_len out.old + lines ≤ vec_capacity out.old → IsOk result × (vec_capacity out.new ≡ vec_capacity out.old) }
+    ensures refused { OnErr result (vec_capacity out.new ≡ vec_capacity out.old) }
+{
+    if lines <= out.capacity() - out.len() {
+        return Ok(());
+    }
+    out.reserve(lines)
 }
 
 /// How many tasks the calls submit.

@@ -5,6 +5,7 @@
 //! it.
 #![tactic(auto)]
 
+mod equality;
 mod history;
 mod table;
 mod tasks;

@@ -1,7 +1,6 @@
 use Rattle.std.proofs.Common.{◌≡◌, ◌<◌, length, None, Some, ap, ◌∙◌, sym, arith, subst, rules}
 use Rattle.std.specs.Prelude.{slice_index_or}
 use Rattle.std.proofs.lemmas.List.{length-map}
-use Rattle.sched_time.specs.Dues.{next_due}
 use Rattle.sched_time.specs.declared.timing.Timing.TheVariants as t
 use Rattle.executor_core.specs.State.{due_past}
 use Rattle.executor_core.specs.Machine.{IsCounted, queued}
