@@ -14,4 +14,5 @@ pub mod RunSteps
 pub mod Cancels
 pub mod Opens
 pub mod Events
+pub mod Errors
 pub mod Within

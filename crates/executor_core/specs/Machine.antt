@@ -1,12 +1,14 @@
 -- What contracts see of an executor's core, and the state and history in which it stands.
 -- All of it is this project's rule.
-use Rattle.std.specs.Prelude.{◌≡◌, ◌≢◌, ℕ, ◌+◌, ◌-◌, ◌^◌, ◌<◌, ◌≤◌, true, if◌then◌else◌, List, [], ◌++◌, length, map, take, Option, Some, None, slice_index_or}
+use Rattle.std.specs.Prelude.{◌≡◌, ◌≢◌, ℕ, ◌+◌, ◌-◌, ◌^◌, ◌<◌, ◌≤◌, true, if◌then◌else◌, List, [], ◌∷◌, ◌++◌, length, map, take, Option, Some, None, slice_index_or}
 use Rattle.sched_time.specs.declared.timing.Timing.{Timing}
 use Rattle.sched_time.specs.declared.timing.Timing.TheVariants as t
 use Rattle.executor_core.specs.declared.types.Event.{Event}
 use Rattle.executor_core.specs.declared.types.Happening.{Happening}
 use Rattle.executor_core.specs.declared.types.Line.{Line}
+use Rattle.executor_core.specs.declared.types.EventError.{EventError}
 use Rattle.executor_core.specs.declared.types.Answer.{Answer}
+use Rattle.executor_core.specs.declared.types.Answer.TheVariants as a
 use Rattle.executor_core.specs.declared.types.Outcome.{Outcome}
 use Rattle.executor_core.specs.declared.types.Outcome.TheVariants as o
 use Rattle.executor_core.specs.declared.task.Phase.{Phase}
@@ -17,7 +19,7 @@ use Rattle.executor_core.specs.View.{View}
 use Rattle.executor_core.specs.Histories.{HistoryEntry, happenings, IsHistoryOf}
 use Rattle.executor_core.specs.State.{State, view_of_state, vacant, after, after_from, next, reply_of}
 use Rattle.executor_core.specs.Tasks.{uncancelled_in}
-use Rattle.executor_core.specs.Flows.{part_of, history_from, lines_of, lines_from}
+use Rattle.executor_core.specs.Flows.{happening_of, part_of, history_from, lines_of, lines_from}
 
 -- what contracts see of a core: its plan's calls, how many of them it made, the moment, and its two tables
 pub record Machine : Type 0 where
@@ -82,6 +84,13 @@ pub record Takes (old new : Machine) (happening : Happening) (answer : Answer) :
 -- the core counted an event, and nothing else changed
 abbrev pub Counts : Machine → Machine → Type 0
 Counts old new = new ≡ record old { taken = old.taken + 1 }
+
+-- where an event is answered by an error, its line is added, and nothing changes but the number of events taken
+-- (this project's rule)
+abbrev pub ErrorOnlyCounts : Machine → Machine → List Line → List Line → Event → Type 0
+ErrorOnlyCounts old new before after_lines event =
+    (error : EventError) → (reply_of old.calls (workers_of old) (state_of old) (happening_of event)).answer ≡ a.Error error
+    → Counts old new × (after_lines ≡ before ++ record { moment = old.moment; answer = a.Error error } ∷ [])
 
 -- after any history in which the core stood, the event's part of the flow is answered as the equations say
 pub record Continues (old new : Machine) (before after_lines : List Line) (event : Event) (past : List HistoryEntry) : Type 0 where

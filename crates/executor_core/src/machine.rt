@@ -54,7 +54,7 @@ impl<A: Allocator> Model for Core<A> {
 }
 
 impl<A: Allocator> Core<A> {
-    ghost use Rattle.executor_core.specs.Machine.{workers_of, room_of, Takes, Counts, IsCounted, Steps, Stands, Continues, IsOpening};
+    ghost use Rattle.executor_core.specs.Machine.{workers_of, room_of, Takes, Counts, IsCounted, Steps, Stands, Continues, ErrorOnlyCounts, IsOpening};
 
     /// A core before anything happened, for these calls.
     ///
@@ -126,6 +126,8 @@ impl<A: Allocator> Core<A> {
     /// where `out` has `room_of` lines free: one, one for each call that is left, and one for each task
     /// that is not cancelled. Both errors leave the core and `out` as they were, and the event may
     /// be given again. `out` never loses capacity.
+    ///
+    /// An event that is answered by [`Answer::Error`] changes nothing but the number of events taken.
     pub fn event<B: Allocator>(
         &mut self,
         event: Event,
@@ -139,6 +141,7 @@ impl<A: Allocator> Core<A> {
         ensures refused { OnErr result ((self.new ≡ self.old) × (out.new.items ≡ out.old.items) × (vec_capacity out.new ≡ vec_capacity out.old)) }
         ensures taken { OnOk result (self.new.taken ≡ self.old.taken + 1) }
         ensures steps { OnOk result (Steps self.old self.new out.old.items out.new.items (part_of self.old.calls self.old.made self.old.moment event)) }
+        ensures errors { OnOk result (ErrorOnlyCounts self.old self.new out.old.items out.new.items event) }
         ensures history { OnOk result ((past : List histories.HistoryEntry) → histories.IsHistoryOf self.old.calls (workers_of self.old) past → Stands self.old past
             → Continues self.old self.new out.old.items out.new.items event past) }
     {

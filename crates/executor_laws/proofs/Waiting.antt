@@ -1,22 +1,20 @@
 -- The tasks that wait, and the last finish of a task, read by position.
-use Rattle.std.proofs.Common.{◌≡◌, ℕ, ◌+◌, ◌<◌, ◌≤◌, ◌==◌, Bool, true, false, cond, inl, inr, List, [], ◌∷◌, ◌++◌, Option, Some, None, refl, sym, ap, ◌∙◌, arith, subst}
-use Rattle.std.specs.Prelude.{slice_get, max, not, ◌^◌, ◌&&◌, ◌||◌}
+use Rattle.std.proofs.Common.{◌≡◌, ℕ, ◌<◌, ◌≤◌, Bool, true, false, cond, inl, inr, List, [], ◌∷◌, ◌++◌, Option, Some, None, refl, sym, ap, ◌∙◌, arith, subst}
+use Rattle.std.specs.Prelude.{slice_get, max, not, ◌&&◌, ◌||◌}
 use Rattle.std.specs.Option.{option_map_or}
 use Rattle.std.specs.List.{list_any}
 use Rattle.std.proofs.lemmas.Bool.{false≢true, eqb-true, and_parts, or_cases, or_parts, or_from}
 use Rattle.std.proofs.lemmas.Option.{none-some, same_Some}
-use Rattle.sched_time.specs.declared.timing.Timing.{Timing}
-use Rattle.sched_time.specs.declared.timing.Timing.TheVariants as t
 use Rattle.queue_code.specs.declared.call.CodeCall.{CodeCall}
 use Rattle.queue_code.specs.declared.call.CodeCall.TheVariants as c
 use Rattle.executor_core.specs.declared.types.EventError.TheVariants as x
 use Rattle.executor_core.specs.declared.types.Happening.{Happening}
 use Rattle.executor_core.specs.declared.types.Happening.TheVariants as h
 use Rattle.executor_core.specs.declared.types.Answer.TheVariants as a
-use Rattle.queue_code.specs.Calls.{Planned, Terms, IsOrderlyCall, IsOrderlyFrom, count_after, numbers, terms_of, terms_in, due_at}
+use Rattle.queue_code.specs.Calls.{Planned, numbers}
 use Rattle.executor_core.specs.View.{View, is_running, is_over, first_enabled}
 use Rattle.executor_core.specs.Answers.{plain, reply, called, started, finished, moment_after, effect_on}
-use Rattle.executor_core.specs.Histories.{HistoryEntry, IsHistoryOf, view_of_history, happenings, made, now_of, is_submit, is_finish, was_accepted, starts, last_finish}
+use Rattle.executor_core.specs.Histories.{HistoryEntry, IsHistoryOf, view_of_history, happenings, made, now_of, is_submit, is_finish, was_accepted, last_finish}
 use Rattle.executor_laws.specs.Positions.{IsSubmissionOf, WasSubmitted, WaitingIsATask, WaitingIsDueInTime, FinishedLast, LastFinishIsTheLast, FinishKeepsNow}
 use Rattle.executor_laws.proofs.Reading.{tasks_are_submitted}
 use Rattle.executor_core.proofs.Within.{dues_within}
