@@ -40,14 +40,17 @@ same_eqb n = eq-eqb n n refl
 abbrev effect_of : Bool → Bool → CancelEffect
 effect_of accepted live = cond accepted (cond live f.Yes f.No) f.Absent
 
+-- what a cancel does to a vacant task
 pub of_vacant : (terms : Terms) (t : Task) → t.phase ≡ ph.Vacant → f.Absent ≡ effect_on (seen_task terms t)
 of_vacant terms t q = ap (λ p. effect_on (seen_phase terms p t.run t.due t.cancelled)) (sym q)
 
+-- what a cancel does to a task that waits
 pub of_waiting : (terms : Terms) (t : Task) → t.phase ≡ ph.Waiting → t.cancelled ≡ false → f.Yes ≡ effect_on (seen_task terms t)
 of_waiting terms t q live =
     let here : is_live (seen_phase terms ph.Waiting t.run t.due false) ≡ true = ap (λ b. b || (is_running (seen_phase terms ph.Waiting t.run t.due false) && true)) (is_seen_waiting terms t.run t.due) in
     sym (ap (effect_of true) here) ∙ (λ i. effect_on (seen_phase terms (sym q i) t.run t.due (sym live i)))
 
+-- what a cancel does to a task whose run is under way
 pub of_running : (terms : Terms) (t : Task) → t.phase ≡ ph.Running → t.cancelled ≡ false → f.Yes ≡ effect_on (seen_task terms t)
 of_running terms t q live =
     let apart = next_eqb t.run in
@@ -64,6 +67,7 @@ not_live false false = refl
 abbrev running_of : Terms → Phase → ℕ → ℕ → Bool
 running_of terms p run due = is_running (seen_phase terms p run due true)
 
+-- what a cancel does to a cancelled task
 pub of_cancelled : (terms : Terms) (t : Task) → t.phase ≢ ph.Vacant → t.cancelled ≡ true → f.No ≡ effect_on (seen_task terms t)
 of_cancelled terms t used is = sym (by t.phase refl) ∙ ap (λ b. effect_on (seen_phase terms t.phase t.run t.due b)) (sym is)
   where
@@ -79,6 +83,7 @@ of_cancelled terms t used is = sym (by t.phase refl) ∙ ap (λ b. effect_on (se
 ended_eqb : (n : ℕ) (rest : Bool) → ((not (not (n == n)) && false) || (not (n == n) && rest)) ≡ false
 ended_eqb n rest = ap (λ b. (not (not b) && false) || (not b && rest)) (same_eqb n)
 
+-- what a cancel does to a task that is done
 pub of_done : (terms : Terms) (t : Task) → t.phase ≡ ph.Done → f.No ≡ effect_on (seen_task terms t)
 of_done terms t q = sym (by t.cancelled) ∙ ap (λ p. effect_on (seen_phase terms p t.run t.due t.cancelled)) (sym q)
   where
@@ -86,6 +91,7 @@ of_done terms t q = sym (by t.cancelled) ∙ ap (λ p. effect_on (seen_phase ter
     by true = ap (effect_of true) (ended_eqb (1 + t.run) false)
     by false = ap (effect_of true) (ended_eqb (1 + t.run) true)
 
+-- what a cancel does to a task that has failed
 pub of_failed : (terms : Terms) (t : Task) → t.phase ≡ ph.Failed → f.No ≡ effect_on (seen_task terms t)
 of_failed terms t q = sym (by t.cancelled) ∙ ap (λ p. effect_on (seen_phase terms p t.run t.due t.cancelled)) (sym q)
   where
@@ -104,6 +110,7 @@ live_is_uncancelled terms t live =
 
 -- the tasks after a cancel
 
+-- a task once it is cancelled
 abbrev pub cancelled : Task → Task
 cancelled t = record t { cancelled = true }
 
@@ -142,6 +149,7 @@ outside_state calls made moment k tasks work f.Absent low = λ i. record { made 
 outside_reply : (calls : List Planned) (workers k : ℕ) (s : State) → k < task_count calls → reply_of calls workers s (h.Cancel k) ≡ plain (a.Outside k (effect_on ((view_of_state calls s).fate k)))
 outside_reply calls workers k s l = ap (λ b. plain (cond b (a.Outside k (effect_on ((view_of_state calls s).fate k))) (a.Error x.NoTask))) (lt-ltb k (task_count calls) l)
 
+-- the reply to a cancel from outside of a task that the plan does not have
 pub no_task_reply : (calls : List Planned) (workers k : ℕ) (s : State) → task_count calls ≤ k → reply_of calls workers s (h.Cancel k) ≡ plain (a.Error x.NoTask)
 no_task_reply calls workers k s l = ap (λ b. plain (cond b (a.Outside k (effect_on ((view_of_state calls s).fate k))) (a.Error x.NoTask))) (le-ltb k (task_count calls) l)
 
@@ -190,6 +198,7 @@ cancelled_in m entries left timings k tasks kept low live gone written = subst (
 abbrev pub called_at : Machine → ℕ → Machine
 called_at m moment = record m { made = m.made + 1; moment = moment }
 
+-- a core stays well formed where its next call is a cancel that was carried out
 pub call_kept : (m : Machine) (entries : List (Option ℕ)) (timings : List Timing) (moment at task : ℕ) → IsWellFormedCore m entries timings → slice_get m.calls m.made ≡ Some (at, c.Cancel task) → moment ≡ max m.moment at →
     IsWellFormedCore (called_at m moment) entries timings
 call_kept m entries timings moment at task kept is greatest =
@@ -232,6 +241,7 @@ plan_state calls workers made moment at k tasks work effect is low how =
     ∙ (ap (λ x. record (state_after calls s h.Call (plain (a.Cancel k x))) { moment = max moment at }) how
     ∙ ap (state_to calls s) (sym is)))
 
+-- a core takes the step of its next call, which is a cancel
 pub plan_takes : (m : Machine) (moment at k : ℕ) (effect : CancelEffect) → slice_get m.calls m.made ≡ Some (at, c.Cancel k) → moment ≡ max m.moment at → k < length m.tasks →
     effect ≡ effect_on (seen_task (terms_of m.calls k) (slice_index_or m.tasks k vacant)) →
     Takes m (called_at (with_tasks m (cancelled_tasks m.tasks k effect)) moment) h.Call (a.Cancel k effect)

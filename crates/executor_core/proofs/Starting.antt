@@ -24,6 +24,7 @@ no_call_starts calls v (c.Submit task timing delay) w k n d q = cc
 no_call_starts calls v (c.Illegal task) w k n d q = cc
 no_call_starts calls v (c.Cancel task) w k n d q = cc
 
+-- what the answer to a start says of the view it was given in
 pub start_says : (calls : List Planned) (workers : ℕ) (v : View) (y : Happening) (w k n d : ℕ) → (reply calls workers v y).answer ≡ a.Start w k n d → StartsFirst calls v y k n d
 start_says calls workers v h.Call w k n d q =
     let pick : (o : Option Planned) → (option_map_or (λ p. called calls (record v { moment = max v.moment p.0 }) p.1) o (plain a.Clock)).answer ≡ a.Start w k n d → ⊥ =

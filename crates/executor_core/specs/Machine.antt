@@ -1,6 +1,7 @@
 -- What contracts see of an executor's core, and the state and history in which it stands.
 -- All of it is this project's rule.
-use Rattle.std.specs.Prelude.{◌≡◌, ◌≢◌, ℕ, ◌+◌, ◌-◌, ◌^◌, ◌<◌, ◌≤◌, true, if◌then◌else◌, List, [], ◌∷◌, ◌++◌, length, map, take, Option, Some, None, slice_index_or}
+use Rattle.std.specs.Prelude.{◌≡◌, ◌≢◌, ℕ, ◌+◌, ◌-◌, ◌<◌, ◌≤◌, true, if◌then◌else◌, List, [], ◌∷◌, ◌++◌, length, map, take, Option, Some, None, slice_index_or}
+use Rattle.sched_time.specs.Times.{longest}
 use Rattle.sched_time.specs.declared.timing.Timing.{Timing}
 use Rattle.sched_time.specs.declared.timing.Timing.TheVariants as t
 use Rattle.executor_core.specs.declared.types.Event.{Event}
@@ -15,6 +16,7 @@ use Rattle.executor_core.specs.declared.task.Phase.{Phase}
 use Rattle.executor_core.specs.declared.task.Phase.TheVariants as ph
 use Rattle.executor_core.specs.declared.task.Task.{Task}
 use Rattle.queue_code.specs.Calls.{Planned, IsOrderly, task_count, terms_of, due_at}
+use Rattle.executor_core.specs.Counts.{most_workers}
 use Rattle.executor_core.specs.View.{View}
 use Rattle.executor_core.specs.Histories.{HistoryEntry, happenings, IsHistoryOf}
 use Rattle.executor_core.specs.State.{State, view_of_state, vacant, after, after_from, next, reply_of}
@@ -128,7 +130,7 @@ pub record IsSound (s : State) : Type 0 where
 abbrev pub IsDue : List Planned → View → Type 0
 IsDue calls v = (k : ℕ) → (last : Option ℕ) × ((v.fate k).due ≡ due_at (terms_of calls k) (v.fate k).starts last)
 
--- the run of each task has a number of at most so many, and one under way a lower one
+-- the run of each task has a number of at most `count`, and one under way a lower one
 pub record RunsBelow (count : ℕ) (tasks : List Task) : Type 0 where
   pub all : (k : ℕ) → (slice_index_or tasks k vacant).run ≤ count
   pub begun : (k : ℕ) → (slice_index_or tasks k vacant).phase ≡ ph.Running → (slice_index_or tasks k vacant).run < count
@@ -142,9 +144,9 @@ pub record IsWellFormedCore (m : Machine) (entries : List (Option ℕ)) (timings
   pub orderly : IsOrderly m.calls
   pub made : m.made ≤ length m.calls
   pub some : 0 < workers_of m
-  pub few : workers_of m ≤ 64
+  pub few : workers_of m ≤ most_workers
   pub taken : m.taken ≤ m.limit
-  pub moment : m.moment ≤ 2 ^ 62
+  pub moment : m.moment ≤ longest
   pub count : length m.tasks ≡ task_count m.calls
   pub queue : entries ≡ map queued m.tasks
   -- a table has the timing of each task that was submitted

@@ -42,6 +42,7 @@ done_stays k (e ∷ between) past q =
     let pick : (b : Bool) → (b || was_done k (between ++ past)) ≡ true = elim [ true ↦ refl | false ↦ rest ] in
     pick (is_finish_with is_done k e.answer)
 
+-- the law that a task that is done does not start again
 pub nothing_starts_once_done : NothingStartsOnceDone
 nothing_starts_once_done calls workers past between finish start v w k m n d value s is =
     let on = on_of calls (between ++ finish ∷ past) k (started_so calls workers (between ++ finish ∷ past) start w k n d s).waiting in
@@ -137,6 +138,7 @@ over_of calls workers (e ∷ past) k m once l =
     there false false false d false true q = or_true d
     there false false false d false false q = absurd (false≢true q)
 
+-- the law that a one-shot task has run 0 alone
 pub one_shots_run_once : OneShotsRunOnce
 one_shots_run_once calls workers past e w k n d place moment delay orderly is s =
     let start = started_so calls workers past e w k n d s in
@@ -156,9 +158,11 @@ one_shots_run_once calls workers past e w k n d place moment delay orderly is s 
     over_on true q r = false≢true r
     over_on false q r = false≢true q
 
+-- the law that a run has the number of the starts before it
 pub runs_are_numbered : RunsAreNumbered
 runs_are_numbered calls workers past e w k n d s = (started_so calls workers past e w k n d s).run
 
+-- the law that a one-shot task starts once
 pub one_shots_start_once : OneShotsStartOnce
 one_shots_start_once calls workers past between first second v w k m n d f place moment delay orderly is s start =
     let none = (one_shots_run_once calls workers (between ++ first ∷ past) second w k n d place moment delay orderly is s).0 in
@@ -200,6 +204,7 @@ was_legal calls workers (e ∷ past) k m q = elim (or_cases (is_submit k e.answe
   | inr there ↦ was_legal calls workers past k m.0 there
 ]
 
+-- the law that an illegal task does not start
 pub illegal_tasks_do_not_start : IllegalTasksDoNotStart
 illegal_tasks_do_not_start calls workers past e w k n d place moment orderly is s =
     let fate = (view_of_history calls past).fate k in

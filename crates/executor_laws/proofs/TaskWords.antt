@@ -28,7 +28,7 @@ use Rattle.executor_core.specs.State.{State, view_of_state, seen_task, was_submi
 use Rattle.executor_core.specs.Tasks.{word_phase, word_of}
 use Rattle.executor_core.specs.Machine.{IsSound}
 use Rattle.executor_core.proofs.Moves.{moved_task}
-use Rattle.executor_core.proofs.Sound.{Finds, finds}
+use Rattle.executor_core.proofs.Sound.{Finds, reply_finds}
 use Rattle.executor_core.proofs.Agree.{after_agrees}
 use Rattle.executor_core.proofs.Counting.{end_keeps}
 use Rattle.executor_core.proofs.Cancels.{of_vacant, of_done, of_failed}
@@ -95,15 +95,15 @@ says calls workers s (h.Cancel k) =
     pick (nat_lt k (task_count calls))
 
 meets_all : (calls : List Planned) (s : State) (answer : Answer) → IsSound s → Finds calls s answer → Says calls s answer → (k : ℕ) → Meets k (s.tasks k) answer
-meets_all calls s (a.Cancel j effect) sound finds says k = λ q yes. subst (λ i. is_live (word_phase (s.tasks i).phase) ≡ true) (eqb-true j k q) (live_of (terms_of calls j) (s.tasks j) (sym says ∙ yes))
-meets_all calls s (a.Outside j effect) sound finds says k = λ q yes. subst (λ i. is_live (word_phase (s.tasks i).phase) ≡ true) (eqb-true j k q) (live_of (terms_of calls j) (s.tasks j) (sym says ∙ yes))
-meets_all calls s (a.Start u j run due) sound finds says k = λ q. subst (λ i. ((s.tasks i).phase ≡ ph.Waiting) × ((s.tasks i).cancelled ≡ false)) (eqb-true j k q) (finds.1, finds.2)
-meets_all calls s (a.Finish u j run outcome) sound finds says k =
-    λ q. subst (λ i. ((s.tasks i).phase ≡ ph.Running) × ((s.tasks i).cancelled ≡ true → outcome ≡ o.Dropped)) (eqb-true j k q) (sound.at_work u j finds.0, says)
-meets_all calls s _ sound finds says k = tt
+meets_all calls s (a.Cancel j effect) sound found says k = λ q yes. subst (λ i. is_live (word_phase (s.tasks i).phase) ≡ true) (eqb-true j k q) (live_of (terms_of calls j) (s.tasks j) (sym says ∙ yes))
+meets_all calls s (a.Outside j effect) sound found says k = λ q yes. subst (λ i. is_live (word_phase (s.tasks i).phase) ≡ true) (eqb-true j k q) (live_of (terms_of calls j) (s.tasks j) (sym says ∙ yes))
+meets_all calls s (a.Start u j run due) sound found says k = λ q. subst (λ i. ((s.tasks i).phase ≡ ph.Waiting) × ((s.tasks i).cancelled ≡ false)) (eqb-true j k q) (found.1, found.2)
+meets_all calls s (a.Finish u j run outcome) sound found says k =
+    λ q. subst (λ i. ((s.tasks i).phase ≡ ph.Running) × ((s.tasks i).cancelled ≡ true → outcome ≡ o.Dropped)) (eqb-true j k q) (sound.at_work u j reply_finds.0, says)
+meets_all calls s _ sound found says k = tt
 
 meets : (calls : List Planned) (workers : ℕ) (s : State) (happening : Happening) → IsSound s → (k : ℕ) → Meets k (s.tasks k) (reply_of calls workers s happening).answer
-meets calls workers s happening sound k = meets_all calls s (reply_of calls workers s happening).answer sound (finds calls workers s happening sound) (says calls workers s happening) k
+meets calls workers s happening sound k = meets_all calls s (reply_of calls workers s happening).answer sound (reply_finds calls workers s happening sound) (says calls workers s happening) k
 
 -- only a live word is cancelled, and a vacant one has run 0
 record IsLived (task : Task) : Type 0 where
@@ -208,6 +208,7 @@ rank_rises timing now k task (a.Finish u j run outcome) met =
     pick (j == k) met
 rank_rises timing now k task _ met = omega arith
 
+-- the law that no answer lowers the rank of a word
 pub ranks_do_not_fall : RanksDoNotFall
 ranks_do_not_fall calls workers past e k m =
     let s = after calls workers (happenings past) in
@@ -260,6 +261,7 @@ word_stays timing now k task a.Clock met q = refl
 word_stays timing now k task (a.Idle u) met q = refl
 word_stays timing now k task (a.Error error) met q = refl
 
+-- the law that a cancelled word stands still
 pub cancelled_words_stay : CancelledWordsStay
 cancelled_words_stay calls workers past e k m =
     let s = after calls workers (happenings past) in
@@ -317,6 +319,7 @@ bit_means false false live = refl
 of_test : {P : Type 0} (b d c : Bool) → b ≡ d → P ↔ (b ≡ c) → P ↔ (d ≡ c)
 of_test b d c same told = (λ p. sym same ∙ told.0 p, λ q. told.1 (same ∙ q))
 
+-- the law that the words say what the history shows
 pub words_tell_the_history : WordsTellTheHistory
 words_tell_the_history calls workers past k m =
     let s = after calls workers (happenings past) in

@@ -9,7 +9,9 @@
 //! # Contents
 //!
 //! The first group says what a client of the executor may rely on: due moments, order, ties, overlap, failures, cancels.
-//! The second one says what the definitions, which count and recur over a history, say of the positions in it.
+//! The second one says what the definitions, which count and recur over a history, say of the positions in it. The
+//! third one is on states: what the words of the tasks say of the history, that no answer lowers the rank of a word or
+//! changes a cancelled one, and that an error changes nothing.
 #![tactic(auto)]
 
 mod laws;

@@ -1,6 +1,6 @@
 use Rattle.std.proofs.Common.{ap, arith, sym, ◌∙◌}
 use Rattle.executor_core.specs.Tasks.{phase_in, task_of}
-use Rattle.executor_core.proofs.Pairs.{is_in, read}
+use Rattle.executor_core.proofs.Pairs.{is_in, task_read}
 use Rattle.executor_core.proofs.tasks.Tasks.get.Goals as goal
 
 pub index-word-requires : goal.index-word-requires
@@ -19,5 +19,5 @@ returns g c =
     let word = c.index-word.result.now in
     let detail = c.index-detail.result.now in
     let phase = c.phase_in.ensures ∙ ap (λ p. phase_in p detail.over) c.phase.ensures in
-    let task = read m.words.items m.details.items c.args.self.now c.args.task word detail c.self.invariant.paired c.self.view_is c.requires c.index-word.ensures in
+    let task = task_read m.words.items m.details.items c.args.self.now c.args.task word detail c.self.invariant.paired c.self.view_is c.requires c.index-word.ensures in
     (λ i. record { phase = phase i; run = c.run.ensures.value i; due = detail.due; cancelled = c.is_marked.ensures i }) ∙ (ap (task_of word) c.index-detail.ensures ∙ sym task)
