@@ -1,10 +1,9 @@
 -- Cancels: what a cancel does to a task, and what stays true of a core.
-use Rattle.std.proofs.Common.{zero, suc, take, ◌≡◌, ◌≢◌, ℕ, ◌+◌, ◌<◌, ◌≤◌, ◌==◌, ◌&&◌, ◌||◌, nat_lt, Bool, true, false, cond, List, length, map, Option, Some, None, refl, sym, ap, ◌∙◌, arith, subst, add-one, [], ◌∷◌}
+use Rattle.std.proofs.Common.{zero, suc, take, ◌≡◌, ◌≢◌, ℕ, ◌+◌, ◌<◌, ◌≤◌, ◌==◌, ◌&&◌, ◌||◌, Bool, true, false, cond, List, length, Option, Some, None, refl, sym, ap, ◌∙◌, arith, subst, add-one, [], ◌∷◌}
 use Rattle.std.specs.Prelude.{slice_get, slice_index_or, not, max}
 use Rattle.std.proofs.lemmas.Option.{none-some, same_Some, slice_get_within}
-use Rattle.std.specs.Option.{option_map_or}
 use Rattle.std.proofs.Math.ListN.{set}
-use Rattle.std.proofs.lemmas.Bool.{eqb-true, eq-eqb, lt-ltb, le-ltb, false≢true}
+use Rattle.std.proofs.lemmas.Bool.{eqb-true, eq-eqb, lt-ltb, le-ltb, false_from_ne_true}
 use Rattle.std.proofs.lemmas.Bool.Decides.{nat_tests}
 use Rattle.std.proofs.lemmas.List.{length-set}
 use Rattle.sched_time.specs.declared.timing.Timing.{Timing}
@@ -13,17 +12,16 @@ use Rattle.queue_code.specs.declared.call.CodeCall.TheVariants as c
 use Rattle.executor_core.specs.declared.types.CancelEffect.{CancelEffect}
 use Rattle.executor_core.specs.declared.types.CancelEffect.TheVariants as f
 use Rattle.executor_core.specs.declared.types.EventError.TheVariants as x
-use Rattle.executor_core.specs.declared.types.Happening.{Happening}
 use Rattle.executor_core.specs.declared.types.Happening.TheVariants as h
 use Rattle.executor_core.specs.declared.types.Answer.TheVariants as a
 use Rattle.executor_core.specs.declared.task.Phase.{Phase}
 use Rattle.executor_core.specs.declared.task.Phase.TheVariants as ph
 use Rattle.executor_core.specs.declared.task.Task.{Task}
 use Rattle.queue_code.specs.Calls.{Planned, Terms, terms_of, task_count, count_after, is_submission, IsOrderlyCall, IsOrderlyFrom}
-use Rattle.executor_core.specs.View.{Fate, is_live, is_running, is_waiting}
+use Rattle.executor_core.specs.View.{is_live, is_running}
 use Rattle.executor_core.specs.Answers.{plain, effect_on}
 use Rattle.executor_core.specs.State.{State, vacant, view_of_state, seen_task, seen_phase, reply_of, state_after}
-use Rattle.executor_core.specs.Machine.{Machine, workers_of, state_of, Takes, IsWellFormedCore, IsSound, IsDue, queued}
+use Rattle.executor_core.specs.Machine.{Machine, workers_of, state_of, Takes, IsWellFormedCore, IsSound, IsDue}
 use Rattle.executor_core.proofs.Agree.{next_sound, next_due_is}
 use Rattle.executor_core.proofs.Sound.{is_seen_waiting}
 use Rattle.executor_core.proofs.Tables.{at_set, runs_set, call_moment, count_grows}
@@ -42,14 +40,17 @@ same_eqb n = eq-eqb n n refl
 abbrev effect_of : Bool → Bool → CancelEffect
 effect_of accepted live = cond accepted (cond live f.Yes f.No) f.Absent
 
+-- what a cancel does to a vacant task
 pub of_vacant : (terms : Terms) (t : Task) → t.phase ≡ ph.Vacant → f.Absent ≡ effect_on (seen_task terms t)
 of_vacant terms t q = ap (λ p. effect_on (seen_phase terms p t.run t.due t.cancelled)) (sym q)
 
+-- what a cancel does to a task that waits
 pub of_waiting : (terms : Terms) (t : Task) → t.phase ≡ ph.Waiting → t.cancelled ≡ false → f.Yes ≡ effect_on (seen_task terms t)
 of_waiting terms t q live =
     let here : is_live (seen_phase terms ph.Waiting t.run t.due false) ≡ true = ap (λ b. b || (is_running (seen_phase terms ph.Waiting t.run t.due false) && true)) (is_seen_waiting terms t.run t.due) in
     sym (ap (effect_of true) here) ∙ (λ i. effect_on (seen_phase terms (sym q i) t.run t.due (sym live i)))
 
+-- what a cancel does to a task whose run is under way
 pub of_running : (terms : Terms) (t : Task) → t.phase ≡ ph.Running → t.cancelled ≡ false → f.Yes ≡ effect_on (seen_task terms t)
 of_running terms t q live =
     let apart = next_eqb t.run in
@@ -66,6 +67,7 @@ not_live false false = refl
 abbrev running_of : Terms → Phase → ℕ → ℕ → Bool
 running_of terms p run due = is_running (seen_phase terms p run due true)
 
+-- what a cancel does to a cancelled task
 pub of_cancelled : (terms : Terms) (t : Task) → t.phase ≢ ph.Vacant → t.cancelled ≡ true → f.No ≡ effect_on (seen_task terms t)
 of_cancelled terms t used is = sym (by t.phase refl) ∙ ap (λ b. effect_on (seen_phase terms t.phase t.run t.due b)) (sym is)
   where
@@ -81,6 +83,7 @@ of_cancelled terms t used is = sym (by t.phase refl) ∙ ap (λ b. effect_on (se
 ended_eqb : (n : ℕ) (rest : Bool) → ((not (not (n == n)) && false) || (not (n == n) && rest)) ≡ false
 ended_eqb n rest = ap (λ b. (not (not b) && false) || (not b && rest)) (same_eqb n)
 
+-- what a cancel does to a task that is done
 pub of_done : (terms : Terms) (t : Task) → t.phase ≡ ph.Done → f.No ≡ effect_on (seen_task terms t)
 of_done terms t q = sym (by t.cancelled) ∙ ap (λ p. effect_on (seen_phase terms p t.run t.due t.cancelled)) (sym q)
   where
@@ -88,6 +91,7 @@ of_done terms t q = sym (by t.cancelled) ∙ ap (λ p. effect_on (seen_phase ter
     by true = ap (effect_of true) (ended_eqb (1 + t.run) false)
     by false = ap (effect_of true) (ended_eqb (1 + t.run) true)
 
+-- what a cancel does to a task that has failed
 pub of_failed : (terms : Terms) (t : Task) → t.phase ≡ ph.Failed → f.No ≡ effect_on (seen_task terms t)
 of_failed terms t q = sym (by t.cancelled) ∙ ap (λ p. effect_on (seen_phase terms p t.run t.due t.cancelled)) (sym q)
   where
@@ -99,8 +103,14 @@ of_failed terms t q = sym (by t.cancelled) ∙ ap (λ p. effect_on (seen_phase t
 pub live_is_used : (terms : Terms) (t : Task) → f.Yes ≡ effect_on (seen_task terms t) → t.phase ≢ ph.Vacant
 live_is_used terms t live q = let clash : f.Yes ≡ f.Absent = live ∙ sym (of_vacant terms t q) in absurd cc
 
+-- a cancel that has an effect finds the task not cancelled
+pub live_is_uncancelled : (terms : Terms) (t : Task) → f.Yes ≡ effect_on (seen_task terms t) → t.cancelled ≡ false
+live_is_uncancelled terms t live =
+    false_from_ne_true t.cancelled (λ is. let clash : f.Yes ≡ f.No = live ∙ sym (of_cancelled terms t (live_is_used terms t live) is) in absurd cc)
+
 -- the tasks after a cancel
 
+-- a task once it is cancelled
 abbrev pub cancelled : Task → Task
 cancelled t = record t { cancelled = true }
 
@@ -139,6 +149,7 @@ outside_state calls made moment k tasks work f.Absent low = λ i. record { made 
 outside_reply : (calls : List Planned) (workers k : ℕ) (s : State) → k < task_count calls → reply_of calls workers s (h.Cancel k) ≡ plain (a.Outside k (effect_on ((view_of_state calls s).fate k)))
 outside_reply calls workers k s l = ap (λ b. plain (cond b (a.Outside k (effect_on ((view_of_state calls s).fate k))) (a.Error x.NoTask))) (lt-ltb k (task_count calls) l)
 
+-- the reply to a cancel from outside of a task that the plan does not have
 pub no_task_reply : (calls : List Planned) (workers k : ℕ) (s : State) → task_count calls ≤ k → reply_of calls workers s (h.Cancel k) ≡ plain (a.Error x.NoTask)
 no_task_reply calls workers k s l = ap (λ b. plain (cond b (a.Outside k (effect_on ((view_of_state calls s).fate k))) (a.Error x.NoTask))) (le-ltb k (task_count calls) l)
 
@@ -187,6 +198,7 @@ cancelled_in m entries left timings k tasks kept low live gone written = subst (
 abbrev pub called_at : Machine → ℕ → Machine
 called_at m moment = record m { made = m.made + 1; moment = moment }
 
+-- a core stays well formed where its next call is a cancel that was carried out
 pub call_kept : (m : Machine) (entries : List (Option ℕ)) (timings : List Timing) (moment at task : ℕ) → IsWellFormedCore m entries timings → slice_get m.calls m.made ≡ Some (at, c.Cancel task) → moment ≡ max m.moment at →
     IsWellFormedCore (called_at m moment) entries timings
 call_kept m entries timings moment at task kept is greatest =
@@ -229,6 +241,7 @@ plan_state calls workers made moment at k tasks work effect is low how =
     ∙ (ap (λ x. record (state_after calls s h.Call (plain (a.Cancel k x))) { moment = max moment at }) how
     ∙ ap (state_to calls s) (sym is)))
 
+-- a core takes the step of its next call, which is a cancel
 pub plan_takes : (m : Machine) (moment at k : ℕ) (effect : CancelEffect) → slice_get m.calls m.made ≡ Some (at, c.Cancel k) → moment ≡ max m.moment at → k < length m.tasks →
     effect ≡ effect_on (seen_task (terms_of m.calls k) (slice_index_or m.tasks k vacant)) →
     Takes m (called_at (with_tasks m (cancelled_tasks m.tasks k effect)) moment) h.Call (a.Cancel k effect)

@@ -6,6 +6,7 @@ pub mod First
 pub mod Starting
 pub mod Flowing
 pub mod Pairs
+pub mod Counting
 pub mod Tables
 pub mod Submits
 pub mod WorkerSteps
@@ -13,4 +14,5 @@ pub mod RunSteps
 pub mod Cancels
 pub mod Opens
 pub mod Events
+pub mod Errors
 pub mod Within

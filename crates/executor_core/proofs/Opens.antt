@@ -23,11 +23,13 @@ map_vacant (suc n) = ap (λ l. None ∷ l) (map_vacant n)
 opening_state : (count workers : ℕ) → state_at 0 0 (replicate count vacant) (replicate workers None) ≡ opening
 opening_state count workers = λ i. record { made = 0; moment = 0; tasks = λ k. at_replicate count k vacant i; workers = λ w. at_replicate workers w None i }
 
-abbrev pub first : List Planned → ℕ → List Task → List (Option ℕ) → Machine
-first calls limit tasks work = record { calls = calls; limit = limit; taken = 0; made = 0; moment = 0; tasks = tasks; work = work }
+-- what contracts see of a core that was just made
+abbrev pub opening_machine : List Planned → ℕ → List Task → List (Option ℕ) → Machine
+opening_machine calls limit tasks work = record { calls = calls; limit = limit; taken = 0; made = 0; moment = 0; tasks = tasks; work = work }
 
-pub opens : (calls : List Planned) (count workers limit : ℕ) (tasks : List Task) (work : List (Option ℕ)) → tasks ≡ replicate count vacant → work ≡ replicate workers None → IsOpening (first calls limit tasks work) calls workers limit
-opens calls count workers limit tasks work is free = record {
+-- a core that was just made is the opening one
+pub opening_is : (calls : List Planned) (count workers limit : ℕ) (tasks : List Task) (work : List (Option ℕ)) → tasks ≡ replicate count vacant → work ≡ replicate workers None → IsOpening (opening_machine calls limit tasks work) calls workers limit
+opening_is calls count workers limit tasks work is free = record {
   calls = refl;
   limit = refl;
   taken = refl;
@@ -35,9 +37,10 @@ opens calls count workers limit tasks work is free = record {
   stands = (λ i. state_at 0 0 (is i) (free i)) ∙ opening_state count workers;
 }
 
+-- a core that was just made is well formed
 pub opening_kept : (calls : List Planned) (count workers limit : ℕ) (tasks : List Task) (timings : List Timing) (work entries : List (Option ℕ)) → IsOrderly calls → count ≡ task_count calls → 0 < workers → workers ≤ 64 →
     tasks ≡ replicate count vacant → timings ≡ replicate count t.Once → work ≡ replicate workers None → entries ≡ replicate count None →
-    IsWellFormedCore (first calls limit tasks work) entries timings
+    IsWellFormedCore (opening_machine calls limit tasks work) entries timings
 opening_kept calls count workers limit tasks timings work entries orderly counted some few is timed free empty =
     let long : length work ≡ workers = ap length free ∙ length-replicate workers None in
     let at : (k : ℕ) → slice_index_or tasks k vacant ≡ vacant = λ k. ap (λ l. slice_index_or l k vacant) is ∙ at_replicate count k vacant in
@@ -85,6 +88,7 @@ next_reached count moment t (x ∷ calls) (suc n) p d o l is =
     let one : suc n + 1 ≡ suc (n + 1) = omega arith in
     (λ yes. rest.0 yes ∙ ap (λ k. 1 + reached (x ∷ calls) k t) (sym one), rest.1)
 
+-- past the last call none is reached
 pub end_reached : (calls : List Planned) (n t : ℕ) → length calls ≤ n → reached calls n t ≡ 0
 end_reached [] zero t l = refl
 end_reached [] (suc n) t l = refl
@@ -93,9 +97,11 @@ end_reached (x ∷ calls) (suc n) t l = end_reached calls n t (omega arith)
 
 -- the test of the next call's moment tells whether some call is reached
 
+-- a next call whose moment is at most that of a clock is reached
 pub tells_next : (calls : List Planned) (n moment : ℕ) (p : Planned) → IsOrderly calls → n < length calls → p ≡ slice_index_or calls n p → IsTrue (nat_le p.0 moment) → ReachesNext calls n moment
 tells_next calls n moment p o low is test = (low, (next_reached 0 0 moment calls n p p o.1 low is).0 (leb-true p.0 moment test))
 
+-- a next call whose moment is above that of a clock is not reached, nor any behind it
 pub tells_none : (calls : List Planned) (n moment : ℕ) (p : Planned) → IsOrderly calls → n < length calls → p ≡ slice_index_or calls n p → nat_le p.0 moment ≡ false → reached calls n moment ≡ 0
 tells_none calls n moment p o low is test =
     (next_reached 0 0 moment calls n p p o.1 low is).1 (elim (cases_lt moment p.0) [ inl beyond ↦ beyond | inr within ↦ absurd (false≢true (sym test ∙ le-leb p.0 moment within)) ])

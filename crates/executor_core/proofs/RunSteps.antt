@@ -25,7 +25,7 @@ use Rattle.executor_core.specs.Machine.{Machine, workers_of, state_of, Takes, Is
 use Rattle.executor_core.proofs.Agree.{next_sound, next_due_is}
 use Rattle.executor_core.proofs.Sound.{no_run_again}
 use Rattle.executor_core.proofs.Tables.{at_set, runs_set}
-use Rattle.executor_core.proofs.WorkerSteps.{queued_at, by_reply, in_queue, within, idle_starts, task_starts, none_is_first, running, start_state, task_finishes, finish_state}
+use Rattle.executor_core.proofs.WorkerSteps.{queued_at, by_reply, in_queue, entry_within, idle_starts, task_starts, none_is_first, running, start_state, task_finishes, finish_state}
 
 -- a step that leaves the state, by its reply
 pub leaves : (m : Machine) (happening : Happening) (answer : Answer) → reply_of m.calls (workers_of m) (state_of m) happening ≡ plain answer →
@@ -36,12 +36,14 @@ leaves m happening answer is there =
 
 -- what a start finds
 
+-- a core takes the step of a start that gets no task
 pub start_idles : (m : Machine) (entries : List (Option ℕ)) (timings : List Timing) (w : ℕ) → IsWellFormedCore m entries timings → w < workers_of m → slice_index_or m.work w None ≡ None →
     queues.NoneIsDue entries m.moment → Takes m m (h.Start w) (a.Idle w)
 start_idles m entries timings w kept l free none =
     leaves m (h.Start w) (a.Idle w)
     (idle_starts m.calls (workers_of m) w (state_of m) l free (none_is_first m.calls m.made m.moment m.tasks m.work kept.sound (subst (λ q. queues.NoneIsDue q m.moment) kept.queue none))) refl
 
+-- a core once a worker has started a task
 abbrev pub started : Machine → ℕ → ℕ → Task → Machine
 started m w k task = record m { tasks = set m.tasks k (running task); work = set m.work w (Some k) }
 
@@ -59,6 +61,7 @@ timing_stays m entries timings k task kept low busy j used =
     by true same used = kept.timing j (subst (λ i. (slice_index_or m.tasks i vacant).phase ≢ ph.Vacant) (eqb-true k j same) busy)
     by false apart used = kept.timing j used
 
+-- what no call submitted stays vacant where a task that was submitted is written
 pub fresh_stays : (m : Machine) (entries : List (Option ℕ)) (timings : List Timing) (k : ℕ) (task : Task) → IsWellFormedCore m entries timings → k < length m.tasks → (slice_index_or m.tasks k vacant).phase ≢ ph.Vacant →
     (j : ℕ) → task_count (take m.made m.calls) ≤ j → slice_index_or (set m.tasks k task) j vacant ≡ vacant
 fresh_stays m entries timings k task kept low busy j above = at_set m.tasks k j task vacant low ∙ by (k == j) refl
@@ -75,22 +78,24 @@ running_unqueued t e =
 not_vacant : (p q : Phase) → p ≡ q → (q ≡ ph.Vacant → ⊥) → p ≢ ph.Vacant
 not_vacant p q e no_vacancy f = no_vacancy (sym e ∙ f)
 
+-- a core takes the step of a start that gets a task
 pub start_takes : (m : Machine) (entries : List (Option ℕ)) (timings : List Timing) (w k d : ℕ) (task : Task) → IsWellFormedCore m entries timings → w < workers_of m → slice_index_or m.work w None ≡ None →
     queues.IsLeast entries d k → d ≤ m.moment → task ≡ slice_index_or m.tasks k vacant → Takes m (started m w k task) (h.Start w) (a.Start w k task.run d)
 start_takes m entries timings w k d task kept l free least due is =
     let there = subst (λ q. queues.IsLeast q d k) kept.queue least in
-    let low = within m.tasks k d there.there in
+    let low = entry_within m.tasks k d there.there in
     let step = by_reply m.calls (workers_of m) (state_of m) (state_of (started m w k task)) (h.Start w) (a.Start w k task.run d)
     (task_starts m.calls (workers_of m) w m.made m.moment k d m.tasks m.work l free kept.sound kept.count there due ∙ ap (λ x. plain (a.Start w k x.run d)) (sym is))
     (ap (λ x. state_of (started m w k x)) is ∙ start_state m.calls m.made m.moment w k task.run d m.tasks m.work l low)
     in
     record { calls = refl; limit = refl; taken = refl; workers = length-set m.work w (Some k); state = step.0; said = step.1 }
 
+-- a core stays well formed where a worker starts a task, but for its queue
 pub start_kept : (m : Machine) (entries : List (Option ℕ)) (timings : List Timing) (w k d : ℕ) (task : Task) → IsWellFormedCore m entries timings → w < workers_of m → slice_index_or m.work w None ≡ None →
     queues.IsLeast entries d k → d ≤ m.moment → task ≡ slice_index_or m.tasks k vacant → IsCounted m → IsWellFormedCore (started m w k task) (set entries k None) timings
 start_kept m entries timings w k d task kept l free least due is counted =
     let there = subst (λ q. queues.IsLeast q d k) kept.queue least in
-    let low = within m.tasks k d there.there in
+    let low = entry_within m.tasks k d there.there in
     let waits = (in_queue m.tasks k d there.there).0 in
     let busy : (slice_index_or m.tasks k vacant).phase ≢ ph.Vacant = not_vacant _ ph.Waiting waits (λ q. cc) in
     let takes = start_takes m entries timings w k d task kept l free least due is in
@@ -114,6 +119,7 @@ start_kept m entries timings w k d task kept l free least due is counted =
 
 -- what a finish finds
 
+-- a core once a worker has finished a task
 abbrev pub finished : Machine → ℕ → ℕ → Task → Machine
 finished m w k task = record m { tasks = set m.tasks k task; work = set m.work w None }
 
@@ -129,9 +135,11 @@ known (x ∷ tasks) (suc k) busy = omega (arith, known tasks k busy)
 pub work_within : (m : Machine) (entries : List (Option ℕ)) (timings : List Timing) (w k : ℕ) → IsWellFormedCore m entries timings → slice_index_or m.work w None ≡ Some k → k < length m.tasks
 work_within m entries timings w k kept busy = known m.tasks k (not_vacant _ ph.Running (at_work m entries timings w k kept busy) (λ q. cc))
 
+-- the timing that is kept of the task of a worker is that of its terms
 pub work_timing : (m : Machine) (entries : List (Option ℕ)) (timings : List Timing) (w k : ℕ) → IsWellFormedCore m entries timings → slice_index_or m.work w None ≡ Some k → slice_index_or timings k t.Once ≡ (terms_of m.calls k).timing
 work_timing m entries timings w k kept busy = kept.timing k (not_vacant _ ph.Running (at_work m entries timings w k kept busy) (λ q. cc))
 
+-- a core takes the step of a finish
 pub finish_takes : (m : Machine) (entries : List (Option ℕ)) (timings : List Timing) (w k : ℕ) (ending : Ending) (timing : Timing) (outcome : Outcome) (task new : Task) → IsWellFormedCore m entries timings → w < workers_of m →
     slice_index_or m.work w None ≡ Some k → task ≡ slice_index_or m.tasks k vacant → timing ≡ slice_index_or timings k t.Once → outcome ≡ outcome_in task.cancelled timing (due_past timing task.due m.moment) ending → new ≡ finish_task timing m.moment outcome task →
     Takes m (finished m w k new) (h.Finish w ending) (a.Finish w k task.run outcome)
@@ -162,6 +170,7 @@ finish_run timing now count (o.Failed code) task l = omega arith
 finish_run timing now count o.Dropped task l = omega arith
 finish_run timing now count (o.Again due) task l = omega arith
 
+-- a core stays well formed where a worker finishes a task, but for its queue
 pub finish_kept : (m : Machine) (entries : List (Option ℕ)) (timings : List Timing) (w k : ℕ) (ending : Ending) (timing : Timing) (outcome : Outcome) (task new : Task) → IsWellFormedCore m entries timings → w < workers_of m →
     slice_index_or m.work w None ≡ Some k → task ≡ slice_index_or m.tasks k vacant → timing ≡ slice_index_or timings k t.Once → outcome ≡ outcome_in task.cancelled timing (due_past timing task.due m.moment) ending → new ≡ finish_task timing m.moment outcome task →
     IsCounted m → IsWellFormedCore (finished m w k new) (set entries k (queued new)) timings
@@ -198,6 +207,7 @@ finish_keeps m entries left timings w k ending timing outcome task new kept l bu
 
 -- the same, with the entries as a call leaves them, and the core as it was
 
+-- a core stays well formed where a worker starts a task
 pub start_keeps : (m : Machine) (entries left : List (Option ℕ)) (timings : List Timing) (w k d : ℕ) (task : Task) → IsWellFormedCore m entries timings → w < workers_of m → slice_index_or m.work w None ≡ None →
     queues.IsLeast entries d k → d ≤ m.moment → task ≡ slice_index_or m.tasks k vacant → IsCounted m → left ≡ set entries k None → IsWellFormedCore (started m w k task) left timings
 start_keeps m entries left timings w k d task kept l free least due is counted gone =
@@ -205,8 +215,9 @@ start_keeps m entries left timings w k d task kept l free least due is counted g
 
 -- the least entry of the queue has its place in the tables
 pub least_within : (m : Machine) (entries : List (Option ℕ)) (timings : List Timing) (k d : ℕ) → IsWellFormedCore m entries timings → queues.IsLeast entries d k → k < length m.tasks
-least_within m entries timings k d kept least = within m.tasks k d (subst (λ q. queues.IsLeast q d k) kept.queue least).there
+least_within m entries timings k d kept least = entry_within m.tasks k d (subst (λ q. queues.IsLeast q d k) kept.queue least).there
 
+-- a step from what is seen of a core is one from the core
 pub of_view : (m old new : Machine) (happening : Happening) (answer : Answer) → m ≡ old → Takes m new happening answer → Takes old new happening answer
 of_view m old new happening answer same takes = subst (λ x. Takes x new happening answer) same takes
 
@@ -217,9 +228,11 @@ least_waits m entries timings k d kept least = in_queue m.tasks k d (subst (λ q
 
 -- the same, with the tables as the calls leave them
 
+-- a core with another table of tasks
 abbrev pub with_tasks : Machine → List Task → Machine
 with_tasks m tasks = record m { tasks = tasks }
 
+-- a core whose table the code has written takes the step of a start
 pub start_takes_in : (m : Machine) (entries : List (Option ℕ)) (timings : List Timing) (w k d n : ℕ) (task : Task) (tasks : List Task) → IsWellFormedCore m entries timings → w < workers_of m → slice_index_or m.work w None ≡ None →
     queues.IsLeast entries d k → d ≤ m.moment → task ≡ slice_index_or m.tasks k vacant → tasks ≡ set m.tasks k (running (slice_index_or m.tasks k vacant)) → n ≡ task.run →
     Takes m (with_tasks (started m w k task) tasks) (h.Start w) (a.Start w k n d)
@@ -228,6 +241,7 @@ start_takes_in m entries timings w k d n task tasks kept l free least due is wri
     subst (λ x. Takes m (with_tasks (started m w k task) x) (h.Start w) (a.Start w k n d)) (sym there)
     (subst (λ i. Takes m (started m w k task) (h.Start w) (a.Start w k i d)) (sym run) (start_takes m entries timings w k d task kept l free least due is))
 
+-- a core whose table the code has written at a start stays well formed
 pub start_keeps_in : (m : Machine) (entries left : List (Option ℕ)) (timings : List Timing) (w k d : ℕ) (task : Task) (tasks : List Task) → IsWellFormedCore m entries timings → w < workers_of m → slice_index_or m.work w None ≡ None →
     queues.IsLeast entries d k → d ≤ m.moment → task ≡ slice_index_or m.tasks k vacant → tasks ≡ set m.tasks k (running (slice_index_or m.tasks k vacant)) → IsCounted m → left ≡ set entries k None →
     IsWellFormedCore (with_tasks (started m w k task) tasks) left timings
@@ -244,6 +258,7 @@ again_queued false t.Once due (e.Value value) p run old = refl
 again_queued false (t.Rate period) due (e.Value value) p run old = refl
 again_queued false (t.Fixed delay) due (e.Value value) p run old = refl
 
+-- a core whose table the code has written takes the step of a finish
 pub finish_takes_in : (m : Machine) (entries : List (Option ℕ)) (timings : List Timing) (w k n due : ℕ) (ending : Ending) (timing : Timing) (outcome : Outcome) (task : Task) (tasks : List Task) → IsWellFormedCore m entries timings → w < workers_of m →
     slice_index_or m.work w None ≡ Some k → task ≡ slice_index_or m.tasks k vacant → timing ≡ slice_index_or timings k t.Once → outcome ≡ outcome_in task.cancelled timing (due_past timing task.due m.moment) ending →
     due ≡ due_past timing task.due m.moment → tasks ≡ set m.tasks k (end_task outcome due (slice_index_or m.tasks k vacant)) → n ≡ task.run →
@@ -254,6 +269,7 @@ finish_takes_in m entries timings w k n due ending timing outcome task tasks kep
     (subst (λ i. Takes m (finished m w k (finish_task timing m.moment outcome task)) (h.Finish w ending) (a.Finish w k i outcome)) (sym run)
     (finish_takes m entries timings w k ending timing outcome task (finish_task timing m.moment outcome task) kept l busy is timed out refl))
 
+-- a core whose table the code has written at a finish stays well formed
 pub finish_keeps_in : (m : Machine) (entries left : List (Option ℕ)) (timings : List Timing) (w k due : ℕ) (ending : Ending) (timing : Timing) (outcome : Outcome) (task : Task) (tasks : List Task) → IsWellFormedCore m entries timings → w < workers_of m →
     slice_index_or m.work w None ≡ Some k → task ≡ slice_index_or m.tasks k vacant → timing ≡ slice_index_or timings k t.Once → outcome ≡ outcome_in task.cancelled timing (due_past timing task.due m.moment) ending →
     due ≡ due_past timing task.due m.moment → tasks ≡ set m.tasks k (end_task outcome due (slice_index_or m.tasks k vacant)) → IsCounted m → left ≡ set entries k (queued_again outcome) →

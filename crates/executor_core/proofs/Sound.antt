@@ -44,6 +44,7 @@ from_earlier v i k (Some j) e =
     let pick : (b : Bool) → cond b j i ≡ k → (k ≡ i) ⊎ (Some j ≡ Some k) = elim [ true ↦ λ q. inr (ap Some q) | false ↦ λ q. inl (sym q) ] in
     pick (precedes v j i) e
 
+-- the first enabled task is enabled
 pub first_is_enabled : (v : View) (ks : List ℕ) (k : ℕ) → first_enabled v ks ≡ Some k → is_enabled v k ≡ true
 first_is_enabled v [] k q = absurd (none-some k q)
 first_is_enabled v (j ∷ ks) k q =
@@ -80,9 +81,11 @@ waits terms ph.Done run due false over q = absurd (false≢true (sym (no_and (no
 waits terms ph.Failed run due false over q = absurd (false≢true (sym (no_and (not (not (1 + run == 1 + run))) false refl) ∙ q))
 waits terms ph.Dropped run due false over q = absurd (false≢true (over refl))
 
+-- a task that waits and is not cancelled is seen as one that waits
 pub is_seen_waiting : (terms : Terms) (run due : ℕ) → is_waiting (seen_phase terms ph.Waiting run due false) ≡ true
 is_seen_waiting terms run due = ap (λ b. not (not b) && true) (same_eqb run)
 
+-- a task that is seen as one that waits does, and is not cancelled
 pub waits_in : (calls : List Planned) (s : State) (k : ℕ) → IsSound s → is_waiting ((view_of_state calls s).fate k) ≡ true → ((s.tasks k).phase ≡ ph.Waiting) × ((s.tasks k).cancelled ≡ false)
 waits_in calls s k sound q = waits (terms_of calls k) (s.tasks k).phase (s.tasks k).run (s.tasks k).due (s.tasks k).cancelled (sound.over k) q
 
@@ -110,16 +113,17 @@ drops false (t.Rate period) due (e.Value value) q = cc
 drops false (t.Fixed delay) due (e.Value value) q = cc
 drops false timing due (e.Fault code) q = cc
 
-pub finds : (calls : List Planned) (workers : ℕ) (s : State) (happening : Happening) → IsSound s → Finds calls s (reply_of calls workers s happening).answer
-finds calls workers s h.Call sound =
+-- what each reply finds in a sound state
+pub reply_finds : (calls : List Planned) (workers : ℕ) (s : State) (happening : Happening) → IsSound s → Finds calls s (reply_of calls workers s happening).answer
+reply_finds calls workers s h.Call sound =
     let pick : (q : Option Planned) → Finds calls s (option_map_or (λ p. called calls (record (view_of_state calls s) { moment = max s.moment p.0 }) p.1) q (plain a.Clock)).answer =
     elim [ None ↦ tt | Some p ↦ call_finds calls s (max s.moment p.0) p.1 ]
     in
     pick (slice_get calls s.made)
-finds calls workers s (h.Clock t) sound =
+reply_finds calls workers s (h.Clock t) sound =
     let pick : (b c : Bool) → Finds calls s (cond b (a.Error x.Backward) (cond c (a.Error x.TooFar) a.Clock)) = elim [ true ↦ λ c. tt | false ↦ elim [ true ↦ tt | false ↦ tt ] ] in
     pick _ _
-finds calls workers s (h.Start w) sound =
+reply_finds calls workers s (h.Start w) sound =
     let v = view_of_state calls s in
     let first : (q : Option ℕ) → s.workers w ≡ None → first_enabled v (numbers calls) ≡ q → Finds calls s (started v w q) =
     elim [
@@ -131,16 +135,17 @@ finds calls workers s (h.Start w) sound =
     elim [ true ↦ elim [ None ↦ λ free. first (first_enabled v (numbers calls)) free refl | Some k ↦ λ busy. tt ] | false ↦ λ work is. tt ]
     in
     pick (nat_lt w workers) (s.workers w) refl
-finds calls workers s (h.Finish w ending) sound =
+reply_finds calls workers s (h.Finish w ending) sound =
     let v = view_of_state calls s in
     let pick : (b : Bool) (work : Option ℕ) → s.workers w ≡ work → Finds calls s (cond b (finished calls v w ending work) (a.Error x.NoWorker)) =
     elim [ true ↦ elim [ None ↦ λ is. tt | Some k ↦ λ is. (is, drops (s.tasks k).cancelled (terms_of calls k).timing (due_next calls v k) ending) ] | false ↦ λ work is. tt ]
     in
     pick (nat_lt w workers) (s.workers w) refl
-finds calls workers s (h.Cancel k) sound =
+reply_finds calls workers s (h.Cancel k) sound =
     let pick : (b : Bool) → Finds calls s (cond b (a.Outside k (effect_on ((view_of_state calls s).fate k))) (a.Error x.NoTask)) = elim [ true ↦ tt | false ↦ tt ] in
     pick (nat_lt k (task_count calls))
 
+-- what each reply finds of each task, as its move needs it
 pub fits_all : (calls : List Planned) (s : State) (answer : Answer) → IsSound s → Finds calls s answer → (k : ℕ) → Fits (terms_of calls k) s.moment k (s.tasks k) answer
 fits_all calls s (a.Submit j kind due) sound f k = λ q. subst (λ k. due ≡ due_at (terms_of calls k) 0 None) (eqb-true j k q) f
 fits_all calls s (a.Start w j n due) sound f k = λ q. subst (λ k. (s.tasks k).phase ≡ ph.Waiting) (eqb-true j k q) f.1
@@ -223,6 +228,7 @@ later now next (h.Start worker) = omega arith
 later now next (h.Finish worker ending) = omega arith
 later now next (h.Cancel task) = omega arith
 
+-- no finish leaves a run under way
 pub no_run_again : (timing : Timing) (now : ℕ) (outcome : Outcome) (task : Task) → (finish_task timing now outcome task).phase ≡ ph.Running → ⊥
 no_run_again timing now (o.Done value) task q = cc
 no_run_again timing now (o.Failed code) task q = cc
@@ -286,8 +292,9 @@ over_after calls s (a.Finish w j n outcome) sound f k q =
     pick (j == k) refl q
 over_after calls s answer sound f k q = or_right (is_cancel k answer) (s.tasks k).cancelled (sound.over k q)
 
-pub stays : (calls : List Planned) (s : State) (happening : Happening) (r : Reply) → IsSound s → Finds calls s r.answer → IsSound (state_after calls s happening r)
-stays calls s happening r sound f = record {
+-- a sound state stays sound
+pub sound_stays : (calls : List Planned) (s : State) (happening : Happening) (r : Reply) → IsSound s → Finds calls s r.answer → IsSound (state_after calls s happening r)
+sound_stays calls s happening r sound f = record {
   at_work = at_work_after calls s r.answer sound f;
   apart = apart_after calls s r.answer sound f;
   over = over_after calls s r.answer sound f;

@@ -23,6 +23,7 @@ use Rattle.executor_core.specs.Machine.{Machine, workers_of, state_of, IsSound, 
 use Rattle.executor_core.proofs.Agree.{next_sound, next_due_is}
 use Rattle.executor_core.proofs.Tables.{at_set, submission, runs_set, call_moment, count_grows}
 
+-- the state of two tables
 abbrev pub state_at : ℕ → ℕ → List Task → List (Option ℕ) → State
 state_at made moment tasks work = record {
   made = made;
@@ -39,6 +40,7 @@ reply_to calls s call = option_map_or (λ p. called calls (record (view_of_state
 abbrev pub state_to : List Planned → State → Option Planned → State
 state_to calls s call = record (state_after calls s h.Call (reply_to calls s call)) { moment = option_map_or (λ p. max s.moment p.0) call s.moment }
 
+-- a task that was just submitted
 abbrev pub waiting : ℕ → Task
 waiting due = submit_task due vacant
 
@@ -52,6 +54,7 @@ due_first terms timing first e = ap (λ x. due_at x 0 None) e ∙ by timing
     by : (timing : Timing) → due_at (record { timing = timing; first = first }) 0 None ≡ first
     by timing = elim timing as (λ timing. due_at (record { timing = timing; first = first }) 0 None ≡ first) [ t.Once ↦ refl | t.Rate period ↦ omega arith | t.Fixed delay ↦ refl ]
 
+-- the reply to a call that submits a task
 pub submit_answer : (calls : List Planned) (workers made moment at task delay : ℕ) (timing : Timing) (tasks : List Task) (work : List (Option ℕ)) →
     slice_get calls made ≡ Some (at, c.Submit task timing delay) → terms_of calls task ≡ record { timing = timing; first = at + delay } →
     a.Submit task (kind_of timing) (at + delay) ≡ (reply_of calls workers (state_at made moment tasks work) h.Call).answer
@@ -70,6 +73,7 @@ submitted_at tasks task k due low fresh =
     in
     at_set tasks task k (waiting due) vacant low ∙ pick (task == k) refl
 
+-- the state after a call that submits a task
 pub submit_state : (calls : List Planned) (workers made moment at task delay : ℕ) (timing : Timing) (tasks : List Task) (work : List (Option ℕ)) →
     slice_get calls made ≡ Some (at, c.Submit task timing delay) → terms_of calls task ≡ record { timing = timing; first = at + delay } →
     task < length tasks → slice_index_or tasks task vacant ≡ vacant →
@@ -101,6 +105,7 @@ refuse_state calls workers made moment at task tasks work is =
     in
     there ∙ ap (state_to calls s) (sym is)
 
+-- a core once it has refused a task
 abbrev pub refused : Machine → ℕ → Machine
 refused m moment = record m { made = m.made + 1; moment = moment }
 
@@ -143,10 +148,12 @@ refuse_kept m entries timings at task kept is =
 
 -- the same, with the moment as a call gives it, and the core as it was
 
+-- a core stays well formed where its next call is refused
 pub refuse_keeps : (m : Machine) (entries : List (Option ℕ)) (timings : List Timing) (moment at task : ℕ) → IsWellFormedCore m entries timings → slice_get m.calls m.made ≡ Some (at, c.Illegal task) →
     moment ≡ max m.moment at → IsWellFormedCore (refused m moment) entries timings
 refuse_keeps m entries timings moment at task kept is greatest = subst (λ n. IsWellFormedCore (refused m n) entries timings) (sym greatest) (refuse_kept m entries timings at task kept is)
 
+-- a core takes the step of a call that is refused
 pub refuse_steps : (m old : Machine) (moment at task : ℕ) → slice_get m.calls m.made ≡ Some (at, c.Illegal task) → moment ≡ max m.moment at → m ≡ old →
     Takes old (refused m moment) h.Call (a.Refuse task refusal.Illegal)
 refuse_steps m old moment at task is greatest same =
@@ -214,6 +221,7 @@ submit_keeps m entries entries' timings moment at task delay timing kept is grea
     subst (λ n. IsWellFormedCore (record m { made = m.made + 1; moment = n; tasks = set m.tasks task (waiting (at + delay)) }) entries' (set timings task timing)) (sym greatest)
     (subst (λ q. IsWellFormedCore (record m { made = m.made + 1; moment = max m.moment at; tasks = set m.tasks task (waiting (at + delay)) }) q (set timings task timing)) (sym put) (submit_kept m entries timings at task delay timing kept is))
 
+-- a core takes the step of a call that submits a task
 pub submit_steps : (m old : Machine) (entries : List (Option ℕ)) (timings : List Timing) (moment at task delay : ℕ) (timing : Timing) (kind : Kind) → IsWellFormedCore m entries timings → slice_get m.calls m.made ≡ Some (at, c.Submit task timing delay) →
     kind ≡ kind_of timing → moment ≡ max m.moment at → m ≡ old →
     Takes old (record m { made = m.made + 1; moment = moment; tasks = set m.tasks task (waiting (at + delay)) }) h.Call (a.Submit task kind (at + delay))
@@ -224,6 +232,7 @@ submit_steps m old entries timings moment at task delay timing kind kept is how 
 
 -- the same, with the tasks as a call leaves them
 
+-- a core whose table the code has written at a submission stays well formed
 pub submit_keeps_in : (m : Machine) (entries entries' : List (Option ℕ)) (timings : List Timing) (moment at task delay : ℕ) (timing : Timing) (tasks : List Task) → IsWellFormedCore m entries timings → slice_get m.calls m.made ≡ Some (at, c.Submit task timing delay) →
     moment ≡ max m.moment at → entries' ≡ set entries task (Some (at + delay)) → tasks ≡ set m.tasks task (waiting (at + delay)) →
     IsWellFormedCore (record m { made = m.made + 1; moment = moment; tasks = tasks }) entries' (set timings task timing)
@@ -231,6 +240,7 @@ submit_keeps_in m entries entries' timings moment at task delay timing tasks kep
     subst (λ l. IsWellFormedCore (record m { made = m.made + 1; moment = moment; tasks = l }) entries' (set timings task timing)) (sym written)
     (submit_keeps m entries entries' timings moment at task delay timing kept is greatest put)
 
+-- a core whose table the code has written takes the step of a submission
 pub submit_steps_in : (m old : Machine) (entries : List (Option ℕ)) (timings : List Timing) (moment at task delay : ℕ) (timing : Timing) (kind : Kind) (tasks : List Task) → IsWellFormedCore m entries timings → slice_get m.calls m.made ≡ Some (at, c.Submit task timing delay) →
     kind ≡ kind_of timing → moment ≡ max m.moment at → m ≡ old → tasks ≡ set m.tasks task (waiting (at + delay)) →
     Takes old (record m { made = m.made + 1; moment = moment; tasks = tasks }) h.Call (a.Submit task kind (at + delay))

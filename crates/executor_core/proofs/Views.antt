@@ -10,12 +10,14 @@ use Rattle.executor_core.specs.Answers.{Reply, moment_after}
 use Rattle.executor_core.specs.Histories.{HistoryEntry, entry_of, happenings, is_call, is_submit, is_cancel, is_start, is_finish, is_finish_with, is_done, is_failed, work_after, view_of_history, starts, last_finish, now_of}
 use Rattle.executor_core.specs.State.{State, view_of_state, state_after}
 use Rattle.executor_core.specs.Machine.{IsDue}
-use Rattle.executor_core.proofs.Moves.{fate_with, due_after, Fits, moves}
+use Rattle.executor_core.proofs.Moves.{fate_with, due_after, Fits, task_moves}
 
+-- what is known of a task after a reply
 abbrev pub fate_after : List Planned → View → Reply → ℕ → Fate
 fate_after calls v r k =
     fate_with (terms_of calls k).timing (v.fate k) v.moment (is_submit k r.answer) (is_cancel k r.answer) (is_start k r.answer) (is_finish k r.answer) (is_finish_with is_done k r.answer) (is_finish_with is_failed k r.answer)
 
+-- the view after a reply, with what is known of each task then
 abbrev pub view_with : List Planned → View → Happening → Reply → (ℕ → Fate) → View
 view_with calls v happening r fates = record {
   made = if is_call happening then 1 + v.made else v.made;
@@ -24,6 +26,7 @@ view_with calls v happening r fates = record {
   work = λ w. work_after w r.answer (v.work w);
 }
 
+-- the view after a reply
 abbrev pub view_after : List Planned → View → Happening → Reply → View
 view_after calls v happening r = view_with calls v happening r (λ k. fate_after calls v r k)
 
@@ -67,7 +70,7 @@ pub seen_moves : (calls : List Planned) (s : State) (happening : Happening) (r :
     ((k : ℕ) → Fits (terms_of calls k) s.moment k (s.tasks k) r.answer) →
     view_of_state calls (state_after calls s happening r) ≡ view_after calls (view_of_state calls s) happening r
 seen_moves calls s happening r fits = λ i.
-    view_with calls (view_of_state calls s) happening r (λ k. moves (terms_of calls k) s.moment k (s.tasks k) r.answer (fits k) i)
+    view_with calls (view_of_state calls s) happening r (λ k. task_moves (terms_of calls k) s.moment k (s.tasks k) r.answer (fits k) i)
 
 -- the due moments that are seen stay those of the terms
 pub due_stays : (calls : List Planned) (v : View) (happening : Happening) (r : Reply) → IsDue calls v → IsDue calls (view_after calls v happening r)

@@ -1,5 +1,5 @@
 -- The due moments that a history shows are within twice the limit of a moment.
-use Rattle.std.proofs.Common.{◌≡◌, ℕ, ◌+◌, ◌≤◌, ◌==◌, nat_le, Bool, true, false, cond, List, [], ◌∷◌, Option, Some, None, refl, sym, ap, ◌∙◌, arith, subst}
+use Rattle.std.proofs.Common.{◌≡◌, ℕ, ◌+◌, ◌≤◌, ◌==◌, nat_le, Bool, true, false, cond, List, [], ◌∷◌, Option, Some, None, refl, sym, arith, subst}
 use Rattle.std.specs.Prelude.{slice_get, ◌^◌}
 use Rattle.std.proofs.lemmas.Bool.{false≢true, eqb-true, and_parts, leb-true}
 use Rattle.std.proofs.lemmas.Bool.Decides.{nat_tests}
@@ -131,6 +131,7 @@ pub means_answered : (calls : List Planned) (workers : ℕ) (past : List History
 means_answered calls workers [] m = tt
 means_answered calls workers (e ∷ past) m = (means_answered calls workers past m.0, m.2)
 
+-- each due moment that a history shows is at most 2^63
 pub dues_within : (calls : List Planned) (workers : ℕ) (past : List HistoryEntry) → IsOrderly calls → IsHistoryOf calls workers past → IsWithin calls past
 dues_within calls workers past o m = answered_within calls workers past o (means_answered calls workers past m)
 
@@ -147,5 +148,6 @@ next_within calls past k o within =
     subst (λ d. d ≤ 2 ^ 63) (due_moves terms (starts k past) now (last_finish calls k past) false true)
     (after_within terms.timing (due_of calls past k) now false true (timed_within 0 0 calls k o.1) (within k) (now_within calls (happenings past) o) (λ q. absurd (false≢true q)))
 
+-- the first due moment of each task is at most 2^63
 pub none_within : (calls : List Planned) (k : ℕ) → IsOrderly calls → due_at (terms_of calls k) 0 None ≤ 2 ^ 63
 none_within calls k o = first_due (terms_of calls k) (first_within 0 0 calls k o.1)

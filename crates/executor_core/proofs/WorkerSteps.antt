@@ -52,19 +52,22 @@ queued_task t d q =
     in
     pick t.cancelled refl q
 
+-- the entry of a task in the queue of some tasks
 pub queued_at : (tasks : List Task) (k : ℕ) → slice_index_or (map queued tasks) k None ≡ queued (slice_index_or tasks k vacant)
 queued_at [] k = refl
 queued_at (t ∷ tasks) zero = refl
 queued_at (t ∷ tasks) (suc k) = queued_at tasks k
 
+-- a task with an entry waits, is not cancelled, and is due then
 pub in_queue : (tasks : List Task) (k d : ℕ) → slice_index_or (map queued tasks) k None ≡ Some d →
     ((slice_index_or tasks k vacant).phase ≡ ph.Waiting) × ((slice_index_or tasks k vacant).due ≡ d) × ((slice_index_or tasks k vacant).cancelled ≡ false)
 in_queue tasks k d q = queued_task (slice_index_or tasks k vacant) d (sym (queued_at tasks k) ∙ q)
 
-pub within : (tasks : List Task) (k d : ℕ) → slice_index_or (map queued tasks) k None ≡ Some d → k < length tasks
-within [] k d q = absurd (none-some d q)
-within (t ∷ tasks) zero d q = omega arith
-within (t ∷ tasks) (suc k) d q = omega (arith, within tasks k d q)
+-- a task with an entry is one of the table
+pub entry_within : (tasks : List Task) (k d : ℕ) → slice_index_or (map queued tasks) k None ≡ Some d → k < length tasks
+entry_within [] k d q = absurd (none-some d q)
+entry_within (t ∷ tasks) zero d q = omega arith
+entry_within (t ∷ tasks) (suc k) d q = omega (arith, entry_within tasks k d q)
 
 -- the due moment that is seen of a waiting task
 seen_due : (terms : Terms) (t : Task) → t.phase ≡ ph.Waiting → due_seen terms t.phase t.due ≡ t.due
@@ -92,7 +95,7 @@ least_is_first calls made moment tasks work k d sound count least due =
     let seen_here : (v.fate k).due ≡ d = seen_due (terms_of calls k) t here.0 ∙ here.1 in
     let waiting : is_waiting (v.fate k) ≡ true = (λ i. is_waiting (seen_phase (terms_of calls k) (here.0 i) t.run t.due (here.2 i))) ∙ is_seen_waiting (terms_of calls k) t.run t.due in
     let enabled = and_from (is_waiting (v.fate k)) (nat_le (v.fate k).due moment) waiting (le-leb (v.fate k).due moment (omega (arith, seen_here, due))) in
-    first_is v (numbers calls) k (in_range 0 (task_count calls) k (omega arith) (omega (arith, within tasks k d least.there, count))) enabled
+    first_is v (numbers calls) k (in_range 0 (task_count calls) k (omega arith) (omega (arith, entry_within tasks k d least.there, count))) enabled
     (λ j member e.
     let other = enabled_queued calls made moment tasks work j sound e in
     let waits = (in_queue tasks j (slice_index_or tasks j vacant).due other.0).0 in
@@ -111,6 +114,7 @@ none_is_first calls made moment tasks work sound none =
 
 -- the replies to a start
 
+-- the reply to a start of a worker that there is not
 pub no_worker_starts : (calls : List Planned) (workers w : ℕ) (s : State) → workers ≤ w → reply_of calls workers s (h.Start w) ≡ plain (a.Error x.NoWorker)
 no_worker_starts calls workers w s l =
     ap (λ b. plain (cond b (option_map_or (λ _. a.Error x.Busy) (s.workers w) (started (view_of_state calls s) w (first_enabled (view_of_state calls s) (numbers calls)))) (a.Error x.NoWorker))) (le-ltb w workers l)
@@ -121,12 +125,15 @@ start_reply calls workers w s work first l e f =
     ap (λ b. plain (cond b (option_map_or (λ _. a.Error x.Busy) (s.workers w) (started (view_of_state calls s) w (first_enabled (view_of_state calls s) (numbers calls)))) (a.Error x.NoWorker))) (lt-ltb w workers l)
     ∙ (λ i. plain (option_map_or (λ _. a.Error x.Busy) (e i) (started (view_of_state calls s) w (f i))))
 
+-- the reply to a start of a worker that works
 pub busy_starts : (calls : List Planned) (workers w k : ℕ) (s : State) → w < workers → s.workers w ≡ Some k → reply_of calls workers s (h.Start w) ≡ plain (a.Error x.Busy)
 busy_starts calls workers w k s l e = start_reply calls workers w s (Some k) (first_enabled (view_of_state calls s) (numbers calls)) l e refl
 
+-- the reply to a start where no task is enabled
 pub idle_starts : (calls : List Planned) (workers w : ℕ) (s : State) → w < workers → s.workers w ≡ None → first_enabled (view_of_state calls s) (numbers calls) ≡ None → reply_of calls workers s (h.Start w) ≡ plain (a.Idle w)
 idle_starts calls workers w s l e f = start_reply calls workers w s None None l e f
 
+-- the reply to a start that gets the least entry of the queue
 pub task_starts : (calls : List Planned) (workers w made moment k d : ℕ) (tasks : List Task) (work : List (Option ℕ)) → w < workers → slice_index_or work w None ≡ None → IsSound (state_at made moment tasks work) →
     length tasks ≡ task_count calls → queues.IsLeast (map queued tasks) d k → d ≤ moment →
     reply_of calls workers (state_at made moment tasks work) (h.Start w) ≡ plain (a.Start w k (slice_index_or tasks k vacant).run d)
@@ -136,9 +143,11 @@ task_starts calls workers w made moment k d tasks work l free sound count least 
     start_reply calls workers w (state_at made moment tasks work) None (Some k) l free (least_is_first calls made moment tasks work k d sound count least due)
     ∙ (ap (λ p. plain (a.Start w k (seen_phase (terms_of calls k) p t.run t.due t.cancelled).starts (seen_phase (terms_of calls k) p t.run t.due t.cancelled).due)) here.0 ∙ ap (λ n. plain (a.Start w k t.run n)) here.1)
 
+-- a task whose run has begun
 abbrev pub running : Task → Task
 running t = record t { phase = ph.Running }
 
+-- the state after a start
 pub start_state : (calls : List Planned) (made moment w k n d : ℕ) (tasks : List Task) (work : List (Option ℕ)) → w < length work → k < length tasks →
     state_at made moment (set tasks k (running (slice_index_or tasks k vacant))) (set work w (Some k)) ≡ state_after calls (state_at made moment tasks work) (h.Start w) (plain (a.Start w k n d))
 start_state calls made moment w k n d tasks work l low = λ i. record {
@@ -155,6 +164,7 @@ start_state calls made moment w k n d tasks work l low = λ i. record {
 
 -- the replies to a finish
 
+-- the reply to a finish of a worker that there is not
 pub no_worker_finishes : (calls : List Planned) (workers w : ℕ) (ending : Ending) (s : State) → workers ≤ w → reply_of calls workers s (h.Finish w ending) ≡ plain (a.Error x.NoWorker)
 no_worker_finishes calls workers w ending s l = ap (λ b. plain (cond b (finished calls (view_of_state calls s) w ending (s.workers w)) (a.Error x.NoWorker))) (le-ltb w workers l)
 
@@ -164,6 +174,7 @@ finish_reply calls workers w ending s work l e =
     ap (λ b. plain (cond b (finished calls (view_of_state calls s) w ending (s.workers w)) (a.Error x.NoWorker))) (lt-ltb w workers l)
     ∙ ap (λ x. plain (finished calls (view_of_state calls s) w ending x)) e
 
+-- the reply to a finish of a worker without work
 pub idle_finishes : (calls : List Planned) (workers w : ℕ) (ending : Ending) (s : State) → w < workers → s.workers w ≡ None → reply_of calls workers s (h.Finish w ending) ≡ plain (a.Error x.NotRunning)
 idle_finishes calls workers w ending s l e = finish_reply calls workers w ending s None l e
 
@@ -184,6 +195,7 @@ next_is_past calls s k busy due =
     landing terms.timing terms.first (v.fate k).starts s.moment (due k).0
     ∙ (ap (λ d. due_landed terms.timing d s.moment) (sym (due k).1 ∙ ahead) ∙ sym (past_is_landed terms.timing t.due s.moment))
 
+-- the reply to a finish of a worker that works
 pub task_finishes : (calls : List Planned) (workers w k : ℕ) (ending : Ending) (outcome : Outcome) (s : State) → w < workers → s.workers w ≡ Some k → (s.tasks k).phase ≡ ph.Running →
     IsDue calls (view_of_state calls s) → outcome ≡ outcome_in (s.tasks k).cancelled (terms_of calls k).timing (due_past (terms_of calls k).timing (s.tasks k).due s.moment) ending →
     reply_of calls workers s (h.Finish w ending) ≡ plain (a.Finish w k (s.tasks k).run outcome)
@@ -206,6 +218,7 @@ end_keeps (o.Failed code) due t = refl
 end_keeps o.Dropped due t = refl
 end_keeps (o.Again next) due t = refl
 
+-- the state after a finish
 pub finish_state : (calls : List Planned) (made moment w k n : ℕ) (ending : Ending) (outcome : Outcome) (tasks : List Task) (work : List (Option ℕ)) → w < length work → k < length tasks →
     state_at made moment (set tasks k (finish_task (terms_of calls k).timing moment outcome (slice_index_or tasks k vacant))) (set work w None)
     ≡ state_after calls (state_at made moment tasks work) (h.Finish w ending) (plain (a.Finish w k n outcome))

@@ -1,22 +1,27 @@
 -- What contracts see of an executor's core, and the state and history in which it stands.
 -- All of it is this project's rule.
-use Rattle.std.specs.Prelude.{◌≡◌, ◌≢◌, ℕ, ◌+◌, ◌^◌, ◌<◌, ◌≤◌, true, if◌then◌else◌, List, [], ◌++◌, length, map, take, Option, Some, None, slice_index_or}
+use Rattle.std.specs.Prelude.{◌≡◌, ◌≢◌, ℕ, ◌+◌, ◌-◌, ◌<◌, ◌≤◌, true, if◌then◌else◌, List, [], ◌∷◌, ◌++◌, length, map, take, Option, Some, None, slice_index_or}
+use Rattle.sched_time.specs.Times.{longest}
 use Rattle.sched_time.specs.declared.timing.Timing.{Timing}
 use Rattle.sched_time.specs.declared.timing.Timing.TheVariants as t
 use Rattle.executor_core.specs.declared.types.Event.{Event}
 use Rattle.executor_core.specs.declared.types.Happening.{Happening}
 use Rattle.executor_core.specs.declared.types.Line.{Line}
+use Rattle.executor_core.specs.declared.types.EventError.{EventError}
 use Rattle.executor_core.specs.declared.types.Answer.{Answer}
+use Rattle.executor_core.specs.declared.types.Answer.TheVariants as a
 use Rattle.executor_core.specs.declared.types.Outcome.{Outcome}
 use Rattle.executor_core.specs.declared.types.Outcome.TheVariants as o
 use Rattle.executor_core.specs.declared.task.Phase.{Phase}
 use Rattle.executor_core.specs.declared.task.Phase.TheVariants as ph
 use Rattle.executor_core.specs.declared.task.Task.{Task}
 use Rattle.queue_code.specs.Calls.{Planned, IsOrderly, task_count, terms_of, due_at}
+use Rattle.executor_core.specs.Counts.{most_workers}
 use Rattle.executor_core.specs.View.{View}
 use Rattle.executor_core.specs.Histories.{HistoryEntry, happenings, IsHistoryOf}
 use Rattle.executor_core.specs.State.{State, view_of_state, vacant, after, after_from, next, reply_of}
-use Rattle.executor_core.specs.Flows.{part_of, history_from, lines_of, lines_from}
+use Rattle.executor_core.specs.Tasks.{uncancelled_in}
+use Rattle.executor_core.specs.Flows.{happening_of, part_of, history_from, lines_of, lines_from}
 
 -- what contracts see of a core: its plan's calls, how many of them it made, the moment, and its two tables
 pub record Machine : Type 0 where
@@ -43,6 +48,11 @@ state_of m = record {
   tasks = λ k. slice_index_or m.tasks k vacant;
   workers = λ w. slice_index_or m.work w None;
 }
+
+-- how many lines an event adds at most: one of its own, one of each call that is left, and one of each task that
+-- is not cancelled, which the event may end
+abbrev pub room_of : Machine → ℕ
+room_of m = 1 + (length m.calls - m.made) + uncancelled_in m.tasks
 
 -- the core is where the happenings of a history lead
 abbrev pub Stands : Machine → List HistoryEntry → Type 0
@@ -76,6 +86,13 @@ pub record Takes (old new : Machine) (happening : Happening) (answer : Answer) :
 -- the core counted an event, and nothing else changed
 abbrev pub Counts : Machine → Machine → Type 0
 Counts old new = new ≡ record old { taken = old.taken + 1 }
+
+-- where an event is answered by an error, its line is added, and nothing changes but the number of events taken
+-- (this project's rule)
+abbrev pub ErrorOnlyCounts : Machine → Machine → List Line → List Line → Event → Type 0
+ErrorOnlyCounts old new before after_lines event =
+    (error : EventError) → (reply_of old.calls (workers_of old) (state_of old) (happening_of event)).answer ≡ a.Error error
+    → Counts old new × (after_lines ≡ before ++ record { moment = old.moment; answer = a.Error error } ∷ [])
 
 -- after any history in which the core stood, the event's part of the flow is answered as the equations say
 pub record Continues (old new : Machine) (before after_lines : List Line) (event : Event) (past : List HistoryEntry) : Type 0 where
@@ -113,7 +130,7 @@ pub record IsSound (s : State) : Type 0 where
 abbrev pub IsDue : List Planned → View → Type 0
 IsDue calls v = (k : ℕ) → (last : Option ℕ) × ((v.fate k).due ≡ due_at (terms_of calls k) (v.fate k).starts last)
 
--- the run of each task has a number of at most so many, and one under way a lower one
+-- the run of each task has a number of at most `count`, and one under way a lower one
 pub record RunsBelow (count : ℕ) (tasks : List Task) : Type 0 where
   pub all : (k : ℕ) → (slice_index_or tasks k vacant).run ≤ count
   pub begun : (k : ℕ) → (slice_index_or tasks k vacant).phase ≡ ph.Running → (slice_index_or tasks k vacant).run < count
@@ -127,9 +144,9 @@ pub record IsWellFormedCore (m : Machine) (entries : List (Option ℕ)) (timings
   pub orderly : IsOrderly m.calls
   pub made : m.made ≤ length m.calls
   pub some : 0 < workers_of m
-  pub few : workers_of m ≤ 64
+  pub few : workers_of m ≤ most_workers
   pub taken : m.taken ≤ m.limit
-  pub moment : m.moment ≤ 2 ^ 62
+  pub moment : m.moment ≤ longest
   pub count : length m.tasks ≡ task_count m.calls
   pub queue : entries ≡ map queued m.tasks
   -- a table has the timing of each task that was submitted

@@ -1,5 +1,5 @@
 -- When no further run of a task comes.
-use Rattle.std.proofs.Common.{zero, suc, ◌≡◌, ℕ, ◌+◌, ◌-◌, ◌<◌, ◌==◌, ◌&&◌, nat_lt, nat_le, Bool, true, false, cond, ◌⊎◌, inl, inr, List, [], ◌∷◌, ◌++◌, Option, Some, None, refl, sym, ap, ◌∙◌, arith, subst}
+use Rattle.std.proofs.Common.{zero, suc, ◌≡◌, ℕ, ◌+◌, ◌-◌, ◌<◌, ◌==◌, ◌&&◌, Bool, true, false, cond, inl, inr, List, [], ◌∷◌, ◌++◌, Option, Some, None, refl, sym, ap, ◌∙◌, arith, subst}
 use Rattle.std.specs.Prelude.{slice_get, max, not, ◌||◌}
 use Rattle.std.specs.Option.{option_map_or}
 use Rattle.std.proofs.lemmas.Bool.{false≢true, eqb-true, eq-eqb, and_parts, or_cases}
@@ -13,14 +13,13 @@ use Rattle.queue_code.specs.declared.call.CodeCall.TheVariants as c
 use Rattle.executor_core.specs.declared.types.EventError.TheVariants as x
 use Rattle.executor_core.specs.declared.types.Happening.{Happening}
 use Rattle.executor_core.specs.declared.types.Happening.TheVariants as h
-use Rattle.executor_core.specs.declared.types.Outcome.TheVariants as o
 use Rattle.executor_core.specs.declared.types.Answer.{Answer}
 use Rattle.executor_core.specs.declared.types.Answer.TheVariants as a
 use Rattle.queue_code.specs.Calls.{Planned, Terms, numbers, terms_of}
 use Rattle.executor_core.specs.View.{View, is_running, is_over, is_waiting, first_enabled}
 use Rattle.executor_core.specs.Answers.{plain, reply, called, started, finished, outcome_of, due_next, effect_on, outcome_in}
-use Rattle.executor_core.specs.Histories.{HistoryEntry, IsHistoryOf, view_of_history, happenings, is_submit, is_start, is_finish, is_finish_with, is_done, is_failed, starts, finishes, was_accepted, was_done, was_failed, is_cancel, was_cancelled}
-use Rattle.executor_laws.specs.Laws.{Starts, NothingStartsOnceDone, OneShotsRunOnce, OneShotsStartOnce, RunsAreNumbered, IllegalTasksDoNotStart}
+use Rattle.executor_core.specs.Histories.{HistoryEntry, IsHistoryOf, view_of_history, is_submit, is_start, is_finish, is_finish_with, is_done, is_failed, starts, finishes, was_accepted, was_done, was_failed, is_cancel, was_cancelled}
+use Rattle.executor_laws.specs.Laws.{NothingStartsOnceDone, OneShotsRunOnce, OneShotsStartOnce, RunsAreNumbered, IllegalTasksDoNotStart}
 use Rattle.executor_laws.specs.Positions.{IsSubmissionOf}
 use Rattle.executor_core.proofs.Tables.{submission}
 use Rattle.executor_laws.proofs.StartLaws.{means_front}
@@ -43,6 +42,7 @@ done_stays k (e ∷ between) past q =
     let pick : (b : Bool) → (b || was_done k (between ++ past)) ≡ true = elim [ true ↦ refl | false ↦ rest ] in
     pick (is_finish_with is_done k e.answer)
 
+-- the law that a task that is done does not start again
 pub nothing_starts_once_done : NothingStartsOnceDone
 nothing_starts_once_done calls workers past between finish start v w k m n d value s is =
     let on = on_of calls (between ++ finish ∷ past) k (started_so calls workers (between ++ finish ∷ past) start w k n d s).waiting in
@@ -138,6 +138,7 @@ over_of calls workers (e ∷ past) k m once l =
     there false false false d false true q = or_true d
     there false false false d false false q = absurd (false≢true q)
 
+-- the law that a one-shot task has run 0 alone
 pub one_shots_run_once : OneShotsRunOnce
 one_shots_run_once calls workers past e w k n d place moment delay orderly is s =
     let start = started_so calls workers past e w k n d s in
@@ -157,9 +158,11 @@ one_shots_run_once calls workers past e w k n d place moment delay orderly is s 
     over_on true q r = false≢true r
     over_on false q r = false≢true q
 
+-- the law that a run has the number of the starts before it
 pub runs_are_numbered : RunsAreNumbered
 runs_are_numbered calls workers past e w k n d s = (started_so calls workers past e w k n d s).run
 
+-- the law that a one-shot task starts once
 pub one_shots_start_once : OneShotsStartOnce
 one_shots_start_once calls workers past between first second v w k m n d f place moment delay orderly is s start =
     let none = (one_shots_run_once calls workers (between ++ first ∷ past) second w k n d place moment delay orderly is s).0 in
@@ -201,6 +204,7 @@ was_legal calls workers (e ∷ past) k m q = elim (or_cases (is_submit k e.answe
   | inr there ↦ was_legal calls workers past k m.0 there
 ]
 
+-- the law that an illegal task does not start
 pub illegal_tasks_do_not_start : IllegalTasksDoNotStart
 illegal_tasks_do_not_start calls workers past e w k n d place moment orderly is s =
     let fate = (view_of_history calls past).fate k in

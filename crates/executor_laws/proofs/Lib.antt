@@ -5,3 +5,4 @@ pub mod Reading
 pub mod Waiting
 pub mod Repeats
 pub mod Endings
+pub mod TaskWords

@@ -23,6 +23,7 @@ use Rattle.executor_core.proofs.First.{first_is, first_is_in, first_is_least, fi
 
 -- the first enabled task
 
+-- the law that the first enabled task is the least one
 pub first_is_the_least : FirstIsTheLeast
 first_is_the_least calls v k = (
   λ q. record {
@@ -38,6 +39,7 @@ not_true : (b : Bool) → (b ≡ true → ⊥) → b ≡ false
 not_true true n = absurd (n refl)
 not_true false n = refl
 
+-- the law that there is no first task exactly when none is enabled
 pub none_is_enabled : NoneIsEnabled
 none_is_enabled calls v = (
   λ q j l. not_true (is_enabled v j) (λ e. none_enabled v (numbers calls) j q (in_range 0 (task_count calls) j (omega arith) (omega arith)) e),
@@ -62,16 +64,17 @@ call_tells calls v (c.Submit task timing delay) w work = tt
 call_tells calls v (c.Illegal task) w work = tt
 call_tells calls v (c.Cancel task) w work = tt
 
-pub tells : (calls : List Planned) (workers : ℕ) (v : View) (y : Happening) (w : ℕ) → Told w (v.work w) (reply calls workers v y).answer
-tells calls workers v h.Call w =
+-- what a reply says of the work of a worker
+pub work_is_told : (calls : List Planned) (workers : ℕ) (v : View) (y : Happening) (w : ℕ) → Told w (v.work w) (reply calls workers v y).answer
+work_is_told calls workers v h.Call w =
     let pick : (q : Option Planned) → Told w (v.work w) (option_map_or (λ p. called calls (record v { moment = max v.moment p.0 }) p.1) q (plain a.Clock)).answer =
     elim [ None ↦ tt | Some p ↦ call_tells calls (record v { moment = max v.moment p.0 }) p.1 w (v.work w) ]
     in
     pick (slice_get calls v.made)
-tells calls workers v (h.Clock t) w =
+work_is_told calls workers v (h.Clock t) w =
     let pick : (b c : Bool) → Told w (v.work w) (cond b (a.Error x.Backward) (cond c (a.Error x.TooFar) a.Clock)) = elim [ true ↦ λ c. tt | false ↦ elim [ true ↦ tt | false ↦ tt ] ] in
     pick _ _
-tells calls workers v (h.Start u) w =
+work_is_told calls workers v (h.Start u) w =
     let first : (q : Option ℕ) → v.work u ≡ None → Told w (v.work w) (started v u q) =
     elim [ None ↦ λ free. tt | Some k ↦ λ free. λ same. subst (λ i. v.work i ≡ None) (eqb-true u w same) free ]
     in
@@ -79,18 +82,18 @@ tells calls workers v (h.Start u) w =
     elim [ true ↦ elim [ None ↦ λ free. first (first_enabled v (numbers calls)) free | Some k ↦ λ taken. tt ] | false ↦ λ q is. tt ]
     in
     pick (nat_lt u workers) (v.work u) refl
-tells calls workers v (h.Finish u ending) w =
+work_is_told calls workers v (h.Finish u ending) w =
     let pick : (b : Bool) (q : Option ℕ) → v.work u ≡ q → Told w (v.work w) (cond b (finished calls v u ending q) (a.Error x.NoWorker)) =
     elim [ true ↦ elim [ None ↦ λ is. tt | Some k ↦ λ is. λ same. subst (λ i. v.work i ≡ Some k) (eqb-true u w same) is ] | false ↦ λ q is. tt ]
     in
     pick (nat_lt u workers) (v.work u) refl
-tells calls workers v (h.Cancel k) w =
+work_is_told calls workers v (h.Cancel k) w =
     let pick : (b : Bool) → Told w (v.work w) (cond b (a.Outside k (effect_on (v.fate k))) (a.Error x.NoTask)) = elim [ true ↦ tt | false ↦ tt ] in
     pick _
 
 -- the same of an entry in a history
 entry_tells : (calls : List Planned) (workers : ℕ) (past : List HistoryEntry) (e : HistoryEntry) (w : ℕ) → IsHistoryOf calls workers (e ∷ past) → Told w (work_of w past) e.answer
-entry_tells calls workers past e w m = subst (Told w (work_of w past)) (sym m.2) (tells calls workers (view_of_history calls past) e.happening w)
+entry_tells calls workers past e w m = subst (Told w (work_of w past)) (sym m.2) (work_is_told calls workers (view_of_history calls past) e.happening w)
 
 -- a start that stands behind one entry more
 behind : (past : List HistoryEntry) (f : HistoryEntry) (w k : ℕ) → finishes_by w f.answer ≡ false → StartedLast past w k → StartedLast (f ∷ past) w k
@@ -185,6 +188,7 @@ works_since calls workers (f ∷ later) before e w k n d m start unended =
     let parts = none_of_parts (finishes_by w f.answer) (list_any (λ g. finishes_by w g.answer) later) unended in
     keeps w k f.answer (work_of w (later ++ e ∷ before)) (entry_tells calls workers (later ++ e ∷ before) f w m) parts.0 (works_since calls workers later before e w k n d m.0 start parts.1)
 
+-- the law that a worker's task is that of its last start
 pub work_is_the_last_start : WorkIsTheLastStart
 work_is_the_last_start calls workers past w k m = (
   last_start past w k,
@@ -212,6 +216,7 @@ one_more w a.Clock work n m told is = is
 one_more w (a.Idle u) work n m told is = is
 one_more w (a.Error y) work n m told is = is
 
+-- the law that a worker that works started once more than it finished
 pub starts_exceed_finishes : StartsExceedFinishes
 starts_exceed_finishes calls workers [] w m = refl
 starts_exceed_finishes calls workers (e ∷ past) w m =
@@ -316,6 +321,7 @@ now_shown calls workers (e ∷ past) m =
     in
     go e.happening refl
 
+-- the law that now is the greatest moment of the calls made and the accepted clocks
 pub now_is_the_greatest : NowIsTheGreatest
 now_is_the_greatest calls workers past m = (
   λ t s. subst (λ l. t ≤ now_of calls (happenings l)) (sym s.parts) (below_now calls workers s.later s.before s.e t (subst (IsHistoryOf calls workers) s.parts m) s.moment),

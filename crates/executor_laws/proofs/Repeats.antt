@@ -1,11 +1,10 @@
 -- What holds of the runs of a task that runs more than once.
-use Rattle.std.proofs.Common.{suc, ◌≡◌, ℕ, ◌+◌, ◌*◌, ◌-◌, ◌<◌, ◌≤◌, ◌==◌, ◌&&◌, nat_lt, nat_le, Bool, true, false, cond, ◌⊎◌, inl, inr, List, [], ◌∷◌, ◌++◌, Option, Some, None, refl, sym, ap, ◌∙◌, arith, subst}
+use Rattle.std.proofs.Common.{◌≡◌, ℕ, ◌+◌, ◌*◌, ◌-◌, ◌<◌, ◌≤◌, ◌==◌, ◌&&◌, nat_lt, nat_le, Bool, true, false, cond, inl, inr, List, [], ◌∷◌, ◌++◌, Option, Some, None, refl, sym, ap, ◌∙◌, arith}
 use Rattle.std.specs.Prelude.{slice_get, max, not, ◌||◌}
 use Rattle.std.specs.Option.{option_map_or}
 use Rattle.std.specs.List.{list_any}
-use Rattle.std.proofs.lemmas.Bool.{false≢true, eqb-true, eq-eqb, and_parts, or_parts, or_cases}
+use Rattle.std.proofs.lemmas.Bool.{false≢true, eqb-true, eq-eqb, and_parts, or_parts}
 use Rattle.std.proofs.lemmas.Bool.Decides.{nat_tests}
-use Rattle.std.proofs.lemmas.Option.{none-some, same_Some}
 use Rattle.sched_time.specs.declared.timing.Timing.{Timing}
 use Rattle.sched_time.specs.declared.timing.Timing.TheVariants as t
 use Rattle.sched_time.specs.declared.timing.Ending.{Ending}
@@ -17,32 +16,30 @@ use Rattle.executor_core.specs.declared.types.Happening.{Happening}
 use Rattle.executor_core.specs.declared.types.Happening.TheVariants as h
 use Rattle.executor_core.specs.declared.types.CancelEffect.{CancelEffect}
 use Rattle.executor_core.specs.declared.types.CancelEffect.TheVariants as f
-use Rattle.executor_core.specs.declared.types.Outcome.{Outcome}
 use Rattle.executor_core.specs.declared.types.Outcome.TheVariants as o
-use Rattle.executor_core.specs.declared.types.Answer.{Answer}
 use Rattle.executor_core.specs.declared.types.Answer.TheVariants as a
-use Rattle.queue_code.specs.Calls.{Planned, Terms, how_many, numbers, task_count, terms_of, due_at}
-use Rattle.executor_core.specs.View.{View, is_running, is_over, is_waiting, precedes, first_enabled}
+use Rattle.queue_code.specs.Calls.{Planned, Terms, numbers, task_count, terms_of, due_at}
+use Rattle.executor_core.specs.View.{View, is_running, is_over, is_waiting, first_enabled}
 use Rattle.executor_core.specs.Answers.{plain, reply, called, started, finished, outcome_of, due_next, effect_on, outcome_in}
-use Rattle.executor_core.specs.Histories.{HistoryEntry, IsHistoryOf, view_of_history, happenings, now_of, is_cancel, is_yes, is_start, is_finish, is_finish_with, is_failed, starts, finishes, last_finish, was_cancelled, was_failed, due_of}
+use Rattle.executor_core.specs.Histories.{HistoryEntry, view_of_history, happenings, now_of, is_cancel, is_yes, is_start, is_finish, is_finish_with, is_failed, starts, finishes, last_finish, was_cancelled, was_failed, due_of}
 use Rattle.executor_laws.specs.Laws.{Starts, TiesGoBySubmission, RateRunsAreDue, FixedRunsAreDue, AgainIsDue, RunsDoNotOverlap, NothingStartsAfterAFailure, NothingStartsAfterACancel, CancelsHaveOneEffect}
-use Rattle.executor_laws.specs.Positions.{FinishedLast}
 use Rattle.executor_core.proofs.Tables.{submission}
 use Rattle.executor_core.proofs.Sound.{first_is_enabled}
-use Rattle.executor_core.proofs.Starting.{StartsFirst}
-use Rattle.executor_laws.proofs.StartLaws.{says, starts_are_in_order, means_front}
+use Rattle.executor_laws.proofs.StartLaws.{start_is_first, starts_are_in_order, means_front}
 use Rattle.executor_laws.proofs.Waiting.{finish_found}
 
 -- what a start says of its task: it waited, its run has the number of the starts before, and it was due
 
+-- what a start says of its task: it waited, its run has the number of the starts before it, and it was due
 pub record Started (calls : List Planned) (past : List HistoryEntry) (k n d : ℕ) : Type 0 where
   pub waiting : is_waiting ((view_of_history calls past).fate k) ≡ true
   pub run : n ≡ starts k past
   pub due : d ≡ due_of calls past k
 
+-- a start in a history says that of its task
 pub started_so : (calls : List Planned) (workers : ℕ) (past : List HistoryEntry) (e : HistoryEntry) (w k n d : ℕ) → Starts calls workers past e w k n d → Started calls past k n d
 started_so calls workers past e w k n d s =
-    let said = says calls workers past e w k n d s in
+    let said = start_is_first calls workers past e w k n d s in
     let v = view_of_history calls past in
     record {
       waiting = (and_parts (is_waiting (v.fate k)) (nat_le (v.fate k).due v.moment) (first_is_enabled v (numbers calls) k said.first)).0;
@@ -78,6 +75,7 @@ waits_on calls past k q =
 
 -- ties
 
+-- the law on tasks that are due at the same moment
 pub ties_go_by_submission : TiesGoBySubmission
 ties_go_by_submission calls workers past e w k n d j s below enabled same =
     let due = (started_so calls workers past e w k n d s).due in
@@ -91,9 +89,11 @@ ties_go_by_submission calls workers past e w k n d j s below enabled same =
 
 -- due moments
 
+-- the due moment of a task by its terms
 pub due_by : (calls : List Planned) (past : List HistoryEntry) (k : ℕ) (terms : Terms) → terms_of calls k ≡ terms → due_of calls past k ≡ due_at terms (starts k past) (last_finish calls k past)
 due_by calls past k terms e = ap (λ x. due_at x (starts k past) (last_finish calls k past)) e
 
+-- the law on the due moments of a task at a fixed rate
 pub rate_runs_are_due : RateRunsAreDue
 rate_runs_are_due calls workers past e w k n d place moment initial period o is s =
     let start = started_so calls workers past e w k n d s in
@@ -118,6 +118,7 @@ no_finish calls k (e ∷ past) q =
     in
     pick (is_finish k e.answer) q
 
+-- the law on the due moments of a task with a fixed delay
 pub fixed_runs_are_due : FixedRunsAreDue
 fixed_runs_are_due calls workers past e w k n d place moment initial delay o is s =
     let start = started_so calls workers past e w k n d s in
@@ -174,6 +175,7 @@ again_says calls workers v (h.Cancel j) w k n d q =
     let other : (b : Bool) → cond b (a.Outside j (effect_on (v.fate j))) (a.Error x.NoTask) ≡ a.Finish w k n (o.Again d) → ⊥ = elim [ true ↦ λ q. cc | false ↦ λ q. cc ] in
     absurd (other _ q)
 
+-- the law that the due moment of a finish is that of the next run
 pub again_is_due : AgainIsDue
 again_is_due calls workers past e w k n d m is =
     let v = view_of_history calls past in
@@ -184,6 +186,7 @@ again_is_due calls workers past e w k n d m is =
 
 -- overlaps
 
+-- a longer history has as many starts of a task at least
 pub starts_grow : (k : ℕ) (between past : List HistoryEntry) → starts k past ≤ starts k (between ++ past)
 starts_grow k [] past = omega arith
 starts_grow k (e ∷ between) past =
@@ -197,6 +200,7 @@ finishes_stay k (e ∷ between) past q =
     let parts = or_parts (is_finish k e.answer) (list_any (λ f. is_finish k f.answer) between) q in
     ap (λ b. cond b (1 + finishes k (between ++ past)) (finishes k (between ++ past))) parts.0 ∙ finishes_stay k between past parts.1
 
+-- the law that the finish of a task stands between two starts of it
 pub runs_do_not_overlap : RunsDoNotOverlap
 runs_do_not_overlap calls workers past between first second v w k m n d f s is =
     let any = list_any (λ e. is_finish k e.answer) between in
@@ -222,6 +226,7 @@ failed_stays k (e ∷ between) past q =
     let pick : (b : Bool) → (b || was_failed k (between ++ past)) ≡ true = elim [ true ↦ refl | false ↦ rest ] in
     pick (is_finish_with is_failed k e.answer)
 
+-- the law that a task that failed does not start again
 pub nothing_starts_after_a_failure : NothingStartsAfterAFailure
 nothing_starts_after_a_failure calls workers past between finish start v w k m n d code s is =
     let waits = waits_on calls (between ++ finish ∷ past) k (started_so calls workers (between ++ finish ∷ past) start w k n d s).waiting in
@@ -237,6 +242,7 @@ cancelled_stays k (e ∷ between) past q =
     let pick : (b : Bool) → (b || was_cancelled k (between ++ past)) ≡ true = elim [ true ↦ refl | false ↦ rest ] in
     pick (is_cancel k e.answer)
 
+-- the law that a cancelled task does not start again
 pub nothing_starts_after_a_cancel : NothingStartsAfterACancel
 nothing_starts_after_a_cancel calls workers past between cancel start w k n d s is =
     let live = waits_live calls (between ++ cancel ∷ past) k (started_so calls workers (between ++ cancel ∷ past) start w k n d s).waiting in
@@ -294,6 +300,7 @@ cancel_says calls workers v (h.Cancel j) k =
     in
     pick (nat_lt j (task_count calls))
 
+-- the law that one cancel of a task at most has an effect
 pub cancels_have_one_effect : CancelsHaveOneEffect
 cancels_have_one_effect calls workers past between first second k m one other =
     let before = between ++ first ∷ past in

@@ -1,28 +1,27 @@
 -- The tasks that wait, and the last finish of a task, read by position.
-use Rattle.std.proofs.Common.{◌≡◌, ℕ, ◌+◌, ◌<◌, ◌≤◌, ◌==◌, Bool, true, false, cond, inl, inr, List, [], ◌∷◌, ◌++◌, Option, Some, None, refl, sym, ap, ◌∙◌, arith, subst}
-use Rattle.std.specs.Prelude.{slice_get, max, not, ◌^◌, ◌&&◌, ◌||◌}
+use Rattle.std.proofs.Common.{◌≡◌, ℕ, ◌<◌, ◌≤◌, Bool, true, false, cond, inl, inr, List, [], ◌∷◌, ◌++◌, Option, Some, None, refl, sym, ap, ◌∙◌, arith, subst}
+use Rattle.std.specs.Prelude.{slice_get, max, not, ◌&&◌, ◌||◌}
 use Rattle.std.specs.Option.{option_map_or}
 use Rattle.std.specs.List.{list_any}
 use Rattle.std.proofs.lemmas.Bool.{false≢true, eqb-true, and_parts, or_cases, or_parts, or_from}
 use Rattle.std.proofs.lemmas.Option.{none-some, same_Some}
-use Rattle.sched_time.specs.declared.timing.Timing.{Timing}
-use Rattle.sched_time.specs.declared.timing.Timing.TheVariants as t
 use Rattle.queue_code.specs.declared.call.CodeCall.{CodeCall}
 use Rattle.queue_code.specs.declared.call.CodeCall.TheVariants as c
 use Rattle.executor_core.specs.declared.types.EventError.TheVariants as x
 use Rattle.executor_core.specs.declared.types.Happening.{Happening}
 use Rattle.executor_core.specs.declared.types.Happening.TheVariants as h
 use Rattle.executor_core.specs.declared.types.Answer.TheVariants as a
-use Rattle.queue_code.specs.Calls.{Planned, Terms, IsOrderlyCall, IsOrderlyFrom, count_after, numbers, terms_of, terms_in, due_at}
+use Rattle.queue_code.specs.Calls.{Planned, numbers}
 use Rattle.executor_core.specs.View.{View, is_running, is_over, first_enabled}
 use Rattle.executor_core.specs.Answers.{plain, reply, called, started, finished, moment_after, effect_on}
-use Rattle.executor_core.specs.Histories.{HistoryEntry, IsHistoryOf, view_of_history, happenings, made, now_of, is_submit, is_finish, was_accepted, starts, last_finish}
+use Rattle.executor_core.specs.Histories.{HistoryEntry, IsHistoryOf, view_of_history, happenings, made, now_of, is_submit, is_finish, was_accepted, last_finish}
 use Rattle.executor_laws.specs.Positions.{IsSubmissionOf, WasSubmitted, WaitingIsATask, WaitingIsDueInTime, FinishedLast, LastFinishIsTheLast, FinishKeepsNow}
 use Rattle.executor_laws.proofs.Reading.{tasks_are_submitted}
 use Rattle.executor_core.proofs.Within.{dues_within}
 
 -- what an answer that submits a task says of what happened
 
+-- what an answer that submits a task says of the next call
 pub record Submits (calls : List Planned) (v : View) (happening : Happening) (k : ℕ) : Type 0 where
   pub call : Planned
   pub is : happening ≡ h.Call
@@ -34,6 +33,7 @@ call_submits calls v (c.Submit task timing delay) k q = eqb-true task k q
 call_submits calls v (c.Illegal task) k q = absurd (false≢true q)
 call_submits calls v (c.Cancel task) k q = absurd (false≢true q)
 
+-- an answer that submits a task is that of a call that does
 pub submit_says : (calls : List Planned) (workers : ℕ) (v : View) (y : Happening) (k : ℕ) → is_submit k (reply calls workers v y).answer ≡ true → Submits calls v y k
 submit_says calls workers v h.Call k q =
     let pick : (o : Option Planned) → slice_get calls v.made ≡ o → is_submit k (option_map_or (λ p. called calls (record v { moment = max v.moment p.0 }) p.1) o (plain a.Clock)).answer ≡ true → Submits calls v h.Call k =
@@ -89,6 +89,7 @@ was_submitted calls workers (e ∷ past) k m q = elim (or_cases (is_submit k e.a
   | inr there ↦ submitted_behind calls e.happening (happenings past) k (was_submitted calls workers past k m.0 there)
 ]
 
+-- the law that a task that waits is one of the plan
 pub waiting_is_a_task : WaitingIsATask
 waiting_is_a_task calls workers past k o m q =
     let fate = (view_of_history calls past).fate k in
@@ -97,6 +98,7 @@ waiting_is_a_task calls workers past k o m q =
 
 -- when a task is due
 
+-- the law that a task that waits is due within 2^63
 pub waiting_is_due_in_time : WaitingIsDueInTime
 waiting_is_due_in_time calls workers past k o m q = dues_within calls workers past o m k
 
@@ -114,6 +116,7 @@ finished_behind calls past f k t other s = record {
   moment = s.moment;
 }
 
+-- where a last finish is known, it stands in the history
 pub finish_found : (calls : List Planned) (k : ℕ) (past : List HistoryEntry) (t : ℕ) → last_finish calls k past ≡ Some t → FinishedLast calls past k t
 finish_found calls k [] t q = absurd (none-some t q)
 finish_found calls k (e ∷ past) t q =
@@ -149,6 +152,7 @@ no_last_finish calls k (e ∷ past) q =
     in
     pick (is_finish k e.answer) q
 
+-- the law that the last finish is the one with no other after it
 pub last_finish_is_the_last : LastFinishIsTheLast
 last_finish_is_the_last calls past k = (
   λ t. (
@@ -178,6 +182,7 @@ finish_keeps calls workers v (h.Start w) k now call q = refl
 finish_keeps calls workers v (h.Finish w ending) k now call q = refl
 finish_keeps calls workers v (h.Cancel j) k now call q = refl
 
+-- the law that a finish does not move now
 pub finish_keeps_now : FinishKeepsNow
 finish_keeps_now calls workers past e k m q =
     finish_keeps calls workers (view_of_history calls past) e.happening k (now_of calls (happenings past)) (slice_get calls (made (happenings past))) (sym (ap (is_finish k) m.2) ∙ q)

@@ -1,7 +1,8 @@
 -- What the definitions by recursion say of the positions in a history.
 -- All of it is this project's rule.
-use Rattle.std.specs.Prelude.{◌≡◌, ℕ, ◌+◌, ◌<◌, ◌≤◌, ◌==◌, Bool, true, false, List, ◌∷◌, ◌++◌, ◌⊎◌, ◌↔◌, ◌^◌, not, length, map, take, replicate, Option, Some, None, slice_get}
+use Rattle.std.specs.Prelude.{◌≡◌, ℕ, ◌+◌, ◌<◌, ◌≤◌, ◌==◌, Bool, true, false, List, ◌∷◌, ◌++◌, ◌⊎◌, ◌↔◌, not, length, map, take, replicate, Option, Some, None, slice_get}
 use Rattle.std.specs.List.{list_any, filter}
+use Rattle.sched_time.specs.Times.{longest}
 use Rattle.sched_time.specs.declared.timing.Timing.{Timing}
 use Rattle.queue_code.specs.declared.call.CodeCall.{CodeCall}
 use Rattle.queue_code.specs.declared.call.CodeCall.TheVariants as c
@@ -14,6 +15,7 @@ use Rattle.executor_core.specs.declared.types.Answer.TheVariants as a
 use Rattle.queue_code.specs.Calls.{Planned, how_many, numbers, task_count, IsOrderly, terms_of}
 use Rattle.executor_core.specs.View.{View, is_waiting, is_enabled, precedes, first_enabled}
 use Rattle.executor_core.specs.Histories.{HistoryEntry, IsHistoryOf, MayCome, happenings, is_call, is_finish, last_finish, view_of_history, made, now_of, work_of}
+use Rattle.executor_core.specs.Within.{latest_due}
 use Rattle.executor_core.specs.Flows.{reached, flow, happening_of}
 
 -- the work of a worker
@@ -144,9 +146,9 @@ FlowKeepsTheEvents = (calls : List Planned) (events : List Event) → filter is_
 
 -- the event is a clock that shows t, and after these happenings it is accepted
 abbrev pub IsAcceptedClock : List Planned → List Happening → Event → ℕ → Type 0
-IsAcceptedClock calls past event t = (event ≡ v.Clock t) × (now_of calls past ≤ t) × (t ≤ 2 ^ 62)
+IsAcceptedClock calls past event t = (event ≡ v.Clock t) × (now_of calls past ≤ t) × (t ≤ longest)
 
--- so many calls are made between some happenings and an event: before an accepted clock those that are not
+-- `count` calls are made between some happenings and an event: before an accepted clock those that are not
 -- made yet and whose moment is at most its own, and before any other event none
 pub record IsMadeBefore (calls : List Planned) (past : List Happening) (event : Event) (count : ℕ) : Type 0 where
   pub within : made past + count ≤ length calls
@@ -180,10 +182,10 @@ abbrev pub WaitingIsATask : Type 0
 WaitingIsATask = (calls : List Planned) (workers : ℕ) (past : List HistoryEntry) (k : ℕ) → IsOrderly calls → IsHistoryOf calls workers past
     → is_waiting ((view_of_history calls past).fate k) ≡ true → (k < task_count calls) × WasSubmitted calls (happenings past) k
 
--- a task that waits is due within twice the limit of a moment
+-- a task that waits is not due later than the latest due moment
 abbrev pub WaitingIsDueInTime : Type 0
 WaitingIsDueInTime = (calls : List Planned) (workers : ℕ) (past : List HistoryEntry) (k : ℕ) → IsOrderly calls → IsHistoryOf calls workers past
-    → is_waiting ((view_of_history calls past).fate k) ≡ true → ((view_of_history calls past).fate k).due ≤ 2 ^ 63
+    → is_waiting ((view_of_history calls past).fate k) ≡ true → ((view_of_history calls past).fate k).due ≤ latest_due
 
 -- the last finish of a task
 

@@ -19,15 +19,19 @@ use Rattle.executor_core.proofs.Flowing.{how_many-le, history_more}
 
 -- what is counted is at most as long as the history
 
+-- no more calls were made than there are entries
 pub made_le : (past : List Past) → made (happenings (history past)) ≤ length past
 made_le past = omega (arith, how_many-le is_call (happenings (history past)), length-map (history past) (λ (e : HistoryEntry). e.happening), length-map past entry)
 
+-- a task has started no more often than there are entries
 pub starts_le : (k : ℕ) (past : List Past) → starts k (history past) ≤ length past
 starts_le k past = omega (arith, how_many-le (λ (e : HistoryEntry). is_start k e.answer) (history past), length-map past entry)
 
+-- a task has finished no more often than there are entries
 pub finishes_le : (k : ℕ) (past : List Past) → finishes k (history past) ≤ length past
 finishes_le k past = omega (arith, how_many-le (λ (e : HistoryEntry). is_finish k e.answer) (history past), length-map past entry)
 
+-- no more tasks are submitted than there are calls
 pub task_count_le : (calls : List Planned) → task_count calls ≤ length calls
 task_count_le calls = how_many-le (λ (p : Planned). is_submission p.1) calls
 

@@ -20,6 +20,7 @@
 #![tactic(auto)]
 
 mod call;
+mod equality;
 mod limits;
 mod order;
 

@@ -1,7 +1,7 @@
 use Rattle.std.proofs.Common.{◌≡◌, None, rules}
 use Rattle.std.specs.Prelude.{replicate}
 use Rattle.sched_time.specs.declared.timing.Timing.TheVariants as t
-use Rattle.executor_core.proofs.Opens.{opens, opening_kept}
+use Rattle.executor_core.proofs.Opens.{opening_is, opening_kept}
 use Rattle.executor_core.proofs.machine.Core.with_tables.Goals as goal
 
 pub invariant_of-result : goal.invariant_of-result
@@ -15,4 +15,4 @@ invariant_of-result g c =
 pub returns : goal.returns
 returns g c =
     let work : c.in_ok-work.work.items ≡ replicate c.args.workers None = c.in_ok-work.ensures.items_if_clones_equal (search rules) in
-    opens c.args.calls.items c.args.count c.args.workers c.args.limit c.in_ok-tasks.tasks c.in_ok-work.work.items c.in_ok-tasks.ensures work
+    opening_is c.args.calls.items c.args.count c.args.workers c.args.limit c.in_ok-tasks.tasks c.in_ok-work.work.items c.in_ok-tasks.ensures work
