@@ -99,7 +99,7 @@ meets_all calls s (a.Cancel j effect) sound found says k = λ q yes. subst (λ i
 meets_all calls s (a.Outside j effect) sound found says k = λ q yes. subst (λ i. is_live (word_phase (s.tasks i).phase) ≡ true) (eqb-true j k q) (live_of (terms_of calls j) (s.tasks j) (sym says ∙ yes))
 meets_all calls s (a.Start u j run due) sound found says k = λ q. subst (λ i. ((s.tasks i).phase ≡ ph.Waiting) × ((s.tasks i).cancelled ≡ false)) (eqb-true j k q) (found.1, found.2)
 meets_all calls s (a.Finish u j run outcome) sound found says k =
-    λ q. subst (λ i. ((s.tasks i).phase ≡ ph.Running) × ((s.tasks i).cancelled ≡ true → outcome ≡ o.Dropped)) (eqb-true j k q) (sound.at_work u j reply_finds.0, says)
+    λ q. subst (λ i. ((s.tasks i).phase ≡ ph.Running) × ((s.tasks i).cancelled ≡ true → outcome ≡ o.Dropped)) (eqb-true j k q) (sound.at_work u j found.0, says)
 meets_all calls s _ sound found says k = tt
 
 meets : (calls : List Planned) (workers : ℕ) (s : State) (happening : Happening) → IsSound s → (k : ℕ) → Meets k (s.tasks k) (reply_of calls workers s happening).answer

@@ -19,7 +19,8 @@
 //! # Memory, errors and cost
 //!
 //! `trace` takes memory for the history and for the lines, and fails where there is none. `answer_after` takes none.
-//! Each answer costs at least the square of the length of the history before it: it is slow, and for tests.
+//! An answer to a start goes over the whole history once and more for each task, and each other one a few times: it
+//! is slow, and for tests.
 #![tactic(auto)]
 
 mod equality;
