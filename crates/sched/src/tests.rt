@@ -43,7 +43,7 @@ fn spells_each_fault(rt: HostRuntime) -> Result<(), Fail> {
         assert_eq!(rt; said.as_str(), text);
         assert_eq!(rt; fault.status(), 1);
     }
-    assert_eq!(rt; Fault::Words.status(), 2);
+    assert_eq!(rt; Fault::Arguments.status(), 2);
     Ok(())
 }
 
