@@ -9,7 +9,7 @@ use std::alloc::{AllocError, Global};
 
 /// What the help says below the commands: the exit statuses.
 const STATUSES: &str = "\
-'sched run --help' tells what a plan, an event and a trace view_of_history like.
+'sched run --help' tells what a plan, an event and a trace look like.
 
 Exit status:
   0  done
