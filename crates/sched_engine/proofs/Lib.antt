@@ -1,5 +1,6 @@
 pub mod Ranges
 pub mod Newlines
+pub mod Refusals
 pub mod Runs
 pub mod Inputs
 pub mod Turns

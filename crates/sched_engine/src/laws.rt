@@ -1,5 +1,5 @@
 //! What holds of each input, over the definitions alone.
-ghost use Rattle.sched_engine.specs.Running.{EventsAreOne, FrontIsOne};
+ghost use Rattle.sched_engine.specs.Inputs.{EventsAreOne, FrontIsOne};
 
 /// A text is the lines of one list of events and of no other.
 pub fn events_are_one()

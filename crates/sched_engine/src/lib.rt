@@ -1,13 +1,14 @@
 //! The engine: event lines in, trace lines out.
 #![tactic(auto)]
 
+mod answering;
 mod ends;
 #[cfg(test)]
 mod ends_tests;
 mod engine;
 mod held;
 mod laws;
-mod lines;
+mod front;
 mod memory;
 mod readers;
 mod report;
