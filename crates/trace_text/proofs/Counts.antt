@@ -47,7 +47,8 @@ number_short n h = length-decimal-le 20 n (omega arith) (omega arith) h
 worker_short : (n : ℕ) → n < 2 ^ 8 → length (decimal n) ≤ 3
 worker_short n h = length-decimal-le 3 n (omega arith) (omega arith) (omega arith)
 
-code_short : (n : ℕ) → n < 2 ^ 32 → length (decimal n) ≤ 10
+-- a number below 2^32 has at most 10 digits
+pub code_short : (n : ℕ) → n < 2 ^ 32 → length (decimal n) ≤ 10
 code_short n h = length-decimal-le 10 n (omega arith) (omega arith) (omega arith)
 
 numbered : (n : ℕ) → length (decimal n ++ codes "\n") ≡ length (decimal n) + 1

@@ -10,7 +10,7 @@ use executor_core::Line;
 use std::alloc::Allocator;
 
 /// How many bytes of room are enough for any line of a trace. The longest has 104, with its newline.
-pub const LINE_ROOM: usize = 160;
+pub const LINE_ROOM: usize = 128;
 
 /// Appends the text of lines, each with its newline. An `Err` leaves the text of a front of them, one line less at least, and
 /// does not come where there is room for [`LINE_ROOM`] bytes a line. The capacity never falls.
@@ -36,14 +36,44 @@ pub fn write_line<A: Allocator>(out: &mut Vec<u8, A>, line: &Line) -> Result<(),
     ensures keeps { vec_capacity out.old ≤ vec_capacity out.new }
     ensures len { vec_len out.new ≤ vec_len out.old + LINE_ROOM }
 {
-    let at = out.len();
+    if out.capacity() - out.len() < LINE_ROOM {
+        return write_line_with_more_room(out, line);
+    }
+    write_line_with_room(out, line);
+    Ok(())
+}
+
+/// Appends the text of a line, where more memory is wanted for it.
+#[cold]
+fn write_line_with_more_room<A: Allocator>(
+    out: &mut Vec<u8, A>,
+    line: &Line,
+) -> Result<(), TextError>
+    requires { vec_capacity out.old < vec_len out.old + LINE_ROOM }
+    ensures ok { OnOk result (out.new.items ≡ out.old.items ++ line_text line.now) }
+    ensures err { OnErr result (out.new.items ≡ out.old.items) }
+    ensures keeps { vec_capacity out.old ≤ vec_capacity out.new }
+    ensures len { vec_len out.new ≤ vec_len out.old + LINE_ROOM }
+{
     out.reserve(LINE_ROOM)?;
+    write_line_with_room(out, line);
+    Ok(())
+}
+
+/// Appends the text of a line, where there is room for it.
+#[inline(always)]
+fn write_line_with_room<A: Allocator>(out: &mut Vec<u8, A>, line: &Line)
+    requires { vec_len out.old + LINE_ROOM ≤ vec_capacity out.old }
+    ensures items { out.new.items ≡ out.old.items ++ line_text line.now }
+    ensures keeps { vec_capacity out.old ≤ vec_capacity out.new }
+    ensures len { vec_len out.new ≤ vec_len out.old + LINE_ROOM }
+{
+    let at = out.len();
     let Ok(()) = out.resize(at + LINE_ROOM, 0) else {
         unreachable!();
     };
     let end = put_line(out, at, line);
     out.truncate(end);
-    Ok(())
 }
 
 /// Puts the text of a line at a place of a buffer, with its newline, and returns where it ends: at most [`LINE_ROOM`] bytes

@@ -5,16 +5,17 @@ ghost use Rattle.trace_text.specs.Writing.{Puts};
 
 use itoa::write_digits;
 
-/// Puts a text at `at`, and returns where it ends.
+/// Puts a text of fixed length at `at`, and returns where it ends.
 #[inline(always)]
-pub fn put_text(buffer: &mut [u8], at: usize, text: &[u8]) -> usize
-    requires { at + length text.now ≤ length buffer.old }
-    ensures end { result ≡ at + length text.now }
-    ensures put { Puts (take at buffer.old) (take result buffer.new) text.now }
+pub fn put_text<const N: usize>(buffer: &mut [u8], at: usize, text: [u8; N]) -> usize
+    requires { at + N ≤ length buffer.old }
+    ensures end { result ≡ at + N }
+    ensures put { Puts (take at buffer.old) (take result buffer.new) text.entry }
 {
-    let end = at + text.len();
-    buffer[at..end].copy_from_slice(text);
-    end
+    for i in 0..N {
+        buffer[at + i] = text[i];
+    }
+    at + N
 }
 
 /// Puts the decimal digits of a number at `at`, with no leading zero, and returns where they end. They are at most 20, and
@@ -23,6 +24,7 @@ pub fn put_text(buffer: &mut [u8], at: usize, text: &[u8]) -> usize
 pub fn put_number(buffer: &mut [u8], at: usize, n: u64) -> usize
     requires { at + 20 ≤ length buffer.old }
     ensures end { result ≤ at + 20 }
+    ensures short { n < 2 ^ 32 → result ≤ at + 10 }
     ensures put { Puts (take at buffer.old) (take result buffer.new) (decimal n) }
 {
     let end = at + digit_count(n);

@@ -7,5 +7,5 @@ abbrev pub invariant-loop-line : goal.invariant-loop-line
 invariant-loop-line g l = record {
   appended : l.out.items ≡ l.fn.out.items ++ lines_text (take l.line-index l.lines);
   keeps : vec_capacity l.fn.out ≤ vec_capacity l.out;
-  within : vec_len l.out ≤ vec_len l.fn.out + 160 * l.line-index;
+  within : vec_len l.out ≤ vec_len l.fn.out + 128 * l.line-index;
 }

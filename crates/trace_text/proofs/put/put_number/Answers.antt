@@ -1,6 +1,6 @@
 use Rattle.std.proofs.Common.{arith}
 use Rattle.trace_text.proofs.Chains.{number_put}
-use Rattle.trace_text.proofs.Counts.{number_short}
+use Rattle.trace_text.proofs.Counts.{number_short, code_short}
 use Rattle.trace_text.proofs.put.put_number.Goals as goal
 
 pub overflow_add-end : goal.overflow_add-end
@@ -11,6 +11,9 @@ write_digits-requires c = (omega (arith, c.digit_count.ensures), omega (arith, c
 
 pub returns-clause-end : goal.returns-clause-end
 returns-clause-end c = omega (arith, c.digit_count.ensures, number_short c.args.n c.ranges.n.fits)
+
+pub returns-clause-short : goal.returns-clause-short
+returns-clause-short c = λ small. omega (arith, c.digit_count.ensures, code_short c.args.n small)
 
 pub returns-clause-put : goal.returns-clause-put
 returns-clause-put c =
