@@ -1,7 +1,7 @@
 -- Inputs: the lines of events, and one event more.
-use Rattle.std.proofs.Common.{◌≡◌, ℕ, ◌+◌, ◌^◌, ◌<◌, ◌≤◌, List, [], ◌∷◌, ◌++◌, take, drop, length, refl, ap, ◌∙◌, sym, subst, arith, append_assoc, append-nil, length-append, length-drop}
+use Rattle.std.proofs.Common.{◌≡◌, ℕ, ◌+◌, ◌^◌, ◌<◌, ◌≤◌, List, [], ◌∷◌, ◌++◌, take, drop, length, refl, ap, ◌∙◌, sym, subst, arith, append_assoc, append-nil, length-append, length-drop, take_all}
 use Rattle.std.specs.Prelude.{replicate}
-use Rattle.std.proofs.lemmas.List.{length-replicate}
+use Rattle.std.proofs.lemmas.List.{length-replicate, take-append-le}
 use Rattle.std.proofs.lemmas.List.Concat.{flat_map-append}
 use Rattle.std.proofs.lemmas.List.Elements.{All-nil, All-cons}
 use Rattle.executor_core.specs.declared.Event.{Event}
@@ -15,8 +15,8 @@ use Rattle.executor_core.specs.Flows.{flow, part_of, calls_before, history_from,
 use Rattle.executor_core.specs.Machine.{Machine, workers_of, Stands, Continues}
 use Rattle.trace_text.proofs.Texts.{take_add}
 use Rattle.executor_core.proofs.Flowing.{flow_means, history_more, stands_agrees, made_past, made-calls, happenings_from}
-use Rattle.trace_text.specs.Spelling.{FitsEvent, lines_text, line_text}
-use Rattle.sched_engine.specs.Inputs.{event_line, input_of}
+use Rattle.trace_text.specs.Spelling.{event_line, FitsEvent, lines_text, line_text}
+use Rattle.sched_engine.specs.Inputs.{input_of}
 use Rattle.sched_engine.specs.Running.{text_of}
 use Rattle.sched_engine.specs.Turns.{TakesEvent, Extends, IsAnswered, IsStanding}
 
@@ -113,13 +113,19 @@ extends_more old mid new more events event before after text count n calls worke
       counted = omega (arith, ap length here.1, length-append (lines_of old.calls (history_of old.calls (workers_of old) all)) t.lines, so_far.counted, t.counted);
     }
 
+-- a front of this size, where the rest is known
+front_is : (xs front : List ℕ) (size : ℕ) → xs ≡ front ++ drop size xs → size ≤ length xs → take size xs ≡ front
+front_is xs front size is inside =
+    let long : length front ≡ size = omega (arith, ap length is, length-append front (drop size xs), length-drop size xs, inside) in
+    ap (take size) is ∙ (take-append-le size front (drop size xs) (omega (arith, long)) ∙ take_all size front (omega (arith, long)))
+
 -- what one event more makes of the answers so far
 pub answered_more : (old mid new : Machine) (held before put after : List ℕ) (taken size count n : ℕ) (event : Event) → IsAnswered old mid held taken before put count → FitsEvent event →
-    take size (drop taken held) ≡ event_line event → size ≤ length (drop taken held) → TakesEvent mid new event put after n → IsAnswered old new held (taken + size) before after (count + n)
+    drop taken held ≡ event_line event ++ drop size (drop taken held) → size ≤ length (drop taken held) → TakesEvent mid new event put after n → IsAnswered old new held (taken + size) before after (count + n)
 answered_more old mid new held before put after taken size count n event a fits front inside t = record {
   more = event ∷ a.more;
   fit = All-cons FitsEvent event a.more fits a.fit;
-  front = sym (take_add taken size held) ∙ (ap (λ l. l ++ take size (drop taken held)) a.front ∙ ap (λ l. input_of a.more ++ l) front);
+  front = sym (take_add taken size held) ∙ (ap (λ l. l ++ take size (drop taken held)) a.front ∙ ap (λ l. input_of a.more ++ l) (front_is (drop taken held) (event_line event) size front inside));
   within = omega (arith, inside, length-drop taken held, a.within);
   events = omega (arith, t.taken, a.events);
   calls = t.calls ∙ a.calls;

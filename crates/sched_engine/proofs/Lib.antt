@@ -1,6 +1,4 @@
 pub mod Ranges
-pub mod Newlines
-pub mod Refusals
 pub mod Runs
 pub mod Inputs
 pub mod Turns

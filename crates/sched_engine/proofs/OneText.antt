@@ -5,9 +5,10 @@ use Rattle.std.proofs.lemmas.List.{reverse-append}
 use Rattle.std.proofs.lemmas.List.Concat.{flat_map-append}
 use Rattle.std.proofs.lemmas.List.Elements.{All-append, All-cons, All-nil, All-head, All-tail}
 use Rattle.executor_core.specs.declared.Event.{Event}
-use Rattle.trace_text.specs.Spelling.{FitsEvent, event_text}
-use Rattle.sched_engine.specs.Inputs.{event_line, input_of, AreEvents, IsRefused, FrontIsOne, EventsAreOne}
+use Rattle.trace_text.specs.Spelling.{FitsEvent, event_line}
+use Rattle.sched_engine.specs.Inputs.{input_of, AreEvents, IsRefused, FrontIsOne, EventsAreOne}
 use Rattle.trace_text.proofs.EventTexts.{first_event}
+use Rattle.trace_text.proofs.Fronts.{unread_part}
 
 one_line : (e : Event) → flat_map event_line (e ∷ []) ≡ event_line e
 one_line e = append-nil (event_line e)
@@ -46,7 +47,7 @@ twice [] = refl
 twice (e ∷ before) = ap reverse (reverse-append (e ∷ []) before) ∙ (reverse-append (reverse before) (e ∷ []) ∙ ap (λ l. e ∷ l) (twice before))
 
 nothing_refused : IsRefused []
-nothing_refused e tail fit q = omega (arith, ap length q, length-append (event_line e) tail, length-append (event_text e) (10 ∷ []))
+nothing_refused = unread_part [] (λ k d low. absurd (omega (arith, low)))
 
 -- bytes are in one way the lines of events and a rest that begins with none
 pub front_is_one : FrontIsOne

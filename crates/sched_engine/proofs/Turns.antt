@@ -7,17 +7,18 @@ use Rattle.queue_code.specs.Calls.{Planned, IsOrderly}
 use Rattle.executor_core.specs.Flows.{history_of, lines_of}
 use Rattle.executor_core.specs.Machine.{Machine, workers_of, Stands}
 use Rattle.executor_core.proofs.Flowing.{flow_means}
-use Rattle.trace_text.specs.Spelling.{IsLine, FitsEvent}
+use Rattle.trace_text.specs.Spelling.{IsLine, event_line, FitsEvent}
 use Rattle.sched_engine.specs.declared.held.TheConstants.{PIECE}
 use Rattle.sched_engine.specs.declared.report.Report.{Report}
 use Rattle.sched_engine.specs.declared.engine.Turn.{Turn}
 use Rattle.sched_engine.specs.declared.engine.Turn.TheVariants as t
 use Rattle.sched_engine.specs.declared.report.RunError.{RunError}
 use Rattle.sched_engine.specs.declared.report.RunError.TheVariants as x
-use Rattle.sched_engine.specs.Inputs.{event_line, input_of, IsRefused, BeginsWithEvent}
+use Rattle.sched_engine.specs.Inputs.{input_of, IsRefused, BeginsWithEvent}
 use Rattle.sched_engine.specs.Running.{IsAccepted, IsTrace, Ran, Runs, Taken, text_of}
 use Rattle.sched_engine.specs.Turns.{Done, Extends, IsAnswered, IsBetweenTurns, IsStanding, Opens, Progress, Setting, Turns}
-use Rattle.sched_engine.proofs.Refusals.{refused_rest}
+use Rattle.trace_text.specs.declared.front.TheConstants.{MOST_EVENT_BYTES}
+use Rattle.trace_text.proofs.Fronts.{unread_part}
 use Rattle.sched_engine.proofs.Runs.{at_end, so_far, read_so_far, came, took, gave, gave_front}
 use Rattle.sched_engine.proofs.Inputs.{input_of-append, lines_few, flow_happens}
 
@@ -219,18 +220,18 @@ ended run at report done blank end none is =
     (sym done.taken ∙ sym (ap (λ r. r.events) is), done.counted ∙ sym (ap (λ r. r.lines) is), all_written run at done blank)
 
 -- the end of the input, with a part of a line held
-pub cut_off : (run : Setting) (at : Progress) (n : ℕ) → Done run at → at.text ≡ [] → IsAtEnd at.left → IsLine at.held → length at.held < 63 → 0 < length at.held → n ≡ at.core.taken + 1 →
+pub cut_off : (run : Setting) (at : Progress) (n : ℕ) → Done run at → at.text ≡ [] → IsAtEnd at.left → IsLine at.held → length at.held < MOST_EVENT_BYTES → 0 < length at.held → n ≡ at.core.taken + 1 →
     Runs (Err (x.EventLine n)) run.calls run.workers run.limit run.input at.left run.contents at.contents
 cut_off run at n done none end part short some is =
     taken_at_end run at (λ ahead. 0 < length ahead) (λ rest. IsRefused rest × (0 < length rest)) (λ events lines trace. (n ≡ events + 1) × Appends run.contents at.contents trace) done end
-    (omega (arith, short)) some (refused_rest at.held part, some) (omega (arith, is, done.taken), all_written run at done none)
+    (omega (arith, short)) some (unread_part at.held part, some) (omega (arith, is, done.taken), all_written run at done none)
 
 -- a fault of the reader
 pub faulted : (run : Setting) (at : Progress) (left : Option (List ℕ)) → IsBetweenTurns run at → Keeps at.left left → Runs (Err x.Read) run.calls run.workers run.limit run.input left run.contents at.contents
 faulted run at left between keeps =
     let here : Progress = record at { left = left } in
     let done = filled run at left at.held [] between.done (kept_none at.left left keeps) (sym (append-nil at.held)) in
-    taken_so_far run here (λ ahead. IsLine ahead × (length ahead < 63)) (λ rest. Unit {0}) (λ events lines trace. Appends run.contents at.contents trace) done (omega (arith, between.short)) (between.part, between.short) (λ more. tt)
+    taken_so_far run here (λ ahead. IsLine ahead × (length ahead < MOST_EVENT_BYTES)) (λ rest. Unit {0}) (λ events lines trace. Appends run.contents at.contents trace) done (omega (arith, between.short)) (between.part, between.short) (λ more. tt)
     (all_written run here done between.none)
 
 -- a fault of the writer, after a front of the text at hand
@@ -243,11 +244,11 @@ unwritten run at contents n done near appends =
 -- ---- turns end
 
 -- each turn brings an event or a byte
-pub smaller : (limit old new : ℕ) (held bytes whole rest : List ℕ) → whole ≡ held ++ bytes → 0 < length bytes → old ≤ new → new ≤ limit → (new ≡ old → rest ≡ whole) → length rest < 63 → length held < 63 →
-    (limit - new) * 64 + (63 - length rest) < (limit - old) * 64 + (63 - length held)
+pub smaller : (limit old new : ℕ) (held bytes whole rest : List ℕ) → whole ≡ held ++ bytes → 0 < length bytes → old ≤ new → new ≤ limit → (new ≡ old → rest ≡ whole) → length rest < MOST_EVENT_BYTES → length held < MOST_EVENT_BYTES →
+    (limit - new) * (MOST_EVENT_BYTES + 1) + (MOST_EVENT_BYTES - length rest) < (limit - old) * (MOST_EVENT_BYTES + 1) + (MOST_EVENT_BYTES - length held)
 smaller limit old new held bytes whole rest all some rises within same short part = by (new - old) (omega (arith, rises))
   where
-    by : (n : ℕ) → new ≡ old + n → (limit - new) * 64 + (63 - length rest) < (limit - old) * 64 + (63 - length held)
+    by : (n : ℕ) → new ≡ old + n → (limit - new) * (MOST_EVENT_BYTES + 1) + (MOST_EVENT_BYTES - length rest) < (limit - old) * (MOST_EVENT_BYTES + 1) + (MOST_EVENT_BYTES - length held)
     by zero is = let whole_on : rest ≡ whole = same (omega (arith, is)) in omega (arith, is, ap length whole_on, ap length all, length-append held bytes, some, short, part)
     by (suc n) is = omega (arith, is, within, short, part)
 

@@ -1,12 +1,9 @@
 -- Inputs: the lines of events, and what is no such line.
 -- All of it is this project's rule.
-use Rattle.std.specs.Prelude.{◌≡◌, ◌≢◌, ℕ, List, [], ◌∷◌, ◌++◌, All}
+use Rattle.std.specs.Prelude.{◌≡◌, ℕ, List, [], ◌∷◌, ◌++◌, All}
 use Rattle.executor_core.specs.declared.Event.{Event}
-use Rattle.trace_text.specs.Spelling.{event_text, FitsEvent}
-
--- an event's line with its newline
-abbrev pub event_line : Event → List ℕ
-event_line e = event_text e ++ 10 ∷ []
+use Rattle.trace_text.specs.Spelling.{event_line, FitsEvent}
+use Rattle.trace_text.specs.Reading.{IsUnread}
 
 -- the lines of some events, the newest event first in the list
 abbrev pub input_of : List Event → List ℕ
@@ -19,7 +16,7 @@ AreEvents events = All FitsEvent events
 
 -- some bytes do not begin with the line of an event
 abbrev pub IsRefused : List ℕ → Type 0
-IsRefused rest = (e : Event) (tail : List ℕ) → FitsEvent e → rest ≢ event_line e ++ tail
+IsRefused rest = IsUnread event_line FitsEvent rest
 
 -- some bytes begin with the line of an event
 abbrev pub BeginsWithEvent : List ℕ → Type 0

@@ -6,6 +6,7 @@ pub use Rattle.plan_read.specs.Plans
 pub use Rattle.plan_read.specs.PlanReading
 pub use Rattle.plan_compile.specs.PlanCalls
 pub use Rattle.trace_text.specs.Spelling
+pub use Rattle.trace_text.specs.Reading
 pub mod Ends
 pub mod Inputs
 pub mod Pieces

@@ -15,6 +15,7 @@ use Rattle.sched_engine.specs.declared.held.TheConstants.{PIECE}
 use Rattle.sched_engine.specs.Ends.{IsOneFault, NoneMore}
 use Rattle.sched_engine.specs.Inputs.{input_of, AreEvents, IsRefused, BeginsWithEvent}
 use Rattle.trace_text.specs.Spelling.{IsLine, lines_text}
+use Rattle.trace_text.specs.declared.front.TheConstants.{MOST_EVENT_BYTES}
 use Rattle.plan_read.specs.Plans.{PlanTree}
 use Rattle.plan_read.specs.PlanReading.{plan_of_text}
 use Rattle.plan_compile.specs.PlanCalls.{calls_of}
@@ -73,7 +74,7 @@ Runs (Err (x.EventLine n)) calls workers limit input left old new =
 Runs (Err x.Full) calls workers limit input left old new =
     Taken calls workers limit input left BeginsWithEvent BeginsWithEvent (λ events lines trace. (events ≡ limit) × Appends old new trace)
 Runs (Err x.Read) calls workers limit input left old new =
-    Taken calls workers limit input left (λ ahead. IsLine ahead × (length ahead < 63)) (λ rest. Unit {0}) (λ events lines trace. Appends old new trace)
+    Taken calls workers limit input left (λ ahead. IsLine ahead × (length ahead < MOST_EVENT_BYTES)) (λ rest. Unit {0}) (λ events lines trace. Appends old new trace)
 Runs (Err x.Write) calls workers limit input left old new =
     Taken calls workers limit input left (λ ahead. Unit {0}) (λ rest. Unit {0}) (λ events lines trace. (n : ℕ) × Appends old new (take n trace))
 Runs (Err x.Memory) calls workers limit input left old new =

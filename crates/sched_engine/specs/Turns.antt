@@ -9,6 +9,7 @@ use Rattle.executor_core.specs.Histories.{HistoryEntry, IsHistoryOf}
 use Rattle.executor_core.specs.Flows.{history_of, lines_of}
 use Rattle.executor_core.specs.Machine.{Machine, workers_of, Stands, Continues}
 use Rattle.trace_text.specs.Spelling.{IsLine, lines_text}
+use Rattle.trace_text.specs.declared.front.TheConstants.{MOST_EVENT_BYTES}
 use Rattle.sched_engine.specs.declared.answering.PieceEnd.{PieceEnd}
 use Rattle.sched_engine.specs.declared.answering.PieceEnd.TheVariants as e
 use Rattle.sched_engine.specs.declared.engine.Turn.{Turn}
@@ -53,8 +54,8 @@ pub record IsAnswered (old new : Machine) (held : List ℕ) (taken : ℕ) (befor
 
 -- why the bytes that are held were not taken further
 abbrev pub IsPieceEnd : PieceEnd → Machine → List ℕ → Type 0
-IsPieceEnd e.Part core rest = IsLine rest × (length rest < 63)
-IsPieceEnd e.Refused core rest = ((more : List ℕ) → IsRefused (rest ++ more)) × (0 < length rest)
+IsPieceEnd e.Part core rest = IsLine rest × (length rest < MOST_EVENT_BYTES)
+IsPieceEnd e.Refused core rest = (0 < length rest) × ((more : List ℕ) → IsRefused (rest ++ more))
 IsPieceEnd e.Full core rest = (core.taken ≡ core.limit) × BeginsWithEvent rest
 
 -- the core is where some events led it
@@ -109,11 +110,11 @@ pub record IsBetweenTurns (run : Setting) (at : Progress) : Type 0 where
   pub done : Done run at
   pub none : at.text ≡ []
   pub part : IsLine at.held
-  pub short : length at.held < 63
+  pub short : length at.held < MOST_EVENT_BYTES
 
 -- falls from turn to turn: each brings an event, or a byte more of a line
 abbrev pub still_to_come : Setting → Progress → ℕ
-still_to_come run at = (run.limit - at.core.taken) * 64 + (63 - length at.held)
+still_to_come run at = (run.limit - at.core.taken) * (MOST_EVENT_BYTES + 1) + (MOST_EVENT_BYTES - length at.held)
 
 -- what a turn did: the run goes on, or it ended so
 abbrev pub Turns : Result Turn RunError → Setting → Progress → Progress → Type 0

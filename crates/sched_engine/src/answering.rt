@@ -2,10 +2,9 @@
 ghost use Rattle.std.specs.Prelude.{◌≡◌, ◌≤◌, ◌↔◌, IfOk, IsErrOf, drop};
 ghost use Rattle.sched_engine.specs.Turns.{IsAnswered, IsPieceEnd, IsStanding, TakesEvent};
 
-use crate::front::{Front, front_event};
 use executor_core::{Core, CoreError, Event, Line};
 use std::alloc::{AllocError, Allocator};
-use trace_text::{LineBuffer, write_lines};
+use trace_text::{Front, front_event, write_lines};
 
 /// Why no further event was taken of the bytes at hand.
 #[derive(Clone, Copy, Debug, PartialEq, Eq)]
@@ -44,10 +43,9 @@ pub fn answer_event<A: Allocator>(
     ensures refused { IsErrOf result CoreError.Full → core.new ≡ core.old }
     ensures kept { IsErrOf result CoreError.Full → text.new.items ≡ text.old.items }
 {
-    let mut buffer = LineBuffer::new();
     lines.clear();
     core.event(event, lines)?;
-    if write_lines(text, &mut buffer, lines).is_err() {
+    if write_lines(text, lines).is_err() {
         return Err(CoreError::Memory);
     }
     Ok(lines.len() as u64)

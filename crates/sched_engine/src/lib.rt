@@ -8,7 +8,6 @@ mod ends_tests;
 mod engine;
 mod held;
 mod laws;
-mod front;
 mod memory;
 mod readers;
 mod report;

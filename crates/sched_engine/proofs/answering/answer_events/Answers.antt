@@ -1,8 +1,8 @@
-use Rattle.std.proofs.Common.{◌≡◌, ℕ, ◌+◌, ◌-◌, ◌≤◌, List, ◌++◌, length, take, drop, ap, sym, Result, Ok, Err, ◌∙◌, arith, length-drop, take-append-drop}
+use Rattle.std.proofs.Common.{◌≡◌, ℕ, ◌+◌, ◌-◌, ◌≤◌, List, ◌++◌, length, take, drop, ap, sym, Result, Ok, Err, ◌∙◌, arith, length-drop}
 use Rattle.std.proofs.lemmas.List.{take_rest}
 use Rattle.executor_core.specs.declared.CoreError.{CoreError}
 use Rattle.executor_core.specs.declared.CoreError.TheVariants.{Full}
-use Rattle.sched_engine.specs.Inputs.{event_line}
+use Rattle.trace_text.specs.Spelling.{event_line}
 use Rattle.sched_engine.proofs.Inputs.{answered_more, count_fits}
 use Rattle.sched_engine.proofs.answering.answer_events.Goals as goal
 
@@ -25,7 +25,7 @@ overflow_add-count g c =
     let is : take (length held - bytes) (drop bytes held) ≡ drop bytes held = take_rest held bytes in
     let taken = c.in-Ok.ensures.ok in
     let next = answered_more c.args.core.now mid new held c.args.text.now.items c.loop-event.text.items c.answer_event.new.text.items bytes c.in-Event.size c.loop-event.count c.in-Ok.more c.in-Event.event
-    kept.answered front.0 (ap (take c.in-Event.size) (sym is) ∙ front.1) (omega (arith, front.3, ap length is)) taken in
+    kept.answered front.0.0 (sym is ∙ (front.0.1 ∙ ap (λ l. event_line c.in-Event.event ++ drop c.in-Event.size l) is)) (omega (arith, front.2, ap length is)) taken in
     let within = within_still mid.taken mid.limit new.taken new.limit kept.within (λ e. not_err c.in-Ok.more Full (c.in-Ok.ensures.full.1 e)) taken.taken taken.limit in
     omega (arith, count_fits c.args.core.now new held c.args.text.now.items c.answer_event.new.text.items (bytes + c.in-Event.size) (c.loop-event.count + c.in-Ok.more) c.requires next within)
 
@@ -41,8 +41,8 @@ loop-event-preserved g c =
     let taken = c.in-Ok.ensures.ok in
     record {
       answered = answered_more c.args.core.now mid new held c.args.text.now.items c.loop-event.text.items c.answer_event.new.text.items bytes c.in-Event.size c.loop-event.count c.in-Ok.more c.in-Event.event
-          kept.answered front.0 (ap (take c.in-Event.size) (sym is) ∙ front.1) (omega (arith, front.3, ap length is)) taken;
-      bound = omega (arith, front.3, ap length is, length-drop bytes held, kept.bound);
+          kept.answered front.0.0 (sym is ∙ (front.0.1 ∙ ap (λ l. event_line c.in-Event.event ++ drop c.in-Event.size l) is)) (omega (arith, front.2, ap length is)) taken;
+      bound = omega (arith, front.2, ap length is, length-drop bytes held, kept.bound);
       within = within_still mid.taken mid.limit new.taken new.limit kept.within (λ e. not_err c.in-Ok.more Full (c.in-Ok.ensures.full.1 e)) taken.taken taken.limit;
     }
 
@@ -53,9 +53,8 @@ returns-in-Err-Full-clause-end g c =
     let size = c.in-Event.size in
     let front = c.in-Event.ensures in
     let is : take (length held - bytes) (drop bytes held) ≡ drop bytes held = take_rest held bytes in
-    let line : take size (drop bytes held) ≡ event_line c.in-Event.event = ap (take size) (sym is) ∙ front.1 in
     let full = c.in-Err-Full.ensures in
     let same = full.refused (ap Err c.in-Err-Full.field-0-is) in (
       ap (λ m. m.taken) same ∙ (full.full.0 (ap Err c.in-Err-Full.field-0-is) ∙ sym (ap (λ m. m.limit) same)),
-      (c.in-Event.event, drop size (drop bytes held), front.0, sym (take-append-drop size (drop bytes held)) ∙ ap (λ l. l ++ drop size (drop bytes held)) line),
+      (c.in-Event.event, drop size (drop bytes held), front.0.0, sym is ∙ (front.0.1 ∙ ap (λ l. event_line c.in-Event.event ++ drop size l) is)),
     )
