@@ -16,3 +16,8 @@ abbrev pub CountsFill : Filled → ℕ → ℕ → ℕ → ℕ → Type 0
 CountsFill Fault failed fruitless failed' fruitless' = IsOneFault failed fruitless failed' fruitless'
 CountsFill More failed fruitless failed' fruitless' = NoneMore failed fruitless failed' fruitless'
 CountsFill End failed fruitless failed' fruitless' = NoneMore failed fruitless failed' fruitless'
+
+-- what contracts see of a draft: the text, and how many bytes of it there is room for
+pub record Drafted : Type 0 where
+  pub text : List ℕ
+  pub room : ℕ

@@ -2,9 +2,10 @@
 ghost use Rattle.std.specs.Prelude.{◌≡◌, ◌≤◌, ◌↔◌, IfOk, IsErrOf, drop};
 ghost use Rattle.sched_engine.specs.Turns.{IsAnswered, IsPieceEnd, IsStanding, TakesEvent};
 
+use crate::draft::Draft;
 use executor_core::{Core, CoreError, Event, Line};
 use std::alloc::{AllocError, Allocator};
-use trace_text::{Front, front_event, write_lines};
+use trace_text::{Front, front_event};
 
 /// Why no further event was taken of the bytes at hand.
 #[derive(Clone, Copy, Debug, PartialEq, Eq)]
@@ -36,16 +37,16 @@ pub fn answer_event<A: Allocator>(
     core: &mut Core<A>,
     event: Event,
     lines: &mut Vec<Line, A>,
-    text: &mut Vec<u8, A>,
+    draft: &mut Draft<A>,
 ) -> Result<u64, CoreError>
-    ensures ok { IfOk result (λ count. TakesEvent core.old core.new event text.old.items text.new.items count) }
+    ensures ok { IfOk result (λ count. TakesEvent core.old core.new event draft.old.text draft.new.text count) }
     ensures full { IsErrOf result CoreError.Full ↔ (core.old.taken ≡ core.old.limit) }
     ensures refused { IsErrOf result CoreError.Full → core.new ≡ core.old }
-    ensures kept { IsErrOf result CoreError.Full → text.new.items ≡ text.old.items }
+    ensures kept { IsErrOf result CoreError.Full → draft.new.text ≡ draft.old.text }
 {
     lines.clear();
     core.event(event, lines)?;
-    if write_lines(text, lines).is_err() {
+    if draft.put_lines(lines).is_err() {
         return Err(CoreError::Memory);
     }
     Ok(lines.len() as u64)
@@ -59,10 +60,10 @@ pub fn answer_events<A: Allocator>(
     core: &mut Core<A>,
     held: &[u8],
     lines: &mut Vec<Line, A>,
-    text: &mut Vec<u8, A>,
+    draft: &mut Draft<A>,
 ) -> Result<Answered, AllocError>
     requires { IsStanding core.old }
-    ensures answered { IfOk result (λ a. IsAnswered core.old core.new held.now a.bytes text.old.items text.new.items a.lines) }
+    ensures answered { IfOk result (λ a. IsAnswered core.old core.new held.now a.bytes draft.old.text draft.new.text a.lines) }
     ensures within { IfOk result (λ _. core.new.taken ≤ core.new.limit) }
     ensures end { IfOk result (λ a. IsPieceEnd a.end core.new (drop a.bytes held.now)) }
 {
@@ -70,7 +71,7 @@ pub fn answer_events<A: Allocator>(
     let mut count = 0;
     loop {
         let end = match front_event(&held[bytes..]) {
-            Front::Event(event, size) => match answer_event(core, event, lines, text) {
+            Front::Event(event, size) => match answer_event(core, event, lines, draft) {
                 Ok(more) => {
                     bytes += size;
                     count += more;

@@ -5,8 +5,9 @@ ghost use Rattle.sched_engine.specs.Turns.{Done, IsBetweenTurns, IsPieceEnd, IsS
 ghost use Rattle.sched_engine.specs.declared.engine.Turn.TheVariants as t;
 
 use crate::answering::{PieceEnd, answer_events};
+use crate::draft::Draft;
 use crate::ends::{Sink, Source, write_text};
-use crate::held::{Filled, Held, PIECE};
+use crate::held::{Filled, Held};
 use crate::report::{Report, RunError};
 use crate::room::Room;
 use executor_core::{Core, CoreError, Line};
@@ -88,7 +89,7 @@ pub struct Engine<A: Allocator> {
     /// The lines that answer the event at hand.
     lines: Vec<Line, A>,
     /// The text that answers the piece at hand.
-    text: Vec<u8, A>,
+    draft: Draft<A>,
     /// How many lines were answered.
     count: u64,
 }
@@ -105,7 +106,7 @@ impl<A: Allocator> Engine<A> {
         A: Room,
         ensures opens { IfOk result (λ engine. Opens engine.core plan_text.now workers limit) }
         ensures held { IfOk result (λ engine. engine.held ≡ []) }
-        ensures text { IfOk result (λ engine. engine.text.items ≡ []) }
+        ensures text { IfOk result (λ engine. engine.draft.text ≡ []) }
         ensures count { IfOk result (λ engine. engine.count ≡ 0) }
         ensures refuses { IfErr result (λ e. Refuses e plan_text.now workers limit) }
     {
@@ -113,7 +114,7 @@ impl<A: Allocator> Engine<A> {
             core: core_of(alloc, plan_text, workers, limit)?,
             held: Held::new(alloc)?,
             lines: Vec::new(alloc),
-            text: Vec::with_capacity(alloc, PIECE)?,
+            draft: Draft::new(alloc)?,
             count: 0,
         })
     }
@@ -127,9 +128,9 @@ impl<A: Allocator> Engine<A> {
         reader: &mut S,
         writer: &mut W,
     ) -> Result<Turn, RunError>
-        requires { (run : Setting) × IsBetweenTurns run (record { left = S.remaining reader.old; held = self.old.held; text = self.old.text.items; contents = W.contents writer.old; core = self.old.core; count = self.old.count }) }
-        ensures turns { (run : Setting) → let old : Progress = record { left = S.remaining reader.old; held = self.old.held; text = self.old.text.items; contents = W.contents writer.old; core = self.old.core; count = self.old.count } in
-            IsBetweenTurns run old → Turns result run old (record { left = S.remaining reader.new; held = self.new.held; text = self.new.text.items; contents = W.contents writer.new; core = self.new.core; count = self.new.count }) }
+        requires { (run : Setting) × IsBetweenTurns run (record { left = S.remaining reader.old; held = self.old.held; text = self.old.draft.text; contents = W.contents writer.old; core = self.old.core; count = self.old.count }) }
+        ensures turns { (run : Setting) → let old : Progress = record { left = S.remaining reader.old; held = self.old.held; text = self.old.draft.text; contents = W.contents writer.old; core = self.old.core; count = self.old.count } in
+            IsBetweenTurns run old → Turns result run old (record { left = S.remaining reader.new; held = self.new.held; text = self.new.draft.text; contents = W.contents writer.new; core = self.new.core; count = self.new.count }) }
         ensures read { CountsReader result (S.failed reader.old) (S.fruitless reader.old) (S.failed reader.new) (S.fruitless reader.new) }
         ensures write { CountsWriter result (W.failed writer.old) (W.fruitless writer.old) (W.failed writer.new) (W.fruitless writer.new) }
     {
@@ -139,10 +140,10 @@ impl<A: Allocator> Engine<A> {
             Filled::Fault => return Err(RunError::Read),
         }
         let end = self.answer_held()?;
-        if !write_text(writer, &self.text) {
+        if !write_text(writer, self.draft.bytes()) {
             return Err(RunError::Write);
         }
-        self.text.clear();
+        self.draft.clear();
         match end {
             PieceEnd::Part => Ok(Turn::More),
             PieceEnd::Refused => Err(self.refused_line()),
@@ -155,8 +156,8 @@ impl<A: Allocator> Engine<A> {
         requires standing { IsStanding self.old.core }
         requires few { self.old.count < 2 ^ 33 }
         ensures done { OnOk result ((run : Setting) (left contents : Option (List ℕ)) →
-            Done run (record { left = left; held = self.old.held; text = self.old.text.items; contents = contents; core = self.old.core; count = self.old.count }) →
-            Done run (record { left = left; held = self.new.held; text = self.new.text.items; contents = contents; core = self.new.core; count = self.new.count })) }
+            Done run (record { left = left; held = self.old.held; text = self.old.draft.text; contents = contents; core = self.old.core; count = self.old.count }) →
+            Done run (record { left = left; held = self.new.held; text = self.new.draft.text; contents = contents; core = self.new.core; count = self.new.count })) }
         ensures end { IfOk result (λ end. IsPieceEnd end self.new.core self.new.held) }
         ensures fewer { OnOk result (length self.new.held ≤ length self.old.held) }
         ensures rises { OnOk result (self.old.core.taken ≤ self.new.core.taken) }
@@ -166,7 +167,7 @@ impl<A: Allocator> Engine<A> {
             &mut self.core,
             self.held.bytes(),
             &mut self.lines,
-            &mut self.text,
+            &mut self.draft,
         )?;
         self.held.skip(answered.bytes);
         self.count += answered.lines;

@@ -24,10 +24,10 @@ overflow_add-count g c =
     let front = c.in-Event.ensures in
     let is : take (length held - bytes) (drop bytes held) ≡ drop bytes held = take_rest held bytes in
     let taken = c.in-Ok.ensures.ok in
-    let next = answered_more c.args.core.now mid new held c.args.text.now.items c.loop-event.text.items c.answer_event.new.text.items bytes c.in-Event.size c.loop-event.count c.in-Ok.more c.in-Event.event
+    let next = answered_more c.args.core.now mid new held c.args.draft.now.text c.loop-event.draft.text c.answer_event.new.draft.text bytes c.in-Event.size c.loop-event.count c.in-Ok.more c.in-Event.event
     kept.answered front.0.0 (sym is ∙ (front.0.1 ∙ ap (λ l. event_line c.in-Event.event ++ drop c.in-Event.size l) is)) (omega (arith, front.2, ap length is)) taken in
     let within = within_still mid.taken mid.limit new.taken new.limit kept.within (λ e. not_err c.in-Ok.more Full (c.in-Ok.ensures.full.1 e)) taken.taken taken.limit in
-    omega (arith, count_fits c.args.core.now new held c.args.text.now.items c.answer_event.new.text.items (bytes + c.in-Event.size) (c.loop-event.count + c.in-Ok.more) c.requires next within)
+    omega (arith, count_fits c.args.core.now new held c.args.draft.now.text c.answer_event.new.draft.text (bytes + c.in-Event.size) (c.loop-event.count + c.in-Ok.more) c.requires next within)
 
 pub loop-event-preserved : goal.loop-event-preserved
 loop-event-preserved g c =
@@ -40,7 +40,7 @@ loop-event-preserved g c =
     let is : take (length held - bytes) (drop bytes held) ≡ drop bytes held = take_rest held bytes in
     let taken = c.in-Ok.ensures.ok in
     record {
-      answered = answered_more c.args.core.now mid new held c.args.text.now.items c.loop-event.text.items c.answer_event.new.text.items bytes c.in-Event.size c.loop-event.count c.in-Ok.more c.in-Event.event
+      answered = answered_more c.args.core.now mid new held c.args.draft.now.text c.loop-event.draft.text c.answer_event.new.draft.text bytes c.in-Event.size c.loop-event.count c.in-Ok.more c.in-Event.event
           kept.answered front.0.0 (sym is ∙ (front.0.1 ∙ ap (λ l. event_line c.in-Event.event ++ drop c.in-Event.size l) is)) (omega (arith, front.2, ap length is)) taken;
       bound = omega (arith, front.2, ap length is, length-drop bytes held, kept.bound);
       within = within_still mid.taken mid.limit new.taken new.limit kept.within (λ e. not_err c.in-Ok.more Full (c.in-Ok.ensures.full.1 e)) taken.taken taken.limit;

@@ -5,7 +5,7 @@ use Rattle.sched_engine.proofs.answering.answer_events.Given as goal
 -- the events in front of `bytes` were answered
 abbrev pub invariant-loop-event : goal.invariant-loop-event
 invariant-loop-event g l = record {
-  answered : IsAnswered l.fn.core l.core l.held l.bytes l.fn.text.items l.text.items l.count;
+  answered : IsAnswered l.fn.core l.core l.held l.bytes l.fn.draft.text l.draft.text l.count;
   bound : l.bytes ≤ length l.held;
   within : l.core.taken ≤ l.core.limit;
 }

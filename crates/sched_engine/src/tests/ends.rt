@@ -2,17 +2,15 @@ ghost use Rattle.std.specs.Prelude.{◌≡◌, ◌≤◌, ◌++◌, ℕ, List, t
 
 use crate::ends::{read_some, write_text};
 use crate::held::{Filled, Held};
-use crate::lines::{Front, front_line};
 use crate::memory::Pieces;
 use crate::readers::Reading;
 use crate::writers::Writing;
-use executor_core::{Answer, Line, Outcome};
 use linked_list_allocator::LocalHeap;
 use std::alloc::Global;
 use std::io;
 use std::io::{ErrorKind, Read, Write};
 use std::test::Fail;
-use trace_text::{LineBuffer, TextError, write_line, write_lines};
+use trace_text::{Front, front_event};
 
 /// A text through a fresh sink: its contents are known from the start.
 fn through(alloc: Global, text: &[u8]) -> Option<Vec<u8>>
@@ -111,69 +109,30 @@ fn answers_each_fault_at_once(rt: HostRuntime) -> Result<(), Fail> {
 }
 
 #[test]
-fn cuts_lines(rt: HostRuntime) -> Result<(), Fail> {
-    let long = [b'a'; 63];
-    assert_eq!(rt; front_line(b""), Front::Part);
-    assert_eq!(rt; front_line(b"clock 5"), Front::Part);
-    assert_eq!(rt; front_line(b"\nclock 5"), Front::Line(0));
-    assert_eq!(rt; front_line(b"clock 5\nclock"), Front::Line(7));
-    assert_eq!(rt; front_line(&long[..62]), Front::Part);
-    assert_eq!(rt; front_line(&long), Front::Long);
-    Ok(())
-}
-
-#[test]
 fn holds_pieces(rt: HostRuntime) -> Result<(), Fail> {
-    for most in 1..9usize {
-        let mut source = Pieces::new(b"ab\ncdef\n", most);
+    for most in 1..20usize {
+        let mut source = Pieces::new(b"start 1\nclock 22\n", most);
         let mut held = Held::new(rt.alloc())?;
-        let mut lines = Vec::new(rt.alloc());
-        for _ in 0..20u32 {
-            if let Front::Line(n) = front_line(held.bytes()) {
-                lines.push(n)?;
-                held.skip(n + 1);
+        let mut sizes = Vec::new(rt.alloc());
+        for _ in 0..40u32 {
+            if let Front::Event(_, size) = front_event(held.bytes()) {
+                sizes.push(size)?;
+                held.skip(size);
             } else if held.bytes().len() < 64 && held.fill(&mut source) == Filled::End {
                 break;
             }
         }
-        assert!(rt; lines.as_slice() == [2, 4].as_slice());
+        assert!(rt; sizes.as_slice() == [8, 9].as_slice());
         assert!(rt; held.bytes().is_empty());
     }
     Ok(())
 }
 
-/// The longest line.
-const LONGEST: &str =
-    "18446744073709551615 finish 255 task 4294967295 run 18446744073709551615 again due 18446744073709551615\n";
-
 #[test]
-fn refused_memory_changes_nothing(rt: HostRuntime) -> Result<(), Fail> {
-    let line = Line {
-        moment: u64::MAX,
-        answer: Answer::Finish {
-            worker: 255,
-            task: u32::MAX,
-            run: u64::MAX,
-            outcome: Outcome::Again(u64::MAX),
-        },
-    };
-    let mut buffer = LineBuffer::new();
-    let heap = LocalHeap::new(rt.alloc(), 64)?;
-    let mut out = Vec::from_slice(&heap, b"old")?;
-    let one = write_line(&mut out, &mut buffer, &line);
-    assert_eq!(rt; one, Err(TextError::Memory));
-    let two = write_lines(&mut out, &mut buffer, &[line, line]);
-    assert_eq!(rt; two, Err(TextError::Memory));
-    assert!(rt; out.as_slice() == b"old".as_slice());
-    assert!(rt; Held::new(&heap).is_err());
-
-    let wide = LocalHeap::new(rt.alloc(), 1_000_000)?;
-    let mut out = Vec::from_slice(&wide, b"old")?;
-    let two = write_lines(&mut out, &mut buffer, &[line, line]);
-    assert_eq!(rt; two, Ok(()));
-    assert_eq!(rt; out.len(), 3 + 2 * 104);
-    assert!(rt; out.as_slice().ends_with(LONGEST.as_bytes()));
-    assert!(rt; out.as_slice().starts_with(b"old184467"));
+fn tells_want_of_memory(rt: HostRuntime) -> Result<(), Fail> {
+    let narrow = LocalHeap::new(rt.alloc(), 1_000)?;
+    assert!(rt; Held::new(&narrow).is_err());
+    let wide = LocalHeap::new(rt.alloc(), 100_000)?;
     assert!(rt; Held::new(&wide).is_ok());
     Ok(())
 }
