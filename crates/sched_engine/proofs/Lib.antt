@@ -1,6 +1,6 @@
 pub mod Ranges
-pub mod Newlines
 pub mod Runs
 pub mod Inputs
 pub mod Turns
 pub mod OneText
+pub mod InMemory

@@ -1,13 +1,14 @@
--- Ones: a text is the lines of one list of events.
+-- OneText: a text is the lines of one list of events.
 use Rattle.std.proofs.Common.{subst, ◌≡◌, ℕ, List, [], ◌∷◌, ◌++◌, reverse, length, refl, ap, ◌∙◌, sym, arith, append_assoc, append-nil, length-append}
 use Rattle.std.specs.Prelude.{flat_map}
 use Rattle.std.proofs.lemmas.List.{reverse-append}
 use Rattle.std.proofs.lemmas.List.Concat.{flat_map-append}
 use Rattle.std.proofs.lemmas.List.Elements.{All-append, All-cons, All-nil, All-head, All-tail}
 use Rattle.executor_core.specs.declared.Event.{Event}
-use Rattle.trace_text.specs.Spelling.{FitsEvent, event_text}
-use Rattle.sched_engine.specs.Running.{event_line, input_of, AreEvents, IsRefused, FrontIsOne, EventsAreOne}
+use Rattle.trace_text.specs.Spelling.{FitsEvent, event_line}
+use Rattle.sched_engine.specs.Inputs.{input_of, AreEvents, IsRefused, FrontIsOne, EventsAreOne}
 use Rattle.trace_text.proofs.EventTexts.{first_event}
+use Rattle.trace_text.proofs.Fronts.{unread_part}
 
 one_line : (e : Event) → flat_map event_line (e ∷ []) ≡ event_line e
 one_line e = append-nil (event_line e)
@@ -46,14 +47,16 @@ twice [] = refl
 twice (e ∷ before) = ap reverse (reverse-append (e ∷ []) before) ∙ (reverse-append (reverse before) (e ∷ []) ∙ ap (λ l. e ∷ l) (twice before))
 
 nothing_refused : IsRefused []
-nothing_refused e tail fit q = omega (arith, ap length q, length-append (event_line e) tail, length-append (event_text e) (10 ∷ []))
+nothing_refused = unread_part [] (λ k d low. absurd (omega (arith, low)))
 
+-- bytes are in one way the lines of events and a rest that begins with none
 pub front_is_one : FrontIsOne
 front_is_one events other rest tail fit fits r t same =
     let both = one_front (reverse events) (reverse other) rest tail (all_reversed events fit) (all_reversed other fits) r t
     (ap (λ l. l ++ rest) (sym (oldest_first events)) ∙ (same ∙ ap (λ l. l ++ tail) (oldest_first other))) in
     (sym (twice events) ∙ (ap reverse both.0 ∙ twice other), both.1)
 
+-- a text is the lines of one list of events
 pub events_are_one : EventsAreOne
 events_are_one events other fit fits same =
     (front_is_one events other [] [] fit fits nothing_refused nothing_refused (append-nil (input_of events) ∙ (same ∙ sym (append-nil (input_of other))))).0
