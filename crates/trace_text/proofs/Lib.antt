@@ -4,7 +4,6 @@ pub mod OnePass
 pub mod Choice
 pub mod Clashes
 pub mod Texts
-pub mod Newlines
 pub mod EventTexts
 pub mod Fronts
 pub mod Counts

@@ -29,7 +29,10 @@ pub fn split_number(bytes: &[u8]) -> Option<(u64, &[u8])>
             return number_up_to(bytes, i, value);
         }
         if i >= 19 {
-            return twentieth_digit(bytes, value);
+            return match twenty_digits(bytes, value) {
+                Some(whole) => number_up_to(bytes, 20, whole),
+                None => None,
+            };
         }
         value = value * 10 + (code - b'0') as u64;
     }
@@ -56,25 +59,26 @@ fn number_up_to(bytes: &[u8], end: usize, value: u64) -> Option<(u64, &[u8])>
     Some((value, &bytes[end..]))
 }
 
-/// The number of the digits at the front, where 20 digits or more stand there. The first 19 have the value `value`.
-fn twentieth_digit(bytes: &[u8], value: u64) -> Option<(u64, &[u8])>
+/// The number of the 20 digits at the front, below 2^64, where the first 19 have the value `value`. `None` where it is greater,
+/// and where a further digit follows.
+fn twenty_digits(bytes: &[u8], value: u64) -> Option<u64>
     requires within { 20 ≤ length bytes.now }
     requires digits { AllDigits 10 (take 20 bytes.now) }
     requires value { value ≡ digits_value 10 (take 19 bytes.now) }
     ensures { MatchOption result
         ((n : ℕ) (rest : List ℕ) → n < 2 ^ 64 → EndsNumber rest → bytes.now ≢ decimal n ++ rest)
-        (λ r. (bytes.now ≡ decimal r.0 ++ r.1.now) × EndsNumber r.1.now × (r.0 < 2 ^ 64)) }
+        (λ whole. (whole ≡ digits_value 10 (take 20 bytes.now)) × EndsNumber (drop 20 bytes.now)) }
 {
+    if has_digit_at(bytes, 20) {
+        return None;
+    }
     let Some(tens) = value.checked_mul(10) else {
         return None;
     };
     let Some(whole) = tens.checked_add((bytes[19] - b'0') as u64) else {
         return None;
     };
-    if has_digit_at(bytes, 20) {
-        return None;
-    }
-    number_up_to(bytes, 20, whole)
+    Some(whole)
 }
 
 /// Whether a digit stands at `at`.
