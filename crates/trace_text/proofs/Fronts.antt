@@ -22,8 +22,8 @@ front_is_line bytes more tail e fits h short =
     let end = event_ended e fits in
     let few : length bytes ≤ length end.front = omega (arith, short, ap length end.is, length-append end.front (10 ∷ [])) in
     let same : take (length bytes) end.front ≡ bytes =
-        sym (take-append-le (length bytes) end.front (10 ∷ [] ++ tail) few)
-        ∙ (ap (take (length bytes)) (sym (append_assoc end.front (10 ∷ []) tail) ∙ (ap (λ l. l ++ tail) (sym end.is) ∙ sym h)) ∙ take-append_seam bytes more) in
+    sym (take-append-le (length bytes) end.front (10 ∷ [] ++ tail) few)
+    ∙ (ap (take (length bytes)) (sym (append_assoc end.front (10 ∷ []) tail) ∙ (ap (λ l. l ++ tail) (sym end.is) ∙ sym h)) ∙ take-append_seam bytes more) in
     subst IsLine same (All-take (λ b. b ≢ 10) (length bytes) end.front end.plain)
 
 -- an event's line that the bytes are long enough for stands at their front

@@ -1,7 +1,7 @@
 //! Words and numbers at the front of some bytes.
-ghost use Rattle.std.specs.Prelude.{◌≡◌, ◌≢◌, ℕ, ◌^◌, ◌<◌, ◌≤◌, List, ◌++◌, ◌↔◌, IsTrue, MatchOption, length, slice_index, take, drop};
+ghost use Rattle.std.specs.Prelude.{◌≡◌, ◌≢◌, ℕ, ◌+◌, ◌-◌, ◌^◌, ◌<◌, ◌≤◌, List, ◌++◌, ◌↔◌, IsTrue, MatchOption, length, slice_index, take, drop};
 ghost use Rattle.std.specs.Fmt.{decimal};
-ghost use Rattle.std.specs.Int.{IsInRange};
+ghost use Rattle.std.specs.Int.{IsInRange, w32, from_le_bytes};
 ghost use Rattle.std.specs.Str.Parse.{AllDigits, digits_value};
 ghost use Rattle.trace_text.specs.Spelling.{EndsNumber};
 ghost use Rattle.trace_text.specs.Reading.{IsRead, IsUnread, number_then, Below};
@@ -12,6 +12,33 @@ pub fn strip<'a>(bytes: &'a [u8], word: &[u8]) -> Option<&'a [u8]>
     ensures { MatchOption result ((rest : List ℕ) → bytes.now ≢ word.now ++ rest) (λ rest. bytes.now ≡ word.now ++ rest.now) }
 {
     bytes.strip_prefix(word)
+}
+
+/// What follows `word`, of 4 to 8 bytes, at the front of `bytes`, as [`strip`] has it: four bytes are compared at once.
+#[inline(always)]
+pub fn strip_word<const N: usize>(bytes: &[u8], word: [u8; N]) -> Option<&[u8]>
+    requires { (4 ≤ N) × (N ≤ 8) }
+    ensures { MatchOption result ((rest : List ℕ) → bytes.now ≢ word.entry ++ rest) (λ rest. bytes.now ≡ word.entry ++ rest.now) }
+{
+    if bytes.len() < N {
+        return None;
+    }
+    if four_at(bytes, 0) != four_at(&word, 0) {
+        return None;
+    }
+    if four_at(bytes, N - 4) != four_at(&word, N - 4) {
+        return None;
+    }
+    Some(&bytes[N..])
+}
+
+/// The four bytes at `at`, as one number.
+#[inline(always)]
+fn four_at(bytes: &[u8], at: usize) -> u32
+    requires { at + 4 ≤ length bytes.now }
+    ensures { result ≡ from_le_bytes w32 (take 4 (drop at bytes.now)) }
+{
+    u32::from_le_bytes([bytes[at], bytes[at + 1], bytes[at + 2], bytes[at + 3]])
 }
 
 /// The number, below 2^64, that all digits at the front of `bytes` spell with no leading zero, and what follows it, in one

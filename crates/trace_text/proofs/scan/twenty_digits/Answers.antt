@@ -18,8 +18,7 @@ pub returns-then-has_digit_at : goal.returns-then-has_digit_at
 returns-then-has_digit_at c = too_long c.args.bytes.now c.requires.within c.requires.digits (c.if-has_digit_at.ensures.0 refl)
 
 pub returns : goal.returns
-returns c =
-    (
-      omega (arith, value_of_twenty c.args.bytes.now c.args.value c.requires.within c.requires.digits c.requires.value, c.in-Some.ensures, c.in-Some-checked_add.ensures),
-      ends_before c.args.bytes.now 20 (get_or c.args.bytes.now 20 0) refl (λ r. false≢true (c.if-has_digit_at.ensures.1 r)),
-    )
+returns c = (
+  omega (arith, value_of_twenty c.args.bytes.now c.args.value c.requires.within c.requires.digits c.requires.value, c.in-Some.ensures, c.in-Some-checked_add.ensures),
+  ends_before c.args.bytes.now 20 (get_or c.args.bytes.now 20 0) refl (λ r. false≢true (c.if-has_digit_at.ensures.1 r)),
+)
