@@ -4,7 +4,7 @@ pub mod OnePass
 pub mod Choice
 pub mod Clashes
 pub mod Texts
-pub mod Newlines
+pub mod Fours
 pub mod EventTexts
 pub mod Fronts
 pub mod Counts

@@ -3,7 +3,7 @@ ghost use Rattle.std.specs.Prelude.{◌≡◌, ◌≢◌, ℕ, ◌++◌, MatchOp
 ghost use Rattle.trace_text.specs.Spelling.{Spells, event_line, ending_line, FitsEvent, FitsEnding};
 ghost use Rattle.trace_text.specs.Reading.{IsRead, IsUnread};
 
-use crate::scan::{code_before, number_before, split_number, strip, worker_before};
+use crate::scan::{code_before, number_before, split_number, strip_word, worker_before};
 use executor_core::Event;
 use sched_time::Ending;
 
@@ -27,22 +27,22 @@ pub fn read_event(line: &[u8]) -> Option<Event>
 pub fn split_event(bytes: &[u8]) -> Option<(Event, &[u8])>
     ensures { MatchOption result (IsUnread event_line FitsEvent bytes.now) (λ r. IsRead event_line FitsEvent bytes.now r.0 r.1.now) }
 {
-    if let Some(rest) = strip(bytes, b"start ") {
+    if let Some(rest) = strip_word(bytes, *b"start ") {
         let Some((worker, rest)) = worker_before(rest, b"\n") else {
             return None;
         };
         return Some((Event::Start(worker), rest));
     }
-    if let Some(rest) = strip(bytes, b"finish ") {
+    if let Some(rest) = strip_word(bytes, *b"finish ") {
         return split_finish(rest);
     }
-    if let Some(rest) = strip(bytes, b"clock ") {
+    if let Some(rest) = strip_word(bytes, *b"clock ") {
         let Some((moment, rest)) = number_before(rest, b"\n") else {
             return None;
         };
         return Some((Event::Clock(moment), rest));
     }
-    if let Some(rest) = strip(bytes, b"cancel ") {
+    if let Some(rest) = strip_word(bytes, *b"cancel ") {
         let Some((task, rest)) = code_before(rest, b"\n") else {
             return None;
         };
@@ -73,13 +73,13 @@ fn split_finish(bytes: &[u8]) -> Option<(Event, &[u8])>
 fn split_ending(bytes: &[u8]) -> Option<(Ending, &[u8])>
     ensures { MatchOption result (IsUnread ending_line FitsEnding bytes.now) (λ r. IsRead ending_line FitsEnding bytes.now r.0 r.1.now) }
 {
-    if let Some(rest) = strip(bytes, b" ok ") {
+    if let Some(rest) = strip_word(bytes, *b" ok ") {
         let Some((value, rest)) = number_before(rest, b"\n") else {
             return None;
         };
         return Some((Ending::Value(value), rest));
     }
-    if let Some(rest) = strip(bytes, b" fail ") {
+    if let Some(rest) = strip_word(bytes, *b" fail ") {
         let Some((code, rest)) = code_before(rest, b"\n") else {
             return None;
         };

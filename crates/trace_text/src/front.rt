@@ -1,7 +1,7 @@
 //! What stands at the front of bytes that are read piece by piece.
-ghost use Rattle.std.specs.Prelude.{◌≡◌, ◌≤◌};
-ghost use Rattle.trace_text.specs.Spelling.{event_line, FitsEvent};
-ghost use Rattle.trace_text.specs.Reading.{IsFront, IsUnread};
+ghost use Rattle.std.specs.Prelude.{◌≡◌, ◌<◌, ◌↔◌, IsTrue, length};
+ghost use Rattle.trace_text.specs.Spelling.{IsLine};
+ghost use Rattle.trace_text.specs.Reading.{IsFront};
 
 use crate::event::split_event;
 use executor_core::Event;
@@ -26,22 +26,20 @@ pub enum Front {
 pub fn front_event(bytes: &[u8]) -> Front
     ensures { IsFront result bytes.now }
 {
-    match split_event(bytes) {
-        Some((event, rest)) => Front::Event(event, bytes.len() - rest.len()),
-        None => front_without_event(bytes),
-    }
+    let Some((event, rest)) = split_event(bytes) else {
+        if is_part(bytes) {
+            return Front::Part;
+        }
+        return Front::Refused;
+    };
+    Front::Event(event, bytes.len() - rest.len())
 }
 
-/// What stands at the front of some bytes that do not begin with an event's line.
+/// Whether some bytes, which do not begin with an event's line, are too few to tell: no newline is among them, and there is
+/// room for one.
 #[cold]
-fn front_without_event(bytes: &[u8]) -> Front
-    requires { IsUnread event_line FitsEvent bytes.now }
-    ensures { IsFront result bytes.now }
+fn is_part(bytes: &[u8]) -> bool
+    ensures { IsTrue result ↔ (IsLine bytes.now × (length bytes.now < MOST_EVENT_BYTES)) }
 {
-    let most = bytes.len().min(MOST_EVENT_BYTES);
-    match memchr(b'\n', &bytes[..most]) {
-        Some(_) => Front::Refused,
-        None if most < MOST_EVENT_BYTES => Front::Part,
-        None => Front::Refused,
-    }
+    bytes.len() < MOST_EVENT_BYTES && memchr(b'\n', bytes).is_none()
 }

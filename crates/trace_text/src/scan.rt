@@ -1,7 +1,7 @@
 //! Words and numbers at the front of some bytes.
-ghost use Rattle.std.specs.Prelude.{◌≡◌, ◌≢◌, ℕ, ◌^◌, ◌<◌, ◌≤◌, List, ◌++◌, ◌↔◌, IsTrue, MatchOption, length, slice_index, take, drop};
+ghost use Rattle.std.specs.Prelude.{◌≡◌, ◌≢◌, ℕ, ◌+◌, ◌-◌, ◌^◌, ◌<◌, ◌≤◌, List, ◌++◌, ◌↔◌, IsTrue, MatchOption, length, slice_index, take, drop};
 ghost use Rattle.std.specs.Fmt.{decimal};
-ghost use Rattle.std.specs.Int.{IsInRange};
+ghost use Rattle.std.specs.Int.{IsInRange, w32, from_le_bytes};
 ghost use Rattle.std.specs.Str.Parse.{AllDigits, digits_value};
 ghost use Rattle.trace_text.specs.Spelling.{EndsNumber};
 ghost use Rattle.trace_text.specs.Reading.{IsRead, IsUnread, number_then, Below};
@@ -12,6 +12,33 @@ pub fn strip<'a>(bytes: &'a [u8], word: &[u8]) -> Option<&'a [u8]>
     ensures { MatchOption result ((rest : List ℕ) → bytes.now ≢ word.now ++ rest) (λ rest. bytes.now ≡ word.now ++ rest.now) }
 {
     bytes.strip_prefix(word)
+}
+
+/// What follows `word`, of 4 to 8 bytes, at the front of `bytes`, as [`strip`] has it: four bytes are compared at once.
+#[inline(always)]
+pub fn strip_word<const N: usize>(bytes: &[u8], word: [u8; N]) -> Option<&[u8]>
+    requires { (4 ≤ N) × (N ≤ 8) }
+    ensures { MatchOption result ((rest : List ℕ) → bytes.now ≢ word.entry ++ rest) (λ rest. bytes.now ≡ word.entry ++ rest.now) }
+{
+    if bytes.len() < N {
+        return None;
+    }
+    if four_at(bytes, 0) != four_at(&word, 0) {
+        return None;
+    }
+    if four_at(bytes, N - 4) != four_at(&word, N - 4) {
+        return None;
+    }
+    Some(&bytes[N..])
+}
+
+/// The four bytes at `at`, as one number.
+#[inline(always)]
+fn four_at(bytes: &[u8], at: usize) -> u32
+    requires { at + 4 ≤ length bytes.now }
+    ensures { result ≡ from_le_bytes w32 (take 4 (drop at bytes.now)) }
+{
+    u32::from_le_bytes([bytes[at], bytes[at + 1], bytes[at + 2], bytes[at + 3]])
 }
 
 /// The number, below 2^64, that all digits at the front of `bytes` spell with no leading zero, and what follows it, in one
@@ -29,7 +56,10 @@ pub fn split_number(bytes: &[u8]) -> Option<(u64, &[u8])>
             return number_up_to(bytes, i, value);
         }
         if i >= 19 {
-            return twentieth_digit(bytes, value);
+            return match twenty_digits(bytes, value) {
+                Some(whole) => number_up_to(bytes, 20, whole),
+                None => None,
+            };
         }
         value = value * 10 + (code - b'0') as u64;
     }
@@ -56,25 +86,26 @@ fn number_up_to(bytes: &[u8], end: usize, value: u64) -> Option<(u64, &[u8])>
     Some((value, &bytes[end..]))
 }
 
-/// The number of the digits at the front, where 20 digits or more stand there. The first 19 have the value `value`.
-fn twentieth_digit(bytes: &[u8], value: u64) -> Option<(u64, &[u8])>
+/// The number of the 20 digits at the front, below 2^64, where the first 19 have the value `value`. `None` where it is greater,
+/// and where a further digit follows.
+fn twenty_digits(bytes: &[u8], value: u64) -> Option<u64>
     requires within { 20 ≤ length bytes.now }
     requires digits { AllDigits 10 (take 20 bytes.now) }
     requires value { value ≡ digits_value 10 (take 19 bytes.now) }
     ensures { MatchOption result
         ((n : ℕ) (rest : List ℕ) → n < 2 ^ 64 → EndsNumber rest → bytes.now ≢ decimal n ++ rest)
-        (λ r. (bytes.now ≡ decimal r.0 ++ r.1.now) × EndsNumber r.1.now × (r.0 < 2 ^ 64)) }
+        (λ whole. (whole ≡ digits_value 10 (take 20 bytes.now)) × EndsNumber (drop 20 bytes.now)) }
 {
+    if has_digit_at(bytes, 20) {
+        return None;
+    }
     let Some(tens) = value.checked_mul(10) else {
         return None;
     };
     let Some(whole) = tens.checked_add((bytes[19] - b'0') as u64) else {
         return None;
     };
-    if has_digit_at(bytes, 20) {
-        return None;
-    }
-    number_up_to(bytes, 20, whole)
+    Some(whole)
 }
 
 /// Whether a digit stands at `at`.

@@ -10,16 +10,23 @@ overflow_mul-value c = omega (arith, below_power c.loop-i.i c.loop-i.value (omeg
 pub overflow_add-value : goal.overflow_add-value
 overflow_add-value c = omega (arith, below_power c.loop-i.i c.loop-i.value (omega (arith, c.if-i-ge19.false)) c.loop-i.invariant.small)
 
-pub twentieth_digit-requires-clause-digits : goal.twentieth_digit-requires-clause-digits
-twentieth_digit-requires-clause-digits c =
+pub twenty_digits-requires-clause-digits : goal.twenty_digits-requires-clause-digits
+twenty_digits-requires-clause-digits c =
     let bytes = c.args.bytes.now in
     let i = c.loop-i.i in
     let here : i ≡ 19 = omega (arith, c.loop-i.invariant.few, c.if-i-ge19.true) in
     let more = digits_next bytes i (get_or bytes i 0) (omega arith) refl (omega arith) (omega arith) c.loop-i.invariant.digits in
     subst (λ k. AllDigits 10 (take (k + 1) bytes)) here more
 
-pub twentieth_digit-requires-clause-value : goal.twentieth_digit-requires-clause-value
-twentieth_digit-requires-clause-value c =
+pub number_up_to-requires-in-Some-clause-digits : goal.number_up_to-requires-in-Some-clause-digits
+number_up_to-requires-in-Some-clause-digits c =
+    let bytes = c.args.bytes.now in
+    let i = c.loop-i.i in
+    let here : i ≡ 19 = omega (arith, c.loop-i.invariant.few, c.if-i-ge19.true) in
+    subst (λ k. AllDigits 10 (take (k + 1) bytes)) here (digits_next bytes i (get_or bytes i 0) (omega arith) refl (omega arith) (omega arith) c.loop-i.invariant.digits)
+
+pub twenty_digits-requires-clause-value : goal.twenty_digits-requires-clause-value
+twenty_digits-requires-clause-value c =
     let here : c.loop-i.i ≡ 19 = omega (arith, c.loop-i.invariant.few, c.if-i-ge19.true) in
     c.loop-i.invariant.value ∙ ap (λ k. digits_value 10 (take k c.args.bytes.now)) here
 
