@@ -29,3 +29,7 @@ abbrev pub IsFront : Front → List ℕ → Type 0
 IsFront (front.Event e n) bytes = IsRead event_line FitsEvent bytes e (drop n bytes) × (0 < n) × (n ≤ length bytes)
 IsFront front.Part bytes = IsLine bytes × (length bytes < MOST_EVENT_BYTES)
 IsFront front.Refused bytes = (0 < length bytes) × ((more : List ℕ) → IsUnread event_line FitsEvent (bytes ++ more))
+
+-- one line spells one event, and no event's line is the front of another's
+abbrev pub EventLinesAreOne : Type 0
+EventLinesAreOne = (e f : Event) (rest tail : List ℕ) → FitsEvent e → FitsEvent f → event_line e ++ rest ≡ event_line f ++ tail → (e ≡ f) × (rest ≡ tail)

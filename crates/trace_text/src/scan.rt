@@ -1,5 +1,5 @@
 //! Words and numbers at the front of some bytes.
-ghost use Rattle.std.specs.Prelude.{◌≡◌, ◌≢◌, ℕ, ◌+◌, ◌-◌, ◌^◌, ◌<◌, ◌≤◌, List, ◌++◌, ◌↔◌, IsTrue, MatchOption, length, slice_index, take, drop};
+ghost use Rattle.std.specs.Prelude.{◌≡◌, ◌≢◌, ℕ, ◌^◌, ◌<◌, ◌≤◌, List, ◌++◌, ◌↔◌, IsTrue, MatchOption, length, slice_index, take, drop};
 ghost use Rattle.std.specs.Fmt.{decimal};
 ghost use Rattle.std.specs.Int.{IsInRange, w32, from_le_bytes};
 ghost use Rattle.std.specs.Str.Parse.{AllDigits, digits_value};
@@ -14,31 +14,32 @@ pub fn strip<'a>(bytes: &'a [u8], word: &[u8]) -> Option<&'a [u8]>
     bytes.strip_prefix(word)
 }
 
-/// What follows `word`, of 4 to 8 bytes, at the front of `bytes`, as [`strip`] has it: four bytes are compared at once.
+/// What follows `word`, of 4 bytes or more, at the front of `bytes`, as [`strip`] has it: its first four are compared at once.
 #[inline(always)]
 pub fn strip_word<const N: usize>(bytes: &[u8], word: [u8; N]) -> Option<&[u8]>
-    requires { (4 ≤ N) × (N ≤ 8) }
+    requires { 4 ≤ N }
     ensures { MatchOption result ((rest : List ℕ) → bytes.now ≢ word.entry ++ rest) (λ rest. bytes.now ≡ word.entry ++ rest.now) }
 {
     if bytes.len() < N {
         return None;
     }
-    if four_at(bytes, 0) != four_at(&word, 0) {
+    let word = &word[..];
+    if first_four(bytes) != first_four(word) {
         return None;
     }
-    if four_at(bytes, N - 4) != four_at(&word, N - 4) {
+    let Some(rest) = strip(&bytes[4..], &word[4..]) else {
         return None;
-    }
-    Some(&bytes[N..])
+    };
+    Some(rest)
 }
 
-/// The four bytes at `at`, as one number.
+/// The first four bytes, as one number.
 #[inline(always)]
-fn four_at(bytes: &[u8], at: usize) -> u32
-    requires { at + 4 ≤ length bytes.now }
-    ensures { result ≡ from_le_bytes w32 (take 4 (drop at bytes.now)) }
+fn first_four(bytes: &[u8]) -> u32
+    requires { 4 ≤ length bytes.now }
+    ensures { result ≡ from_le_bytes w32 (take 4 bytes.now) }
 {
-    u32::from_le_bytes([bytes[at], bytes[at + 1], bytes[at + 2], bytes[at + 3]])
+    u32::from_le_bytes([bytes[0], bytes[1], bytes[2], bytes[3]])
 }
 
 /// The number, below 2^64, that all digits at the front of `bytes` spell with no leading zero, and what follows it, in one

@@ -96,3 +96,6 @@ impl<A: Allocator> TextBuffer<A> {
         Ok(())
     }
 }
+
+#[cfg(test)]
+mod tests;

@@ -19,3 +19,6 @@ impl From<AllocError> for TextError {
         TextError::Memory
     }
 }
+
+#[cfg(test)]
+mod tests;

@@ -124,3 +124,53 @@ fn refuses_other_failures(rt: HostRuntime) {
         ],
     );
 }
+
+#[test]
+fn reads_numbers_of_each_length(rt: HostRuntime) {
+    let digits = b"12345678901234567890";
+    let mut value = 0u64;
+    for n in 1..20usize {
+        value = value
+            .wrapping_mul(10)
+            .wrapping_add((digits[n - 1] - b'0') as u64);
+        let mut line = Vec::from_slice(rt.alloc(), b"clock ").expect(&rt, "a word");
+        line.extend_from_slice(&digits[..n]).expect(&rt, "digits");
+        let cut = read_event(&line);
+        assert!(rt; cut.is_none(), "{n}: {cut:?}");
+        line.push(b'\n').expect(&rt, "a newline");
+        let read = read_event(&line);
+        assert!(rt; read == Some(Event::Clock(value)), "{n}: {read:?}");
+        line.push(b'\n').expect(&rt, "one more");
+        let longer = read_event(&line);
+        assert!(rt; longer.is_none(), "{n}: {longer:?}");
+    }
+}
+
+#[test]
+fn reads_no_number_of_another_form(rt: HostRuntime) {
+    refuses(
+        &rt,
+        &[
+            "clock 18446744073709551616\n",
+            "clock 18446744073709551620\n",
+            "clock 28446744073709551615\n",
+            "clock 99999999999999999999\n",
+            "clock 184467440737095516150\n",
+            "clock 000000000000000000001\n",
+            "clock 00\n",
+            "clock 1844674407370955161:\n",
+            "clock 1844674407370955161/\n",
+            "start 007\n",
+            "start  7\n",
+            "start\t7\n",
+            "start 7\r\n",
+            "start 7\n ",
+            "start 7",
+            "finish 0\tok 1\n",
+            "finish 0 ok  1\n",
+            "finish 0 ok 01\n",
+            "finish 0 ok 1",
+            "finish 0 ok 1\n\n",
+        ],
+    );
+}

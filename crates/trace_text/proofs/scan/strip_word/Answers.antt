@@ -1,24 +1,23 @@
-use Rattle.std.specs.Int.{w32, from_le_bytes}
-use Rattle.std.proofs.Common.{◌≡◌, ◌-◌, ◌∙◌, ◌++◌, length, take, drop, ap, sym, rules, arith}
-use Rattle.trace_text.proofs.Fours.{AreBytes, same_four, part_are_bytes, four_long, word_by_fours, last_four}
+use Rattle.std.proofs.Common.{◌≡◌, ◌≤◌, ◌∙◌, ◌++◌, length, take, drop, ap, sym, rules, arith}
+use Rattle.trace_text.proofs.Fours.{AreBytes, same_four, word_there, others_there}
 use Rattle.trace_text.proofs.OnePass.{from_end}
 use Rattle.trace_text.proofs.scan.strip_word.Goals as goal
 
-pub returns-then-four_at-2 : goal.returns-then-four_at-2
-returns-then-four_at-2 g c = λ rest h.
-    c.if-four_at-2.true (c.four_at-3.ensures ∙ (ap (λ l. from_le_bytes w32 l) (last_four c.args.bytes.now c.args.word rest (g.row.N - 4) (search rules) h) ∙ sym c.four_at-4.ensures))
+pub returns-in_default : goal.returns-in_default
+returns-in_default g c = λ rest h.
+    let bytes = c.args.bytes.now in
+    let word = c.args.word in
+    let size : length word ≡ g.row.N = search rules in
+    c.in_default.ensures rest (from_end bytes 4 ∙ (others_there bytes word rest (omega (arith, size, c.requires)) h ∙ ap (λ l. l ++ rest) (sym (from_end word 4))))
 
 pub returns : goal.returns
 returns g c =
     let bytes = c.args.bytes.now in
     let word = c.args.word in
-    let n = g.row.N in
-    let size : length word ≡ n = search rules in
+    let rest = c.in-Some.rest.now in
+    let size : length word ≡ g.row.N = search rules in
     let all : AreBytes word = search rules in
     let held : AreBytes bytes = search rules in
-    let few = c.requires in
-    let first = same_four (take 4 (drop 0 bytes)) (take 4 (drop 0 word)) (four_long bytes 0 (omega (arith, few, c.if-bytes.false))) (four_long word 0 (omega (arith, few, size)))
-    (part_are_bytes bytes 0 held) (part_are_bytes word 0 all) (sym c.four_at.ensures ∙ (c.if-four_at.false ∙ c.four_at-2.ensures)) in
-    let last = same_four (take 4 (drop (n - 4) bytes)) (take 4 (drop (n - 4) word)) (four_long bytes (n - 4) (omega (arith, few, c.if-bytes.false))) (four_long word (n - 4) (omega (arith, few, size)))
-    (part_are_bytes bytes (n - 4) held) (part_are_bytes word (n - 4) all) (sym c.four_at-3.ensures ∙ (c.if-four_at-2.false ∙ c.four_at-4.ensures)) in
-    word_by_fours bytes word n size few.0 few.1 first last ∙ ap (λ l. word ++ l) (sym (from_end bytes n))
+    let long : 4 ≤ length bytes = omega (arith, c.requires, c.if-bytes.false) in
+    let first = same_four bytes word long (omega (arith, size, c.requires)) held all (sym c.first_four.ensures ∙ (c.if-first_four.false ∙ c.first_four-2.ensures)) in
+    word_there bytes word rest first (sym (from_end bytes 4) ∙ (c.in-Some.ensures ∙ ap (λ l. l ++ rest) (from_end word 4)))
