@@ -20,9 +20,19 @@
 #![tactic(auto)]
 
 mod call;
+mod check;
+mod code;
+mod cursor;
+mod fault;
+mod instr;
 mod limits;
 mod order;
+mod progress;
 
 pub use call::CodeCall;
+pub use code::Code;
+pub use cursor::Cursor;
+pub use fault::CodeFault;
+pub use instr::Instr;
 pub use limits::MOST_CALLS;
 pub use order::orderly;
