@@ -6,3 +6,4 @@ pub mod Passing
 pub mod Soundness
 pub mod Sizes
 pub mod Counting
+pub mod LeastFault

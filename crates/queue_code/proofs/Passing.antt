@@ -38,7 +38,8 @@ passes_all p i rest none =
     let many = not_failing (is_too_many p i) _ _ order.1 in
     record { early = early.0; nested = nested.0; unclosed = unclosed.0; empty = empty.0; task = task.0; large = large.0; order = order.0; many = many.0 }
 
-neither : (a b : Option CodeFault) → or_else a b ≡ None → (a ≡ None) × (b ≡ None)
+-- where the first of two faults is none, neither is one
+pub neither : (a b : Option CodeFault) → or_else a b ≡ None → (a ≡ None) × (b ≡ None)
 neither None b none = (refl, none)
 neither (Some fault) b none = cc
 

@@ -107,7 +107,8 @@ IsOver code c = slice_get code c.index ≡ None
 abbrev pub steps_of : Cursor → ℕ
 steps_of c = c.steps
 
--- how many of the instructions up to an index, which is past the end where nothing stands there, no call is made by
+-- how many instructions more may have been executed where no instruction stands at a cursor: those of the fetch that
+-- met the end
 abbrev pub steps_at_end : Option Instr → ℕ
 steps_at_end None = 3
 steps_at_end (Some i) = 0

@@ -5,3 +5,5 @@ pub mod Codes
 pub mod Checks
 pub mod Sizes
 pub mod Cursors
+pub mod Listings
+pub mod CodeLaws

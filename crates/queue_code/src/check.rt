@@ -147,7 +147,7 @@ fn is_too_many(progress: &Progress, instr: &Instr) -> bool
     ensures { result ≡ is_too_many progress.now instr.now }
 {
     match instr {
-        Instr::Loop(times, _) => *times < 1 || 65_536 < *times,
+        Instr::Loop(times, _) => *times < 1 || MOST_CALLS < *times as usize,
         Instr::Halt => false,
         _ => (MOST_CALLS as u128) < progress.after(instr).calls,
     }

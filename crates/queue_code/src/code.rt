@@ -39,9 +39,9 @@ impl<A: Allocator> Model for Code<A> {
 impl<A: Allocator> Code<A> {
     /// The code of some instructions, if they have no fault.
     ///
-    /// The answer is the fault of the least index, and at one index the first that applies, in the order of
-    /// [`CodeFault`]. [`CodeFault::Memory`] may come in place of a code, and never in place of another fault. Instructions that are refused are
-    /// dropped.
+    /// The answer is else the fault of the least index, and at one index the first that applies, in the order
+    /// in which [`CodeFault`] lists them. [`CodeFault::Memory`] may come in place of a code, and never in place of
+    /// another fault. Instructions that are refused are dropped.
     pub fn check(alloc: A, instrs: Vec<Instr, A>) -> Result<Code<A>, CodeFault>
         ensures code { IfOk result (λ code. (code ≡ instrs.items) × (fault_of instrs.items ≡ None)) }
         ensures fault { IfErr result (λ e. (fault_of instrs.items ≡ Some e) ⊎ ((e ≡ CodeFault.Memory) × (fault_of instrs.items ≡ None))) }

@@ -3,6 +3,7 @@ ghost use Rattle.queue_code.specs.Codes.{tasks_by};
 ghost use Rattle.queue_code.specs.Checks.{offset_of, is_call};
 
 use sched_time::Timing;
+use std::fmt;
 
 /// An instruction of queue code.
 ///
@@ -56,6 +57,36 @@ impl Instr {
         match self {
             Instr::Submit(..) | Instr::Illegal(_) => 1,
             _ => 0,
+        }
+    }
+}
+
+impl fmt::Display for Instr {
+    ghost use Rattle.std.specs.Prelude.{Some};
+    ghost use Rattle.queue_code.specs.Listings.{instr_text};
+
+    ghost output = { λ i. Some (instr_text i) };
+
+    fn fmt<W: fmt::Write>(&self, f: &mut fmt::Formatter<W>) -> fmt::Result {
+        match self {
+            Instr::Submit(offset, Timing::Once, delay) => write!(
+                f,
+                "submit {offset} schedule {delay}"
+            ),
+            Instr::Submit(offset, Timing::Rate(period), first) => {
+                let period = period.nanos();
+                write!(f, "submit {offset} rate {first} {period}")
+            }
+            Instr::Submit(offset, Timing::Fixed(delay), first) => {
+                let delay = delay.nanos();
+                write!(f, "submit {offset} fixed {first} {delay}")
+            }
+            Instr::Illegal(offset) => write!(f, "illegal {offset}"),
+            Instr::CancelFixed(offset, task) => write!(f, "cancel {offset} task {task}"),
+            Instr::CancelHere(offset, nth) => write!(f, "cancel {offset} here {nth}"),
+            Instr::Loop(times, every) => write!(f, "loop {times} every {every}"),
+            Instr::EndLoop => write!(f, "endloop"),
+            Instr::Halt => write!(f, "halt"),
         }
     }
 }
