@@ -1,5 +1,5 @@
 -- Numbers in front of words.
-use Rattle.std.proofs.Common.{◌≡◌, ℕ, ◌^◌, ◌<◌, ◌≤◌, List, [], ◌∷◌, ◌++◌, length, sym, ap, ◌∙◌, arith, append_assoc, codes, get_or}
+use Rattle.std.proofs.Common.{◌≡◌, ℕ, ◌^◌, ◌<◌, ◌≤◌, List, [], ◌∷◌, ◌++◌, length, sym, ◌∙◌, arith, append_assoc}
 use Rattle.std.specs.Fmt.{decimal}
 use Rattle.std.proofs.lemmas.List.{append_cancel_left}
 use Rattle.trace_text.specs.Spelling.{EndsNumber}
@@ -27,16 +27,3 @@ unread_word text word rest n fits plain is ends some never = λ m tail small h.
 pub unread_great : (limit : ℕ) (text word rest : List ℕ) (n : ℕ) → limit ≤ 2 ^ 64 → n < 2 ^ 64 → text ≡ number_then word n ++ rest → EndsNumber word → 0 < length word → limit ≤ n → IsUnread (number_then word) (Below limit) text
 unread_great limit text word rest n low fits is ends some great = λ m tail small h.
     absurd (omega (arith, small, great, (one_before word n m rest tail fits (omega (arith, small, low)) ends some (sym is ∙ h)).0))
-
--- a number stands before the word, and nothing that is to follow does
-pub then_unread : {V : Type 0} (spell : V → List ℕ) (fits : V → Type 0) (word text rest : List ℕ) (n : ℕ) → n < 2 ^ 64 → EndsNumber word → 0 < length word → text ≡ number_then word n ++ rest → IsUnread spell fits rest →
-    (m : ℕ) (v : V) (tail : List ℕ) → m < 2 ^ 64 → fits v → text ≡ (decimal m ++ (word ++ spell v)) ++ tail → ⊥
-then_unread spell fits word text rest n small ends some is never m v tail low f h =
-    let turned : (decimal m ++ (word ++ spell v)) ++ tail ≡ number_then word m ++ (spell v ++ tail) =
-    ap (λ x. x ++ tail) (sym (append_assoc (decimal m) word (spell v))) ∙ append_assoc (decimal m ++ word) (spell v) tail in
-    never v tail f (one_before word n m rest (spell v ++ tail) small low ends some (sym is ∙ (h ∙ turned))).1
-
--- no number stands before the word
-pub first_unread : {V : Type 0} (spell : V → List ℕ) (word text : List ℕ) (limit : ℕ) → IsUnread (number_then word) (Below limit) text → (m : ℕ) (v : V) (tail : List ℕ) → m < limit → text ≡ (decimal m ++ (word ++ spell v)) ++ tail → ⊥
-first_unread spell word text limit never m v tail low h =
-    never m (spell v ++ tail) low (h ∙ (ap (λ x. x ++ tail) (sym (append_assoc (decimal m) word (spell v))) ∙ append_assoc (decimal m ++ word) (spell v) tail))

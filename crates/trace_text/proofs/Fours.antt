@@ -1,9 +1,9 @@
 -- Fours: words whose first four bytes are compared at once.
-use Rattle.std.proofs.Common.{◌≡◌, ℕ, ◌+◌, ◌<◌, ◌≤◌, List, [], ◌∷◌, ◌++◌, take, drop, length, get_or, ap, ◌∙◌, sym, refl, arith, inl, inr, append_assoc, take-append-drop}
+use Rattle.std.proofs.Common.{◌≡◌, ℕ, ◌<◌, ◌≤◌, List, ◌++◌, take, drop, length, get_or, ap, ◌∙◌, sym, refl, arith, inl, inr, append_assoc, take-append-drop}
 use Rattle.std.specs.Int.{w32, from_le_bytes, to_le_bytes}
 use Rattle.std.proofs.lemmas.Nat.{le_bytes_4}
 use Rattle.std.proofs.lemmas.Bool.{cases_lt}
-use Rattle.std.proofs.lemmas.List.{get_or-take, get_or_past, length-take, take-append-le, drop-append-le}
+use Rattle.std.proofs.lemmas.List.{get_or-take, get_or_past, length-take, drop-append-le}
 
 -- bytes are below 256
 abbrev pub AreBytes : List ℕ → Type 0
@@ -27,10 +27,6 @@ pub word_there : (bytes word rest : List ℕ) → take 4 bytes ≡ take 4 word �
 word_there bytes word rest first others =
     sym (take-append-drop 4 bytes)
     ∙ (ap (λ l. l ++ drop 4 bytes) first ∙ (ap (λ l. take 4 word ++ l) others ∙ (sym (append_assoc (take 4 word) (drop 4 word) rest) ∙ ap (λ l. l ++ rest) (take-append-drop 4 word))))
-
--- bytes that begin with a word begin with its first four bytes
-pub first_there : (bytes word rest : List ℕ) → 4 ≤ length word → bytes ≡ word ++ rest → take 4 bytes ≡ take 4 word
-first_there bytes word rest long h = ap (take 4) h ∙ take-append-le 4 word rest long
 
 -- and its others stand behind them
 pub others_there : (bytes word rest : List ℕ) → 4 ≤ length word → bytes ≡ word ++ rest → drop 4 bytes ≡ drop 4 word ++ rest

@@ -1,5 +1,5 @@
 -- Fronts: bytes that do not begin with an event's line, whatever follows.
-use Rattle.std.proofs.Common.{◌≡◌, ◌≢◌, ℕ, ◌+◌, ◌<◌, ◌≤◌, List, [], ◌∷◌, ◌++◌, take, drop, length, ap, ◌∙◌, sym, subst, arith, inl, inr, append_assoc, length-append}
+use Rattle.std.proofs.Common.{◌≡◌, ◌≢◌, ℕ, ◌<◌, ◌≤◌, List, [], ◌∷◌, ◌++◌, take, drop, length, ap, ◌∙◌, sym, subst, arith, inl, inr, append_assoc, length-append}
 use Rattle.std.proofs.Math.Seq.{take-append_seam}
 use Rattle.std.proofs.lemmas.Bool.{cases_lt}
 use Rattle.std.proofs.lemmas.List.{take-append-le, take-append-drop}
@@ -7,7 +7,7 @@ use Rattle.std.proofs.lemmas.List.Elements.{All-take, All-nil}
 use Rattle.executor_core.specs.declared.Event.{Event}
 use Rattle.trace_text.specs.Spelling.{IsLine, event_line, FitsEvent}
 use Rattle.trace_text.specs.Reading.{IsUnread}
-use Rattle.trace_text.proofs.EventTexts.{IsEnded, event_ended}
+use Rattle.trace_text.proofs.EventTexts.{event_ended}
 use Rattle.trace_text.proofs.Counts.{event_short}
 use Rattle.trace_text.proofs.Texts.{no_line}
 

@@ -37,15 +37,18 @@ within_number line i n c rest within fits is low high all ends e =
     let digit : get_or line i 0 ≡ get_or (decimal n) i 0 = ap (λ x. get_or x i 0) e ∙ get_or_append_left (decimal n) rest 0 i l in
     omega (arith, front_fits (decimal n) n i l fits refl, ap (digits_value 10) front, ap digit_value (sym digit ∙ is), value_of_digit c low high)
 
+-- where no digit stands in front, no number does
 pub no_digits : (line : List ℕ) (end : ℕ) → end ≡ 0 → AllDigits 10 (take end line) → EndsNumber (drop end line) → (n : ℕ) (rest : List ℕ) → n < 2 ^ 64 → EndsNumber rest → line ≡ decimal n ++ rest → ⊥
 no_digits line end zero_is all ends n rest fits plain e =
     no_number line end n rest all ends (λ m small is. none_of_empty (take end line) m (omega (arith, length-take end line)) small is) fits plain e
 
+-- where a 0 stands before further digits, no number does
 pub leading_zero : (line : List ℕ) (end : ℕ) → get_or line 0 0 ≡ 48 → 1 < end → end ≤ length line → AllDigits 10 (take end line) → EndsNumber (drop end line) →
     (n : ℕ) (rest : List ℕ) → n < 2 ^ 64 → EndsNumber rest → line ≡ decimal n ++ rest → ⊥
 leading_zero line end first long within all ends n rest fits plain e =
     no_number line end n rest all ends (λ m small is. none_of_leading_zero (take end line) m (get_or-take end line 0 0 (omega arith) ∙ first) (omega (arith, length-take end line)) small is) fits plain e
 
+-- digits without a leading zero are the text of their value
 pub the_number : (line : List ℕ) (end value : ℕ) → 0 < end → end ≤ length line → (get_or line 0 0 ≡ 48 → end ≤ 1) → AllDigits 10 (take end line) → value ≡ digits_value 10 (take end line) → value < 2 ^ 64 → line ≡ decimal value ++ drop end line
 the_number line end value some within zero_is all is fits =
     sym (take-append-drop end line)

@@ -1,4 +1,4 @@
-use Rattle.std.proofs.Common.{◌≡◌, ◌^◌, ◌+◌, ◌*◌, ◌≤◌, ap, arith}
+use Rattle.std.proofs.Common.{◌≡◌, ◌^◌, ◌+◌, ◌*◌, ap, arith}
 use Rattle.trace_text.proofs.Counts.{length_is, power_le, power_next}
 use Rattle.trace_text.proofs.put.count_from.Goals as goal
 

@@ -1,4 +1,4 @@
-use Rattle.std.proofs.Common.{◌≡◌, ◌≤◌, ◌∙◌, ◌++◌, length, take, drop, ap, sym, rules, arith}
+use Rattle.std.proofs.Common.{◌≡◌, ◌≤◌, ◌∙◌, ◌++◌, length, ap, sym, rules, arith}
 use Rattle.trace_text.proofs.Fours.{AreBytes, same_four, word_there, others_there}
 use Rattle.trace_text.proofs.OnePass.{from_end}
 use Rattle.trace_text.proofs.scan.strip_word.Goals as goal
