@@ -3,4 +3,3 @@ pub mod Runs
 pub mod Inputs
 pub mod Turns
 pub mod OneText
-pub mod InMemory

@@ -263,8 +263,8 @@ nothing_taken old new held taken before after count a same = by a.more a.front a
 -- the end of the input
 pub at_the_end : (run : Setting) (at : Progress) (left : Option (List ℕ)) (held : List ℕ) (result : Result Turn RunError) → IsBetweenTurns run at → Consumes at.left left [] → IsAtEnd left → held ≡ at.held →
     MatchResult result
-        (λ turn. (turn ≡ t.Ended (record { events = at.core.taken; lines = at.count })) × (held ≡ []))
-        (λ e. (e ≡ x.EventLine (at.core.taken + 1)) × (0 < length held))
+    (λ turn. (turn ≡ t.Ended (record { events = at.core.taken; lines = at.count })) × (held ≡ []))
+    (λ e. (e ≡ x.EventLine (at.core.taken + 1)) × (0 < length held))
     → Turns result run at (record at { left = left; held = held })
 at_the_end run at left held (Ok turn) between none end same is =
     let next : Progress = record at { left = left; held = held } in

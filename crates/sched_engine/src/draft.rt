@@ -91,6 +91,7 @@ impl<A: Allocator> Draft<A> {
         ensures text { self.new.text ≡ self.old.text }
         ensures keeps { self.old.room ≤ self.new.room }
     {
-        self.buffer.resize(self.buffer.len().saturating_add(PIECE), 0)
+        self.buffer
+            .resize(self.buffer.len().saturating_add(PIECE), 0)
     }
 }

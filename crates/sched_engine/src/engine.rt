@@ -96,12 +96,7 @@ pub struct Engine<A: Allocator> {
 
 impl<A: Allocator> Engine<A> {
     /// A run of the plan that a text writes, before anything was read.
-    pub fn open(
-        alloc: A,
-        plan_text: &[u8],
-        workers: u8,
-        limit: u32,
-    ) -> Result<Engine<A>, RunError>
+    pub fn open(alloc: A, plan_text: &[u8], workers: u8, limit: u32) -> Result<Engine<A>, RunError>
     where
         A: Room,
         ensures opens { IfOk result (λ engine. Opens engine.core plan_text.now workers limit) }

@@ -67,6 +67,7 @@ impl Write for Taking {
 
 /// An event of 8 bytes, and the line of 18 bytes that answers it.
 const EVENT: &str = "start 9\n";
+
 const ANSWER: &str = "0 error no worker\n";
 
 /// How many such events a long run has.
@@ -105,7 +106,14 @@ fn long_run(
         trouble_at: write_trouble,
         trouble,
     });
-    let answer = run(alloc, b"version = 1", 9, 4_294_967_295, &mut reader, &mut writer);
+    let answer = run(
+        alloc,
+        b"version = 1",
+        9,
+        4_294_967_295,
+        &mut reader,
+        &mut writer,
+    );
     let end = writer.into_inner();
     Ok(Outcome {
         answer,
@@ -200,8 +208,16 @@ fn one_clock_makes_all_calls(rt: HostRuntime) -> Result<(), Fail> {
         lines: 257,
     };
     assert_eq!(rt; answer, Ok(report));
-    assert!(rt; trace.as_slice().starts_with(b"0 submit 0 schedule due 0\n1 submit 1 schedule due 1\n"));
-    assert!(rt; trace.as_slice().ends_with(b"255 submit 255 schedule due 255\n1000 clock\n"));
+    assert!(rt;
+        trace
+            .as_slice()
+            .starts_with(b"0 submit 0 schedule due 0\n1 submit 1 schedule due 1\n")
+    );
+    assert!(rt;
+        trace
+            .as_slice()
+            .ends_with(b"255 submit 255 schedule due 255\n1000 clock\n")
+    );
     Ok(())
 }
 

@@ -1,10 +1,9 @@
-use Rattle.std.proofs.Common.{◌≡◌, ◌<◌, ◌∙◌, Result, Ok, Err, sym, subst, rules}
+use Rattle.std.proofs.Common.{◌≡◌, ◌∙◌, Result, Ok, Err, subst, rules}
 use Rattle.sched_engine.specs.Running.{Ran}
 use Rattle.sched_engine.specs.declared.engine.Turn.{Turn}
-use Rattle.sched_engine.specs.declared.engine.Turn.TheVariants.{More}
 use Rattle.sched_engine.specs.declared.report.Report.{Report}
 use Rattle.sched_engine.specs.declared.report.RunError.{RunError}
-use Rattle.sched_engine.specs.Turns.{IsBetweenTurns, Progress, Setting, Turns, still_to_come}
+use Rattle.sched_engine.specs.Turns.{Progress, Setting, Turns}
 use Rattle.sched_engine.proofs.Turns.{first, ran_to_a_fault}
 use Rattle.sched_engine.proofs.engine.run.Goals as goal
 

@@ -1,4 +1,3 @@
-use Rattle.std.proofs.Common.{◌-◌}
 use Rattle.sched_engine.specs.Ends.{NoneMore}
 use Rattle.sched_engine.specs.Turns.{IsBetweenTurns, Progress, Setting, still_to_come}
 use Rattle.sched_engine.proofs.engine.run.Given as goal

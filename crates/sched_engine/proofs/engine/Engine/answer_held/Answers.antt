@@ -1,5 +1,4 @@
-use Rattle.std.proofs.Common.{◌≡◌, ℕ, ◌+◌, List, drop, ap, ◌∙◌, sym, subst, arith}
-use Rattle.executor_core.specs.Machine.{Machine}
+use Rattle.std.proofs.Common.{ℕ, ◌+◌, List, drop, ap, ◌∙◌, sym, subst, arith}
 use Rattle.sched_engine.specs.Turns.{Done, IsAnswered, Progress}
 use Rattle.sched_engine.proofs.Inputs.{count_fits}
 use Rattle.sched_engine.proofs.Turns.{answered, nothing_taken}

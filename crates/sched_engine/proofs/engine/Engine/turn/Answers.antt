@@ -1,4 +1,4 @@
-use Rattle.std.proofs.Common.{◌≡◌, ℕ, ◌+◌, ◌<◌, ◌≤◌, List, Result, Ok, Err, length, take, refl, sym, subst, arith, rules}
+use Rattle.std.proofs.Common.{◌≡◌, ℕ, ◌+◌, ◌≤◌, List, Result, Err, length, take, refl, sym, subst, arith, rules}
 use Rattle.std.specs.Io.KnownBytes.{Appends}
 use Rattle.sched_engine.specs.declared.held.TheConstants.{PIECE}
 use Rattle.sched_engine.specs.declared.answering.PieceEnd.{PieceEnd}
@@ -6,7 +6,7 @@ use Rattle.sched_engine.specs.declared.report.RunError.{RunError}
 use Rattle.sched_engine.specs.declared.report.RunError.TheVariants.{Memory}
 use Rattle.sched_engine.specs.declared.engine.Turn.{Turn}
 use Rattle.sched_engine.specs.Running.{Runs}
-use Rattle.sched_engine.specs.Turns.{Done, IsBetweenTurns, IsPieceEnd, Progress, Setting, Turns}
+use Rattle.sched_engine.specs.Turns.{IsPieceEnd, Progress, Turns}
 use Rattle.sched_engine.proofs.Turns.{at_the_end, faulted, few_lines, filled, full, out_of_memory, refused, smaller, unwritten, wrote}
 use Rattle.sched_engine.proofs.engine.Engine.turn.Goals as goal
 
@@ -79,8 +79,7 @@ returns-in-Part-clause-turns g c = λ run between.
     let after = g.W.Sink.contents c.write_text.new.sink in
     let finished = wrote run answered after c.clear.new.self.text done (subst (Appends writer after) c.bytes.ensures c.if-not-write_text.ensures.bytes) c.clear.ensures.text in
     let here : Progress = record { left = reader; held = new.held; text = c.clear.new.self.text; contents = after; core = new.core; count = new.count } in
-    let stop = subst (λ (end : PieceEnd). IsPieceEnd end new.core new.held) c.in-Part.is ok.end in
-    (
+    let stop = subst (λ (end : PieceEnd). IsPieceEnd end new.core new.held) c.in-Part.is ok.end in (
       record { done = finished; none = c.clear.ensures.text; part = stop.0; short = stop.1 },
       smaller run.limit old.core.taken new.core.taken old.held more.0 c.fill.new.self new.held more.2 more.3 ok.rises done.within ok.same stop.1 between.short,
     )
