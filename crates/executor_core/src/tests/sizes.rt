@@ -2,14 +2,14 @@
 use super::{core_of, submission};
 use crate::{Answer, Core, CoreError, Event, Line};
 use queue_code::{CodeCall, MOST_CALLS};
-use std::alloc::{AllocError, Allocator};
+use std::alloc::Global;
 use std::test::Fail;
 
 /// `count` submissions, each of them at moment 0.
-fn submissions<A: Allocator>(alloc: A, count: u32) -> Result<Vec<(u64, CodeCall), A>, AllocError> {
+fn submissions(alloc: Global, count: u32) -> Result<Vec<(u64, CodeCall)>, Fail> {
     let mut calls = Vec::new(alloc);
     for task in 0..count {
-        calls.push(submission(0, task, 0)).map_err(|_| AllocError)?;
+        calls.push(submission(0, task, 0))?;
     }
     Ok(calls)
 }
