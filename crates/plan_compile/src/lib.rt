@@ -2,7 +2,9 @@
 #![tactic(auto)]
 
 mod calls;
+mod numbers;
 #[cfg(test)]
 mod tests;
+mod writing;
 
-pub use calls::written_out;
+pub use writing::written_out;

@@ -1,15 +1,20 @@
 //! Plan texts, and the plans that they write.
 #![tactic(auto)]
 
-mod asked;
+mod calls;
 mod faults;
-mod fields;
+mod headers;
+mod keys;
+mod laws;
+mod limits;
 mod names;
 mod plans;
 mod reading;
+mod sites;
 mod tables;
 #[cfg(test)]
 mod tests;
+mod units;
 mod verbs;
 
 pub use faults::{PlanFault, PlanFaultKind};
