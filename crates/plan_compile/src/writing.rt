@@ -12,6 +12,10 @@ use queue_code::CodeCall;
 use std::alloc::{AllocError, Allocator};
 
 /// The calls of a plan with their moments, in the order in which they are made.
+///
+/// There are at most 65,536 of them. Moments do not fall, and moments and delays are at most 2^62
+/// nanoseconds. Submissions are numbered 0, 1, .. in this list, illegal ones among them, and a cancel has
+/// the number of one before it. The only error is want of memory.
 pub fn written_out<A: Allocator + Copy>(
     alloc: A,
     plan: &Plan,

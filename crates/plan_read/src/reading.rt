@@ -21,6 +21,10 @@ use std::collections::BTreeMap;
 use toml::{Table, Value};
 
 /// The plan that a text writes, or the first fault of the text.
+///
+/// The page of this crate says what a plan text is, and in which order faults are looked for. A fault of
+/// the kind [`PlanFaultKind::Memory`] may come in place of any other answer, and says nothing of the text;
+/// it has block 0 and call 0.
 pub fn read_plan(alloc: Global, text: &[u8]) -> Result<Plan, PlanFault>
     ensures plan { IfOk result (λ p. TextWrites text.now p) }
     ensures only { (plan : PlanTree) → TextWrites text.now plan → MatchResult result (λ p. p ≡ plan) (λ e. e ≡ out_of_memory) }
