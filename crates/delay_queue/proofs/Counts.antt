@@ -1,19 +1,20 @@
 -- How many entries there are.
-use Rattle.std.proofs.Common.{◌≡◌, ℕ, zero, suc, ◌+◌, ◌<◌, ◌≤◌, cond, List, [], ◌∷◌, Option, Some, None, is_some, set, replicate, length, get_or, refl, sym, ap, subst, arith, count_by}
+use Rattle.std.proofs.Common.{◌≡◌, ℕ, zero, suc, ◌+◌, ◌<◌, ◌≤◌, cond, List, [], ◌∷◌, ◌++◌, Option, Some, None, is_some, set, take, replicate, length, get_or, refl, sym, ap, subst, ◌∙◌, arith, count_by, length-set, length-append}
 use Rattle.std.specs.List.{sum_by}
-use Rattle.std.proofs.lemmas.List.{length-set}
+use Rattle.std.proofs.lemmas.List.{take_more, take_all, get_or_push}
 use Rattle.std.proofs.lemmas.List.Sums.{sum_by-set, count_by-le-length}
-use Rattle.delay_queue.specs.Queues.{due_in}
-use Rattle.delay_queue.specs.Sorted.{table, Descends, AreKnown}
+use Rattle.delay_queue.specs.Queues.{due_in, entry_count}
+use Rattle.delay_queue.specs.Heaps.{no_entry, entry_at, IsPlaced, due_of, table}
 use Rattle.delay_queue.specs.declared.entry.Entry.{Entry}
-use Rattle.delay_queue.proofs.Order.{other_from_before}
-use Rattle.delay_queue.proofs.Table.{length-table, none_from_other}
+use Rattle.delay_queue.proofs.Dues.{due_here}
+use Rattle.delay_queue.proofs.Places.{placed_front, noted_last, due_of_last, due_of_front}
+use Rattle.delay_queue.proofs.Tables.{length-table, due_in-table, table_set, table_empty}
 
 abbrev one : Option ℕ → ℕ
 one o = cond (is_some o) 1 0
 
--- an entry at an empty place makes one more
-pub count_more : (queue : List (Option ℕ)) (task due : ℕ) → task < length queue → due_in queue task ≡ None → count_by is_some (set queue task (Some due)) ≡ count_by is_some queue + 1
+-- an entry of a task that had none makes one more
+pub count_more : (queue : List (Option ℕ)) (task due : ℕ) → task < length queue → due_in queue task ≡ None → entry_count (set queue task (Some due)) ≡ entry_count queue + 1
 count_more queue task due within none =
     let all : sum_by one (set queue task (Some due)) + one (get_or queue task None) ≡ sum_by one queue + 1 = sum_by-set one queue task (Some due) None within in
     let here : one (get_or queue task None) ≡ 0 = ap one none in
@@ -23,22 +24,47 @@ count_none : (n : ℕ) → count_by is_some (replicate {A = Option ℕ} n None) 
 count_none zero = refl
 count_none (suc n) = count_none n
 
-pub count-table : (tasks : ℕ) (entries : List Entry) → Descends entries → AreKnown tasks entries → count_by is_some (table tasks entries) ≡ length entries
-count-table tasks [] d k = count_none tasks
-count-table tasks (e ∷ entries) d k =
-    let within : e.task < length (table tasks entries) = subst (λ (n : ℕ). e.task < n) (sym (length-table tasks entries)) k.0 in
-    let none : due_in (table tasks entries) e.task ≡ None = none_from_other tasks entries e.task (other_from_before entries e d.0) in
-    let more = count_more (table tasks entries) e.task e.due within none in
-    let rest : count_by is_some (table tasks entries) ≡ length entries = count-table tasks entries d.1 k.1 in
-    omega arith
+-- a heap with one more entry has one more in its table
+count_push : (front : List Entry) (places : List ℕ) (last : Entry) → IsPlaced (front ++ last ∷ []) places → entry_count (table (front ++ last ∷ []) places) ≡ entry_count (table front places) + 1
+count_push front places last p =
+    let heap : List Entry = front ++ last ∷ [] in
+    let at_end : entry_at heap (length front) ≡ last = get_or_push front last no_entry (length front) refl in
+    let size : length front < length heap = omega (arith, length-append front (last ∷ [])) in
+    let known : last.task < length places = subst (λ (e : Entry). e.task < length places) at_end (p.known (length front) size) in
+    let here : due_of heap places last.task ≡ Some last.due = due_here heap places last.task (length front) last (noted_last front places last p) size at_end refl in
+    let put : table heap places ≡ set (table front places) last.task (Some last.due) =
+    table_set front heap places places (table front places) last.task (Some last.due) refl refl known here (λ k other. sym (due_of_front front places last k p other)) in
+    let none : due_in (table front places) last.task ≡ None = due_in-table front places last.task known ∙ due_of_last front places last p in
+    ap entry_count put ∙ count_more (table front places) last.task last.due (omega (arith, known, length-table front places)) none
+
+count_front : (heap : List Entry) (places : List ℕ) (n : ℕ) → n ≤ length heap → IsPlaced (take n heap) places → entry_count (table (take n heap) places) ≡ n
+count_front heap places zero short p = ap entry_count (table_empty places) ∙ count_none (length places)
+count_front heap places (suc n) short p =
+    let next : n + 1 ≡ suc n = omega arith in
+    let cut : take (suc n) heap ≡ take n heap ++ entry_at heap n ∷ [] = subst (λ (k : ℕ). take k heap ≡ take n heap ++ entry_at heap n ∷ []) next (take_more heap n no_entry (omega arith)) in
+    let q : IsPlaced (take n heap ++ entry_at heap n ∷ []) places = subst (λ (l : List Entry). IsPlaced l places) cut p in
+    let rest : entry_count (table (take n heap) places) ≡ n = count_front heap places n (omega arith) (placed_front (take n heap) places (entry_at heap n) q) in
+    let all = ap (λ (l : List Entry). entry_count (table l places)) cut ∙ count_push (take n heap) places (entry_at heap n) q in
+    omega (arith, all, rest)
+
+-- the table has as many entries as the heap
+pub count_placed : (heap : List Entry) (places : List ℕ) → IsPlaced heap places → entry_count (table heap places) ≡ length heap
+count_placed heap places p =
+    let whole : take (length heap) heap ≡ heap = take_all (length heap) heap (omega arith) in
+    subst (λ (l : List Entry). entry_count (table l places) ≡ length heap) whole
+    (count_front heap places (length heap) (omega arith) (subst (λ (l : List Entry). IsPlaced l places) (sym whole) p))
+
+-- there are no more entries than tasks
+pub count_within : (heap : List Entry) (places : List ℕ) → IsPlaced heap places → length heap ≤ length places
+count_within heap places p = omega (arith, count_placed heap places p, count_by-le-length is_some (table heap places), length-table heap places)
 
 -- while a task has no entry, there are fewer entries than tasks
-pub room_left : (tasks : ℕ) (entries : List Entry) (task : ℕ) → Descends entries → AreKnown tasks entries → task < tasks → due_in (table tasks entries) task ≡ None → length entries < tasks
-room_left tasks entries task d k below none =
-    let t : List (Option ℕ) = table tasks entries in
-    let size : length t ≡ tasks = length-table tasks entries in
-    let more : count_by is_some (set t task (Some 0)) ≡ count_by is_some t + 1 = count_more t task 0 (omega arith) none in
-    let most : count_by is_some (set t task (Some 0)) ≤ length (set t task (Some 0)) = count_by-le-length is_some (set t task (Some 0)) in
-    let same : length (set t task (Some 0)) ≡ length t = length-set t task (Some 0) in
-    let all : count_by is_some t ≡ length entries = count-table tasks entries d k in
+pub room_left : (heap : List Entry) (places : List ℕ) (task : ℕ) → IsPlaced heap places → task < length places → due_in (table heap places) task ≡ None → length heap < length places
+room_left heap places task p known none =
+    let queue : List (Option ℕ) = table heap places in
+    let size : length queue ≡ length places = length-table heap places in
+    let more : entry_count (set queue task (Some 0)) ≡ entry_count queue + 1 = count_more queue task 0 (omega arith) none in
+    let most : entry_count (set queue task (Some 0)) ≤ length (set queue task (Some 0)) = count_by-le-length is_some (set queue task (Some 0)) in
+    let same : length (set queue task (Some 0)) ≡ length queue = length-set queue task (Some 0) in
+    let all : entry_count queue ≡ length heap = count_placed heap places p in
     omega arith

@@ -1,4 +1,9 @@
 pub mod Order
-pub mod Table
+pub mod Digits
+pub mod Lookups
+pub mod Holes
+pub mod Dues
+pub mod Places
+pub mod Tables
 pub mod Counts
-pub mod Steps
+pub mod Calls

@@ -1,2 +1,2 @@
+pub mod Heaps
 pub mod Queues
-pub mod Sorted

@@ -22,23 +22,46 @@
 //! queue.is_empty(); // true
 //! ```
 //!
+//! # Behaviour
+//!
+//! A contract sees a queue as a table by task number, with the due moment of each task that has an entry. `insert`, `poll`
+//! and `remove` change one task's place in that table. `poll` on a queue where nothing is due, and `remove` of a task
+//! without an entry, change nothing. [`due_of`](DelayQueue::due_of) and [`contains`](DelayQueue::contains) look a task up,
+//! and a task past the count has no entry.
+//!
 //! # Moments
 //!
 //! A moment is a number of nanoseconds since a beginning that the caller chooses. The queue reads no clock: `poll` is told
 //! the moment, and an entry is due once its moment is not after it.
 //!
-//! # Memory and errors
+//! # Order and ties
 //!
-//! [`DelayQueue::new`] takes memory and fails with [`QueueError::Memory`] where there is none. No other call takes memory
-//! or can fail. An entry is 16 bytes. `peek` and `poll` take constant time. `insert` finds the place by halves, and then
-//! moves the entries of the shorter side; `remove`, `due_of` and `contains` go over the entries.
+//! Entries leave by moment, and at one moment by task number, whatever the order in which they came. The comparisons of
+//! [`Entry`] are this order.
+//!
+//! # Errors
+//!
+//! [`DelayQueue::new`] fails with [`QueueError::Memory`] where the allocator has no room. No other call takes memory or
+//! can fail.
+//!
+//! # Memory and cost
+//!
+//! A queue takes 20 bytes for each task: 16 for an entry, and 4 for the place of the task's entry in a binary heap. With n
+//! entries, `insert`, `poll` and `remove` compare two entries or move one at most `4 d + 2` times, where d is the number
+//! of binary digits of n; [`touched`](DelayQueue::touched) counts them, and the contracts of these calls state the bound.
+//! All other calls take constant time, but for `new`, which goes over the places.
 #![tactic(auto)]
 
 mod entry;
+mod error;
+mod heap;
+mod laws;
+#[cfg(test)]
+mod plain;
 mod queue;
-mod sorted;
 #[cfg(test)]
 mod tests;
 
 pub use entry::Entry;
-pub use queue::{DelayQueue, QueueError};
+pub use error::QueueError;
+pub use queue::DelayQueue;

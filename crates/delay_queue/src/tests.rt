@@ -1,8 +1,10 @@
 //! Tests of the queue.
-ghost use Rattle.std.specs.Prelude.{◌≡◌, None, length, replicate};
+ghost use Rattle.std.specs.Prelude.{◌≡◌, ◌+◌, ◌*◌, ◌<◌, ◌≤◌, None, length, replicate};
 
+use crate::plain::PlainQueue;
 use crate::{DelayQueue, Entry, QueueError};
 use std::alloc::{Allocator, Global};
+use std::process::Abort;
 use std::test::Fail;
 
 #[test]
@@ -32,6 +34,25 @@ fn a_queue_for_no_task_is_empty(rt: HostRuntime) -> Result<(), Fail> {
     assert_eq!(rt; queue.remove(0), false);
     assert_eq!(rt; queue.contains(0), false);
     assert_eq!(rt; queue.due_of(u32::MAX), None);
+    assert_eq!(rt; queue.touched(), 0);
+    Ok(())
+}
+
+#[test]
+fn a_queue_for_one_task(rt: HostRuntime) -> Result<(), Fail> {
+    let entry = Entry { due: 7, task: 0 };
+    let mut queue = DelayQueue::new(rt.alloc(), 1)?;
+    queue.insert(entry);
+    assert_eq!(rt; queue.peek(), Some(entry));
+    assert_eq!(rt; queue.poll(6), None);
+    assert_eq!(rt; queue.poll(7), Some(entry));
+    queue.insert(entry);
+    assert_eq!(rt; queue.contains(0), true);
+    assert_eq!(rt; queue.contains(1), false);
+    assert_eq!(rt; queue.remove(1), false);
+    assert_eq!(rt; queue.remove(0), true);
+    assert_eq!(rt; queue.is_empty(), true);
+    assert_eq!(rt; queue.touched(), 0);
     Ok(())
 }
 
@@ -53,35 +74,169 @@ fn ties_go_by_task_number(rt: HostRuntime) -> Result<(), Fail> {
     Ok(())
 }
 
-/// Fills a queue with an entry for each of its tasks, four at each moment.
-fn fill<A: Allocator>(queue: &mut DelayQueue<A>, tasks: u32)
-    requires { queue.old ≡ replicate tasks None }
-    ensures { length queue.new ≡ tasks }
+/// A pseudo-random number after another one.
+fn next(x: u64) -> u64 {
+    let x = x ^ (x << 13);
+    let x = x ^ (x >> 7);
+    x ^ (x << 17)
+}
+
+/// In which order the due moments of the tasks 0, 1, .. stand.
+#[derive(Clone, Copy)]
+enum Order {
+    Rising,
+    Falling,
+    /// Four tasks at each moment, far from each other.
+    Mixed,
+}
+
+/// The due moment of a task.
+fn due_of(order: Order, task: u32) -> u64 {
+    let task = u64::from(task);
+    match order {
+        Order::Rising => task,
+        Order::Falling => u64::from(u32::MAX) - task,
+        Order::Mixed => task * 40_503 % 16_384,
+    }
+}
+
+/// Fills a queue with an entry for each of its tasks.
+fn fill<A: Allocator>(queue: &mut DelayQueue<A>, tasks: u32, order: Order)
+    requires { queue.old.entries ≡ replicate tasks None }
+    ensures { length queue.new.entries ≡ tasks }
 {
     for task in 0..tasks {
-        let due = (task / 4) as u64;
+        let due = due_of(order, task);
         queue.insert(Entry { due, task });
     }
 }
 
-/// A queue with an entry for each of its tasks, four at each moment.
-fn filled(alloc: Global, tasks: u32) -> Result<DelayQueue<Global>, QueueError> {
+/// A queue with an entry for each of its tasks.
+fn filled(alloc: Global, tasks: u32, order: Order) -> Result<DelayQueue<Global>, QueueError> {
     let mut queue = DelayQueue::new(alloc, tasks)?;
-    fill(&mut queue, tasks);
+    fill(&mut queue, tasks, order);
     Ok(queue)
 }
 
 #[test]
-fn as_many_entries_as_tasks(rt: HostRuntime) -> Result<(), Fail> {
-    let mut queue = filled(rt.alloc(), 65536)?;
-    assert_eq!(rt; queue.len(), 65536);
-    for task in 0..65536 {
-        let due = (task / 4) as u64;
-        if task % 4 == 0 && due > 0 {
-            assert_eq!(rt; queue.poll(due - 1), None);
+fn as_many_entries_as_tasks_come_out_in_order(rt: HostRuntime) -> Result<(), Fail> {
+    for order in [Order::Rising, Order::Falling, Order::Mixed] {
+        let mut queue = filled(rt.alloc(), 65_536, order)?;
+        let mut last = None;
+        for _ in 0..65_536 {
+            let least = queue.peek();
+            assert!(rt; last < least);
+            assert_eq!(rt; queue.poll(u64::MAX), least);
+            last = least;
         }
-        assert_eq!(rt; queue.poll(due), Some(Entry { due, task }));
+        assert_eq!(rt; queue.is_empty(), true);
     }
-    assert_eq!(rt; queue.is_empty(), true);
+    Ok(())
+}
+
+#[test]
+fn as_many_entries_as_tasks_are_removed(rt: HostRuntime) -> Result<(), Fail> {
+    for order in [Order::Rising, Order::Falling, Order::Mixed] {
+        let mut queue = filled(rt.alloc(), 65_536, order)?;
+        for number in 0..65_536u32 {
+            let task = number * 25_173 % 65_536;
+            assert_eq!(rt; queue.due_of(task), Some(due_of(order, task)));
+            assert_eq!(rt; queue.remove(task), true);
+            assert_eq!(rt; queue.remove(task), false);
+        }
+        assert_eq!(rt; queue.is_empty(), true);
+    }
+    Ok(())
+}
+
+/// How often a call may touch a queue of so many entries.
+fn most_touches(count: usize) -> u64 {
+    4 * u64::from(usize::BITS - count.leading_zeros()) + 2
+}
+
+#[test]
+fn no_call_touches_too_often(rt: HostRuntime) -> Result<(), Fail> {
+    let tasks = 1024;
+    let mut queue = DelayQueue::new(rt.alloc(), tasks)?;
+    for task in 0..tasks {
+        let before = queue.touched();
+        let most = most_touches(queue.len());
+        let due = u64::from(tasks - 1 - task);
+        if !queue.contains(task) {
+            queue.insert(Entry { due, task });
+        }
+        assert!(rt; queue.touched() - before <= most);
+    }
+    assert_eq!(rt; most_touches(1023), 42);
+    assert!(rt; queue.touched() >= 1023);
+    for number in 0..tasks {
+        let before = queue.touched();
+        let most = most_touches(queue.len());
+        let task = tasks - 1 - number;
+        assert_eq!(rt;
+            queue.poll(1023),
+            Some(Entry {
+                due: u64::from(number),
+                task
+            })
+        );
+        assert!(rt; queue.touched() - before <= most);
+    }
+    assert_eq!(rt; queue.poll(1023), None);
+    Ok(())
+}
+
+/// Makes the same calls of a queue and of a plain one, and compares what they answer.
+fn compare(rt: &impl Abort, alloc: Global, tasks: u32, moments: u64) -> Result<(), Fail>
+    requires tasks { 0 < tasks }
+    requires moments { 0 < moments }
+{
+    let mut queue = DelayQueue::new(alloc, tasks)?;
+    let mut plain = PlainQueue::new(alloc);
+    let mut random = 88_172_645_463_325_252;
+    for _ in 0..20_000 {
+        random = next(random);
+        let task = (random >> 32) as u32 % tasks;
+        let due = random % moments;
+        let action = (random >> 24) % 4;
+        if action == 0 {
+            assert_eq!(rt; queue.poll(due), plain.poll(due));
+        } else if action == 1 {
+            assert_eq!(rt; queue.remove(task), plain.remove(task));
+        } else if !queue.contains(task) {
+            queue.insert(Entry { due, task });
+            plain.insert(Entry { due, task })?;
+        }
+        assert_eq!(rt; queue.due_of(task), plain.due_of(task));
+        assert_eq!(rt; queue.peek(), plain.peek());
+        assert_eq!(rt; queue.len(), plain.len());
+    }
+    Ok(())
+}
+
+#[test]
+fn a_plain_queue_answers_the_same(rt: HostRuntime) -> Result<(), Fail> {
+    compare(&rt, rt.alloc(), 1, 2)?;
+    compare(&rt, rt.alloc(), 5, 3)?;
+    compare(&rt, rt.alloc(), 100, 10)?;
+    compare(&rt, rt.alloc(), 1000, 1)?;
+    compare(&rt, rt.alloc(), 1000, 1_000_000)
+}
+
+#[test]
+fn memory_for_each_count_of_tasks(rt: HostRuntime) -> Result<(), Fail> {
+    for tasks in 0..=70 {
+        assert!(rt; DelayQueue::new(rt.alloc(), tasks).is_ok());
+    }
+    for tasks in [65_537, 1_000_000] {
+        assert_eq!(rt; DelayQueue::new(rt.alloc(), tasks)?.len(), 0);
+    }
+    Ok(())
+}
+
+#[test]
+fn the_error_as_text(rt: HostRuntime) -> Result<(), Fail> {
+    let text = format!(in rt.alloc(); "{}", QueueError::Memory)?;
+    assert_eq!(rt; text.as_str(), "out of memory");
     Ok(())
 }

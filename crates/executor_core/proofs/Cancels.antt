@@ -1,10 +1,9 @@
 -- Cancels: what a cancel does to a task, and what stays true of a core.
-use Rattle.std.proofs.Common.{zero, suc, take, ◌≡◌, ◌≢◌, ℕ, ◌+◌, ◌<◌, ◌≤◌, ◌==◌, ◌&&◌, ◌||◌, nat_lt, Bool, true, false, cond, List, length, map, Option, Some, None, refl, sym, ap, ◌∙◌, arith, subst, add-one, [], ◌∷◌}
+use Rattle.std.proofs.Common.{zero, suc, take, ◌≡◌, ◌≢◌, ℕ, ◌+◌, ◌<◌, ◌≤◌, ◌==◌, ◌&&◌, ◌||◌, Bool, true, false, cond, List, length, Option, Some, None, refl, sym, ap, ◌∙◌, arith, subst, add-one, [], ◌∷◌}
 use Rattle.std.specs.Prelude.{slice_get, slice_index_or, not, max}
 use Rattle.std.proofs.lemmas.Option.{none-some, same_Some, slice_get_within}
-use Rattle.std.specs.Option.{option_map_or}
 use Rattle.std.proofs.Math.ListN.{set}
-use Rattle.std.proofs.lemmas.Bool.{eqb-true, eq-eqb, lt-ltb, le-ltb, false≢true}
+use Rattle.std.proofs.lemmas.Bool.{eqb-true, eq-eqb, lt-ltb, le-ltb, false_from_ne_true}
 use Rattle.std.proofs.lemmas.Bool.Decides.{nat_tests}
 use Rattle.std.proofs.lemmas.List.{length-set}
 use Rattle.sched_time.specs.declared.timing.Timing.{Timing}
@@ -13,23 +12,22 @@ use Rattle.queue_code.specs.declared.call.CodeCall.TheVariants as c
 use Rattle.executor_core.specs.declared.types.CancelEffect.{CancelEffect}
 use Rattle.executor_core.specs.declared.types.CancelEffect.TheVariants as f
 use Rattle.executor_core.specs.declared.types.EventError.TheVariants as x
-use Rattle.executor_core.specs.declared.types.Happening.{Happening}
 use Rattle.executor_core.specs.declared.types.Happening.TheVariants as h
 use Rattle.executor_core.specs.declared.types.Answer.TheVariants as a
 use Rattle.executor_core.specs.declared.task.Phase.{Phase}
 use Rattle.executor_core.specs.declared.task.Phase.TheVariants as ph
 use Rattle.executor_core.specs.declared.task.Task.{Task}
 use Rattle.queue_code.specs.Calls.{Planned, Terms, terms_of, task_count, count_after, is_submission, IsOrderlyCall, IsOrderlyFrom}
-use Rattle.executor_core.specs.View.{Fate, is_live, is_running, is_waiting}
+use Rattle.executor_core.specs.View.{is_live, is_running}
 use Rattle.executor_core.specs.Answers.{plain, effect_on}
-use Rattle.executor_core.specs.State.{State, vacant, seen, seen_task, seen_phase, reply_of, state_after}
-use Rattle.executor_core.specs.Machine.{Machine, workers_of, state_of, Takes, IsKept, IsSound, IsDue, queued}
+use Rattle.executor_core.specs.State.{State, vacant, view_of_state, seen_task, seen_phase, reply_of, state_after}
+use Rattle.executor_core.specs.Machine.{Machine, workers_of, state_of, Takes, IsWellFormedCore, IsSound, IsDue}
 use Rattle.executor_core.proofs.Agree.{next_sound, next_due_is}
 use Rattle.executor_core.proofs.Sound.{is_seen_waiting}
 use Rattle.executor_core.proofs.Tables.{at_set, runs_set, call_moment, count_grows}
-use Rattle.executor_core.proofs.Works.{by_reply}
+use Rattle.executor_core.proofs.WorkerSteps.{by_reply}
 use Rattle.executor_core.proofs.Submits.{state_at, reply_to, state_to}
-use Rattle.executor_core.proofs.Keeps.{unqueued, timing_stays, fresh_stays, with_tasks}
+use Rattle.executor_core.proofs.RunSteps.{unqueued, timing_stays, fresh_stays, with_tasks}
 
 -- what a cancel does, by the phase of a task
 
@@ -42,14 +40,17 @@ same_eqb n = eq-eqb n n refl
 abbrev effect_of : Bool → Bool → CancelEffect
 effect_of accepted live = cond accepted (cond live f.Yes f.No) f.Absent
 
+-- what a cancel does to a vacant task
 pub of_vacant : (terms : Terms) (t : Task) → t.phase ≡ ph.Vacant → f.Absent ≡ effect_on (seen_task terms t)
 of_vacant terms t q = ap (λ p. effect_on (seen_phase terms p t.run t.due t.cancelled)) (sym q)
 
+-- what a cancel does to a task that waits
 pub of_waiting : (terms : Terms) (t : Task) → t.phase ≡ ph.Waiting → t.cancelled ≡ false → f.Yes ≡ effect_on (seen_task terms t)
 of_waiting terms t q live =
     let here : is_live (seen_phase terms ph.Waiting t.run t.due false) ≡ true = ap (λ b. b || (is_running (seen_phase terms ph.Waiting t.run t.due false) && true)) (is_seen_waiting terms t.run t.due) in
     sym (ap (effect_of true) here) ∙ (λ i. effect_on (seen_phase terms (sym q i) t.run t.due (sym live i)))
 
+-- what a cancel does to a task whose run is under way
 pub of_running : (terms : Terms) (t : Task) → t.phase ≡ ph.Running → t.cancelled ≡ false → f.Yes ≡ effect_on (seen_task terms t)
 of_running terms t q live =
     let apart = next_eqb t.run in
@@ -66,6 +67,7 @@ not_live false false = refl
 abbrev running_of : Terms → Phase → ℕ → ℕ → Bool
 running_of terms p run due = is_running (seen_phase terms p run due true)
 
+-- what a cancel does to a cancelled task
 pub of_cancelled : (terms : Terms) (t : Task) → t.phase ≢ ph.Vacant → t.cancelled ≡ true → f.No ≡ effect_on (seen_task terms t)
 of_cancelled terms t used is = sym (by t.phase refl) ∙ ap (λ b. effect_on (seen_phase terms t.phase t.run t.due b)) (sym is)
   where
@@ -75,12 +77,13 @@ of_cancelled terms t used is = sym (by t.phase refl) ∙ ap (λ b. effect_on (se
     by ph.Running q = ap (effect_of true) (not_live true (running_of terms ph.Running t.run t.due))
     by ph.Done q = ap (effect_of true) (not_live true (running_of terms ph.Done t.run t.due))
     by ph.Failed q = ap (effect_of true) (not_live true (running_of terms ph.Failed t.run t.due))
-    by ph.Over q = ap (effect_of true) (not_live true (running_of terms ph.Over t.run t.due))
+    by ph.Dropped q = ap (effect_of true) (not_live true (running_of terms ph.Dropped t.run t.due))
 
 -- a task that is done, or has failed, is not live
 ended_eqb : (n : ℕ) (rest : Bool) → ((not (not (n == n)) && false) || (not (n == n) && rest)) ≡ false
 ended_eqb n rest = ap (λ b. (not (not b) && false) || (not b && rest)) (same_eqb n)
 
+-- what a cancel does to a task that is done
 pub of_done : (terms : Terms) (t : Task) → t.phase ≡ ph.Done → f.No ≡ effect_on (seen_task terms t)
 of_done terms t q = sym (by t.cancelled) ∙ ap (λ p. effect_on (seen_phase terms p t.run t.due t.cancelled)) (sym q)
   where
@@ -88,6 +91,7 @@ of_done terms t q = sym (by t.cancelled) ∙ ap (λ p. effect_on (seen_phase ter
     by true = ap (effect_of true) (ended_eqb (1 + t.run) false)
     by false = ap (effect_of true) (ended_eqb (1 + t.run) true)
 
+-- what a cancel does to a task that has failed
 pub of_failed : (terms : Terms) (t : Task) → t.phase ≡ ph.Failed → f.No ≡ effect_on (seen_task terms t)
 of_failed terms t q = sym (by t.cancelled) ∙ ap (λ p. effect_on (seen_phase terms p t.run t.due t.cancelled)) (sym q)
   where
@@ -99,8 +103,14 @@ of_failed terms t q = sym (by t.cancelled) ∙ ap (λ p. effect_on (seen_phase t
 pub live_is_used : (terms : Terms) (t : Task) → f.Yes ≡ effect_on (seen_task terms t) → t.phase ≢ ph.Vacant
 live_is_used terms t live q = let clash : f.Yes ≡ f.Absent = live ∙ sym (of_vacant terms t q) in absurd cc
 
+-- a cancel that has an effect finds the task not cancelled
+pub live_is_uncancelled : (terms : Terms) (t : Task) → f.Yes ≡ effect_on (seen_task terms t) → t.cancelled ≡ false
+live_is_uncancelled terms t live =
+    false_from_ne_true t.cancelled (λ is. let clash : f.Yes ≡ f.No = live ∙ sym (of_cancelled terms t (live_is_used terms t live) is) in absurd cc)
+
 -- the tasks after a cancel
 
+-- a task once it is cancelled
 abbrev pub cancelled : Task → Task
 cancelled t = record t { cancelled = true }
 
@@ -136,11 +146,12 @@ outside_state calls made moment k tasks work f.Yes low = λ i. record { made = m
 outside_state calls made moment k tasks work f.No low = λ i. record { made = made; moment = moment; tasks = λ j. cancelled_at tasks k j f.No low i; workers = λ w. slice_index_or work w None }
 outside_state calls made moment k tasks work f.Absent low = λ i. record { made = made; moment = moment; tasks = λ j. cancelled_at tasks k j f.Absent low i; workers = λ w. slice_index_or work w None }
 
-outside_reply : (calls : List Planned) (workers k : ℕ) (s : State) → k < task_count calls → reply_of calls workers s (h.Cancel k) ≡ plain (a.Outside k (effect_on ((seen calls s).fate k)))
-outside_reply calls workers k s l = ap (λ b. plain (cond b (a.Outside k (effect_on ((seen calls s).fate k))) (a.Error x.NoTask))) (lt-ltb k (task_count calls) l)
+outside_reply : (calls : List Planned) (workers k : ℕ) (s : State) → k < task_count calls → reply_of calls workers s (h.Cancel k) ≡ plain (a.Outside k (effect_on ((view_of_state calls s).fate k)))
+outside_reply calls workers k s l = ap (λ b. plain (cond b (a.Outside k (effect_on ((view_of_state calls s).fate k))) (a.Error x.NoTask))) (lt-ltb k (task_count calls) l)
 
+-- the reply to a cancel from outside of a task that the plan does not have
 pub no_task_reply : (calls : List Planned) (workers k : ℕ) (s : State) → task_count calls ≤ k → reply_of calls workers s (h.Cancel k) ≡ plain (a.Error x.NoTask)
-no_task_reply calls workers k s l = ap (λ b. plain (cond b (a.Outside k (effect_on ((seen calls s).fate k))) (a.Error x.NoTask))) (le-ltb k (task_count calls) l)
+no_task_reply calls workers k s l = ap (λ b. plain (cond b (a.Outside k (effect_on ((view_of_state calls s).fate k))) (a.Error x.NoTask))) (le-ltb k (task_count calls) l)
 
 -- the step of a cancel from outside
 pub outside_takes : (m : Machine) (k : ℕ) (effect : CancelEffect) → k < length m.tasks → length m.tasks ≡ task_count m.calls → effect ≡ effect_on (seen_task (terms_of m.calls k) (slice_index_or m.tasks k vacant)) →
@@ -153,9 +164,9 @@ outside_takes m k effect low count is =
     record { calls = refl; limit = refl; taken = refl; workers = refl; state = step.0; said = step.1 }
 
 -- what stays true after a cancel with an effect
-pub cancel_kept : (m : Machine) (entries left : List (Option ℕ)) (timings : List Timing) (k : ℕ) → IsKept m entries timings → k < length m.tasks →
+pub cancel_kept : (m : Machine) (entries left : List (Option ℕ)) (timings : List Timing) (k : ℕ) → IsWellFormedCore m entries timings → k < length m.tasks →
     f.Yes ≡ effect_on (seen_task (terms_of m.calls k) (slice_index_or m.tasks k vacant)) → left ≡ set entries k None →
-    IsKept (with_tasks m (set m.tasks k (cancelled (slice_index_or m.tasks k vacant)))) left timings
+    IsWellFormedCore (with_tasks m (set m.tasks k (cancelled (slice_index_or m.tasks k vacant)))) left timings
 cancel_kept m entries left timings k kept low live gone =
     let t = slice_index_or m.tasks k vacant in
     let takes = outside_takes m k f.Yes low kept.count live in
@@ -173,22 +184,23 @@ cancel_kept m entries left timings k kept low live gone =
       timing = timing_stays m entries timings k (cancelled t) kept low used;
       fresh = fresh_stays m entries timings k (cancelled t) kept low used;
       sound = subst IsSound (sym takes.state) (next_sound m.calls (workers_of m) (state_of m) (h.Cancel k) kept.sound);
-      due = subst (λ s. IsDue m.calls (seen m.calls s)) (sym takes.state) (next_due_is m.calls (workers_of m) (state_of m) (h.Cancel k) kept.sound kept.due);
+      due = subst (λ s. IsDue m.calls (view_of_state m.calls s)) (sym takes.state) (next_due_is m.calls (workers_of m) (state_of m) (h.Cancel k) kept.sound kept.due);
       runs = runs_set m.taken m.tasks k (cancelled t) low kept.runs (kept.runs.all k) (kept.runs.begun k);
     }
 
 -- the same, with the tasks as a call leaves them
-pub cancelled_in : (m : Machine) (entries left : List (Option ℕ)) (timings : List Timing) (k : ℕ) (tasks : List Task) → IsKept m entries timings → k < length m.tasks →
+pub cancelled_in : (m : Machine) (entries left : List (Option ℕ)) (timings : List Timing) (k : ℕ) (tasks : List Task) → IsWellFormedCore m entries timings → k < length m.tasks →
     f.Yes ≡ effect_on (seen_task (terms_of m.calls k) (slice_index_or m.tasks k vacant)) → left ≡ set entries k None → tasks ≡ set m.tasks k (cancelled (slice_index_or m.tasks k vacant)) →
-    IsKept (with_tasks m tasks) left timings
-cancelled_in m entries left timings k tasks kept low live gone written = subst (λ l. IsKept (with_tasks m l) left timings) (sym written) (cancel_kept m entries left timings k kept low live gone)
+    IsWellFormedCore (with_tasks m tasks) left timings
+cancelled_in m entries left timings k tasks kept low live gone written = subst (λ l. IsWellFormedCore (with_tasks m l) left timings) (sym written) (cancel_kept m entries left timings k kept low live gone)
 
 -- a call of the plan was made that submits nothing
 abbrev pub called_at : Machine → ℕ → Machine
 called_at m moment = record m { made = m.made + 1; moment = moment }
 
-pub call_kept : (m : Machine) (entries : List (Option ℕ)) (timings : List Timing) (moment at task : ℕ) → IsKept m entries timings → slice_get m.calls m.made ≡ Some (at, c.Cancel task) → moment ≡ max m.moment at →
-    IsKept (called_at m moment) entries timings
+-- a core stays well formed where its next call is a cancel that was carried out
+pub call_kept : (m : Machine) (entries : List (Option ℕ)) (timings : List Timing) (moment at task : ℕ) → IsWellFormedCore m entries timings → slice_get m.calls m.made ≡ Some (at, c.Cancel task) → moment ≡ max m.moment at →
+    IsWellFormedCore (called_at m moment) entries timings
 call_kept m entries timings moment at task kept is greatest =
     let near = call_moment m.calls 0 0 m.made at (c.Cancel task) kept.orderly.1 is in
     record {
@@ -229,6 +241,7 @@ plan_state calls workers made moment at k tasks work effect is low how =
     ∙ (ap (λ x. record (state_after calls s h.Call (plain (a.Cancel k x))) { moment = max moment at }) how
     ∙ ap (state_to calls s) (sym is)))
 
+-- a core takes the step of its next call, which is a cancel
 pub plan_takes : (m : Machine) (moment at k : ℕ) (effect : CancelEffect) → slice_get m.calls m.made ≡ Some (at, c.Cancel k) → moment ≡ max m.moment at → k < length m.tasks →
     effect ≡ effect_on (seen_task (terms_of m.calls k) (slice_index_or m.tasks k vacant)) →
     Takes m (called_at (with_tasks m (cancelled_tasks m.tasks k effect)) moment) h.Call (a.Cancel k effect)

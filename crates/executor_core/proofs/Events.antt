@@ -7,10 +7,10 @@ use Rattle.executor_core.specs.declared.types.Happening.TheVariants as h
 use Rattle.executor_core.specs.declared.types.Answer.{Answer}
 use Rattle.executor_core.specs.declared.types.Line.{Line}
 use Rattle.queue_code.specs.Calls.{IsOrderly}
-use Rattle.executor_core.specs.Histories.{Entry, Means}
+use Rattle.executor_core.specs.Histories.{HistoryEntry, IsHistoryOf}
 use Rattle.executor_core.specs.Flows.{happening_of, part_of, reached, ReachesNext}
 use Rattle.executor_core.specs.Machine.{Machine, workers_of, Takes, Counts, Steps, Stands, Continues}
-use Rattle.executor_core.proofs.Flowing.{then, continues}
+use Rattle.executor_core.proofs.Flowing.{steps_then, core_continues}
 
 -- one step with its line
 pub one_step : (old new : Machine) (before lines : List Line) (happening : Happening) (answer : Answer) → Takes old new happening answer → lines ≡ before ++ record { moment = new.moment; answer = answer } ∷ [] →
@@ -29,30 +29,32 @@ counts old mid counted before lines hs is steps =
     subst (λ m. Steps old m before lines hs) (sym is) (record { calls = steps.calls; limit = steps.limit; workers = steps.workers; state = steps.state; lines = steps.lines })
 
 -- the calls before an event, and then the event
-pub event_steps : (old mid counted answered seen : Machine) (a start b c : List Line) (event : Event) (answer : Answer) (n : ℕ) → start ≡ a → Steps old mid start b (replicate n h.Call) → Counts mid counted →
-    Takes counted answered (happening_of event) answer → seen ≡ answered → c ≡ b ++ record { moment = seen.moment; answer = answer } ∷ [] → Steps old seen a c (happening_of event ∷ replicate n h.Call)
-event_steps old mid counted answered seen a start b c event answer n same calls one takes is put =
-    let last : Takes counted seen (happening_of event) answer = subst (λ m. Takes counted m (happening_of event) answer) (sym is) takes in
-    let whole = then old counted seen start b c (replicate n h.Call) (happening_of event ∷ []) (counts old mid counted start b (replicate n h.Call) one calls) (one_step counted seen b c (happening_of event) answer last put) in
-    subst (λ l. Steps old seen l c (happening_of event ∷ replicate n h.Call)) same whole
+pub event_steps : (old mid counted answered view_of_state : Machine) (a start b c : List Line) (event : Event) (answer : Answer) (n : ℕ) → start ≡ a → Steps old mid start b (replicate n h.Call) → Counts mid counted →
+    Takes counted answered (happening_of event) answer → view_of_state ≡ answered → c ≡ b ++ record { moment = view_of_state.moment; answer = answer } ∷ [] → Steps old view_of_state a c (happening_of event ∷ replicate n h.Call)
+event_steps old mid counted answered view_of_state a start b c event answer n same calls one takes is put =
+    let last : Takes counted view_of_state (happening_of event) answer = subst (λ m. Takes counted m (happening_of event) answer) (sym is) takes in
+    let whole = steps_then old counted view_of_state start b c (replicate n h.Call) (happening_of event ∷ []) (counts old mid counted start b (replicate n h.Call) one calls) (one_step counted view_of_state b c (happening_of event) answer last put) in
+    subst (λ l. Steps old view_of_state l c (happening_of event ∷ replicate n h.Call)) same whole
 
 -- and it counts
-pub event_taken : (old mid counted answered seen : Machine) (happening : Happening) (answer : Answer) → mid.taken ≡ old.taken → Counts mid counted → Takes counted answered happening answer → seen ≡ answered →
-    seen.taken ≡ old.taken + 1
-event_taken old mid counted answered seen happening answer same one takes is =
+pub event_taken : (old mid counted answered view_of_state : Machine) (happening : Happening) (answer : Answer) → mid.taken ≡ old.taken → Counts mid counted → Takes counted answered happening answer → view_of_state ≡ answered →
+    view_of_state.taken ≡ old.taken + 1
+event_taken old mid counted answered view_of_state happening answer same one takes is =
     ap (λ (m : Machine). m.taken) is ∙ (takes.taken ∙ (ap (λ (m : Machine). m.taken) one ∙ ap (λ n. n + 1) same))
 
+-- the steps of an event are those of each history in which the core stood
 pub event_continues : (old inside new : Machine) (before lines : List Line) (event : Event) → IsOrderly inside.calls → inside ≡ old → Steps old new before lines (part_of old.calls old.made old.moment event) →
-    (past : List Entry) → Means old.calls (workers_of old) past → Stands old past → Continues old new before lines event past
+    (past : List HistoryEntry) → IsHistoryOf old.calls (workers_of old) past → Stands old past → Continues old new before lines event past
 event_continues old inside new before lines event orderly is steps past means stands =
-    continues old new before lines event (subst (λ (m : Machine). IsOrderly m.calls) is orderly) steps past means stands
+    core_continues old new before lines event (subst (λ (m : Machine). IsOrderly m.calls) is orderly) steps past means stands
 
 -- one call more
 pub one_more : (first old new : Machine) (a b c : List Line) (n moment : ℕ) → Steps first old a b (replicate n h.Call) → Steps old new b c (h.Call ∷ []) → Steps first new a c (replicate (n + 1) h.Call)
 one_more first old new a b c n moment before one =
     let same : n + 1 ≡ suc n = omega arith in
-    subst (λ k. Steps first new a c (replicate k h.Call)) (sym same) (then first old new a b c (replicate n h.Call) (h.Call ∷ []) before one)
+    subst (λ k. Steps first new a c (replicate k h.Call)) (sym same) (steps_then first old new a b c (replicate n h.Call) (h.Call ∷ []) before one)
 
+-- the number of calls that are reached, after one of them was made
 pub reached_after : (first old new : Machine) (n moment : ℕ) → ReachesNext old.calls old.made moment → new.calls ≡ old.calls → new.made ≡ old.made + 1 →
     reached first.calls first.made moment ≡ n + reached old.calls old.made moment → reached first.calls first.made moment ≡ n + 1 + reached new.calls new.made moment
 reached_after first old new n moment next calls made is =

@@ -14,12 +14,15 @@ is_in k ks = list_any (λ j. j == k) ks
 before_total : (d a e b : ℕ) → comes_before d a e b ≡ false → (a ≡ b) ⊎ (comes_before e b d a ≡ true)
 before_total d a e b q = grind (arith, nat_tests)
 
+-- the order of due moments and task numbers is transitive
 pub before_trans : (d a e b f c : ℕ) → comes_before d a e b ≡ true → comes_before e b f c ≡ true → comes_before d a f c ≡ true
 before_trans d a e b f c p q = grind (arith, nat_tests)
 
+-- no two tasks come before each other
 pub before_irrefl : (d a e b : ℕ) → comes_before d a e b ≡ true → comes_before e b d a ≡ true → ⊥
 before_irrefl d a e b p q = grind (arith, nat_tests)
 
+-- where no task is first, none of the list is enabled
 pub none_enabled : (v : View) (ks : List ℕ) (j : ℕ) → first_enabled v ks ≡ None → is_in j ks ≡ true → is_enabled v j ≡ true → ⊥
 none_enabled v [] j q m e = false≢true m
 none_enabled v (k ∷ ks) j q m e =
@@ -76,6 +79,7 @@ first_is_least v (i ∷ ks) k j q m e =
     in
     pick (is_enabled v i) refl q
 
+-- the first enabled task is one of the list
 pub first_is_in : (v : View) (ks : List ℕ) (k : ℕ) → first_enabled v ks ≡ Some k → is_in k ks ≡ true
 first_is_in v [] k q = absurd (none-some k q)
 first_is_in v (i ∷ ks) k q =
@@ -120,10 +124,12 @@ first_is_none v ks none =
     in
     pick (first_enabled v ks) refl
 
+-- a number within a range is one of its list
 pub in_range : (a n k : ℕ) → a ≤ k → k < a + n → is_in k (range_with_len a n) ≡ true
 in_range a zero k p q = absurd (omega (arith, p, q))
 in_range a (suc n) k p q = grind (arith, nat_tests, in_range (a + 1) n k)
 
+-- each number of a range is below its end
 pub range_below : (a n k : ℕ) → is_in k (range_with_len a n) ≡ true → k < a + n
 range_below a zero k q = absurd (false≢true q)
 range_below a (suc n) k q = elim (or_cases (a == k) (is_in k (range_with_len (a + 1) n)) q) [

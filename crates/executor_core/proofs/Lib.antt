@@ -6,11 +6,13 @@ pub mod First
 pub mod Starting
 pub mod Flowing
 pub mod Pairs
+pub mod Counting
 pub mod Tables
 pub mod Submits
-pub mod Works
-pub mod Keeps
+pub mod WorkerSteps
+pub mod RunSteps
 pub mod Cancels
 pub mod Opens
 pub mod Events
+pub mod Errors
 pub mod Within

@@ -21,6 +21,7 @@ due_landed t.Once due now = due
 due_landed (t.Rate period) due now = due
 due_landed (t.Fixed delay) due now = now + delay
 
+-- the due moment that is seen of a task, after a start and a finish of it or none
 abbrev pub due_after : Timing → ℕ → ℕ → Bool → Bool → ℕ
 due_after timing due now starts finishes =
     let ahead = if starts then due_ahead timing due else due in
@@ -56,7 +57,7 @@ still terms now ph.Waiting run due b cancels = refl
 still terms now ph.Running run due b cancels = refl
 still terms now ph.Done run due b cancels = refl
 still terms now ph.Failed run due b cancels = refl
-still terms now ph.Over run due b cancels = refl
+still terms now ph.Dropped run due b cancels = refl
 
 abbrev whole : Phase → ℕ → ℕ → Bool → Task
 whole p run due cancelled = record { phase = p; run = run; due = due; cancelled = cancelled }
@@ -69,8 +70,9 @@ submits terms now ph.Waiting run due b = refl
 submits terms now ph.Running run due b = refl
 submits terms now ph.Done run due b = refl
 submits terms now ph.Failed run due b = refl
-submits terms now ph.Over run due b = refl
+submits terms now ph.Dropped run due b = refl
 
+-- the due moment that a finish leaves is that of the run ahead, landed
 pub past_is_landed : (timing : Timing) (due now : ℕ) → due_past timing due now ≡ due_landed timing (due_ahead timing due) now
 past_is_landed t.Once due now = refl
 past_is_landed (t.Rate period) due now = refl
@@ -84,7 +86,7 @@ finishes : (terms : Terms) (now run due : ℕ) (b : Bool) (outcome : Outcome) �
     ≡ fate_with terms.timing (seen_phase terms ph.Running run due b) now false false false true (is_done outcome) (is_failed outcome)
 finishes terms now run due b (o.Done value) = ap (with_due (seen_phase terms ph.Done run due b)) (past_is_landed terms.timing due now)
 finishes terms now run due b (o.Failed code) = ap (with_due (seen_phase terms ph.Failed run due b)) (past_is_landed terms.timing due now)
-finishes terms now run due b o.Dropped = ap (with_due (seen_phase terms ph.Over run due b)) (past_is_landed terms.timing due now)
+finishes terms now run due b o.Dropped = ap (with_due (seen_phase terms ph.Dropped run due b)) (past_is_landed terms.timing due now)
 finishes terms now run due b (o.Again next) = ap (with_due (seen_phase terms ph.Waiting (1 + run) due b)) (past_is_landed terms.timing due now)
 
 -- a task after an answer, a cancel among them
@@ -92,10 +94,10 @@ abbrev pub moved_task : Timing → ℕ → ℕ → Answer → Task → Task
 moved_task timing now k answer task = record (move_task timing now k answer task) { cancelled = is_cancel k answer || task.cancelled }
 
 -- what is seen of a task after an answer is what was seen of it, moved
-pub moves : (terms : Terms) (now k : ℕ) (task : Task) (answer : Answer) → Fits terms now k task answer →
+pub task_moves : (terms : Terms) (now k : ℕ) (task : Task) (answer : Answer) → Fits terms now k task answer →
     seen_task terms (moved_task terms.timing now k answer task)
     ≡ fate_with terms.timing (seen_task terms task) now (is_submit k answer) (is_cancel k answer) (is_start k answer) (is_finish k answer) (is_finish_with is_done k answer) (is_finish_with is_failed k answer)
-moves terms now k task (a.Submit j kind due) fits =
+task_moves terms now k task (a.Submit j kind due) fits =
     let pick : (b : Bool) → (b ≡ true → due ≡ due_at terms 0 None) →
     with_cancelled (seen_task terms (cond b (submit_phase due task.phase task) task)) task.cancelled ≡ fate_with terms.timing (seen_task terms task) now b false false false false false =
     elim [
@@ -105,7 +107,7 @@ moves terms now k task (a.Submit j kind due) fits =
     ]
     in
     pick (j == k) fits
-moves terms now k task (a.Start w j n due) fits =
+task_moves terms now k task (a.Start w j n due) fits =
     let pick : (b : Bool) → (b ≡ true → task.phase ≡ ph.Waiting) →
     with_cancelled (seen_task terms (cond b (record task { phase = ph.Running }) task)) task.cancelled ≡ fate_with terms.timing (seen_task terms task) now false false b false false false =
     elim [
@@ -114,7 +116,7 @@ moves terms now k task (a.Start w j n due) fits =
     ]
     in
     pick (j == k) fits
-moves terms now k task (a.Finish w j n outcome) fits =
+task_moves terms now k task (a.Finish w j n outcome) fits =
     let pick : (b : Bool) → (b ≡ true → task.phase ≡ ph.Running) →
     with_cancelled (seen_task terms (cond b (finish_task terms.timing now outcome task) task)) task.cancelled ≡ fate_with terms.timing (seen_task terms task) now false false false b (b && is_done outcome) (b && is_failed outcome) =
     elim [
@@ -125,4 +127,4 @@ moves terms now k task (a.Finish w j n outcome) fits =
     ]
     in
     pick (j == k) fits
-moves terms now k task answer fits = still terms now task.phase task.run task.due task.cancelled (is_cancel k answer)
+task_moves terms now k task answer fits = still terms now task.phase task.run task.due task.cancelled (is_cancel k answer)

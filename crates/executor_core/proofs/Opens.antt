@@ -8,11 +8,10 @@ use Rattle.sched_time.specs.declared.timing.Timing.{Timing}
 use Rattle.sched_time.specs.declared.timing.Timing.TheVariants as t
 use Rattle.executor_core.specs.declared.task.Task.{Task}
 use Rattle.executor_core.specs.declared.task.Phase.TheVariants as ph
-use Rattle.executor_core.specs.Counts.{IsNoCount}
 use Rattle.queue_code.specs.Calls.{Planned, IsOrderly, IsOrderlyFrom, count_after, how_many, task_count}
 use Rattle.executor_core.specs.Flows.{reached, ReachesNext}
-use Rattle.executor_core.specs.State.{opening, vacant, seen}
-use Rattle.executor_core.specs.Machine.{Machine, IsOpening, IsKept, IsSound, IsDue, queued}
+use Rattle.executor_core.specs.State.{opening, vacant, view_of_state}
+use Rattle.executor_core.specs.Machine.{Machine, IsOpening, IsWellFormedCore, IsSound, IsDue, queued}
 use Rattle.executor_core.proofs.Agree.{opening_sound}
 use Rattle.executor_core.proofs.Tables.{at_replicate}
 use Rattle.executor_core.proofs.Submits.{state_at}
@@ -24,11 +23,13 @@ map_vacant (suc n) = ap (λ l. None ∷ l) (map_vacant n)
 opening_state : (count workers : ℕ) → state_at 0 0 (replicate count vacant) (replicate workers None) ≡ opening
 opening_state count workers = λ i. record { made = 0; moment = 0; tasks = λ k. at_replicate count k vacant i; workers = λ w. at_replicate workers w None i }
 
-abbrev pub first : List Planned → ℕ → List Task → List (Option ℕ) → Machine
-first calls limit tasks work = record { calls = calls; limit = limit; taken = 0; made = 0; moment = 0; tasks = tasks; work = work }
+-- what contracts see of a core that was just made
+abbrev pub opening_machine : List Planned → ℕ → List Task → List (Option ℕ) → Machine
+opening_machine calls limit tasks work = record { calls = calls; limit = limit; taken = 0; made = 0; moment = 0; tasks = tasks; work = work }
 
-pub opens : (calls : List Planned) (count workers limit : ℕ) (tasks : List Task) (work : List (Option ℕ)) → tasks ≡ replicate count vacant → work ≡ replicate workers None → IsOpening (first calls limit tasks work) calls workers limit
-opens calls count workers limit tasks work is free = record {
+-- a core that was just made is the opening one
+pub opening_is : (calls : List Planned) (count workers limit : ℕ) (tasks : List Task) (work : List (Option ℕ)) → tasks ≡ replicate count vacant → work ≡ replicate workers None → IsOpening (opening_machine calls limit tasks work) calls workers limit
+opening_is calls count workers limit tasks work is free = record {
   calls = refl;
   limit = refl;
   taken = refl;
@@ -36,9 +37,10 @@ opens calls count workers limit tasks work is free = record {
   stands = (λ i. state_at 0 0 (is i) (free i)) ∙ opening_state count workers;
 }
 
+-- a core that was just made is well formed
 pub opening_kept : (calls : List Planned) (count workers limit : ℕ) (tasks : List Task) (timings : List Timing) (work entries : List (Option ℕ)) → IsOrderly calls → count ≡ task_count calls → 0 < workers → workers ≤ 64 →
     tasks ≡ replicate count vacant → timings ≡ replicate count t.Once → work ≡ replicate workers None → entries ≡ replicate count None →
-    IsKept (first calls limit tasks work) entries timings
+    IsWellFormedCore (opening_machine calls limit tasks work) entries timings
 opening_kept calls count workers limit tasks timings work entries orderly counted some few is timed free empty =
     let long : length work ≡ workers = ap length free ∙ length-replicate workers None in
     let at : (k : ℕ) → slice_index_or tasks k vacant ≡ vacant = λ k. ap (λ l. slice_index_or l k vacant) is ∙ at_replicate count k vacant in
@@ -55,19 +57,12 @@ opening_kept calls count workers limit tasks timings work entries orderly counte
       timing = λ k used. absurd (used (ap (λ x. x.phase) (at k)));
       fresh = λ k above. at k;
       sound = subst IsSound (sym ((λ i. state_at 0 0 (is i) (free i)) ∙ opening_state count workers)) opening_sound;
-      due = subst (λ s. IsDue calls (seen calls s)) (sym ((λ i. state_at 0 0 (is i) (free i)) ∙ opening_state count workers)) (λ k. (None, refl));
+      due = subst (λ s. IsDue calls (view_of_state calls s)) (sym ((λ i. state_at 0 0 (is i) (free i)) ∙ opening_state count workers)) (λ k. (None, refl));
       runs = record {
         all = λ k. omega (arith, ap (λ (x : Task). x.run) (at k));
         begun = λ k q. let none : ph.Vacant ≡ ph.Running = sym (ap (λ (x : Task). x.phase) (at k)) ∙ q in absurd cc;
       };
     }
-
--- which number of workers is one
-pub some_workers : (workers : ℕ) → (IsNoCount workers → ⊥) → (0 < workers) × (workers ≤ 64)
-some_workers workers no_such = (
-  elim (cases_lt 0 workers) [ inl enough ↦ enough | inr less ↦ absurd (no_such (inl (omega arith))) ],
-  elim (cases_lt 64 workers) [ inl more ↦ absurd (no_such (inr more)) | inr within ↦ within ],
-)
 
 -- calls that a moment reaches
 
@@ -77,7 +72,7 @@ none_reached count moment t (p ∷ calls) o l =
     let beyond : nat_le p.0 t ≡ false = grind (arith, nat_tests, o.0) in
     ap (λ b. cond b (1 + how_many (λ q. nat_le q.0 t) calls) (how_many (λ q. nat_le q.0 t) calls)) beyond ∙ none_reached (count_after count p.1) p.0 t calls o.3 (omega (arith, o.0, l))
 
--- the next call is reached just where some call is
+-- the next call is reached exactly when some call is
 pub next_reached : (count moment t : ℕ) (calls : List Planned) (n : ℕ) (p d : Planned) → IsOrderlyFrom count moment calls → n < length calls → p ≡ slice_index_or calls n d →
     (p.0 ≤ t → reached calls n t ≡ 1 + reached calls (n + 1) t) × (t < p.0 → reached calls n t ≡ 0)
 next_reached count moment t [] n p d o l is = absurd (omega arith)
@@ -93,6 +88,7 @@ next_reached count moment t (x ∷ calls) (suc n) p d o l is =
     let one : suc n + 1 ≡ suc (n + 1) = omega arith in
     (λ yes. rest.0 yes ∙ ap (λ k. 1 + reached (x ∷ calls) k t) (sym one), rest.1)
 
+-- past the last call none is reached
 pub end_reached : (calls : List Planned) (n t : ℕ) → length calls ≤ n → reached calls n t ≡ 0
 end_reached [] zero t l = refl
 end_reached [] (suc n) t l = refl
@@ -101,9 +97,11 @@ end_reached (x ∷ calls) (suc n) t l = end_reached calls n t (omega arith)
 
 -- the test of the next call's moment tells whether some call is reached
 
+-- a next call whose moment is at most that of a clock is reached
 pub tells_next : (calls : List Planned) (n moment : ℕ) (p : Planned) → IsOrderly calls → n < length calls → p ≡ slice_index_or calls n p → IsTrue (nat_le p.0 moment) → ReachesNext calls n moment
 tells_next calls n moment p o low is test = (low, (next_reached 0 0 moment calls n p p o.1 low is).0 (leb-true p.0 moment test))
 
+-- a next call whose moment is above that of a clock is not reached, nor any behind it
 pub tells_none : (calls : List Planned) (n moment : ℕ) (p : Planned) → IsOrderly calls → n < length calls → p ≡ slice_index_or calls n p → nat_le p.0 moment ≡ false → reached calls n moment ≡ 0
 tells_none calls n moment p o low is test =
     (next_reached 0 0 moment calls n p p o.1 low is).1 (elim (cases_lt moment p.0) [ inl beyond ↦ beyond | inr within ↦ absurd (false≢true (sym test ∙ le-leb p.0 moment within)) ])

@@ -51,6 +51,7 @@ of_phase p over = elim (p.phase) as (λ q. word_phase (phase_in q over) ≡ q) [
     running true = refl
     running false = refl
 
+-- the words of the tasks are the table of words
 pub words_of : (ws : List Parts) (ds : List Detail) → length ws ≡ length ds → map word_of (tasks_of ws ds) ≡ ws
 words_of [] ds e = refl
 words_of (x ∷ ws) [] e = absurd (omega (arith, e))
@@ -61,8 +62,8 @@ pub is_in : (ws : List Parts) (ds : List Detail) (tasks : List Task) (k : ℕ) �
 is_in ws ds tasks k e view low = omega (arith, low, ap length view, length_of ws ds e)
 
 -- the task that is made of the word and the detail at its place
-pub read : (ws : List Parts) (ds : List Detail) (tasks : List Task) (k : ℕ) (x : Parts) (d : Detail) → length ws ≡ length ds → tasks_of ws ds ≡ tasks → k < length tasks → x ≡ get_or ws k x → slice_index_or tasks k vacant ≡ task_of x (get_or ds k d)
-read ws ds tasks k x d e view low at =
+pub task_read : (ws : List Parts) (ds : List Detail) (tasks : List Task) (k : ℕ) (x : Parts) (d : Detail) → length ws ≡ length ds → tasks_of ws ds ≡ tasks → k < length tasks → x ≡ get_or ws k x → slice_index_or tasks k vacant ≡ task_of x (get_or ds k d)
+task_read ws ds tasks k x d e view low at =
     sym (ap (λ l. slice_index_or l k vacant) view) ∙ (at_place ws ds k x d e (is_in ws ds tasks k e view low) ∙ ap (λ y. task_of y (get_or ds k d)) (sym at))
 
 -- what is kept beside the word of a vacant task
@@ -73,7 +74,7 @@ blank = record { due = 0; over = false }
 pub cancel_sets : (ws : List Parts) (ds : List Detail) (tasks : List Task) (k : ℕ) (x y : Parts) → length ws ≡ length ds → tasks_of ws ds ≡ tasks → k < length tasks → x ≡ get_or ws k x → y ≡ words.marked x →
     tasks_of (set ws k y) ds ≡ set tasks k (record (slice_index_or tasks k vacant) { cancelled = true })
 cancel_sets ws ds tasks k x y e view low at is =
-    let task = read ws ds tasks k x blank e view low at in
+    let task = task_read ws ds tasks k x blank e view low at in
     word_set ws ds k y blank e ∙ (λ i. set (view i) k (task_of (is i) (get_or ds k blank))) ∙ ap (λ (t : Task). set tasks k (record t { cancelled = true })) (sym task)
 
 -- the phase of the word, by that of the task
@@ -103,20 +104,25 @@ is_running w.Failed over q = absurd cc
 
 -- what the word says of the task at its place
 
+-- the word of a vacant task is vacant
 pub word_vacant : (ws : List Parts) (ds : List Detail) (tasks : List Task) (k : ℕ) (x : Parts) → length ws ≡ length ds → tasks_of ws ds ≡ tasks → k < length tasks → x ≡ get_or ws k x → (slice_index_or tasks k vacant).phase ≡ ph.Vacant → x.phase ≡ w.Vacant
-word_vacant ws ds tasks k x e view low at q = is_vacant x.phase (get_or ds k blank).over (sym (ap (λ (t : Task). t.phase) (read ws ds tasks k x blank e view low at)) ∙ q)
+word_vacant ws ds tasks k x e view low at q = is_vacant x.phase (get_or ds k blank).over (sym (ap (λ (t : Task). t.phase) (task_read ws ds tasks k x blank e view low at)) ∙ q)
 
+-- the word of a task that waits is new
 pub word_waits : (ws : List Parts) (ds : List Detail) (tasks : List Task) (k : ℕ) (x : Parts) → length ws ≡ length ds → tasks_of ws ds ≡ tasks → k < length tasks → x ≡ get_or ws k x → (slice_index_or tasks k vacant).phase ≡ ph.Waiting → x.phase ≡ w.New
-word_waits ws ds tasks k x e view low at q = is_waiting x.phase (get_or ds k blank).over (sym (ap (λ (t : Task). t.phase) (read ws ds tasks k x blank e view low at)) ∙ q)
+word_waits ws ds tasks k x e view low at q = is_waiting x.phase (get_or ds k blank).over (sym (ap (λ (t : Task). t.phase) (task_read ws ds tasks k x blank e view low at)) ∙ q)
 
+-- the word of a task whose run is under way is running
 pub word_runs : (ws : List Parts) (ds : List Detail) (tasks : List Task) (k : ℕ) (x : Parts) → length ws ≡ length ds → tasks_of ws ds ≡ tasks → k < length tasks → x ≡ get_or ws k x → (slice_index_or tasks k vacant).phase ≡ ph.Running → x.phase ≡ w.Running
-word_runs ws ds tasks k x e view low at q = is_running x.phase (get_or ds k blank).over (sym (ap (λ (t : Task). t.phase) (read ws ds tasks k x blank e view low at)) ∙ q)
+word_runs ws ds tasks k x e view low at q = is_running x.phase (get_or ds k blank).over (sym (ap (λ (t : Task). t.phase) (task_read ws ds tasks k x blank e view low at)) ∙ q)
 
+-- a word has the bit of a cancel exactly when its task is cancelled
 pub word_marked : (ws : List Parts) (ds : List Detail) (tasks : List Task) (k : ℕ) (x : Parts) → length ws ≡ length ds → tasks_of ws ds ≡ tasks → k < length tasks → x ≡ get_or ws k x → x.marked ≡ (slice_index_or tasks k vacant).cancelled
-word_marked ws ds tasks k x e view low at = sym (ap (λ (t : Task). t.cancelled) (read ws ds tasks k x blank e view low at))
+word_marked ws ds tasks k x e view low at = sym (ap (λ (t : Task). t.cancelled) (task_read ws ds tasks k x blank e view low at))
 
+-- a word has the run of its task
 pub word_run : (ws : List Parts) (ds : List Detail) (tasks : List Task) (k : ℕ) (x : Parts) → length ws ≡ length ds → tasks_of ws ds ≡ tasks → k < length tasks → x ≡ get_or ws k x → x.run ≡ (slice_index_or tasks k vacant).run
-word_run ws ds tasks k x e view low at = sym (ap (λ (t : Task). t.run) (read ws ds tasks k x blank e view low at))
+word_run ws ds tasks k x e view low at = sym (ap (λ (t : Task). t.run) (task_read ws ds tasks k x blank e view low at))
 
 -- a word without the bit is not cancelled
 pub unmarked : (x : Parts) → x.marked ≡ false → words.is_cancelled x ≡ false
@@ -134,7 +140,7 @@ pub start_sets : (ws : List Parts) (ds : List Detail) (tasks : List Task) (k : �
     tasks_of (set ws k y) (set ds k (record { due = d.due; over = false })) ≡ set tasks k (record (slice_index_or tasks k vacant) { phase = ph.Running })
 start_sets ws ds tasks k x y d e view low at with_it is =
     let c : Detail = record { due = d.due; over = false } in
-    let task = read ws ds tasks k x d e view low at ∙ ap (task_of x) (sym with_it) in
+    let task = task_read ws ds tasks k x d e view low at ∙ ap (task_of x) (sym with_it) in
     both_set ws ds k y c e ∙ (λ i. set (view i) k (task_of (is i) c)) ∙ ap (λ (t : Task). set tasks k (record t { phase = ph.Running })) (sym task)
 
 -- a run of a task ends
@@ -144,29 +150,34 @@ pub finish_sets : (ws : List Parts) (ds : List Detail) (tasks : List Task) (k du
 finish_sets ws ds tasks k due x y over outcome e view low at ends =
     let c : Detail = record { due = due; over = over } in
     let d = get_or ds k blank in
-    both_set ws ds k y c e ∙ (λ i. set (view i) k (ends d i)) ∙ ap (λ t. set tasks k (end_task outcome due t)) (sym (read ws ds tasks k x blank e view low at))
+    both_set ws ds k y c e ∙ (λ i. set (view i) k (ends d i)) ∙ ap (λ t. set tasks k (end_task outcome due t)) (sym (task_read ws ds tasks k x blank e view low at))
 
 -- so many vacant tasks
 vacant_tasks : (n : ℕ) (x : Parts) → x ≡ words.vacant → tasks_of (replicate n x) (replicate n blank) ≡ replicate n vacant
 vacant_tasks zero x is = refl
 vacant_tasks (suc n) x is = λ i. task_of (is i) blank ∷ vacant_tasks n x is i
 
+-- the tables of tasks of which none was submitted
 pub vacant_tables : (n : ℕ) (x : Parts) (ws : List Parts) (ds : List Detail) → x ≡ words.vacant → ws ≡ replicate n x → ds ≡ replicate n blank → tasks_of ws ds ≡ replicate n vacant
 vacant_tables n x ws ds is all none = (λ i. tasks_of (all i) (none i)) ∙ vacant_tasks n x is
 
 -- the task once its run has ended, by the outcome
 
+-- a task whose word and detail were written since it is done
 pub ended_done : (due : ℕ) (x y : Parts) (over : Bool) (outcome : Outcome) {value : ℕ} (d : Detail) → outcome ≡ o.Done value → y ≡ words.ended_well x → task_of y (record { due = due; over = over }) ≡ end_task outcome due (task_of x d)
 ended_done due x y over outcome d of is = ap (λ z. task_of z (record { due = due; over = over })) is ∙ ap (λ q. end_task q due (task_of x d)) (sym of)
 
+-- a task whose word and detail were written since its run failed
 pub ended_failed : (due : ℕ) (x y : Parts) (over : Bool) (outcome : Outcome) {code : ℕ} (d : Detail) → outcome ≡ o.Failed code → y ≡ words.ended_badly x → task_of y (record { due = due; over = over }) ≡ end_task outcome due (task_of x d)
 ended_failed due x y over outcome d of is = ap (λ z. task_of z (record { due = due; over = over })) is ∙ ap (λ q. end_task q due (task_of x d)) (sym of)
 
+-- a task whose word and detail were written since it runs again
 pub ended_again : (due : ℕ) (x y : Parts) (over : Bool) (outcome : Outcome) {next : ℕ} (d : Detail) → outcome ≡ o.Again next → y ≡ words.rearmed x → task_of y (record { due = due; over = over }) ≡ end_task outcome due (task_of x d)
 ended_again due x y over outcome d of is =
     let run : x.run + 1 ≡ 1 + x.run = omega arith in
     ap (λ z. task_of z (record { due = due; over = over })) is ∙ (λ i. record { phase = ph.Waiting; run = run i; due = due; cancelled = x.marked }) ∙ ap (λ q. end_task q due (task_of x d)) (sym of)
 
+-- a task whose detail was written since its run was dropped
 pub ended_dropped : (due : ℕ) (x y : Parts) (over : Bool) (outcome : Outcome) (d : Detail) → outcome ≡ o.Dropped → over ≡ true → x.phase ≡ w.Running → y ≡ x → task_of y (record { due = due; over = over }) ≡ end_task outcome due (task_of x d)
 ended_dropped due x y over outcome d of dropped runs is =
     ap (λ z. task_of z (record { due = due; over = over })) is ∙ (λ i. record { phase = phase_in (runs i) (dropped i); run = x.run; due = due; cancelled = x.marked }) ∙ ap (λ q. end_task q due (task_of x d)) (sym of)

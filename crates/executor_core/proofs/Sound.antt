@@ -25,7 +25,7 @@ use Rattle.queue_code.specs.Calls.{Planned, Terms, terms_of, due_at, numbers, ta
 use Rattle.executor_core.specs.View.{View, is_enabled, is_running, is_waiting, first_enabled, earlier, precedes}
 use Rattle.executor_core.specs.Answers.{Reply, plain, called, started, finished, effect_on, outcome_in, due_next, is_accepted, moment_after}
 use Rattle.executor_core.specs.Histories.{is_cancel, work_after}
-use Rattle.executor_core.specs.State.{State, seen, seen_phase, was_submitted, due_seen, reply_of, state_after, move_task, submit_phase, finish_task}
+use Rattle.executor_core.specs.State.{State, view_of_state, seen_phase, was_submitted, due_seen, reply_of, state_after, move_task, submit_phase, finish_task}
 use Rattle.executor_core.specs.Machine.{IsSound}
 use Rattle.executor_core.proofs.Moves.{Fits}
 
@@ -44,6 +44,7 @@ from_earlier v i k (Some j) e =
     let pick : (b : Bool) → cond b j i ≡ k → (k ≡ i) ⊎ (Some j ≡ Some k) = elim [ true ↦ λ q. inr (ap Some q) | false ↦ λ q. inl (sym q) ] in
     pick (precedes v j i) e
 
+-- the first enabled task is enabled
 pub first_is_enabled : (v : View) (ks : List ℕ) (k : ℕ) → first_enabled v ks ≡ Some k → is_enabled v k ≡ true
 first_is_enabled v [] k q = absurd (none-some k q)
 first_is_enabled v (j ∷ ks) k q =
@@ -71,32 +72,34 @@ no_and true y e = e
 no_and false y e = refl
 
 -- a task that is seen to wait is in that phase
-pub waits : (terms : Terms) (p : Phase) (run due : ℕ) (b : Bool) → (p ≡ ph.Over → b ≡ true) → is_waiting (seen_phase terms p run due b) ≡ true → (p ≡ ph.Waiting) × (b ≡ false)
+pub waits : (terms : Terms) (p : Phase) (run due : ℕ) (b : Bool) → (p ≡ ph.Dropped → b ≡ true) → is_waiting (seen_phase terms p run due b) ≡ true → (p ≡ ph.Waiting) × (b ≡ false)
 waits terms p run due true over q = absurd (false≢true (sym (no_and (was_submitted p) (not (is_running (seen_phase terms p run due true)) && false) (no_and (not (is_running (seen_phase terms p run due true))) false refl)) ∙ q))
 waits terms ph.Vacant run due false over q = absurd (false≢true q)
 waits terms ph.Waiting run due false over q = (refl, refl)
 waits terms ph.Running run due false over q = absurd (false≢true (sym (ap (λ b. not (not b) && true) (next_eqb run)) ∙ q))
 waits terms ph.Done run due false over q = absurd (false≢true (sym (no_and (not (not (1 + run == 1 + run))) false refl) ∙ q))
 waits terms ph.Failed run due false over q = absurd (false≢true (sym (no_and (not (not (1 + run == 1 + run))) false refl) ∙ q))
-waits terms ph.Over run due false over q = absurd (false≢true (over refl))
+waits terms ph.Dropped run due false over q = absurd (false≢true (over refl))
 
+-- a task that waits and is not cancelled is seen as one that waits
 pub is_seen_waiting : (terms : Terms) (run due : ℕ) → is_waiting (seen_phase terms ph.Waiting run due false) ≡ true
 is_seen_waiting terms run due = ap (λ b. not (not b) && true) (same_eqb run)
 
-pub waits_in : (calls : List Planned) (s : State) (k : ℕ) → IsSound s → is_waiting ((seen calls s).fate k) ≡ true → ((s.tasks k).phase ≡ ph.Waiting) × ((s.tasks k).cancelled ≡ false)
+-- a task that is seen as one that waits does, and is not cancelled
+pub waits_in : (calls : List Planned) (s : State) (k : ℕ) → IsSound s → is_waiting ((view_of_state calls s).fate k) ≡ true → ((s.tasks k).phase ≡ ph.Waiting) × ((s.tasks k).cancelled ≡ false)
 waits_in calls s k sound q = waits (terms_of calls k) (s.tasks k).phase (s.tasks k).run (s.tasks k).due (s.tasks k).cancelled (sound.over k) q
 
 -- what each reply finds
 
-call_finds : (calls : List Planned) (s : State) (moment : ℕ) (call : CodeCall) → Finds calls s (called calls (record (seen calls s) { moment = moment }) call).answer
+call_finds : (calls : List Planned) (s : State) (moment : ℕ) (call : CodeCall) → Finds calls s (called calls (record (view_of_state calls s) { moment = moment }) call).answer
 call_finds calls s moment (c.Submit task timing delay) = refl
 call_finds calls s moment (c.Illegal task) = tt
 call_finds calls s moment (c.Cancel task) = tt
 
 -- an enabled task waits, and its due moment is reached
-pub enabled_in : (calls : List Planned) (s : State) (k : ℕ) → IsSound s → is_enabled (seen calls s) k ≡ true → ((s.tasks k).phase ≡ ph.Waiting) × ((s.tasks k).cancelled ≡ false) × ((s.tasks k).due ≤ s.moment)
+pub enabled_in : (calls : List Planned) (s : State) (k : ℕ) → IsSound s → is_enabled (view_of_state calls s) k ≡ true → ((s.tasks k).phase ≡ ph.Waiting) × ((s.tasks k).cancelled ≡ false) × ((s.tasks k).due ≤ s.moment)
 enabled_in calls s k sound e =
-    let v = seen calls s in
+    let v = view_of_state calls s in
     let parts = and_parts (is_waiting (v.fate k)) (nat_le (v.fate k).due v.moment) e in
     let waiting = waits_in calls s k sound parts.0 in
     let due : (v.fate k).due ≡ (s.tasks k).due = ap (λ p. due_seen (terms_of calls k) p (s.tasks k).due) waiting.0 in
@@ -110,17 +113,18 @@ drops false (t.Rate period) due (e.Value value) q = cc
 drops false (t.Fixed delay) due (e.Value value) q = cc
 drops false timing due (e.Fault code) q = cc
 
-pub finds : (calls : List Planned) (workers : ℕ) (s : State) (happening : Happening) → IsSound s → Finds calls s (reply_of calls workers s happening).answer
-finds calls workers s h.Call sound =
-    let pick : (q : Option Planned) → Finds calls s (option_map_or (λ p. called calls (record (seen calls s) { moment = max s.moment p.0 }) p.1) q (plain a.Clock)).answer =
+-- what each reply finds in a sound state
+pub reply_finds : (calls : List Planned) (workers : ℕ) (s : State) (happening : Happening) → IsSound s → Finds calls s (reply_of calls workers s happening).answer
+reply_finds calls workers s h.Call sound =
+    let pick : (q : Option Planned) → Finds calls s (option_map_or (λ p. called calls (record (view_of_state calls s) { moment = max s.moment p.0 }) p.1) q (plain a.Clock)).answer =
     elim [ None ↦ tt | Some p ↦ call_finds calls s (max s.moment p.0) p.1 ]
     in
     pick (slice_get calls s.made)
-finds calls workers s (h.Clock t) sound =
+reply_finds calls workers s (h.Clock t) sound =
     let pick : (b c : Bool) → Finds calls s (cond b (a.Error x.Backward) (cond c (a.Error x.TooFar) a.Clock)) = elim [ true ↦ λ c. tt | false ↦ elim [ true ↦ tt | false ↦ tt ] ] in
     pick _ _
-finds calls workers s (h.Start w) sound =
-    let v = seen calls s in
+reply_finds calls workers s (h.Start w) sound =
+    let v = view_of_state calls s in
     let first : (q : Option ℕ) → s.workers w ≡ None → first_enabled v (numbers calls) ≡ q → Finds calls s (started v w q) =
     elim [
       | None ↦ λ free is. tt
@@ -131,16 +135,17 @@ finds calls workers s (h.Start w) sound =
     elim [ true ↦ elim [ None ↦ λ free. first (first_enabled v (numbers calls)) free refl | Some k ↦ λ busy. tt ] | false ↦ λ work is. tt ]
     in
     pick (nat_lt w workers) (s.workers w) refl
-finds calls workers s (h.Finish w ending) sound =
-    let v = seen calls s in
+reply_finds calls workers s (h.Finish w ending) sound =
+    let v = view_of_state calls s in
     let pick : (b : Bool) (work : Option ℕ) → s.workers w ≡ work → Finds calls s (cond b (finished calls v w ending work) (a.Error x.NoWorker)) =
     elim [ true ↦ elim [ None ↦ λ is. tt | Some k ↦ λ is. (is, drops (s.tasks k).cancelled (terms_of calls k).timing (due_next calls v k) ending) ] | false ↦ λ work is. tt ]
     in
     pick (nat_lt w workers) (s.workers w) refl
-finds calls workers s (h.Cancel k) sound =
-    let pick : (b : Bool) → Finds calls s (cond b (a.Outside k (effect_on ((seen calls s).fate k))) (a.Error x.NoTask)) = elim [ true ↦ tt | false ↦ tt ] in
+reply_finds calls workers s (h.Cancel k) sound =
+    let pick : (b : Bool) → Finds calls s (cond b (a.Outside k (effect_on ((view_of_state calls s).fate k))) (a.Error x.NoTask)) = elim [ true ↦ tt | false ↦ tt ] in
     pick (nat_lt k (task_count calls))
 
+-- what each reply finds of each task, as its move needs it
 pub fits_all : (calls : List Planned) (s : State) (answer : Answer) → IsSound s → Finds calls s answer → (k : ℕ) → Fits (terms_of calls k) s.moment k (s.tasks k) answer
 fits_all calls s (a.Submit j kind due) sound f k = λ q. subst (λ k. due ≡ due_at (terms_of calls k) 0 None) (eqb-true j k q) f
 fits_all calls s (a.Start w j n due) sound f k = λ q. subst (λ k. (s.tasks k).phase ≡ ph.Waiting) (eqb-true j k q) f.1
@@ -223,6 +228,7 @@ later now next (h.Start worker) = omega arith
 later now next (h.Finish worker ending) = omega arith
 later now next (h.Cancel task) = omega arith
 
+-- no finish leaves a run under way
 pub no_run_again : (timing : Timing) (now : ℕ) (outcome : Outcome) (task : Task) → (finish_task timing now outcome task).phase ≡ ph.Running → ⊥
 no_run_again timing now (o.Done value) task q = cc
 no_run_again timing now (o.Failed code) task q = cc
@@ -244,7 +250,7 @@ run_reached calls s (a.Submit j kind due) sound f k =
     unsubmitted ph.Running task is q = subst (λ (x : Task). x.due ≤ s.moment) (sym is) (sound.reached k (sym (ap (λ (x : Task). x.phase) is) ∙ q))
     unsubmitted ph.Done task is q = subst (λ (x : Task). x.due ≤ s.moment) (sym is) (sound.reached k (sym (ap (λ (x : Task). x.phase) is) ∙ q))
     unsubmitted ph.Failed task is q = subst (λ (x : Task). x.due ≤ s.moment) (sym is) (sound.reached k (sym (ap (λ (x : Task). x.phase) is) ∙ q))
-    unsubmitted ph.Over task is q = subst (λ (x : Task). x.due ≤ s.moment) (sym is) (sound.reached k (sym (ap (λ (x : Task). x.phase) is) ∙ q))
+    unsubmitted ph.Dropped task is q = subst (λ (x : Task). x.due ≤ s.moment) (sym is) (sound.reached k (sym (ap (λ (x : Task). x.phase) is) ∙ q))
 run_reached calls s (a.Start w j n due) sound f k =
     let pick : (b : Bool) → (j == k) ≡ b → (cond b (record (s.tasks k) { phase = ph.Running }) (s.tasks k)).phase ≡ ph.Running → (cond b (record (s.tasks k) { phase = ph.Running }) (s.tasks k)).due ≤ s.moment =
     elim [ true ↦ λ same q. subst (λ i. (s.tasks i).due ≤ s.moment) (eqb-true j k same) f.3 | false ↦ λ apart q. sound.reached k q ]
@@ -259,35 +265,36 @@ run_reached calls s (a.Finish w j n outcome) sound f k =
 run_reached calls s _ sound f k = sound.reached k
 
 -- a task whose run was dropped was cancelled, also after an answer
-over_after : (calls : List Planned) (s : State) (answer : Answer) → IsSound s → Finds calls s answer → (k : ℕ) → phase_after calls s answer k ≡ ph.Over → (is_cancel k answer || (s.tasks k).cancelled) ≡ true
+over_after : (calls : List Planned) (s : State) (answer : Answer) → IsSound s → Finds calls s answer → (k : ℕ) → phase_after calls s answer k ≡ ph.Dropped → (is_cancel k answer || (s.tasks k).cancelled) ≡ true
 over_after calls s (a.Submit j kind due) sound f k q =
-    let pick : (b : Bool) → (cond b (submit_phase due (s.tasks k).phase (s.tasks k)) (s.tasks k)).phase ≡ ph.Over → (s.tasks k).phase ≡ ph.Over =
+    let pick : (b : Bool) → (cond b (submit_phase due (s.tasks k).phase (s.tasks k)) (s.tasks k)).phase ≡ ph.Dropped → (s.tasks k).phase ≡ ph.Dropped =
     elim [ true ↦ λ q. unsubmitted due (s.tasks k).phase (s.tasks k) refl q | false ↦ λ q. q ]
     in
     sound.over k (pick (j == k) q)
   where
-    unsubmitted : (due : ℕ) (p : Phase) (task : Task) → task.phase ≡ p → (submit_phase due p task).phase ≡ ph.Over → task.phase ≡ ph.Over
+    unsubmitted : (due : ℕ) (p : Phase) (task : Task) → task.phase ≡ p → (submit_phase due p task).phase ≡ ph.Dropped → task.phase ≡ ph.Dropped
     unsubmitted due ph.Vacant task is q = absurd cc
     unsubmitted due ph.Waiting task is q = q
     unsubmitted due ph.Running task is q = q
     unsubmitted due ph.Done task is q = q
     unsubmitted due ph.Failed task is q = q
-    unsubmitted due ph.Over task is q = q
+    unsubmitted due ph.Dropped task is q = q
 over_after calls s (a.Start w j n due) sound f k q =
-    let pick : (b : Bool) → (cond b (record (s.tasks k) { phase = ph.Running }) (s.tasks k)).phase ≡ ph.Over → (s.tasks k).phase ≡ ph.Over = elim [ true ↦ λ q. absurd cc | false ↦ λ q. q ] in
+    let pick : (b : Bool) → (cond b (record (s.tasks k) { phase = ph.Running }) (s.tasks k)).phase ≡ ph.Dropped → (s.tasks k).phase ≡ ph.Dropped = elim [ true ↦ λ q. absurd cc | false ↦ λ q. q ] in
     sound.over k (pick (j == k) q)
 over_after calls s (a.Finish w j n outcome) sound f k q =
-    let ended : (x : Outcome) → outcome ≡ x → (finish_task (terms_of calls k).timing s.moment x (s.tasks k)).phase ≡ ph.Over → outcome ≡ o.Dropped =
+    let ended : (x : Outcome) → outcome ≡ x → (finish_task (terms_of calls k).timing s.moment x (s.tasks k)).phase ≡ ph.Dropped → outcome ≡ o.Dropped =
     elim [ o.Done value ↦ λ is q. absurd cc | o.Failed code ↦ λ is q. absurd cc | o.Dropped ↦ λ is q. is | o.Again next ↦ λ is q. absurd cc ]
     in
-    let pick : (b : Bool) → (j == k) ≡ b → (cond b (finish_task (terms_of calls k).timing s.moment outcome (s.tasks k)) (s.tasks k)).phase ≡ ph.Over → (s.tasks k).cancelled ≡ true =
+    let pick : (b : Bool) → (j == k) ≡ b → (cond b (finish_task (terms_of calls k).timing s.moment outcome (s.tasks k)) (s.tasks k)).phase ≡ ph.Dropped → (s.tasks k).cancelled ≡ true =
     elim [ true ↦ λ same q. subst (λ i. (s.tasks i).cancelled ≡ true) (eqb-true j k same) (f.1 (ended outcome refl q)) | false ↦ λ apart q. sound.over k q ]
     in
     pick (j == k) refl q
 over_after calls s answer sound f k q = or_right (is_cancel k answer) (s.tasks k).cancelled (sound.over k q)
 
-pub stays : (calls : List Planned) (s : State) (happening : Happening) (r : Reply) → IsSound s → Finds calls s r.answer → IsSound (state_after calls s happening r)
-stays calls s happening r sound f = record {
+-- a sound state stays sound
+pub sound_stays : (calls : List Planned) (s : State) (happening : Happening) (r : Reply) → IsSound s → Finds calls s r.answer → IsSound (state_after calls s happening r)
+sound_stays calls s happening r sound f = record {
   at_work = at_work_after calls s r.answer sound f;
   apart = apart_after calls s r.answer sound f;
   over = over_after calls s r.answer sound f;

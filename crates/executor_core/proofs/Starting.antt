@@ -1,18 +1,16 @@
 -- What an answer that starts a task says.
-use Rattle.std.proofs.Common.{◌≡◌, ℕ, nat_le, Bool, true, false, cond, List, [], ◌∷◌, ◌++◌, Option, Some, None, refl, sym, ap, ◌∙◌, arith}
+use Rattle.std.proofs.Common.{◌≡◌, ℕ, Bool, true, false, cond, List, Option, Some, None, refl, sym, ap, ◌∙◌}
 use Rattle.std.specs.Prelude.{slice_get, max}
 use Rattle.std.specs.Option.{option_map_or}
-use Rattle.std.proofs.lemmas.Bool.{and_parts, leb-true}
 use Rattle.queue_code.specs.declared.call.CodeCall.{CodeCall}
 use Rattle.queue_code.specs.declared.call.CodeCall.TheVariants as c
 use Rattle.executor_core.specs.declared.types.EventError.TheVariants as x
 use Rattle.executor_core.specs.declared.types.Happening.{Happening}
 use Rattle.executor_core.specs.declared.types.Happening.TheVariants as h
 use Rattle.executor_core.specs.declared.types.Answer.TheVariants as a
-use Rattle.queue_code.specs.Calls.{Planned, numbers, task_count}
-use Rattle.executor_core.specs.View.{View, is_waiting, first_enabled}
+use Rattle.queue_code.specs.Calls.{Planned, numbers}
+use Rattle.executor_core.specs.View.{View, first_enabled}
 use Rattle.executor_core.specs.Answers.{plain, reply, called, started, finished, moment_after, effect_on}
-use Rattle.executor_core.specs.Histories.{Entry, Means, look, now_of, happenings, made}
 
 -- what an answer that starts a task says of the view that it was given on, and of what happened
 pub record StartsFirst (calls : List Planned) (v : View) (happening : Happening) (k n d : ℕ) : Type 0 where
@@ -26,6 +24,7 @@ no_call_starts calls v (c.Submit task timing delay) w k n d q = cc
 no_call_starts calls v (c.Illegal task) w k n d q = cc
 no_call_starts calls v (c.Cancel task) w k n d q = cc
 
+-- what the answer to a start says of the view it was given in
 pub start_says : (calls : List Planned) (workers : ℕ) (v : View) (y : Happening) (w k n d : ℕ) → (reply calls workers v y).answer ≡ a.Start w k n d → StartsFirst calls v y k n d
 start_says calls workers v h.Call w k n d q =
     let pick : (o : Option Planned) → (option_map_or (λ p. called calls (record v { moment = max v.moment p.0 }) p.1) o (plain a.Clock)).answer ≡ a.Start w k n d → ⊥ =

@@ -18,11 +18,12 @@ use Rattle.sched_time.specs.declared.timing.Timing.{Timing}
 use Rattle.sched_time.specs.declared.timing.Timing.TheVariants as t
 use Rattle.queue_code.specs.Calls.{Planned, Terms, terms_of, due_at, task_count}
 use Rattle.executor_core.specs.Answers.{Reply, plain, called, kind_of}
-use Rattle.executor_core.specs.State.{State, seen, next, reply_of, state_after, vacant, submit_phase, submit_task}
-use Rattle.executor_core.specs.Machine.{Machine, workers_of, state_of, IsSound, IsKept, IsDue, Takes, queued}
+use Rattle.executor_core.specs.State.{State, view_of_state, next, reply_of, state_after, vacant, submit_phase, submit_task}
+use Rattle.executor_core.specs.Machine.{Machine, workers_of, state_of, IsSound, IsWellFormedCore, IsDue, Takes, queued}
 use Rattle.executor_core.proofs.Agree.{next_sound, next_due_is}
 use Rattle.executor_core.proofs.Tables.{at_set, submission, runs_set, call_moment, count_grows}
 
+-- the state of two tables
 abbrev pub state_at : ℕ → ℕ → List Task → List (Option ℕ) → State
 state_at made moment tasks work = record {
   made = made;
@@ -33,12 +34,13 @@ state_at made moment tasks work = record {
 
 -- the reply to a call, given the call
 abbrev pub reply_to : List Planned → State → Option Planned → Reply
-reply_to calls s call = option_map_or (λ p. called calls (record (seen calls s) { moment = max s.moment p.0 }) p.1) call (plain a.Clock)
+reply_to calls s call = option_map_or (λ p. called calls (record (view_of_state calls s) { moment = max s.moment p.0 }) p.1) call (plain a.Clock)
 
 -- the state after it
 abbrev pub state_to : List Planned → State → Option Planned → State
 state_to calls s call = record (state_after calls s h.Call (reply_to calls s call)) { moment = option_map_or (λ p. max s.moment p.0) call s.moment }
 
+-- a task that was just submitted
 abbrev pub waiting : ℕ → Task
 waiting due = submit_task due vacant
 
@@ -52,6 +54,7 @@ due_first terms timing first e = ap (λ x. due_at x 0 None) e ∙ by timing
     by : (timing : Timing) → due_at (record { timing = timing; first = first }) 0 None ≡ first
     by timing = elim timing as (λ timing. due_at (record { timing = timing; first = first }) 0 None ≡ first) [ t.Once ↦ refl | t.Rate period ↦ omega arith | t.Fixed delay ↦ refl ]
 
+-- the reply to a call that submits a task
 pub submit_answer : (calls : List Planned) (workers made moment at task delay : ℕ) (timing : Timing) (tasks : List Task) (work : List (Option ℕ)) →
     slice_get calls made ≡ Some (at, c.Submit task timing delay) → terms_of calls task ≡ record { timing = timing; first = at + delay } →
     a.Submit task (kind_of timing) (at + delay) ≡ (reply_of calls workers (state_at made moment tasks work) h.Call).answer
@@ -70,6 +73,7 @@ submitted_at tasks task k due low fresh =
     in
     at_set tasks task k (waiting due) vacant low ∙ pick (task == k) refl
 
+-- the state after a call that submits a task
 pub submit_state : (calls : List Planned) (workers made moment at task delay : ℕ) (timing : Timing) (tasks : List Task) (work : List (Option ℕ)) →
     slice_get calls made ≡ Some (at, c.Submit task timing delay) → terms_of calls task ≡ record { timing = timing; first = at + delay } →
     task < length tasks → slice_index_or tasks task vacant ≡ vacant →
@@ -101,6 +105,7 @@ refuse_state calls workers made moment at task tasks work is =
     in
     there ∙ ap (state_to calls s) (sym is)
 
+-- a core once it has refused a task
 abbrev pub refused : Machine → ℕ → Machine
 refused m moment = record m { made = m.made + 1; moment = moment }
 
@@ -117,8 +122,8 @@ refuse_takes m at task is = record {
 }
 
 -- what stays true after it
-pub refuse_kept : (m : Machine) (entries : List (Option ℕ)) (timings : List Timing) (at task : ℕ) → IsKept m entries timings → slice_get m.calls m.made ≡ Some (at, c.Illegal task) →
-    IsKept (refused m (max m.moment at)) entries timings
+pub refuse_kept : (m : Machine) (entries : List (Option ℕ)) (timings : List Timing) (at task : ℕ) → IsWellFormedCore m entries timings → slice_get m.calls m.made ≡ Some (at, c.Illegal task) →
+    IsWellFormedCore (refused m (max m.moment at)) entries timings
 refuse_kept m entries timings at task kept is =
     let near = call_moment m.calls 0 0 m.made at (c.Illegal task) kept.orderly.1 is in
     let state = refuse_state m.calls (workers_of m) m.made m.moment at task m.tasks m.work is in
@@ -137,16 +142,18 @@ refuse_kept m entries timings at task kept is =
           let more : task_count (take (m.made + 1) m.calls) ≡ task_count (take (suc m.made) m.calls) = ap (λ n. task_count (take n m.calls)) (add-one m.made) in
           kept.fresh k (omega (arith, above, more, count_grows m.calls m.made));
       sound = subst IsSound (sym state) (next_sound m.calls (workers_of m) (state_of m) h.Call kept.sound);
-      due = subst (λ s. IsDue m.calls (seen m.calls s)) (sym state) (next_due_is m.calls (workers_of m) (state_of m) h.Call kept.sound kept.due);
+      due = subst (λ s. IsDue m.calls (view_of_state m.calls s)) (sym state) (next_due_is m.calls (workers_of m) (state_of m) h.Call kept.sound kept.due);
       runs = kept.runs;
     }
 
 -- the same, with the moment as a call gives it, and the core as it was
 
-pub refuse_keeps : (m : Machine) (entries : List (Option ℕ)) (timings : List Timing) (moment at task : ℕ) → IsKept m entries timings → slice_get m.calls m.made ≡ Some (at, c.Illegal task) →
-    moment ≡ max m.moment at → IsKept (refused m moment) entries timings
-refuse_keeps m entries timings moment at task kept is greatest = subst (λ n. IsKept (refused m n) entries timings) (sym greatest) (refuse_kept m entries timings at task kept is)
+-- a core stays well formed where its next call is refused
+pub refuse_keeps : (m : Machine) (entries : List (Option ℕ)) (timings : List Timing) (moment at task : ℕ) → IsWellFormedCore m entries timings → slice_get m.calls m.made ≡ Some (at, c.Illegal task) →
+    moment ≡ max m.moment at → IsWellFormedCore (refused m moment) entries timings
+refuse_keeps m entries timings moment at task kept is greatest = subst (λ n. IsWellFormedCore (refused m n) entries timings) (sym greatest) (refuse_kept m entries timings at task kept is)
 
+-- a core takes the step of a call that is refused
 pub refuse_steps : (m old : Machine) (moment at task : ℕ) → slice_get m.calls m.made ≡ Some (at, c.Illegal task) → moment ≡ max m.moment at → m ≡ old →
     Takes old (refused m moment) h.Call (a.Refuse task refusal.Illegal)
 refuse_steps m old moment at task is greatest same =
@@ -154,7 +161,7 @@ refuse_steps m old moment at task is greatest same =
     (subst (λ n. Takes m (refused m n) h.Call (a.Refuse task refusal.Illegal)) (sym greatest) (refuse_takes m at task is))
 
 -- the step of a submission
-pub submit_takes : (m : Machine) (entries : List (Option ℕ)) (timings : List Timing) (at task delay : ℕ) (timing : Timing) (kind : Kind) → IsKept m entries timings → slice_get m.calls m.made ≡ Some (at, c.Submit task timing delay) →
+pub submit_takes : (m : Machine) (entries : List (Option ℕ)) (timings : List Timing) (at task delay : ℕ) (timing : Timing) (kind : Kind) → IsWellFormedCore m entries timings → slice_get m.calls m.made ≡ Some (at, c.Submit task timing delay) →
     kind ≡ kind_of timing →
     Takes m (record m { made = m.made + 1; moment = max m.moment at; tasks = set m.tasks task (waiting (at + delay)) }) h.Call (a.Submit task kind (at + delay))
 submit_takes m entries timings at task delay timing kind kept is how =
@@ -169,8 +176,8 @@ submit_takes m entries timings at task delay timing kind kept is how =
     }
 
 -- what stays true after a submission
-pub submit_kept : (m : Machine) (entries : List (Option ℕ)) (timings : List Timing) (at task delay : ℕ) (timing : Timing) → IsKept m entries timings → slice_get m.calls m.made ≡ Some (at, c.Submit task timing delay) →
-    IsKept (record m { made = m.made + 1; moment = max m.moment at; tasks = set m.tasks task (waiting (at + delay)) }) (set entries task (Some (at + delay))) (set timings task timing)
+pub submit_kept : (m : Machine) (entries : List (Option ℕ)) (timings : List Timing) (at task delay : ℕ) (timing : Timing) → IsWellFormedCore m entries timings → slice_get m.calls m.made ≡ Some (at, c.Submit task timing delay) →
+    IsWellFormedCore (record m { made = m.made + 1; moment = max m.moment at; tasks = set m.tasks task (waiting (at + delay)) }) (set entries task (Some (at + delay))) (set timings task timing)
 submit_kept m entries timings at task delay timing kept is =
     let sub = submission m.calls 0 0 m.made at task timing delay kept.orderly.1 is in
     let low : task < length m.tasks = omega (arith, sub.below, kept.count) in
@@ -193,13 +200,13 @@ submit_kept m entries timings at task delay timing kept is =
           at_set m.tasks task k (waiting (at + delay)) vacant low
           ∙ (ap (λ b. cond b (waiting (at + delay)) (slice_index_or m.tasks k vacant)) (apart task k (omega (arith, above, more))) ∙ kept.fresh k (omega (arith, above, more, sub.number)));
       sound = subst IsSound (sym (submit_state m.calls (workers_of m) m.made m.moment at task delay timing m.tasks m.work is sub.terms low fresh)) (next_sound m.calls (workers_of m) (state_of m) h.Call kept.sound);
-      due = subst (λ s. IsDue m.calls (seen m.calls s)) (sym (submit_state m.calls (workers_of m) m.made m.moment at task delay timing m.tasks m.work is sub.terms low fresh))
+      due = subst (λ s. IsDue m.calls (view_of_state m.calls s)) (sym (submit_state m.calls (workers_of m) m.made m.moment at task delay timing m.tasks m.work is sub.terms low fresh))
           (next_due_is m.calls (workers_of m) (state_of m) h.Call kept.sound kept.due);
       runs = runs_set m.taken m.tasks task (waiting (at + delay)) low kept.runs (omega arith) (λ q. cc);
     }
   where
     timed : (b : Bool) (k : ℕ) → (task == k) ≡ b → (cond b (waiting (at + delay)) (slice_index_or m.tasks k vacant)).phase ≢ ph.Vacant →
-        terms_of m.calls task ≡ record { timing = timing; first = at + delay } → IsKept m entries timings → cond b timing (slice_index_or timings k t.Once) ≡ (terms_of m.calls k).timing
+        terms_of m.calls task ≡ record { timing = timing; first = at + delay } → IsWellFormedCore m entries timings → cond b timing (slice_index_or timings k t.Once) ≡ (terms_of m.calls k).timing
     timed true k same used terms kept = sym (ap (λ x. x.timing) terms) ∙ ap (λ j. (terms_of m.calls j).timing) (eqb-true task k same)
     timed false k other used terms kept = kept.timing k used
 
@@ -207,14 +214,15 @@ submit_kept m entries timings at task delay timing kept is =
     apart j k l = grind (arith, nat_tests)
 
 -- the same, with the moment and the entries as a call gives them
-pub submit_keeps : (m : Machine) (entries entries' : List (Option ℕ)) (timings : List Timing) (moment at task delay : ℕ) (timing : Timing) → IsKept m entries timings → slice_get m.calls m.made ≡ Some (at, c.Submit task timing delay) →
+pub submit_keeps : (m : Machine) (entries entries' : List (Option ℕ)) (timings : List Timing) (moment at task delay : ℕ) (timing : Timing) → IsWellFormedCore m entries timings → slice_get m.calls m.made ≡ Some (at, c.Submit task timing delay) →
     moment ≡ max m.moment at → entries' ≡ set entries task (Some (at + delay)) →
-    IsKept (record m { made = m.made + 1; moment = moment; tasks = set m.tasks task (waiting (at + delay)) }) entries' (set timings task timing)
+    IsWellFormedCore (record m { made = m.made + 1; moment = moment; tasks = set m.tasks task (waiting (at + delay)) }) entries' (set timings task timing)
 submit_keeps m entries entries' timings moment at task delay timing kept is greatest put =
-    subst (λ n. IsKept (record m { made = m.made + 1; moment = n; tasks = set m.tasks task (waiting (at + delay)) }) entries' (set timings task timing)) (sym greatest)
-    (subst (λ q. IsKept (record m { made = m.made + 1; moment = max m.moment at; tasks = set m.tasks task (waiting (at + delay)) }) q (set timings task timing)) (sym put) (submit_kept m entries timings at task delay timing kept is))
+    subst (λ n. IsWellFormedCore (record m { made = m.made + 1; moment = n; tasks = set m.tasks task (waiting (at + delay)) }) entries' (set timings task timing)) (sym greatest)
+    (subst (λ q. IsWellFormedCore (record m { made = m.made + 1; moment = max m.moment at; tasks = set m.tasks task (waiting (at + delay)) }) q (set timings task timing)) (sym put) (submit_kept m entries timings at task delay timing kept is))
 
-pub submit_steps : (m old : Machine) (entries : List (Option ℕ)) (timings : List Timing) (moment at task delay : ℕ) (timing : Timing) (kind : Kind) → IsKept m entries timings → slice_get m.calls m.made ≡ Some (at, c.Submit task timing delay) →
+-- a core takes the step of a call that submits a task
+pub submit_steps : (m old : Machine) (entries : List (Option ℕ)) (timings : List Timing) (moment at task delay : ℕ) (timing : Timing) (kind : Kind) → IsWellFormedCore m entries timings → slice_get m.calls m.made ≡ Some (at, c.Submit task timing delay) →
     kind ≡ kind_of timing → moment ≡ max m.moment at → m ≡ old →
     Takes old (record m { made = m.made + 1; moment = moment; tasks = set m.tasks task (waiting (at + delay)) }) h.Call (a.Submit task kind (at + delay))
 submit_steps m old entries timings moment at task delay timing kind kept is how greatest same =
@@ -224,14 +232,16 @@ submit_steps m old entries timings moment at task delay timing kind kept is how 
 
 -- the same, with the tasks as a call leaves them
 
-pub submit_keeps_in : (m : Machine) (entries entries' : List (Option ℕ)) (timings : List Timing) (moment at task delay : ℕ) (timing : Timing) (tasks : List Task) → IsKept m entries timings → slice_get m.calls m.made ≡ Some (at, c.Submit task timing delay) →
+-- a core whose table the code has written at a submission stays well formed
+pub submit_keeps_in : (m : Machine) (entries entries' : List (Option ℕ)) (timings : List Timing) (moment at task delay : ℕ) (timing : Timing) (tasks : List Task) → IsWellFormedCore m entries timings → slice_get m.calls m.made ≡ Some (at, c.Submit task timing delay) →
     moment ≡ max m.moment at → entries' ≡ set entries task (Some (at + delay)) → tasks ≡ set m.tasks task (waiting (at + delay)) →
-    IsKept (record m { made = m.made + 1; moment = moment; tasks = tasks }) entries' (set timings task timing)
+    IsWellFormedCore (record m { made = m.made + 1; moment = moment; tasks = tasks }) entries' (set timings task timing)
 submit_keeps_in m entries entries' timings moment at task delay timing tasks kept is greatest put written =
-    subst (λ l. IsKept (record m { made = m.made + 1; moment = moment; tasks = l }) entries' (set timings task timing)) (sym written)
+    subst (λ l. IsWellFormedCore (record m { made = m.made + 1; moment = moment; tasks = l }) entries' (set timings task timing)) (sym written)
     (submit_keeps m entries entries' timings moment at task delay timing kept is greatest put)
 
-pub submit_steps_in : (m old : Machine) (entries : List (Option ℕ)) (timings : List Timing) (moment at task delay : ℕ) (timing : Timing) (kind : Kind) (tasks : List Task) → IsKept m entries timings → slice_get m.calls m.made ≡ Some (at, c.Submit task timing delay) →
+-- a core whose table the code has written takes the step of a submission
+pub submit_steps_in : (m old : Machine) (entries : List (Option ℕ)) (timings : List Timing) (moment at task delay : ℕ) (timing : Timing) (kind : Kind) (tasks : List Task) → IsWellFormedCore m entries timings → slice_get m.calls m.made ≡ Some (at, c.Submit task timing delay) →
     kind ≡ kind_of timing → moment ≡ max m.moment at → m ≡ old → tasks ≡ set m.tasks task (waiting (at + delay)) →
     Takes old (record m { made = m.made + 1; moment = moment; tasks = tasks }) h.Call (a.Submit task kind (at + delay))
 submit_steps_in m old entries timings moment at task delay timing kind tasks kept is how greatest same written =

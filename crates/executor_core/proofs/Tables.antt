@@ -68,6 +68,7 @@ later_submission calls at' count n at task (c.Illegal j) timing delay o one is r
 }
 later_submission calls at' count n at task (c.Cancel j) timing delay o one is rest = absurd (false≢true is)
 
+-- what the submission at a place of the calls says
 pub submission : (calls : List Planned) (count moment n at task : ℕ) (timing : Timing) (delay : ℕ) → IsOrderlyFrom count moment calls → slice_get calls n ≡ Some (at, c.Submit task timing delay) →
     Submission calls count n at task timing delay
 submission [] count moment n at task timing delay o q = absurd (none-some _ q)
@@ -121,6 +122,7 @@ read_at [] i x d l q = absurd (omega arith)
 read_at (y ∷ xs) zero x d l q = q
 read_at (y ∷ xs) (suc i) x d l q = read_at xs i x d (omega arith) q
 
+-- an option without a value is none
 pub none_of : (o : Option ℕ) → false ≡ is_some o → o ≡ None
 none_of None q = refl
 none_of (Some x) q = absurd (false≢true q)

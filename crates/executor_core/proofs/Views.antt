@@ -7,15 +7,17 @@ use Rattle.executor_core.specs.declared.types.Happening.{Happening}
 use Rattle.queue_code.specs.Calls.{Planned, Terms, terms_of, due_at, after_finish}
 use Rattle.executor_core.specs.View.{Fate, View}
 use Rattle.executor_core.specs.Answers.{Reply, moment_after}
-use Rattle.executor_core.specs.Histories.{Entry, entry_of, happenings, is_call, is_submit, is_cancel, is_start, is_finish, is_finish_with, is_done, is_failed, work_after, look, starts, last_finish, now_of}
-use Rattle.executor_core.specs.State.{State, seen, state_after}
+use Rattle.executor_core.specs.Histories.{HistoryEntry, entry_of, happenings, is_call, is_submit, is_cancel, is_start, is_finish, is_finish_with, is_done, is_failed, work_after, view_of_history, starts, last_finish, now_of}
+use Rattle.executor_core.specs.State.{State, view_of_state, state_after}
 use Rattle.executor_core.specs.Machine.{IsDue}
-use Rattle.executor_core.proofs.Moves.{fate_with, due_after, Fits, moves}
+use Rattle.executor_core.proofs.Moves.{fate_with, due_after, Fits, task_moves}
 
+-- what is known of a task after a reply
 abbrev pub fate_after : List Planned → View → Reply → ℕ → Fate
 fate_after calls v r k =
     fate_with (terms_of calls k).timing (v.fate k) v.moment (is_submit k r.answer) (is_cancel k r.answer) (is_start k r.answer) (is_finish k r.answer) (is_finish_with is_done k r.answer) (is_finish_with is_failed k r.answer)
 
+-- the view after a reply, with what is known of each task then
 abbrev pub view_with : List Planned → View → Happening → Reply → (ℕ → Fate) → View
 view_with calls v happening r fates = record {
   made = if is_call happening then 1 + v.made else v.made;
@@ -24,6 +26,7 @@ view_with calls v happening r fates = record {
   work = λ w. work_after w r.answer (v.work w);
 }
 
+-- the view after a reply
 abbrev pub view_after : List Planned → View → Happening → Reply → View
 view_after calls v happening r = view_with calls v happening r (λ k. fate_after calls v r k)
 
@@ -56,18 +59,18 @@ due_moves terms n now last b c =
     fixed delay first false false = refl
 
 -- a longer history is seen as the view of the shorter one, moved
-pub look_moves : (calls : List Planned) (past : List Entry) (happening : Happening) (r : Reply) →
-    view_after calls (look calls past) happening r ≡ look calls (entry_of happening r ∷ past)
+pub look_moves : (calls : List Planned) (past : List HistoryEntry) (happening : Happening) (r : Reply) →
+    view_after calls (view_of_history calls past) happening r ≡ view_of_history calls (entry_of happening r ∷ past)
 look_moves calls past happening r = λ i.
-    view_with calls (look calls past) happening r
-    (λ k. record (fate_after calls (look calls past) r k) { due = due_moves (terms_of calls k) (starts k past) (now_of calls (happenings past)) (last_finish calls k past) (is_start k r.answer) (is_finish k r.answer) i })
+    view_with calls (view_of_history calls past) happening r
+    (λ k. record (fate_after calls (view_of_history calls past) r k) { due = due_moves (terms_of calls k) (starts k past) (now_of calls (happenings past)) (last_finish calls k past) (is_start k r.answer) (is_finish k r.answer) i })
 
 -- a state after a reply is seen as what was seen of it, moved
 pub seen_moves : (calls : List Planned) (s : State) (happening : Happening) (r : Reply) →
     ((k : ℕ) → Fits (terms_of calls k) s.moment k (s.tasks k) r.answer) →
-    seen calls (state_after calls s happening r) ≡ view_after calls (seen calls s) happening r
+    view_of_state calls (state_after calls s happening r) ≡ view_after calls (view_of_state calls s) happening r
 seen_moves calls s happening r fits = λ i.
-    view_with calls (seen calls s) happening r (λ k. moves (terms_of calls k) s.moment k (s.tasks k) r.answer (fits k) i)
+    view_with calls (view_of_state calls s) happening r (λ k. task_moves (terms_of calls k) s.moment k (s.tasks k) r.answer (fits k) i)
 
 -- the due moments that are seen stay those of the terms
 pub due_stays : (calls : List Planned) (v : View) (happening : Happening) (r : Reply) → IsDue calls v → IsDue calls (view_after calls v happening r)
@@ -79,10 +82,10 @@ due_stays calls v happening r due k =
     (cond c (Some v.moment) before.0, ap (λ d. due_after terms.timing d v.moment b c) before.1 ∙ due_moves terms (v.fate k).starts v.moment before.0 b c)
 
 -- the due moments that a history shows are those of the terms
-pub look_is_due : (calls : List Planned) (past : List Entry) → IsDue calls (look calls past)
+pub look_is_due : (calls : List Planned) (past : List HistoryEntry) → IsDue calls (view_of_history calls past)
 look_is_due calls past = λ k. (last_finish calls k past, refl)
 
 -- a state from which the due moments are those of the terms goes to one like it
 pub due_next_state : (calls : List Planned) (s : State) (happening : Happening) (r : Reply) → ((k : ℕ) → Fits (terms_of calls k) s.moment k (s.tasks k) r.answer) →
-    IsDue calls (seen calls s) → IsDue calls (seen calls (state_after calls s happening r))
-due_next_state calls s happening r fits due = subst (IsDue calls) (sym (seen_moves calls s happening r fits)) (due_stays calls (seen calls s) happening r due)
+    IsDue calls (view_of_state calls s) → IsDue calls (view_of_state calls (state_after calls s happening r))
+due_next_state calls s happening r fits due = subst (IsDue calls) (sym (seen_moves calls s happening r fits)) (due_stays calls (view_of_state calls s) happening r due)

@@ -1,5 +1,5 @@
 -- The due moments that a history shows are within twice the limit of a moment.
-use Rattle.std.proofs.Common.{◌≡◌, ℕ, ◌+◌, ◌≤◌, ◌==◌, nat_le, Bool, true, false, cond, List, [], ◌∷◌, Option, Some, None, refl, sym, ap, ◌∙◌, arith, subst}
+use Rattle.std.proofs.Common.{◌≡◌, ℕ, ◌+◌, ◌≤◌, ◌==◌, nat_le, Bool, true, false, cond, List, [], ◌∷◌, Option, Some, None, refl, sym, arith, subst}
 use Rattle.std.specs.Prelude.{slice_get, ◌^◌}
 use Rattle.std.proofs.lemmas.Bool.{false≢true, eqb-true, and_parts, leb-true}
 use Rattle.std.proofs.lemmas.Bool.Decides.{nat_tests}
@@ -14,7 +14,7 @@ use Rattle.executor_core.specs.declared.types.Answer.TheVariants as a
 use Rattle.queue_code.specs.Calls.{Planned, Terms, IsOrderly, IsOrderlyCall, IsOrderlyFrom, IsTimed, count_after, numbers, terms_of, terms_in, due_at}
 use Rattle.executor_core.specs.View.{View, is_waiting}
 use Rattle.executor_core.specs.Answers.{reply, moment_after, is_accepted}
-use Rattle.executor_core.specs.Histories.{Entry, Means, look, happenings, made, now_of, is_start, is_finish, starts, last_finish, due_of}
+use Rattle.executor_core.specs.Histories.{HistoryEntry, IsHistoryOf, view_of_history, happenings, made, now_of, is_start, is_finish, starts, last_finish, due_of}
 use Rattle.executor_core.specs.State.{due_ahead}
 use Rattle.executor_core.specs.Flows.{history_from}
 use Rattle.executor_core.specs.Within.{IsAnswered, IsWithin}
@@ -114,7 +114,7 @@ first_due terms l = by terms.timing
     by (t.Fixed delay) = l
 
 -- each due moment that a history shows is at most 2^63
-pub answered_within : (calls : List Planned) (workers : ℕ) (past : List Entry) → IsOrderly calls → IsAnswered calls workers past → IsWithin calls past
+pub answered_within : (calls : List Planned) (workers : ℕ) (past : List HistoryEntry) → IsOrderly calls → IsAnswered calls workers past → IsWithin calls past
 answered_within calls workers [] o m k = first_due (terms_of calls k) (first_within 0 0 calls k o.1)
 answered_within calls workers (e ∷ past) o m k =
     let terms = terms_of calls k in
@@ -124,28 +124,30 @@ answered_within calls workers (e ∷ past) o m k =
     let moved = due_moves terms (starts k past) now (last_finish calls k past) b c in
     subst (λ d. d ≤ 2 ^ 63) moved
     (after_within terms.timing (due_of calls past k) now b c (timed_within 0 0 calls k o.1) (answered_within calls workers past o m.0 k) (now_within calls (happenings past) o)
-    (λ q. start_was_due calls workers (look calls past) e.happening k e.answer m.1 q))
+    (λ q. start_was_due calls workers (view_of_history calls past) e.happening k e.answer m.1 q))
 
 -- as in a history that means the calls
-pub means_answered : (calls : List Planned) (workers : ℕ) (past : List Entry) → Means calls workers past → IsAnswered calls workers past
+pub means_answered : (calls : List Planned) (workers : ℕ) (past : List HistoryEntry) → IsHistoryOf calls workers past → IsAnswered calls workers past
 means_answered calls workers [] m = tt
 means_answered calls workers (e ∷ past) m = (means_answered calls workers past m.0, m.2)
 
-pub dues_within : (calls : List Planned) (workers : ℕ) (past : List Entry) → IsOrderly calls → Means calls workers past → IsWithin calls past
+-- each due moment that a history shows is at most 2^63
+pub dues_within : (calls : List Planned) (workers : ℕ) (past : List HistoryEntry) → IsOrderly calls → IsHistoryOf calls workers past → IsWithin calls past
 dues_within calls workers past o m = answered_within calls workers past o (means_answered calls workers past m)
 
 -- a history that is made longer by answers of the table is answered so
-pub answered_from : (calls : List Planned) (workers : ℕ) (past : List Entry) (more : List Happening) → IsAnswered calls workers past → IsAnswered calls workers (history_from calls workers past more)
+pub answered_from : (calls : List Planned) (workers : ℕ) (past : List HistoryEntry) (more : List Happening) → IsAnswered calls workers past → IsAnswered calls workers (history_from calls workers past more)
 answered_from calls workers past [] m = m
 answered_from calls workers past (y ∷ more) m = (answered_from calls workers past more m, refl)
 
 -- the due moment after a finish now
-pub next_within : (calls : List Planned) (past : List Entry) (k : ℕ) → IsOrderly calls → IsWithin calls past → due_at (terms_of calls k) (starts k past) (Some (now_of calls (happenings past))) ≤ 2 ^ 63
+pub next_within : (calls : List Planned) (past : List HistoryEntry) (k : ℕ) → IsOrderly calls → IsWithin calls past → due_at (terms_of calls k) (starts k past) (Some (now_of calls (happenings past))) ≤ 2 ^ 63
 next_within calls past k o within =
     let terms = terms_of calls k in
     let now = now_of calls (happenings past) in
     subst (λ d. d ≤ 2 ^ 63) (due_moves terms (starts k past) now (last_finish calls k past) false true)
     (after_within terms.timing (due_of calls past k) now false true (timed_within 0 0 calls k o.1) (within k) (now_within calls (happenings past) o) (λ q. absurd (false≢true q)))
 
+-- the first due moment of each task is at most 2^63
 pub none_within : (calls : List Planned) (k : ℕ) → IsOrderly calls → due_at (terms_of calls k) 0 None ≤ 2 ^ 63
 none_within calls k o = first_due (terms_of calls k) (first_within 0 0 calls k o.1)

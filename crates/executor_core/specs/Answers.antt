@@ -2,8 +2,9 @@
 -- The order of the cases, and the answers to a wrong event, are this project's rule.
 -- Where a definition names a class, its source is the Java SE 17 documentation of that class.
 -- Where it names no source, it is this project's rule.
-use Rattle.std.specs.Prelude.{ℕ, ◌-◌, ◌^◌, ◌&&◌, max, nat_lt, nat_le, Bool, if◌then◌else◌, List, [], Option, Some, None, slice_get}
+use Rattle.std.specs.Prelude.{ℕ, ◌-◌, ◌&&◌, max, nat_lt, nat_le, Bool, if◌then◌else◌, List, [], Option, Some, None, slice_get}
 use Rattle.std.specs.Option.{option_map_or}
+use Rattle.sched_time.specs.Times.{longest}
 use Rattle.sched_time.specs.declared.timing.Timing.{Timing}
 use Rattle.sched_time.specs.declared.timing.Timing.TheVariants as t
 use Rattle.sched_time.specs.declared.timing.Ending.{Ending}
@@ -93,7 +94,7 @@ finished calls v w ending (Some k) = a.Finish w k ((v.fate k).starts - 1) (outco
 
 -- a clock is accepted where it does not go back and is within the limit
 abbrev pub is_accepted : ℕ → ℕ → Bool
-is_accepted now moment = nat_le now moment && nat_le moment (2 ^ 62)
+is_accepted now moment = nat_le now moment && nat_le moment longest
 
 -- the moment after a happening, given the next call: the greatest of the accepted clocks and the calls made
 abbrev pub moment_after : ℕ → Option Planned → Happening → ℕ
@@ -106,7 +107,7 @@ abbrev pub reply : List Planned → ℕ → View → Happening → Reply
 reply calls workers v h.Call =
     option_map_or (λ p. called calls (record v { moment = max v.moment p.0 }) p.1) (slice_get calls v.made) (plain a.Clock)
 reply calls workers v (h.Clock moment) =
-    plain (if nat_lt moment v.moment then a.Error x.Backward else (if nat_lt (2 ^ 62) moment then a.Error x.TooFar else a.Clock))
+    plain (if nat_lt moment v.moment then a.Error x.Backward else (if nat_lt longest moment then a.Error x.TooFar else a.Clock))
 reply calls workers v (h.Start w) =
     plain (if nat_lt w workers then option_map_or (λ _. a.Error x.Busy) (v.work w) (started v w (first_enabled v (numbers calls))) else a.Error x.NoWorker)
 reply calls workers v (h.Finish w ending) =

@@ -1,6 +1,10 @@
 -- How many workers there may be.
-use Rattle.std.specs.Prelude.{◌≡◌, ℕ, ◌<◌, ◌⊎◌}
+use Rattle.std.specs.Prelude.{ℕ, ◌≤◌}
 
--- no number of workers: the least is 1 and the most is 64 (this project's limits)
-abbrev pub IsNoCount : ℕ → Type 0
-IsNoCount workers = (workers ≡ 0) ⊎ (64 < workers)
+-- the greatest number of workers (this project's limit)
+abbrev pub most_workers : ℕ
+most_workers = 64
+
+-- a number of workers: 1 to the greatest
+abbrev pub IsWorkerCount : ℕ → Type 0
+IsWorkerCount workers = (1 ≤ workers) × (workers ≤ most_workers)

@@ -8,7 +8,7 @@ use Rattle.executor_core.specs.declared.types.Happening.TheVariants as h
 use Rattle.executor_core.specs.declared.types.Line.{Line}
 use Rattle.queue_code.specs.Calls.{Planned, how_many}
 use Rattle.executor_core.specs.Answers.{Reply, is_accepted}
-use Rattle.executor_core.specs.Histories.{Entry, happenings, made, now_of, answer, entry_of}
+use Rattle.executor_core.specs.Histories.{HistoryEntry, happenings, made, now_of, answer, entry_of}
 use Rattle.executor_core.specs.State.{State, after_from, next, reply_of}
 
 -- an event as a happening: the clock shows a moment, a worker asks for work, a worker has run its task, or a task
@@ -45,13 +45,13 @@ flow calls (event ∷ before) =
     part_of calls (made (flow calls before)) (now_of calls (flow calls before)) event ++ flow calls before
 
 -- a history, made longer by some happenings, each with its answer
-abbrev pub history_from : List Planned → ℕ → List Entry → List Happening → List Entry
+abbrev pub history_from : List Planned → ℕ → List HistoryEntry → List Happening → List HistoryEntry
 history_from calls workers past [] = past
 history_from calls workers past (happening ∷ before) =
     entry_of happening (answer calls workers (history_from calls workers past before) happening) ∷ history_from calls workers past before
 
 -- the history of some events: the calls and the events in their order, each with its answer
-abbrev pub history_of : List Planned → ℕ → List Event → List Entry
+abbrev pub history_of : List Planned → ℕ → List Event → List HistoryEntry
 history_of calls workers events = history_from calls workers [] (flow calls events)
 
 -- the lines of one answer: its own; no answer ends a task yet
@@ -59,11 +59,11 @@ abbrev pub lines_at : ℕ → Reply → List Line
 lines_at moment r = record { moment = moment; answer = r.answer } ∷ []
 
 -- the reply that an entry of a history holds
-abbrev pub reply_in : Entry → Reply
+abbrev pub reply_in : HistoryEntry → Reply
 reply_in e = record { answer = e.answer; ends = e.ends }
 
 -- the lines of a history, the oldest first
-abbrev pub lines_of : List Planned → List Entry → List Line
+abbrev pub lines_of : List Planned → List HistoryEntry → List Line
 lines_of calls [] = []
 lines_of calls (e ∷ past) = lines_of calls past ++ lines_at (now_of calls (happenings (e ∷ past))) (reply_in e)
 

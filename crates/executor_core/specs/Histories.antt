@@ -16,17 +16,17 @@ use Rattle.executor_core.specs.View.{Fate, View}
 use Rattle.executor_core.specs.Answers.{Reply, reply, moment_after, is_accepted}
 
 -- a happening with its answer, and the tasks that the answer ends
-pub record Entry : Type 0 where
+pub record HistoryEntry : Type 0 where
   pub happening : Happening
   pub answer : Answer
   pub ends : List ℕ
 
 -- the entry of a happening that has such a reply
-abbrev pub entry_of : Happening → Reply → Entry
+abbrev pub entry_of : Happening → Reply → HistoryEntry
 entry_of happening r = record { happening = happening; answer = r.answer; ends = r.ends }
 
 -- the happenings of a history, the newest first
-abbrev pub happenings : List Entry → List Happening
+abbrev pub happenings : List HistoryEntry → List Happening
 happenings past = map (λ e. e.happening) past
 
 -- what is told by the happenings alone
@@ -97,45 +97,45 @@ work_after w _ before = before
 -- what is told by counting in a history
 
 -- how often task k was started
-abbrev pub starts : ℕ → List Entry → ℕ
+abbrev pub starts : ℕ → List HistoryEntry → ℕ
 starts k past = how_many (λ e. is_start k e.answer) past
 
 -- how often task k was finished
-abbrev pub finishes : ℕ → List Entry → ℕ
+abbrev pub finishes : ℕ → List HistoryEntry → ℕ
 finishes k past = how_many (λ e. is_finish k e.answer) past
 
 -- the moment of the last finish of task k, and none before any
-abbrev pub last_finish : List Planned → ℕ → List Entry → Option ℕ
+abbrev pub last_finish : List Planned → ℕ → List HistoryEntry → Option ℕ
 last_finish calls k [] = None
 last_finish calls k (e ∷ past) = if is_finish k e.answer then Some (now_of calls (happenings past)) else last_finish calls k past
 
 -- the submission of task k was accepted
-abbrev pub was_accepted : ℕ → List Entry → Bool
+abbrev pub was_accepted : ℕ → List HistoryEntry → Bool
 was_accepted k past = list_any (λ e. is_submit k e.answer) past
 
 -- task k was cancelled
-abbrev pub was_cancelled : ℕ → List Entry → Bool
+abbrev pub was_cancelled : ℕ → List HistoryEntry → Bool
 was_cancelled k past = list_any (λ e. is_cancel k e.answer) past
 
 -- the one run of task k was finished with a value
-abbrev pub was_done : ℕ → List Entry → Bool
+abbrev pub was_done : ℕ → List HistoryEntry → Bool
 was_done k past = list_any (λ e. is_finish_with is_done k e.answer) past
 
 -- a run of task k failed
-abbrev pub was_failed : ℕ → List Entry → Bool
+abbrev pub was_failed : ℕ → List HistoryEntry → Bool
 was_failed k past = list_any (λ e. is_finish_with is_failed k e.answer) past
 
 -- the task that a worker started and has not finished
-abbrev pub work_of : ℕ → List Entry → Option ℕ
+abbrev pub work_of : ℕ → List HistoryEntry → Option ℕ
 work_of w [] = None
 work_of w (e ∷ past) = work_after w e.answer (work_of w past)
 
 -- the due moment of the next run of task k
-abbrev pub due_of : List Planned → List Entry → ℕ → ℕ
+abbrev pub due_of : List Planned → List HistoryEntry → ℕ → ℕ
 due_of calls past k = due_at (terms_of calls k) (starts k past) (last_finish calls k past)
 
 -- what a history tells of task k
-abbrev pub fate_of : List Planned → List Entry → ℕ → Fate
+abbrev pub fate_of : List Planned → List HistoryEntry → ℕ → Fate
 fate_of calls past k = record {
   accepted = was_accepted k past;
   cancelled = was_cancelled k past;
@@ -147,8 +147,8 @@ fate_of calls past k = record {
 }
 
 -- what the answer after a history looks at
-abbrev pub look : List Planned → List Entry → View
-look calls past = record {
+abbrev pub view_of_history : List Planned → List HistoryEntry → View
+view_of_history calls past = record {
   made = made (happenings past);
   moment = now_of calls (happenings past);
   fate = λ k. fate_of calls past k;
@@ -156,8 +156,8 @@ look calls past = record {
 }
 
 -- the answer to what happens after a history
-abbrev pub answer : List Planned → ℕ → List Entry → Happening → Reply
-answer calls workers past happening = reply calls workers (look calls past) happening
+abbrev pub answer : List Planned → ℕ → List HistoryEntry → Happening → Reply
+answer calls workers past happening = reply calls workers (view_of_history calls past) happening
 
 -- what may happen after a history: an accepted clock finds each call made whose moment it has reached,
 -- and a call needs one that is not made yet
@@ -168,7 +168,7 @@ MayCome calls past (h.Clock moment) = is_accepted (now_of calls past) moment ≡
 MayCome calls past _ = Unit {0}
 
 -- the happenings are a flow of the calls, and each answer is the one that it has to be
-abbrev pub Means : List Planned → ℕ → List Entry → Type 0
-Means calls workers [] = Unit {0}
-Means calls workers (e ∷ past) = Means calls workers past × MayCome calls (happenings past) e.happening
+abbrev pub IsHistoryOf : List Planned → ℕ → List HistoryEntry → Type 0
+IsHistoryOf calls workers [] = Unit {0}
+IsHistoryOf calls workers (e ∷ past) = IsHistoryOf calls workers past × MayCome calls (happenings past) e.happening
     × (e.answer ≡ (answer calls workers past e.happening).answer) × (e.ends ≡ (answer calls workers past e.happening).ends)

@@ -1,22 +1,27 @@
 -- What contracts see of an executor's core, and the state and history in which it stands.
 -- All of it is this project's rule.
-use Rattle.std.specs.Prelude.{◌≡◌, ◌≢◌, ℕ, ◌+◌, ◌^◌, ◌<◌, ◌≤◌, true, if◌then◌else◌, List, [], ◌++◌, length, map, take, Option, Some, None, slice_index_or}
+use Rattle.std.specs.Prelude.{◌≡◌, ◌≢◌, ℕ, ◌+◌, ◌-◌, ◌<◌, ◌≤◌, true, if◌then◌else◌, List, [], ◌∷◌, ◌++◌, length, map, take, Option, Some, None, slice_index_or}
+use Rattle.sched_time.specs.Times.{longest}
 use Rattle.sched_time.specs.declared.timing.Timing.{Timing}
 use Rattle.sched_time.specs.declared.timing.Timing.TheVariants as t
 use Rattle.executor_core.specs.declared.types.Event.{Event}
 use Rattle.executor_core.specs.declared.types.Happening.{Happening}
 use Rattle.executor_core.specs.declared.types.Line.{Line}
+use Rattle.executor_core.specs.declared.types.EventError.{EventError}
 use Rattle.executor_core.specs.declared.types.Answer.{Answer}
+use Rattle.executor_core.specs.declared.types.Answer.TheVariants as a
 use Rattle.executor_core.specs.declared.types.Outcome.{Outcome}
 use Rattle.executor_core.specs.declared.types.Outcome.TheVariants as o
 use Rattle.executor_core.specs.declared.task.Phase.{Phase}
 use Rattle.executor_core.specs.declared.task.Phase.TheVariants as ph
 use Rattle.executor_core.specs.declared.task.Task.{Task}
 use Rattle.queue_code.specs.Calls.{Planned, IsOrderly, task_count, terms_of, due_at}
+use Rattle.executor_core.specs.Counts.{most_workers}
 use Rattle.executor_core.specs.View.{View}
-use Rattle.executor_core.specs.Histories.{Entry, happenings, Means}
-use Rattle.executor_core.specs.State.{State, seen, vacant, after, after_from, next, reply_of}
-use Rattle.executor_core.specs.Flows.{part_of, history_from, lines_of, lines_from}
+use Rattle.executor_core.specs.Histories.{HistoryEntry, happenings, IsHistoryOf}
+use Rattle.executor_core.specs.State.{State, view_of_state, vacant, after, after_from, next, reply_of}
+use Rattle.executor_core.specs.Tasks.{uncancelled_in}
+use Rattle.executor_core.specs.Flows.{happening_of, part_of, history_from, lines_of, lines_from}
 
 -- what contracts see of a core: its plan's calls, how many of them it made, the moment, and its two tables
 pub record Machine : Type 0 where
@@ -44,8 +49,13 @@ state_of m = record {
   workers = λ w. slice_index_or m.work w None;
 }
 
+-- how many lines an event adds at most: one of its own, one of each call that is left, and one of each task that
+-- is not cancelled, which the event may end
+abbrev pub room_of : Machine → ℕ
+room_of m = 1 + (length m.calls - m.made) + uncancelled_in m.tasks
+
 -- the core is where the happenings of a history lead
-abbrev pub Stands : Machine → List Entry → Type 0
+abbrev pub Stands : Machine → List HistoryEntry → Type 0
 Stands m past = state_of m ≡ after m.calls (workers_of m) (happenings past)
 
 -- the core of some calls before anything happened
@@ -77,9 +87,16 @@ pub record Takes (old new : Machine) (happening : Happening) (answer : Answer) :
 abbrev pub Counts : Machine → Machine → Type 0
 Counts old new = new ≡ record old { taken = old.taken + 1 }
 
+-- where an event is answered by an error, its line is added, and nothing changes but the number of events taken
+-- (this project's rule)
+abbrev pub ErrorOnlyCounts : Machine → Machine → List Line → List Line → Event → Type 0
+ErrorOnlyCounts old new before after_lines event =
+    (error : EventError) → (reply_of old.calls (workers_of old) (state_of old) (happening_of event)).answer ≡ a.Error error
+    → Counts old new × (after_lines ≡ before ++ record { moment = old.moment; answer = a.Error error } ∷ [])
+
 -- after any history in which the core stood, the event's part of the flow is answered as the equations say
-pub record Continues (old new : Machine) (before after_lines : List Line) (event : Event) (past : List Entry) : Type 0 where
-  pub means : Means old.calls (workers_of old) (history_from old.calls (workers_of old) past (part_of old.calls old.made old.moment event))
+pub record Continues (old new : Machine) (before after_lines : List Line) (event : Event) (past : List HistoryEntry) : Type 0 where
+  pub means : IsHistoryOf old.calls (workers_of old) (history_from old.calls (workers_of old) past (part_of old.calls old.made old.moment event))
   pub stands : Stands new (history_from old.calls (workers_of old) past (part_of old.calls old.made old.moment event))
   pub added : List Line
   pub given : after_lines ≡ before ++ added
@@ -107,13 +124,13 @@ pub record IsSound (s : State) : Type 0 where
   pub at_work : (w k : ℕ) → s.workers w ≡ Some k → (s.tasks k).phase ≡ ph.Running
   pub apart : (v w k : ℕ) → s.workers v ≡ Some k → s.workers w ≡ Some k → v ≡ w
   pub reached : (k : ℕ) → (s.tasks k).phase ≡ ph.Running → (s.tasks k).due ≤ s.moment
-  pub over : (k : ℕ) → (s.tasks k).phase ≡ ph.Over → (s.tasks k).cancelled ≡ true
+  pub over : (k : ℕ) → (s.tasks k).phase ≡ ph.Dropped → (s.tasks k).cancelled ≡ true
 
 -- the due moment that is known of each task is that of its terms, after its starts and some last finish
 abbrev pub IsDue : List Planned → View → Type 0
 IsDue calls v = (k : ℕ) → (last : Option ℕ) × ((v.fate k).due ≡ due_at (terms_of calls k) (v.fate k).starts last)
 
--- the run of each task has a number of at most so many, and one under way a lower one
+-- the run of each task has a number of at most `count`, and one under way a lower one
 pub record RunsBelow (count : ℕ) (tasks : List Task) : Type 0 where
   pub all : (k : ℕ) → (slice_index_or tasks k vacant).run ≤ count
   pub begun : (k : ℕ) → (slice_index_or tasks k vacant).phase ≡ ph.Running → (slice_index_or tasks k vacant).run < count
@@ -123,13 +140,13 @@ abbrev pub IsCounted : Machine → Type 0
 IsCounted m = (k : ℕ) → (slice_index_or m.tasks k vacant).run < m.taken
 
 -- what stays true of a core, with its queue's entries by task number and its table of timings
-pub record IsKept (m : Machine) (entries : List (Option ℕ)) (timings : List Timing) : Type 0 where
+pub record IsWellFormedCore (m : Machine) (entries : List (Option ℕ)) (timings : List Timing) : Type 0 where
   pub orderly : IsOrderly m.calls
   pub made : m.made ≤ length m.calls
   pub some : 0 < workers_of m
-  pub few : workers_of m ≤ 64
+  pub few : workers_of m ≤ most_workers
   pub taken : m.taken ≤ m.limit
-  pub moment : m.moment ≤ 2 ^ 62
+  pub moment : m.moment ≤ longest
   pub count : length m.tasks ≡ task_count m.calls
   pub queue : entries ≡ map queued m.tasks
   -- a table has the timing of each task that was submitted
@@ -138,6 +155,6 @@ pub record IsKept (m : Machine) (entries : List (Option ℕ)) (timings : List Ti
   -- what no call made submits is vacant
   pub fresh : (k : ℕ) → task_count (take m.made m.calls) ≤ k → slice_index_or m.tasks k vacant ≡ vacant
   pub sound : IsSound (state_of m)
-  pub due : IsDue m.calls (seen m.calls (state_of m))
+  pub due : IsDue m.calls (view_of_state m.calls (state_of m))
   -- each run that ended was started by an event and finished by another one
   pub runs : RunsBelow m.taken m.tasks

@@ -62,7 +62,7 @@ starts_of _ run = 1 + run
 abbrev pub finishes_of : Phase → ℕ → ℕ
 finishes_of ph.Done run = 1 + run
 finishes_of ph.Failed run = 1 + run
-finishes_of ph.Over run = 1 + run
+finishes_of ph.Dropped run = 1 + run
 finishes_of ph.Vacant run = 0
 finishes_of _ run = run
 
@@ -98,8 +98,8 @@ abbrev pub seen_task : Terms → Task → Fate
 seen_task terms task = seen_phase terms task.phase task.run task.due task.cancelled
 
 -- what an answer looks at, in a state
-abbrev pub seen : List Planned → State → View
-seen calls s = record {
+abbrev pub view_of_state : List Planned → State → View
+view_of_state calls s = record {
   made = s.made;
   moment = s.moment;
   fate = λ k. seen_task (terms_of calls k) (s.tasks k);
@@ -116,7 +116,7 @@ due_past timing due now = option_map_or (λ next. next) (next_due timing due now
 abbrev pub end_task : Outcome → ℕ → Task → Task
 end_task (o.Done value) due task = record task { phase = ph.Done; due = due }
 end_task (o.Failed code) due task = record task { phase = ph.Failed; due = due }
-end_task o.Dropped due task = record task { phase = ph.Over; due = due }
+end_task o.Dropped due task = record task { phase = ph.Dropped; due = due }
 end_task (o.Again next) due task = record task { phase = ph.Waiting; run = 1 + task.run; due = due }
 
 -- a task after the finish of its run, at this moment and with this outcome
@@ -154,7 +154,7 @@ state_after calls s happening r = record {
 
 -- the table of the answers, read on a state
 abbrev pub reply_of : List Planned → ℕ → State → Happening → Reply
-reply_of calls workers s happening = reply calls workers (seen calls s) happening
+reply_of calls workers s happening = reply calls workers (view_of_state calls s) happening
 
 -- the step that a happening makes: the state after it, with the reply that the table gives
 abbrev pub next : List Planned → ℕ → State → Happening → State

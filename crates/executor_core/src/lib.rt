@@ -1,6 +1,62 @@
-//! The executor: what happens to it, and what it answers.
+//! An executor on one thread: it is told what happens, and answers each event in lines.
+//!
+//! # Usage
+//!
+//! A [`Core`] is made of the calls of a plan, each with its moment. [`event`](Core::event) hands it what happens
+//! outside: the clock shows a moment, a worker asks for work, a worker's run has ended, a task is to be cancelled.
+//! Each answer is a [`Line`] at the end of a list. The core reads no clock, runs no task and starts no thread.
+//!
+//! ```rust
+//! // At moment 0 task 0 is submitted, for one run 5 nanoseconds later.
+//! let timer = CodeCall::Submit { task: 0, timing: Timing::Once, delay: 5 };
+//! let calls = vec![in alloc; (0, timer)]?;
+//! assert!(rt; orderly(&calls));
+//! let mut core = Core::new(alloc, calls, 1, 100)?;
+//! let mut lines = Vec::new(alloc);
+//! for event in [Event::Clock(5), Event::Start(0), Event::Finish(0, Ending::Value(7))] {
+//!     core.event(event, &mut lines)?;
+//! }
+//! for line in &lines {
+//!     println!(rt; "{} {:?}", line.moment, line.answer)?;
+//! }
+//! // 0 Submit { task: 0, kind: Schedule, due: 5 }
+//! // 5 Clock
+//! // 5 Start { worker: 0, task: 0, run: 0, due: 5 }
+//! // 5 Finish { worker: 0, task: 0, run: 0, outcome: Done(7) }
+//! ```
+//!
+//! # Behaviour
+//!
+//! A call of the plan is made at its own moment, also where the clock jumps past it: before an accepted clock all
+//! calls with a moment of at most its own are made, in their order, and then the clock is moved. A worker that
+//! starts gets the first task that is due, or is idle. A task with one run is done with its value; one at a fixed
+//! rate, or with a fixed delay, waits for its next run. A run that fails is the last one of its task. A cancelled
+//! task that waits starts no more; one whose run is under way runs on to the end, and its outcome is dropped.
+//! [`words`](Core::words) shows how far each task has come.
+//!
+//! # Order and ties
+//!
+//! Of the tasks that are due the one with the earliest due moment starts first, and of those with the same one the
+//! one that was submitted first, also where it has run before. No run starts before its due moment, and no two
+//! runs of one task overlap.
+//!
+//! # Errors
+//!
+//! An event that makes no sense, as a clock that goes back, is no error of the call: it is answered by
+//! [`Answer::Error`], and changes nothing but the number of events taken. [`Core::new`] and `event` fail with a
+//! [`CoreError`]. After [`CoreError::Full`] and [`CoreError::Memory`] from `event` the core and the lines are as
+//! they were.
+//!
+//! # Memory and cost
+//!
+//! `Core::new` takes all memory that the core needs for itself: for each task some 56 bytes beside its call, and
+//! 8 for each worker. `event` takes memory for lines alone, and none where the list has room for one line, one for
+//! each call that is left and one for each task that is not cancelled. A clock costs what the calls that it reaches
+//! cost; a submission, a start, a finish and a cancel cost what the queue of waiting tasks does
+//! (see [`DelayQueue`](delay_queue::DelayQueue)).
 #![tactic(auto)]
 
+mod equality;
 mod error;
 mod limits;
 mod machine;

@@ -1,26 +1,24 @@
-ghost use Rattle.std.specs.Prelude.{◌≡◌, ◌≢◌, ℕ, ◌+◌, ◌-◌, ◌^◌, ◌<◌, ◌≤◌, ◌↔◌, ◌⊎◌, List, [], ◌∷◌, ◌++◌, true, length, map, replicate, None, Some, slice_get, slice_set, slice_index_or, Option, OnOk, OnErr, IsOk, IfOk, IfErr, IsErrOf, IsTrue, false, vec_len, vec_capacity};
+ghost use Rattle.std.specs.Prelude.{◌≡◌, ◌+◌, ◌-◌, ◌<◌, ◌≤◌, ◌↔◌, ◌⊎◌, List, true, length, map, None, Option, OnOk, OnErr, IsOk, IfOk, IfErr, IsErrOf, false, vec_len, vec_capacity};
 ghost use Rattle.executor_core.specs.declared.types.Happening.TheVariants as happening;
 ghost use Rattle.queue_code.specs.declared.call.CodeCall.TheVariants as call;
-ghost use Rattle.executor_core.specs.declared.types.CancelEffect.TheVariants as effect;
-ghost use Rattle.executor_core.specs.declared.task.Phase.TheVariants as ph;
-ghost use Rattle.queue_code.specs.Calls.{IsOrderly, Terms, task_count, terms_of, is_submission};
+ghost use Rattle.queue_code.specs.Calls.{IsOrderly, most_calls, task_count, is_submission};
 ghost use Rattle.executor_core.specs.Histories as histories;
-ghost use Rattle.sched_time.specs.Dues.{next_due};
-ghost use Rattle.executor_core.specs.State.{vacant, seen_task, due_past};
+ghost use Rattle.sched_time.specs.Times.{longest};
 ghost use Rattle.executor_core.specs.Tasks.{word_of};
-ghost use Rattle.executor_core.specs.Machine.{queued_again};
-ghost use Rattle.executor_core.specs.Answers.{kind_of, effect_on, outcome_in};
-ghost use Rattle.executor_core.specs.Counts.{IsNoCount};
-ghost use Rattle.executor_core.specs.Flows.{happening_of, reached, ReachesNext, calls_before, part_of};
+ghost use Rattle.executor_core.specs.Counts.{IsWorkerCount};
+ghost use Rattle.executor_core.specs.Flows.{happening_of, part_of};
+
+mod calls;
+mod cancels;
+mod workers;
 
 use crate::error::CoreError;
 use crate::limits::MOST_WORKERS;
-use crate::task::{Phase, Task};
 use crate::tasks::Tasks;
-use crate::types::{Answer, CancelEffect, Event, EventError, Kind, Line, Outcome, Refusal};
-use delay_queue::{DelayQueue, Entry};
+use crate::types::{Answer, Event, EventError, Line};
+use delay_queue::DelayQueue;
 use queue_code::CodeCall;
-use sched_time::{Ending, LONGEST, Timing, next_due};
+use sched_time::{LONGEST, Timing};
 use std::alloc::{AllocError, Allocator};
 use std::marker::Model;
 use task_word::Word;
@@ -44,22 +42,22 @@ pub struct Core<A: Allocator> {
 }
 
 impl<A: Allocator> Model for Core<A> {
-    ghost use Rattle.executor_core.specs.Machine.{Machine, IsKept};
+    ghost use Rattle.executor_core.specs.Machine.{Machine, IsWellFormedCore};
 
     ghost Value = { Machine };
 
     ghost view = { λ c. record { calls = c.calls.items; limit = c.limit; taken = c.taken; made = c.made; moment = c.moment; tasks = c.tasks; work = c.work.items } };
 
-    ghost invariant = { λ c. IsKept (record { calls = c.calls.items; limit = c.limit; taken = c.taken; made = c.made; moment = c.moment; tasks = c.tasks; work = c.work.items }) c.queue c.timings.items };
+    ghost invariant = { λ c. IsWellFormedCore (record { calls = c.calls.items; limit = c.limit; taken = c.taken; made = c.made; moment = c.moment; tasks = c.tasks; work = c.work.items }) c.queue.entries c.timings.items };
 }
 
 impl<A: Allocator> Core<A> {
-    ghost use Rattle.executor_core.specs.Machine.{workers_of, Takes, Counts, IsCounted, Steps, Stands, Continues, IsOpening};
+    ghost use Rattle.executor_core.specs.Machine.{workers_of, room_of, Takes, Counts, IsCounted, Steps, Stands, Continues, ErrorOnlyCounts, IsOpening};
 
     /// A core before anything happened, for these calls.
     ///
     /// `workers` is the number of workers, 1 to 64, and `limit` the number of events that it
-    /// takes, 1 to 4,294,967,295. The calls have to be in order; [`orderly`](crate::orderly)
+    /// takes, 1 to 4,294,967,295. The calls have to be in order; [`orderly`](queue_code::orderly)
     /// tells. What is out of range is found in this order: the workers, then the limit. The
     /// calls are dropped on a refusal. All memory that the core ever needs for itself is taken
     /// here.
@@ -73,8 +71,8 @@ impl<A: Allocator> Core<A> {
         A: Copy,
         requires { IsOrderly calls.items }
         ensures opening { IfOk result (λ core. IsOpening core calls.items workers limit) }
-        ensures workers { IsErrOf result CoreError.Workers ↔ IsNoCount workers }
-        ensures limit { IsErrOf result CoreError.Limit ↔ (¬ IsNoCount workers × (limit ≡ 0)) }
+        ensures workers { IsErrOf result CoreError.Workers ↔ ¬ IsWorkerCount workers }
+        ensures limit { IsErrOf result CoreError.Limit ↔ (IsWorkerCount workers × (limit ≡ 0)) }
         ensures full { IsErrOf result CoreError.Full → ⊥ }
     {
         if workers == 0 || workers > MOST_WORKERS {
@@ -90,7 +88,7 @@ impl<A: Allocator> Core<A> {
     /// The moment, 0 to 2^62 nanoseconds: the greatest of the accepted clocks and the calls made.
     pub fn now(&self) -> u64
         ensures value { result ≡ self.now.moment }
-        ensures limit { result ≤ 2 ^ 62 }
+        ensures limit { result ≤ longest }
     {
         self.moment
     }
@@ -120,11 +118,14 @@ impl<A: Allocator> Core<A> {
 
     /// Takes an event: makes the calls that an accepted clock reaches, then answers it.
     ///
-    /// The lines of the answers are added to `out`, the oldest first. Where as many events were
-    /// taken as the limit allows the answer is [`CoreError::Full`]; where `out` cannot grow it is
-    /// [`CoreError::Memory`], which does not come where `out` has room for a line of each call that is
-    /// left and one more. Both leave the core and the lines as they were, and the event may
-    /// be given again.
+    /// The lines of the answers are added to `out`, the oldest first. The answer is
+    /// [`CoreError::Full`] exactly when as many events were taken as the limit allows. It is
+    /// [`CoreError::Memory`] where `out` cannot grow. That does not come, and `out` keeps its capacity,
+    /// where `out` has `room_of` lines free: one, one for each call that is left, and one for each task
+    /// that is not cancelled. Both errors leave the core and `out` as they were, and the event may
+    /// be given again. `out` never loses capacity.
+    ///
+    /// An event that is answered by [`Answer::Error`] changes nothing but the number of events taken.
     pub fn event<B: Allocator>(
         &mut self,
         event: Event,
@@ -132,17 +133,20 @@ impl<A: Allocator> Core<A> {
     ) -> Result<(), CoreError>
         ensures full { IsErrOf result CoreError.Full ↔ (self.old.taken ≡ self.old.limit) }
         ensures others { IfErr result (λ e. (e ≡ CoreError.Full) ⊎ (e ≡ CoreError.Memory)) }
-        ensures room { vec_len out.old + (length self.old.calls - self.old.made) < vec_capacity out.old → self.old.taken < self.old.limit → IsOk result }
-        ensures refused { OnErr result ((self.new ≡ self.old) × (out.new.items ≡ out.old.items)) }
+        ensures room { vec_len out.old + room_of self.old ≤ vec_capacity out.old → self.old.taken < self.old.limit → IsOk result }
+        ensures capacity { vec_len out.old + room_of self.old ≤ vec_capacity out.old → vec_capacity out.new ≡ vec_capacity out.old }
+        ensures keeps { vec_capacity out.old ≤ vec_capacity out.new }
+        ensures refused { OnErr result ((self.new ≡ self.old) × (out.new.items ≡ out.old.items) × (vec_capacity out.new ≡ vec_capacity out.old)) }
         ensures taken { OnOk result (self.new.taken ≡ self.old.taken + 1) }
         ensures steps { OnOk result (Steps self.old self.new out.old.items out.new.items (part_of self.old.calls self.old.made self.old.moment event)) }
-        ensures history { OnOk result ((past : List histories.Entry) → histories.Means self.old.calls (workers_of self.old) past → Stands self.old past
+        ensures errors { OnOk result (ErrorOnlyCounts self.old self.new out.old.items out.new.items event) }
+        ensures history { OnOk result ((past : List histories.HistoryEntry) → histories.IsHistoryOf self.old.calls (workers_of self.old) past → Stands self.old past
             → Continues self.old self.new out.old.items out.new.items event past) }
     {
         if self.taken == self.limit {
             return Err(CoreError::Full);
         }
-        if out.reserve(self.room()).is_err() {
+        if make_room(out, self.room()).is_err() {
             return Err(CoreError::Memory);
         }
         self.make_calls_before(event, out);
@@ -166,61 +170,9 @@ impl<A: Allocator> Core<A> {
 
     /// How many lines the next event adds at most.
     fn room(&self) -> usize
-        ensures { result ≡ length self.now.calls - self.now.made + 1 }
+        ensures { result ≡ room_of self.now }
     {
-        self.calls.len() - self.made + 1
-    }
-
-    /// Makes the calls that are made just before an event.
-    fn make_calls_before<B: Allocator>(&mut self, event: Event, out: &mut Vec<Line, B>)
-        requires { vec_len out.old + (length self.old.calls - self.old.made) < vec_capacity out.old }
-        ensures steps { Steps self.old self.new out.old.items out.new.items (replicate (calls_before self.old.calls self.old.made self.old.moment event) happening.Call) }
-        ensures taken { self.new.taken ≡ self.old.taken }
-        ensures room { vec_len out.new < vec_capacity out.new }
-    {
-        let Event::Clock(moment) = event else {
-            return;
-        };
-        if self.moment <= moment && moment <= LONGEST {
-            self.make_calls(moment, out);
-        }
-    }
-
-    /// Makes the calls with a moment of at most this one.
-    fn make_calls<B: Allocator>(&mut self, moment: u64, out: &mut Vec<Line, B>)
-        requires { vec_len out.old + (length self.old.calls - self.old.made) < vec_capacity out.old }
-        ensures steps { Steps self.old self.new out.old.items out.new.items (replicate (reached self.old.calls self.old.made moment) happening.Call) }
-        ensures taken { self.new.taken ≡ self.old.taken }
-        ensures room { vec_len out.new < vec_capacity out.new }
-    {
-        while self.reaches(moment) {
-            self.make_call(out);
-        }
-    }
-
-    /// Whether the next call has a moment of at most this one.
-    fn reaches(&self, moment: u64) -> bool
-        ensures next { IsTrue result → ReachesNext self.now.calls self.now.made moment }
-        ensures none { result ≡ false → reached self.now.calls self.now.made moment ≡ 0 }
-    {
-        self.made < self.calls.len() && self.calls[self.made].0 <= moment
-    }
-
-    /// Makes the next call.
-    fn make_call<B: Allocator>(&mut self, out: &mut Vec<Line, B>)
-        requires left { self.old.made < length self.old.calls }
-        requires room { vec_len out.old < vec_capacity out.old }
-        ensures steps { Steps self.old self.new out.old.items out.new.items (happening.Call ∷ []) }
-        ensures made { self.new.made ≡ self.old.made + 1 }
-        ensures taken { self.new.taken ≡ self.old.taken }
-        ensures len { vec_len out.new ≡ vec_len out.old + 1 }
-        ensures capacity { vec_capacity out.new ≡ vec_capacity out.old }
-    {
-        let answer = self.answer_call();
-        out.push_reserved(Line {
-            moment: self.moment,
-            answer,
-        });
+        1 + (self.calls.len() - self.made) + self.tasks.uncancelled()
     }
 
     /// What an event is answered, once the calls before it were made and it was counted.
@@ -234,94 +186,6 @@ impl<A: Allocator> Core<A> {
             Event::Finish(worker, ending) => self.answer_finish(worker, ending),
             Event::Cancel(task) => self.answer_cancel(task),
         }
-    }
-
-    /// The next call is made.
-    fn answer_call(&mut self) -> Answer
-        requires { self.old.made < length self.old.calls }
-        ensures step { Takes self.old self.new happening.Call result }
-        ensures made { self.new.made ≡ self.old.made + 1 }
-    {
-        let (moment, call) = self.calls[self.made];
-        match call {
-            CodeCall::Submit {
-                task,
-                timing,
-                delay,
-            } => self.submit(moment, task, timing, delay),
-            CodeCall::Illegal { task } => self.refuse(moment, task),
-            CodeCall::Cancel { task } => self.cancel_by_plan(moment, task),
-        }
-    }
-
-    /// The next call submits a task.
-    fn submit(&mut self, moment: u64, task: u32, timing: Timing, delay: u64) -> Answer
-        requires { slice_get self.old.calls self.old.made ≡ Some (moment, call.Submit task timing delay) }
-        ensures step { Takes self.old self.new happening.Call result }
-        ensures made { self.new.made ≡ self.old.made + 1 }
-    {
-        let place = task as usize;
-        let kind = kind_of(&timing);
-        self.made += 1;
-        let due = moment + delay;
-        self.moment = self.moment.max(moment);
-        self.tasks.submit(place, due);
-        self.timings[place] = timing;
-        self.queue.insert(Entry { due, task });
-        Answer::Submit { task, kind, due }
-    }
-
-    /// The next call asks for a task with an illegal period.
-    fn refuse(&mut self, moment: u64, task: u32) -> Answer
-        requires { slice_get self.old.calls self.old.made ≡ Some (moment, call.Illegal task) }
-        ensures step { Takes self.old self.new happening.Call result }
-        ensures made { self.new.made ≡ self.old.made + 1 }
-    {
-        self.made += 1;
-        self.moment = self.moment.max(moment);
-        Answer::Refuse {
-            task,
-            refusal: Refusal::Illegal,
-        }
-    }
-
-    /// The next call cancels a task.
-    fn cancel_by_plan(&mut self, moment: u64, task: u32) -> Answer
-        requires { slice_get self.old.calls self.old.made ≡ Some (moment, call.Cancel task) }
-        ensures step { Takes self.old self.new happening.Call result }
-        ensures made { self.new.made ≡ self.old.made + 1 }
-    {
-        let now = self.moment.max(moment);
-        let effect = self.cancel(task);
-        self.made += 1;
-        self.moment = now;
-        Answer::Cancel { task, effect }
-    }
-
-    /// A task is cancelled from outside the plan.
-    fn answer_cancel(&mut self, task: u32) -> Answer
-        ensures { Takes self.old self.new (happening.Cancel task) result }
-    {
-        if !self.tasks.has(task) {
-            return Answer::Error(EventError::NoTask);
-        }
-        let effect = self.cancel(task);
-        Answer::Outside { task, effect }
-    }
-
-    /// Cancels a task of the plan: one that waits leaves the queue.
-    fn cancel(&mut self, task: u32) -> CancelEffect
-        requires { task < length self.old.tasks }
-        ensures effect { result ≡ effect_on (seen_task (terms_of self.old.calls task) (slice_index_or self.old.tasks task vacant)) }
-        ensures yes { result ≡ effect.Yes → self.new ≡ record self.old { tasks = slice_set self.old.tasks task (record (slice_index_or self.old.tasks task vacant) { cancelled = true }) } }
-        ensures no { result ≢ effect.Yes → self.new ≡ self.old }
-    {
-        let effect = effect_on(self.tasks.get(task as usize));
-        if effect == CancelEffect::Yes {
-            self.tasks.cancel(task as usize);
-            self.queue.remove(task);
-        }
-        effect
     }
 
     /// The clock shows a moment.
@@ -338,59 +202,6 @@ impl<A: Allocator> Core<A> {
         Answer::Clock
     }
 
-    /// A worker asks for work.
-    fn answer_start(&mut self, worker: u8) -> Answer
-        requires { IsCounted self.old }
-        ensures { Takes self.old self.new (happening.Start worker) result }
-    {
-        let place = worker as usize;
-        if place >= self.work.len() {
-            return Answer::Error(EventError::NoWorker);
-        }
-        if self.work[place].is_some() {
-            return Answer::Error(EventError::Busy);
-        }
-        let Some(entry) = self.queue.poll(self.moment) else {
-            return Answer::Idle { worker };
-        };
-        let task = self.tasks.get(entry.task as usize);
-        self.tasks.start(entry.task as usize);
-        self.work[place] = Some(entry.task);
-        Answer::Start {
-            worker,
-            task: entry.task,
-            run: u64::from(task.run),
-            due: entry.due,
-        }
-    }
-
-    /// The run of a worker ended.
-    fn answer_finish(&mut self, worker: u8, ending: Ending) -> Answer
-        requires { IsCounted self.old }
-        ensures { Takes self.old self.new (happening.Finish worker ending) result }
-    {
-        let place = worker as usize;
-        if place >= self.work.len() {
-            return Answer::Error(EventError::NoWorker);
-        }
-        let Some(number) = self.work[place] else {
-            return Answer::Error(EventError::NotRunning);
-        };
-        let task = self.tasks.get(number as usize);
-        let next = next_due(self.timings[number as usize], task.due, self.moment);
-        let outcome = outcome_in(task.cancelled, next, ending);
-        let due = next.unwrap_or(task.due);
-        self.tasks.finish(number as usize, outcome, due);
-        self.work[place] = None;
-        queue_if_again(&mut self.queue, number, outcome);
-        Answer::Finish {
-            worker,
-            task: number,
-            run: u64::from(task.run),
-            outcome,
-        }
-    }
-
     /// A core with tables of this size.
     fn with_tables(
         alloc: A,
@@ -403,7 +214,7 @@ impl<A: Allocator> Core<A> {
         A: Copy,
         requires orderly { IsOrderly calls.items }
         requires count { count ≡ task_count calls.items }
-        requires workers { ¬ IsNoCount workers }
+        requires workers { IsWorkerCount workers }
         ensures { IfOk result (λ core. IsOpening core calls.items workers limit) }
     {
         let tasks = Tasks::new(alloc, count)?;
@@ -424,9 +235,24 @@ impl<A: Allocator> Core<A> {
     }
 }
 
+/// Makes room for `lines` more lines, where there is less.
+fn make_room<B: Allocator>(out: &mut Vec<Line, B>, lines: usize) -> Result<(), AllocError>
+    ensures items { out.new.items ≡ out.old.items }
+    ensures len { vec_len out.new ≡ vec_len out.old }
+    ensures room { OnOk result (vec_len out.new + lines ≤ vec_capacity out.new) }
+    ensures keeps { vec_capacity out.old ≤ vec_capacity out.new }
+    ensures enough { vec_len out.old + lines ≤ vec_capacity out.old → IsOk result × (vec_capacity out.new ≡ vec_capacity out.old) }
+    ensures refused { OnErr result (vec_capacity out.new ≡ vec_capacity out.old) }
+{
+    if lines <= out.capacity() - out.len() {
+        return Ok(());
+    }
+    out.reserve(lines)
+}
+
 /// How many tasks the calls submit.
 fn count_tasks(calls: &[(u64, CodeCall)]) -> u32
-    requires { length calls.now ≤ 65536 }
+    requires { length calls.now ≤ most_calls }
     ensures { result ≡ task_count calls.now }
 {
     let mut count = 0;
@@ -445,58 +271,5 @@ fn is_submission(call: &CodeCall) -> bool
     match call {
         CodeCall::Submit { .. } | CodeCall::Illegal { .. } => true,
         CodeCall::Cancel { .. } => false,
-    }
-}
-
-/// What a cancel does to a task.
-fn effect_on(task: Task) -> CancelEffect
-    requires { task.phase ≡ ph.Over → task.cancelled ≡ true }
-    ensures { (terms : Terms) → result ≡ effect_on (seen_task terms task) }
-{
-    match task.phase {
-        Phase::Vacant => CancelEffect::Absent,
-        Phase::Waiting | Phase::Running => {
-            if task.cancelled {
-                CancelEffect::No
-            } else {
-                CancelEffect::Yes
-            }
-        }
-        Phase::Done | Phase::Failed | Phase::Over => CancelEffect::No,
-    }
-}
-
-/// What the end of a run leads to, where the run after it would be due at `next`: of a task that was
-/// cancelled the outcome does not count.
-fn outcome_in(cancelled: bool, next: Option<u64>, ending: Ending) -> Outcome
-    ensures { (timing : Timing) (due now : ℕ) → next ≡ next_due timing due now → result ≡ outcome_in cancelled timing (due_past timing due now) ending }
-{
-    match (ending, next) {
-        _ if cancelled => Outcome::Dropped,
-        (Ending::Fault(code), _) => Outcome::Failed(code),
-        (Ending::Value(value), None) => Outcome::Done(value),
-        (Ending::Value(_), Some(due)) => Outcome::Again(due),
-    }
-}
-
-/// Puts a task that is not in the queue into it, where it runs again.
-fn queue_if_again<A: Allocator>(queue: &mut DelayQueue<A>, task: u32, outcome: Outcome)
-    requires known { task < length queue.old }
-    requires absent { slice_index_or queue.old task None ≡ None }
-    ensures { queue.new ≡ slice_set queue.old task (queued_again outcome) }
-{
-    if let Outcome::Again(due) = outcome {
-        queue.insert(Entry { due, task });
-    }
-}
-
-/// The kind of a task of this timing.
-fn kind_of(timing: &Timing) -> Kind
-    ensures { result ≡ kind_of timing.now }
-{
-    match timing {
-        Timing::Once => Kind::Schedule,
-        Timing::Rate(_) => Kind::Rate,
-        Timing::Fixed(_) => Kind::Fixed,
     }
 }

@@ -12,7 +12,7 @@ pub enum Phase {
     /// A run failed.
     Failed,
     /// A run was under way when it was cancelled, and has ended.
-    Over,
+    Dropped,
 }
 
 /// A task of the plan.

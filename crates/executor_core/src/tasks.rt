@@ -3,7 +3,7 @@ ghost use Rattle.std.specs.Prelude.{◌≡◌, ◌≢◌, ◌+◌, ◌^◌, ◌<
 ghost use Rattle.executor_core.specs.declared.task.Phase.TheVariants as ph;
 ghost use Rattle.executor_core.specs.declared.types.Outcome.TheVariants as o;
 ghost use Rattle.executor_core.specs.State.{vacant, submit_task, end_task};
-ghost use Rattle.executor_core.specs.Tasks.{phase_in, word_of};
+ghost use Rattle.executor_core.specs.Tasks.{phase_in, word_of, uncancelled_in};
 
 use crate::task::{Phase, Task};
 use crate::types::Outcome;
@@ -25,22 +25,24 @@ pub(crate) struct Detail {
 pub(crate) struct Tasks<A: Allocator> {
     words: Vec<Word, A>,
     details: Vec<Detail, A>,
+    /// How many tasks are not cancelled.
+    uncancelled: usize,
 }
 
 impl<A: Allocator> Model for Tasks<A> {
-    ghost use Rattle.std.specs.Prelude.{◌≡◌, List, length};
+    ghost use Rattle.std.specs.Prelude.{List};
     ghost use Rattle.executor_core.specs.declared.task.Task.{Task};
-    ghost use Rattle.executor_core.specs.Tasks.{tasks_of};
+    ghost use Rattle.executor_core.specs.Tasks.{tasks_of, AreTables};
 
     ghost Value = { List Task };
 
     ghost view = { λ t. tasks_of t.words.items t.details.items };
 
-    ghost invariant = { λ t. length t.words.items ≡ length t.details.items };
+    ghost invariant = { λ t. AreTables t.words.items t.details.items t.uncancelled };
 }
 
 impl<A: Allocator> Tasks<A> {
-    /// So many tasks, of which none was submitted.
+    /// `count` tasks, of which none was submitted.
     pub(crate) fn new(alloc: A, count: u32) -> Result<Tasks<A>, AllocError>
     where
         A: Copy,
@@ -53,6 +55,7 @@ impl<A: Allocator> Tasks<A> {
         Ok(Tasks {
             words: Vec::from_elem(alloc, Word::vacant(), count as usize)?,
             details: Vec::from_elem(alloc, detail, count as usize)?,
+            uncancelled: count as usize,
         })
     }
 
@@ -61,6 +64,13 @@ impl<A: Allocator> Tasks<A> {
         ensures { result ≡ length self.now }
     {
         self.words.len()
+    }
+
+    /// How many tasks are not cancelled.
+    pub(crate) fn uncancelled(&self) -> usize
+        ensures { result ≡ uncancelled_in self.now }
+    {
+        self.uncancelled
     }
 
     /// Whether there is a task of this number.
@@ -134,12 +144,14 @@ impl<A: Allocator> Tasks<A> {
         };
     }
 
-    /// A task is cancelled.
+    /// A task that is not cancelled is cancelled.
     pub(crate) fn cancel(&mut self, task: usize)
-        requires { task < length self.old }
+        requires known { task < length self.old }
+        requires live { (slice_index_or self.old task vacant).cancelled ≡ false }
         ensures { self.new ≡ slice_set self.old task (record (slice_index_or self.old task vacant) { cancelled = true }) }
     {
-        self.words[task] = self.words[task].cancelled();
+        self.words[task] = self.words[task].with_cancel_bit();
+        self.uncancelled -= 1;
     }
 }
 
@@ -150,7 +162,7 @@ fn phase_in(phase: task_word::Phase, over: bool) -> Phase
     match phase {
         task_word::Phase::Vacant => Phase::Vacant,
         task_word::Phase::New => Phase::Waiting,
-        task_word::Phase::Running if over => Phase::Over,
+        task_word::Phase::Running if over => Phase::Dropped,
         task_word::Phase::Running => Phase::Running,
         task_word::Phase::Done => Phase::Done,
         task_word::Phase::Failed => Phase::Failed,

@@ -1,5 +1,5 @@
 -- When no further run of a task comes.
-use Rattle.std.proofs.Common.{zero, suc, ◌≡◌, ℕ, ◌+◌, ◌-◌, ◌<◌, ◌==◌, ◌&&◌, nat_lt, nat_le, Bool, true, false, cond, ◌⊎◌, inl, inr, List, [], ◌∷◌, ◌++◌, Option, Some, None, refl, sym, ap, ◌∙◌, arith, subst}
+use Rattle.std.proofs.Common.{zero, suc, ◌≡◌, ℕ, ◌+◌, ◌-◌, ◌<◌, ◌==◌, ◌&&◌, Bool, true, false, cond, inl, inr, List, [], ◌∷◌, ◌++◌, Option, Some, None, refl, sym, ap, ◌∙◌, arith, subst}
 use Rattle.std.specs.Prelude.{slice_get, max, not, ◌||◌}
 use Rattle.std.specs.Option.{option_map_or}
 use Rattle.std.proofs.lemmas.Bool.{false≢true, eqb-true, eq-eqb, and_parts, or_cases}
@@ -13,36 +13,36 @@ use Rattle.queue_code.specs.declared.call.CodeCall.TheVariants as c
 use Rattle.executor_core.specs.declared.types.EventError.TheVariants as x
 use Rattle.executor_core.specs.declared.types.Happening.{Happening}
 use Rattle.executor_core.specs.declared.types.Happening.TheVariants as h
-use Rattle.executor_core.specs.declared.types.Outcome.TheVariants as o
 use Rattle.executor_core.specs.declared.types.Answer.{Answer}
 use Rattle.executor_core.specs.declared.types.Answer.TheVariants as a
 use Rattle.queue_code.specs.Calls.{Planned, Terms, numbers, terms_of}
 use Rattle.executor_core.specs.View.{View, is_running, is_over, is_waiting, first_enabled}
 use Rattle.executor_core.specs.Answers.{plain, reply, called, started, finished, outcome_of, due_next, effect_on, outcome_in}
-use Rattle.executor_core.specs.Histories.{Entry, Means, look, happenings, is_submit, is_start, is_finish, is_finish_with, is_done, is_failed, starts, finishes, was_accepted, was_done, was_failed, is_cancel, was_cancelled}
-use Rattle.executor_laws.specs.Laws.{Starts, NothingStartsOnceDone, OneShotsRunOnce, OneShotsStartOnce, RunsAreNumbered, IllegalTasksDoNotStart}
+use Rattle.executor_core.specs.Histories.{HistoryEntry, IsHistoryOf, view_of_history, is_submit, is_start, is_finish, is_finish_with, is_done, is_failed, starts, finishes, was_accepted, was_done, was_failed, is_cancel, was_cancelled}
+use Rattle.executor_laws.specs.Laws.{NothingStartsOnceDone, OneShotsRunOnce, OneShotsStartOnce, RunsAreNumbered, IllegalTasksDoNotStart}
 use Rattle.executor_laws.specs.Positions.{IsSubmissionOf}
 use Rattle.executor_core.proofs.Tables.{submission}
-use Rattle.executor_laws.proofs.Facts.{means_front}
+use Rattle.executor_laws.proofs.StartLaws.{means_front}
 use Rattle.executor_laws.proofs.Reading.{tasks_are_submitted}
 use Rattle.executor_laws.proofs.Waiting.{submit_says}
 use Rattle.executor_laws.proofs.Repeats.{started_so, waits_even, due_by, starts_grow}
 
 -- a task that waits is not over
-on_of : (calls : List Planned) (past : List Entry) (k : ℕ) → is_waiting ((look calls past).fate k) ≡ true → not (was_cancelled k past || (was_failed k past || was_done k past)) ≡ true
+on_of : (calls : List Planned) (past : List HistoryEntry) (k : ℕ) → is_waiting ((view_of_history calls past).fate k) ≡ true → not (was_cancelled k past || (was_failed k past || was_done k past)) ≡ true
 on_of calls past k q =
-    let f = (look calls past).fate k in
+    let f = (view_of_history calls past).fate k in
     (and_parts (not (is_running f)) (not (is_over f)) (and_parts f.accepted (not (is_running f) && not (is_over f)) q).1).1
 
 -- done
 
-done_stays : (k : ℕ) (between past : List Entry) → was_done k past ≡ true → was_done k (between ++ past) ≡ true
+done_stays : (k : ℕ) (between past : List HistoryEntry) → was_done k past ≡ true → was_done k (between ++ past) ≡ true
 done_stays k [] past q = q
 done_stays k (e ∷ between) past q =
     let rest = done_stays k between past q in
     let pick : (b : Bool) → (b || was_done k (between ++ past)) ≡ true = elim [ true ↦ refl | false ↦ rest ] in
     pick (is_finish_with is_done k e.answer)
 
+-- the law that a task that is done does not start again
 pub nothing_starts_once_done : NothingStartsOnceDone
 nothing_starts_once_done calls workers past between finish start v w k m n d value s is =
     let on = on_of calls (between ++ finish ∷ past) k (started_so calls workers (between ++ finish ∷ past) start w k n d s).waiting in
@@ -104,11 +104,11 @@ once_ends calls workers v (h.Cancel j) k once =
     pick _
 
 -- a one-shot task that finished is over
-over_of : (calls : List Planned) (workers : ℕ) (past : List Entry) (k : ℕ) → Means calls workers past → (terms_of calls k).timing ≡ t.Once
+over_of : (calls : List Planned) (workers : ℕ) (past : List HistoryEntry) (k : ℕ) → IsHistoryOf calls workers past → (terms_of calls k).timing ≡ t.Once
     → 0 < finishes k past → (was_cancelled k past || (was_failed k past || was_done k past)) ≡ true
 over_of calls workers [] k m once l = absurd (omega (arith, l))
 over_of calls workers (e ∷ past) k m once l =
-    let v = look calls past in
+    let v = view_of_history calls past in
     let ends : Ends v k e.answer = subst (Ends v k) (sym m.2) (once_ends calls workers v e.happening k once) in
     let pick : (b : Bool) → is_finish k e.answer ≡ b → 0 < cond b (1 + finishes k past) (finishes k past) → (was_cancelled k (e ∷ past) || (was_failed k (e ∷ past) || was_done k (e ∷ past))) ≡ true =
     elim [
@@ -138,6 +138,7 @@ over_of calls workers (e ∷ past) k m once l =
     there false false false d false true q = or_true d
     there false false false d false false q = absurd (false≢true q)
 
+-- the law that a one-shot task has run 0 alone
 pub one_shots_run_once : OneShotsRunOnce
 one_shots_run_once calls workers past e w k n d place moment delay orderly is s =
     let start = started_so calls workers past e w k n d s in
@@ -157,9 +158,11 @@ one_shots_run_once calls workers past e w k n d place moment delay orderly is s 
     over_on true q r = false≢true r
     over_on false q r = false≢true q
 
+-- the law that a run has the number of the starts before it
 pub runs_are_numbered : RunsAreNumbered
 runs_are_numbered calls workers past e w k n d s = (started_so calls workers past e w k n d s).run
 
+-- the law that a one-shot task starts once
 pub one_shots_start_once : OneShotsStartOnce
 one_shots_start_once calls workers past between first second v w k m n d f place moment delay orderly is s start =
     let none = (one_shots_run_once calls workers (between ++ first ∷ past) second w k n d place moment delay orderly is s).0 in
@@ -194,16 +197,17 @@ submit_is_legal calls workers v y k q =
     let told = ap (λ p. is_submit k (option_map_or (λ p. called calls (record v { moment = max v.moment p.0 }) p.1) p (plain a.Clock)).answer) (sym s.there) ∙ call in
     record { place = v.made; call = s.call; there = s.there; submits = s.submits; legal = call_is_legal calls (record v { moment = max v.moment s.call.0 }) s.call.1 k told }
 
-was_legal : (calls : List Planned) (workers : ℕ) (past : List Entry) (k : ℕ) → Means calls workers past → was_accepted k past ≡ true → WasLegal calls k
+was_legal : (calls : List Planned) (workers : ℕ) (past : List HistoryEntry) (k : ℕ) → IsHistoryOf calls workers past → was_accepted k past ≡ true → WasLegal calls k
 was_legal calls workers [] k m q = absurd (false≢true q)
 was_legal calls workers (e ∷ past) k m q = elim (or_cases (is_submit k e.answer) (was_accepted k past) q) [
-  | inl here ↦ submit_is_legal calls workers (look calls past) e.happening k (sym (ap (is_submit k) m.2) ∙ here)
+  | inl here ↦ submit_is_legal calls workers (view_of_history calls past) e.happening k (sym (ap (is_submit k) m.2) ∙ here)
   | inr there ↦ was_legal calls workers past k m.0 there
 ]
 
+-- the law that an illegal task does not start
 pub illegal_tasks_do_not_start : IllegalTasksDoNotStart
 illegal_tasks_do_not_start calls workers past e w k n d place moment orderly is s =
-    let fate = (look calls past).fate k in
+    let fate = (view_of_history calls past).fate k in
     let start = started_so calls workers past e w k n d s in
     let means = (means_front calls workers s.later (e ∷ past) s.means).0 in
     let legal = was_legal calls workers past k means (and_parts fate.accepted (not (is_running fate) && not (is_over fate)) start.waiting).0 in

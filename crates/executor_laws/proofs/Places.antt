@@ -16,13 +16,14 @@ use Rattle.executor_core.specs.declared.types.Answer.TheVariants as a
 use Rattle.queue_code.specs.Calls.{Planned, how_many, numbers, task_count}
 use Rattle.executor_core.specs.View.{View, is_enabled, first_enabled}
 use Rattle.executor_core.specs.Answers.{plain, reply, called, started, finished, moment_after, is_accepted, effect_on}
-use Rattle.executor_core.specs.Histories.{Entry, Means, look, now_of, happenings, made, work_of, work_after, answer}
+use Rattle.executor_core.specs.Histories.{HistoryEntry, IsHistoryOf, view_of_history, now_of, happenings, made, work_of, work_after, answer}
 use Rattle.executor_laws.specs.Positions.{starts_by, finishes_by, StartedLast, WorkIsTheLastStart, StartsExceedFinishes, busy, HasMoment, Shows, NowIsTheGreatest, FirstIsTheLeast, NoneIsEnabled}
 use Rattle.executor_core.proofs.Sound.{first_is_enabled}
 use Rattle.executor_core.proofs.First.{first_is, first_is_in, first_is_least, first_is_none, none_enabled, in_range, range_below}
 
 -- the first enabled task
 
+-- the law that the first enabled task is the least one
 pub first_is_the_least : FirstIsTheLeast
 first_is_the_least calls v k = (
   λ q. record {
@@ -38,6 +39,7 @@ not_true : (b : Bool) → (b ≡ true → ⊥) → b ≡ false
 not_true true n = absurd (n refl)
 not_true false n = refl
 
+-- the law that there is no first task exactly when none is enabled
 pub none_is_enabled : NoneIsEnabled
 none_is_enabled calls v = (
   λ q j l. not_true (is_enabled v j) (λ e. none_enabled v (numbers calls) j q (in_range 0 (task_count calls) j (omega arith) (omega arith)) e),
@@ -62,16 +64,17 @@ call_tells calls v (c.Submit task timing delay) w work = tt
 call_tells calls v (c.Illegal task) w work = tt
 call_tells calls v (c.Cancel task) w work = tt
 
-pub tells : (calls : List Planned) (workers : ℕ) (v : View) (y : Happening) (w : ℕ) → Told w (v.work w) (reply calls workers v y).answer
-tells calls workers v h.Call w =
+-- what a reply says of the work of a worker
+pub work_is_told : (calls : List Planned) (workers : ℕ) (v : View) (y : Happening) (w : ℕ) → Told w (v.work w) (reply calls workers v y).answer
+work_is_told calls workers v h.Call w =
     let pick : (q : Option Planned) → Told w (v.work w) (option_map_or (λ p. called calls (record v { moment = max v.moment p.0 }) p.1) q (plain a.Clock)).answer =
     elim [ None ↦ tt | Some p ↦ call_tells calls (record v { moment = max v.moment p.0 }) p.1 w (v.work w) ]
     in
     pick (slice_get calls v.made)
-tells calls workers v (h.Clock t) w =
+work_is_told calls workers v (h.Clock t) w =
     let pick : (b c : Bool) → Told w (v.work w) (cond b (a.Error x.Backward) (cond c (a.Error x.TooFar) a.Clock)) = elim [ true ↦ λ c. tt | false ↦ elim [ true ↦ tt | false ↦ tt ] ] in
     pick _ _
-tells calls workers v (h.Start u) w =
+work_is_told calls workers v (h.Start u) w =
     let first : (q : Option ℕ) → v.work u ≡ None → Told w (v.work w) (started v u q) =
     elim [ None ↦ λ free. tt | Some k ↦ λ free. λ same. subst (λ i. v.work i ≡ None) (eqb-true u w same) free ]
     in
@@ -79,21 +82,21 @@ tells calls workers v (h.Start u) w =
     elim [ true ↦ elim [ None ↦ λ free. first (first_enabled v (numbers calls)) free | Some k ↦ λ taken. tt ] | false ↦ λ q is. tt ]
     in
     pick (nat_lt u workers) (v.work u) refl
-tells calls workers v (h.Finish u ending) w =
+work_is_told calls workers v (h.Finish u ending) w =
     let pick : (b : Bool) (q : Option ℕ) → v.work u ≡ q → Told w (v.work w) (cond b (finished calls v u ending q) (a.Error x.NoWorker)) =
     elim [ true ↦ elim [ None ↦ λ is. tt | Some k ↦ λ is. λ same. subst (λ i. v.work i ≡ Some k) (eqb-true u w same) is ] | false ↦ λ q is. tt ]
     in
     pick (nat_lt u workers) (v.work u) refl
-tells calls workers v (h.Cancel k) w =
+work_is_told calls workers v (h.Cancel k) w =
     let pick : (b : Bool) → Told w (v.work w) (cond b (a.Outside k (effect_on (v.fate k))) (a.Error x.NoTask)) = elim [ true ↦ tt | false ↦ tt ] in
     pick _
 
 -- the same of an entry in a history
-entry_tells : (calls : List Planned) (workers : ℕ) (past : List Entry) (e : Entry) (w : ℕ) → Means calls workers (e ∷ past) → Told w (work_of w past) e.answer
-entry_tells calls workers past e w m = subst (Told w (work_of w past)) (sym m.2) (tells calls workers (look calls past) e.happening w)
+entry_tells : (calls : List Planned) (workers : ℕ) (past : List HistoryEntry) (e : HistoryEntry) (w : ℕ) → IsHistoryOf calls workers (e ∷ past) → Told w (work_of w past) e.answer
+entry_tells calls workers past e w m = subst (Told w (work_of w past)) (sym m.2) (work_is_told calls workers (view_of_history calls past) e.happening w)
 
 -- a start that stands behind one entry more
-behind : (past : List Entry) (f : Entry) (w k : ℕ) → finishes_by w f.answer ≡ false → StartedLast past w k → StartedLast (f ∷ past) w k
+behind : (past : List HistoryEntry) (f : HistoryEntry) (w k : ℕ) → finishes_by w f.answer ≡ false → StartedLast past w k → StartedLast (f ∷ past) w k
 behind past f w k unended s = record {
   later = f ∷ s.later;
   e = s.e;
@@ -109,7 +112,7 @@ behind past f w k unended s = record {
     neither true d p q = p
     neither false d p q = q
 
-started_here : (past : List Entry) (e : Entry) (w k j n d : ℕ) → e.answer ≡ a.Start w j n d → j ≡ k → StartedLast (e ∷ past) w k
+started_here : (past : List HistoryEntry) (e : HistoryEntry) (w k j n d : ℕ) → e.answer ≡ a.Start w j n d → j ≡ k → StartedLast (e ∷ past) w k
 started_here past e w k j n d is same = record {
   later = [];
   e = e;
@@ -121,7 +124,7 @@ started_here past e w k j n d is same = record {
   unfinished = refl;
 }
 
-last_start : (past : List Entry) (w k : ℕ) → work_of w past ≡ Some k → StartedLast past w k
+last_start : (past : List HistoryEntry) (w k : ℕ) → work_of w past ≡ Some k → StartedLast past w k
 last_start [] w k q = absurd (none-some k q)
 last_start (e ∷ past) w k q =
     let go : (r : Answer) → e.answer ≡ r → work_after w r (work_of w past) ≡ Some k → StartedLast (e ∷ past) w k =
@@ -177,7 +180,7 @@ none_of_parts : (b d : Bool) → (b || d) ≡ false → (b ≡ false) × (d ≡ 
 none_of_parts true d q = absurd (false≢true (sym q))
 none_of_parts false d q = (refl, q)
 
-works_since : (calls : List Planned) (workers : ℕ) (later before : List Entry) (e : Entry) (w k n d : ℕ) → Means calls workers (later ++ e ∷ before) → e.answer ≡ a.Start w k n d →
+works_since : (calls : List Planned) (workers : ℕ) (later before : List HistoryEntry) (e : HistoryEntry) (w k n d : ℕ) → IsHistoryOf calls workers (later ++ e ∷ before) → e.answer ≡ a.Start w k n d →
     list_any (λ f. finishes_by w f.answer) later ≡ false → work_of w (later ++ e ∷ before) ≡ Some k
 works_since calls workers [] before e w k n d m start unended =
     ap (λ r. work_after w r (work_of w before)) start ∙ ap (λ b. cond b (Some k) (work_of w before)) (eq-eqb w w refl)
@@ -185,10 +188,11 @@ works_since calls workers (f ∷ later) before e w k n d m start unended =
     let parts = none_of_parts (finishes_by w f.answer) (list_any (λ g. finishes_by w g.answer) later) unended in
     keeps w k f.answer (work_of w (later ++ e ∷ before)) (entry_tells calls workers (later ++ e ∷ before) f w m) parts.0 (works_since calls workers later before e w k n d m.0 start parts.1)
 
+-- the law that a worker's task is that of its last start
 pub work_is_the_last_start : WorkIsTheLastStart
 work_is_the_last_start calls workers past w k m = (
   last_start past w k,
-  λ s. subst (λ l. work_of w l ≡ Some k) (sym s.parts) (works_since calls workers s.later s.before s.e w k s.run s.due (subst (Means calls workers) s.parts m) s.start s.unfinished),
+  λ s. subst (λ l. work_of w l ≡ Some k) (sym s.parts) (works_since calls workers s.later s.before s.e w k s.run s.due (subst (IsHistoryOf calls workers) s.parts m) s.start s.unfinished),
 )
 
 -- counts of starts and finishes, moved by one answer
@@ -212,6 +216,7 @@ one_more w a.Clock work n m told is = is
 one_more w (a.Idle u) work n m told is = is
 one_more w (a.Error y) work n m told is = is
 
+-- the law that a worker that works started once more than it finished
 pub starts_exceed_finishes : StartsExceedFinishes
 starts_exceed_finishes calls workers [] w m = refl
 starts_exceed_finishes calls workers (e ∷ past) w m =
@@ -246,7 +251,7 @@ rises now call (h.Finish w ending) = omega arith
 rises now call (h.Cancel k) = omega arith
 
 -- the moment of an entry is at most now
-below_here : (calls : List Planned) (workers : ℕ) (e : Entry) (before : List Entry) (t : ℕ) → Means calls workers (e ∷ before) → HasMoment calls e before t → t ≤ now_of calls (happenings (e ∷ before))
+below_here : (calls : List Planned) (workers : ℕ) (e : HistoryEntry) (before : List HistoryEntry) (t : ℕ) → IsHistoryOf calls workers (e ∷ before) → HasMoment calls e before t → t ≤ now_of calls (happenings (e ∷ before))
 below_here calls workers e before t m (inl call) =
     let now = now_of calls (happenings before) in
     let after : now_of calls (happenings (e ∷ before)) ≡ max now call.1.0.0 =
@@ -260,23 +265,23 @@ below_here calls workers e before t m (inr clock) =
     let after : now_of calls (happenings (e ∷ before)) ≡ t = ap (moment_after now next) clock.0 ∙ ap (λ b. cond b t now) accepted in
     omega (arith, after)
 
-below_now : (calls : List Planned) (workers : ℕ) (later before : List Entry) (e : Entry) (t : ℕ) → Means calls workers (later ++ e ∷ before) → HasMoment calls e before t → t ≤ now_of calls (happenings (later ++ e ∷ before))
+below_now : (calls : List Planned) (workers : ℕ) (later before : List HistoryEntry) (e : HistoryEntry) (t : ℕ) → IsHistoryOf calls workers (later ++ e ∷ before) → HasMoment calls e before t → t ≤ now_of calls (happenings (later ++ e ∷ before))
 below_now calls workers [] before e t m has = below_here calls workers e before t m has
 below_now calls workers (f ∷ later) before e t m has =
     let rest = later ++ e ∷ before in
     omega (arith, below_now calls workers later before e t m.0 has, rises (now_of calls (happenings rest)) (slice_get calls (made (happenings rest))) f.happening)
 
-shown_behind : (calls : List Planned) (past : List Entry) (f : Entry) (t : ℕ) → Shows calls past t → Shows calls (f ∷ past) t
+shown_behind : (calls : List Planned) (past : List HistoryEntry) (f : HistoryEntry) (t : ℕ) → Shows calls past t → Shows calls (f ∷ past) t
 shown_behind calls past f t s = record { later = f ∷ s.later; e = s.e; before = s.before; parts = ap (λ l. f ∷ l) s.parts; moment = s.moment }
 
-abbrev Greatest : List Planned → List Entry → ℕ → Type 0
+abbrev Greatest : List Planned → List HistoryEntry → ℕ → Type 0
 Greatest calls past t = (t ≡ 0) ⊎ Shows calls past t
 
-greatest_behind : (calls : List Planned) (past : List Entry) (f : Entry) (t : ℕ) → Greatest calls past t → Greatest calls (f ∷ past) t
+greatest_behind : (calls : List Planned) (past : List HistoryEntry) (f : HistoryEntry) (t : ℕ) → Greatest calls past t → Greatest calls (f ∷ past) t
 greatest_behind calls past f t (inl none) = inl none
 greatest_behind calls past f t (inr s) = inr (shown_behind calls past f t s)
 
-greatest_here : (calls : List Planned) (past : List Entry) (e : Entry) (t : ℕ) → HasMoment calls e past t → Greatest calls (e ∷ past) t
+greatest_here : (calls : List Planned) (past : List HistoryEntry) (e : HistoryEntry) (t : ℕ) → HasMoment calls e past t → Greatest calls (e ∷ past) t
 greatest_here calls past e t has = inr (record { later = []; e = e; before = past; parts = refl; moment = has })
 
 two_orders : (n k : ℕ) → (n ≤ k) ⊎ (k ≤ n)
@@ -285,7 +290,7 @@ two_orders n k = grind arith
 max_cases : (n k : ℕ) → (max n k ≡ n) ⊎ (max n k ≡ k)
 max_cases n k = elim (two_orders n k) [ inl l ↦ inr (omega (arith, l)) | inr l ↦ inl (omega (arith, l)) ]
 
-now_shown : (calls : List Planned) (workers : ℕ) (past : List Entry) → Means calls workers past → Greatest calls past (now_of calls (happenings past))
+now_shown : (calls : List Planned) (workers : ℕ) (past : List HistoryEntry) → IsHistoryOf calls workers past → Greatest calls past (now_of calls (happenings past))
 now_shown calls workers [] m = inl refl
 now_shown calls workers (e ∷ past) m =
     let now = now_of calls (happenings past) in
@@ -316,8 +321,9 @@ now_shown calls workers (e ∷ past) m =
     in
     go e.happening refl
 
+-- the law that now is the greatest moment of the calls made and the accepted clocks
 pub now_is_the_greatest : NowIsTheGreatest
 now_is_the_greatest calls workers past m = (
-  λ t s. subst (λ l. t ≤ now_of calls (happenings l)) (sym s.parts) (below_now calls workers s.later s.before s.e t (subst (Means calls workers) s.parts m) s.moment),
+  λ t s. subst (λ l. t ≤ now_of calls (happenings l)) (sym s.parts) (below_now calls workers s.later s.before s.e t (subst (IsHistoryOf calls workers) s.parts m) s.moment),
   now_shown calls workers past m,
 )

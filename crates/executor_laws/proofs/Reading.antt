@@ -13,7 +13,7 @@ use Rattle.executor_core.specs.declared.types.Happening.{Happening}
 use Rattle.executor_core.specs.declared.types.Happening.TheVariants as h
 use Rattle.queue_code.specs.Calls.{Planned, how_many, task_count, is_submission, count_after, IsOrderlyCall, IsOrderlyFrom, IsOrderly}
 use Rattle.executor_core.specs.Answers.{is_accepted}
-use Rattle.executor_core.specs.Histories.{Entry, Means, MayCome, happenings, made, now_of}
+use Rattle.executor_core.specs.Histories.{HistoryEntry, IsHistoryOf, MayCome, happenings, made, now_of}
 use Rattle.executor_core.specs.Flows.{reached, flow, happening_of, calls_before, history_of}
 use Rattle.executor_laws.specs.Positions.{ReachedIsAFront, IsSubmissionOf, TasksAreSubmitted, TermsAreItsOwn, is_event, FlowKeepsTheEvents, IsAcceptedClock, IsMadeBefore, FlowMakesWhatIsReached, FlowMayCome}
 use Rattle.executor_core.proofs.Flowing.{all_reached, reached_within, made_past}
@@ -62,6 +62,7 @@ left_below count moment t (x ∷ calls) zero n p o q m l = reached_below count m
 left_below count moment t (x ∷ calls) (suc a) zero p o q m l = absurd (omega (arith, m))
 left_below count moment t (x ∷ calls) (suc a) (suc n) p o q m l = left_below (count_after count x.1) x.0 t calls a n p o.3 q (omega (arith, m)) (omega (arith, l))
 
+-- the law that the calls that a clock reaches are a front of those left
 pub reached_is_a_front : ReachedIsAFront
 reached_is_a_front calls first t o = (
   λ n p m q. (λ l. left_below 0 0 t calls first n p o.1 q m l, λ l. omega (arith, all_reached 0 0 t calls first n p o.1 q l)),
@@ -154,6 +155,7 @@ submitted_at count moment (x ∷ calls) k o l m =
     in
     pick (is_submission x.1) refl
 
+-- the law that each task is submitted by one call
 pub tasks_are_submitted : TasksAreSubmitted
 tasks_are_submitted calls k o = (
   λ l.
@@ -169,6 +171,7 @@ tasks_are_submitted calls k o = (
   λ n p q s. omega (arith, (numbered 0 0 calls n k p o.1 q s).1),
 )
 
+-- the law that the terms of a task are those of its submission
 pub terms_are_its_own : TermsAreItsOwn
 terms_are_its_own calls n moment k timing delay o q = (submission calls 0 0 n moment k timing delay o.1 q).terms
 
@@ -178,6 +181,7 @@ no_calls_kept : (n : ℕ) (past : List Happening) → filter is_event (replicate
 no_calls_kept zero past = refl
 no_calls_kept (suc n) past = no_calls_kept n past
 
+-- the law that the events of a flow are those given
 pub flow_keeps_the_events : FlowKeepsTheEvents
 flow_keeps_the_events calls [] = refl
 flow_keeps_the_events calls (event ∷ before) =
@@ -230,12 +234,13 @@ made_before calls past (v.Start w) o l = made_before_other calls past (v.Start w
 made_before calls past (v.Finish w ending) o l = made_before_other calls past (v.Finish w ending) l (λ t has. let other : v.Finish w ending ≡ v.Clock t = has.0 in absurd cc)
 made_before calls past (v.Cancel k) o l = made_before_other calls past (v.Cancel k) l (λ t has. let other : v.Cancel k ≡ v.Clock t = has.0 in absurd cc)
 
+-- the law that a flow makes the calls that accepted clocks reach
 pub flow_makes_what_is_reached : FlowMakesWhatIsReached
 flow_makes_what_is_reached calls before event o =
     let past = flow calls before in
     (calls_before calls (made past) (now_of calls past) event, made_before calls past event o (made_flow calls before o), refl)
 
-may_come_at : (calls : List Planned) (workers : ℕ) (history : List Entry) (later past : List Happening) (happening : Happening) → Means calls workers history →
+may_come_at : (calls : List Planned) (workers : ℕ) (history : List HistoryEntry) (later past : List Happening) (happening : Happening) → IsHistoryOf calls workers history →
     happenings history ≡ later ++ happening ∷ past → MayCome calls past happening
 may_come_at calls workers [] [] past happening m q = absurd cc
 may_come_at calls workers [] (x ∷ later) past happening m q = absurd cc
@@ -247,6 +252,7 @@ may_come_at calls workers (e ∷ history) (x ∷ later) past happening m q =
     let rest : happenings history ≡ later ++ happening ∷ past = cc in
     may_come_at calls workers history later past happening m.0 rest
 
+-- the law that each happening of a flow may come
 pub flow_may_come : FlowMayCome
 flow_may_come calls events later past happening o q =
     let history = one_history calls 0 events o in

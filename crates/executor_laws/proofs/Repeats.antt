@@ -1,11 +1,10 @@
 -- What holds of the runs of a task that runs more than once.
-use Rattle.std.proofs.Common.{suc, ◌≡◌, ℕ, ◌+◌, ◌*◌, ◌-◌, ◌<◌, ◌≤◌, ◌==◌, ◌&&◌, nat_lt, nat_le, Bool, true, false, cond, ◌⊎◌, inl, inr, List, [], ◌∷◌, ◌++◌, Option, Some, None, refl, sym, ap, ◌∙◌, arith, subst}
+use Rattle.std.proofs.Common.{◌≡◌, ℕ, ◌+◌, ◌*◌, ◌-◌, ◌<◌, ◌≤◌, ◌==◌, ◌&&◌, nat_lt, nat_le, Bool, true, false, cond, inl, inr, List, [], ◌∷◌, ◌++◌, Option, Some, None, refl, sym, ap, ◌∙◌, arith}
 use Rattle.std.specs.Prelude.{slice_get, max, not, ◌||◌}
 use Rattle.std.specs.Option.{option_map_or}
 use Rattle.std.specs.List.{list_any}
-use Rattle.std.proofs.lemmas.Bool.{false≢true, eqb-true, eq-eqb, and_parts, or_parts, or_cases}
+use Rattle.std.proofs.lemmas.Bool.{false≢true, eqb-true, eq-eqb, and_parts, or_parts}
 use Rattle.std.proofs.lemmas.Bool.Decides.{nat_tests}
-use Rattle.std.proofs.lemmas.Option.{none-some, same_Some}
 use Rattle.sched_time.specs.declared.timing.Timing.{Timing}
 use Rattle.sched_time.specs.declared.timing.Timing.TheVariants as t
 use Rattle.sched_time.specs.declared.timing.Ending.{Ending}
@@ -17,33 +16,31 @@ use Rattle.executor_core.specs.declared.types.Happening.{Happening}
 use Rattle.executor_core.specs.declared.types.Happening.TheVariants as h
 use Rattle.executor_core.specs.declared.types.CancelEffect.{CancelEffect}
 use Rattle.executor_core.specs.declared.types.CancelEffect.TheVariants as f
-use Rattle.executor_core.specs.declared.types.Outcome.{Outcome}
 use Rattle.executor_core.specs.declared.types.Outcome.TheVariants as o
-use Rattle.executor_core.specs.declared.types.Answer.{Answer}
 use Rattle.executor_core.specs.declared.types.Answer.TheVariants as a
-use Rattle.queue_code.specs.Calls.{Planned, Terms, how_many, numbers, task_count, terms_of, due_at}
-use Rattle.executor_core.specs.View.{View, is_running, is_over, is_waiting, precedes, first_enabled}
+use Rattle.queue_code.specs.Calls.{Planned, Terms, numbers, task_count, terms_of, due_at}
+use Rattle.executor_core.specs.View.{View, is_running, is_over, is_waiting, first_enabled}
 use Rattle.executor_core.specs.Answers.{plain, reply, called, started, finished, outcome_of, due_next, effect_on, outcome_in}
-use Rattle.executor_core.specs.Histories.{Entry, Means, look, happenings, now_of, is_cancel, is_yes, is_start, is_finish, is_finish_with, is_failed, starts, finishes, last_finish, was_cancelled, was_failed, due_of}
+use Rattle.executor_core.specs.Histories.{HistoryEntry, view_of_history, happenings, now_of, is_cancel, is_yes, is_start, is_finish, is_finish_with, is_failed, starts, finishes, last_finish, was_cancelled, was_failed, due_of}
 use Rattle.executor_laws.specs.Laws.{Starts, TiesGoBySubmission, RateRunsAreDue, FixedRunsAreDue, AgainIsDue, RunsDoNotOverlap, NothingStartsAfterAFailure, NothingStartsAfterACancel, CancelsHaveOneEffect}
-use Rattle.executor_laws.specs.Positions.{FinishedLast}
 use Rattle.executor_core.proofs.Tables.{submission}
 use Rattle.executor_core.proofs.Sound.{first_is_enabled}
-use Rattle.executor_core.proofs.Starting.{StartsFirst}
-use Rattle.executor_laws.proofs.Facts.{says, starts_are_in_order, means_front}
+use Rattle.executor_laws.proofs.StartLaws.{start_is_first, starts_are_in_order, means_front}
 use Rattle.executor_laws.proofs.Waiting.{finish_found}
 
 -- what a start says of its task: it waited, its run has the number of the starts before, and it was due
 
-pub record Started (calls : List Planned) (past : List Entry) (k n d : ℕ) : Type 0 where
-  pub waiting : is_waiting ((look calls past).fate k) ≡ true
+-- what a start says of its task: it waited, its run has the number of the starts before it, and it was due
+pub record Started (calls : List Planned) (past : List HistoryEntry) (k n d : ℕ) : Type 0 where
+  pub waiting : is_waiting ((view_of_history calls past).fate k) ≡ true
   pub run : n ≡ starts k past
   pub due : d ≡ due_of calls past k
 
-pub started_so : (calls : List Planned) (workers : ℕ) (past : List Entry) (e : Entry) (w k n d : ℕ) → Starts calls workers past e w k n d → Started calls past k n d
+-- a start in a history says that of its task
+pub started_so : (calls : List Planned) (workers : ℕ) (past : List HistoryEntry) (e : HistoryEntry) (w k n d : ℕ) → Starts calls workers past e w k n d → Started calls past k n d
 started_so calls workers past e w k n d s =
-    let said = says calls workers past e w k n d s in
-    let v = look calls past in
+    let said = start_is_first calls workers past e w k n d s in
+    let v = view_of_history calls past in
     record {
       waiting = (and_parts (is_waiting (v.fate k)) (nat_le (v.fate k).due v.moment) (first_is_enabled v (numbers calls) k said.first)).0;
       run = said.run;
@@ -51,9 +48,9 @@ started_so calls workers past e w k n d s =
     }
 
 -- a task that waits started as often as it finished
-pub waits_even : (calls : List Planned) (past : List Entry) (k : ℕ) → is_waiting ((look calls past).fate k) ≡ true → starts k past ≡ finishes k past
+pub waits_even : (calls : List Planned) (past : List HistoryEntry) (k : ℕ) → is_waiting ((view_of_history calls past).fate k) ≡ true → starts k past ≡ finishes k past
 waits_even calls past k q =
-    let f = (look calls past).fate k in
+    let f = (view_of_history calls past).fate k in
     let idle = (and_parts (not (is_running f)) (not (is_over f)) (and_parts f.accepted (not (is_running f) && not (is_over f)) q).1).0 in
     let pick : (b : Bool) → (starts k past == finishes k past) ≡ b → not (not b) ≡ true → starts k past ≡ finishes k past =
     elim [ true ↦ λ is q. eqb-true (starts k past) (finishes k past) is | false ↦ λ is q. absurd (false≢true q) ]
@@ -61,23 +58,24 @@ waits_even calls past k q =
     pick (starts k past == finishes k past) refl idle
 
 -- it was not cancelled
-waits_live : (calls : List Planned) (past : List Entry) (k : ℕ) → is_waiting ((look calls past).fate k) ≡ true → was_cancelled k past ≡ false
+waits_live : (calls : List Planned) (past : List HistoryEntry) (k : ℕ) → is_waiting ((view_of_history calls past).fate k) ≡ true → was_cancelled k past ≡ false
 waits_live calls past k q =
-    let f = (look calls past).fate k in
+    let f = (view_of_history calls past).fate k in
     let on = (and_parts (not (is_running f)) (not (is_over f)) (and_parts f.accepted (not (is_running f) && not (is_over f)) q).1).1 in
     let pick : (a b : Bool) → not (a || b) ≡ true → a ≡ false = elim [ true ↦ λ b q. absurd (false≢true q) | false ↦ λ b q. refl ] in
     pick f.cancelled (f.failed || f.done) on
 
 -- and it is not over
-waits_on : (calls : List Planned) (past : List Entry) (k : ℕ) → is_waiting ((look calls past).fate k) ≡ true → was_failed k past ≡ false
+waits_on : (calls : List Planned) (past : List HistoryEntry) (k : ℕ) → is_waiting ((view_of_history calls past).fate k) ≡ true → was_failed k past ≡ false
 waits_on calls past k q =
-    let f = (look calls past).fate k in
+    let f = (view_of_history calls past).fate k in
     let on = (and_parts (not (is_running f)) (not (is_over f)) (and_parts f.accepted (not (is_running f) && not (is_over f)) q).1).1 in
     let pick : (a b d : Bool) → not (a || (b || d)) ≡ true → b ≡ false = elim [ true ↦ λ b d q. absurd (false≢true q) | false ↦ elim [ true ↦ λ d q. absurd (false≢true q) | false ↦ λ d q. refl ] ] in
     pick f.cancelled f.failed f.done on
 
 -- ties
 
+-- the law on tasks that are due at the same moment
 pub ties_go_by_submission : TiesGoBySubmission
 ties_go_by_submission calls workers past e w k n d j s below enabled same =
     let due = (started_so calls workers past e w k n d s).due in
@@ -91,9 +89,11 @@ ties_go_by_submission calls workers past e w k n d j s below enabled same =
 
 -- due moments
 
-pub due_by : (calls : List Planned) (past : List Entry) (k : ℕ) (terms : Terms) → terms_of calls k ≡ terms → due_of calls past k ≡ due_at terms (starts k past) (last_finish calls k past)
+-- the due moment of a task by its terms
+pub due_by : (calls : List Planned) (past : List HistoryEntry) (k : ℕ) (terms : Terms) → terms_of calls k ≡ terms → due_of calls past k ≡ due_at terms (starts k past) (last_finish calls k past)
 due_by calls past k terms e = ap (λ x. due_at x (starts k past) (last_finish calls k past)) e
 
+-- the law on the due moments of a task at a fixed rate
 pub rate_runs_are_due : RateRunsAreDue
 rate_runs_are_due calls workers past e w k n d place moment initial period o is s =
     let start = started_so calls workers past e w k n d s in
@@ -101,7 +101,7 @@ rate_runs_are_due calls workers past e w k n d place moment initial period o is 
     start.due ∙ (due_by calls past k _ terms ∙ ap (λ i. moment + initial + i * period) (sym start.run))
 
 -- where a task finished there is a last finish
-some_finish : (calls : List Planned) (k : ℕ) (past : List Entry) → 0 < finishes k past → (finished : ℕ) × (last_finish calls k past ≡ Some finished)
+some_finish : (calls : List Planned) (k : ℕ) (past : List HistoryEntry) → 0 < finishes k past → (finished : ℕ) × (last_finish calls k past ≡ Some finished)
 some_finish calls k [] l = absurd (omega arith)
 some_finish calls k (e ∷ past) l =
     let pick : (b : Bool) → 0 < cond b (1 + finishes k past) (finishes k past) →
@@ -110,7 +110,7 @@ some_finish calls k (e ∷ past) l =
     in
     pick (is_finish k e.answer) l
 
-no_finish : (calls : List Planned) (k : ℕ) (past : List Entry) → finishes k past ≡ 0 → last_finish calls k past ≡ None
+no_finish : (calls : List Planned) (k : ℕ) (past : List HistoryEntry) → finishes k past ≡ 0 → last_finish calls k past ≡ None
 no_finish calls k [] q = refl
 no_finish calls k (e ∷ past) q =
     let pick : (b : Bool) → cond b (1 + finishes k past) (finishes k past) ≡ 0 → cond b (Some (now_of calls (happenings past))) (last_finish calls k past) ≡ None =
@@ -118,6 +118,7 @@ no_finish calls k (e ∷ past) q =
     in
     pick (is_finish k e.answer) q
 
+-- the law on the due moments of a task with a fixed delay
 pub fixed_runs_are_due : FixedRunsAreDue
 fixed_runs_are_due calls workers past e w k n d place moment initial delay o is s =
     let start = started_so calls workers past e w k n d s in
@@ -174,9 +175,10 @@ again_says calls workers v (h.Cancel j) w k n d q =
     let other : (b : Bool) → cond b (a.Outside j (effect_on (v.fate j))) (a.Error x.NoTask) ≡ a.Finish w k n (o.Again d) → ⊥ = elim [ true ↦ λ q. cc | false ↦ λ q. cc ] in
     absurd (other _ q)
 
+-- the law that the due moment of a finish is that of the next run
 pub again_is_due : AgainIsDue
 again_is_due calls workers past e w k n d m is =
-    let v = look calls past in
+    let v = view_of_history calls past in
     let start : is_start k e.answer ≡ false = ap (is_start k) is in
     let finish : is_finish k e.answer ≡ true = ap (is_finish k) is ∙ eq-eqb k k refl in
     again_says calls workers v e.happening w k n d (sym m.2 ∙ is)
@@ -184,19 +186,21 @@ again_is_due calls workers past e w k n d m is =
 
 -- overlaps
 
-pub starts_grow : (k : ℕ) (between past : List Entry) → starts k past ≤ starts k (between ++ past)
+-- a longer history has as many starts of a task at least
+pub starts_grow : (k : ℕ) (between past : List HistoryEntry) → starts k past ≤ starts k (between ++ past)
 starts_grow k [] past = omega arith
 starts_grow k (e ∷ between) past =
     let rest = starts_grow k between past in
     let pick : (b : Bool) → starts k past ≤ cond b (1 + starts k (between ++ past)) (starts k (between ++ past)) = elim [ true ↦ omega (arith, rest) | false ↦ rest ] in
     pick (is_start k e.answer)
 
-finishes_stay : (k : ℕ) (between past : List Entry) → list_any (λ e. is_finish k e.answer) between ≡ false → finishes k (between ++ past) ≡ finishes k past
+finishes_stay : (k : ℕ) (between past : List HistoryEntry) → list_any (λ e. is_finish k e.answer) between ≡ false → finishes k (between ++ past) ≡ finishes k past
 finishes_stay k [] past q = refl
 finishes_stay k (e ∷ between) past q =
     let parts = or_parts (is_finish k e.answer) (list_any (λ f. is_finish k f.answer) between) q in
     ap (λ b. cond b (1 + finishes k (between ++ past)) (finishes k (between ++ past))) parts.0 ∙ finishes_stay k between past parts.1
 
+-- the law that the finish of a task stands between two starts of it
 pub runs_do_not_overlap : RunsDoNotOverlap
 runs_do_not_overlap calls workers past between first second v w k m n d f s is =
     let any = list_any (λ e. is_finish k e.answer) between in
@@ -215,13 +219,14 @@ runs_do_not_overlap calls workers past between first second v w k m n d f s is =
 
 -- failures
 
-failed_stays : (k : ℕ) (between past : List Entry) → was_failed k past ≡ true → was_failed k (between ++ past) ≡ true
+failed_stays : (k : ℕ) (between past : List HistoryEntry) → was_failed k past ≡ true → was_failed k (between ++ past) ≡ true
 failed_stays k [] past q = q
 failed_stays k (e ∷ between) past q =
     let rest = failed_stays k between past q in
     let pick : (b : Bool) → (b || was_failed k (between ++ past)) ≡ true = elim [ true ↦ refl | false ↦ rest ] in
     pick (is_finish_with is_failed k e.answer)
 
+-- the law that a task that failed does not start again
 pub nothing_starts_after_a_failure : NothingStartsAfterAFailure
 nothing_starts_after_a_failure calls workers past between finish start v w k m n d code s is =
     let waits = waits_on calls (between ++ finish ∷ past) k (started_so calls workers (between ++ finish ∷ past) start w k n d s).waiting in
@@ -230,13 +235,14 @@ nothing_starts_after_a_failure calls workers past between finish start v w k m n
 
 -- cancels
 
-cancelled_stays : (k : ℕ) (between past : List Entry) → was_cancelled k past ≡ true → was_cancelled k (between ++ past) ≡ true
+cancelled_stays : (k : ℕ) (between past : List HistoryEntry) → was_cancelled k past ≡ true → was_cancelled k (between ++ past) ≡ true
 cancelled_stays k [] past q = q
 cancelled_stays k (e ∷ between) past q =
     let rest = cancelled_stays k between past q in
     let pick : (b : Bool) → (b || was_cancelled k (between ++ past)) ≡ true = elim [ true ↦ refl | false ↦ rest ] in
     pick (is_cancel k e.answer)
 
+-- the law that a cancelled task does not start again
 pub nothing_starts_after_a_cancel : NothingStartsAfterACancel
 nothing_starts_after_a_cancel calls workers past between cancel start w k n d s is =
     let live = waits_live calls (between ++ cancel ∷ past) k (started_so calls workers (between ++ cancel ∷ past) start w k n d s).waiting in
@@ -294,9 +300,10 @@ cancel_says calls workers v (h.Cancel j) k =
     in
     pick (nat_lt j (task_count calls))
 
+-- the law that one cancel of a task at most has an effect
 pub cancels_have_one_effect : CancelsHaveOneEffect
 cancels_have_one_effect calls workers past between first second k m one other =
     let before = between ++ first ∷ past in
-    let live = cancel_says calls workers (look calls before) second.happening k (sym (ap (is_cancel k) m.2) ∙ other) in
+    let live = cancel_says calls workers (view_of_history calls before) second.happening k (sym (ap (is_cancel k) m.2) ∙ other) in
     let cancelled : was_cancelled k (first ∷ past) ≡ true = ap (λ b. b || was_cancelled k past) one in
     false≢true (sym live ∙ cancelled_stays k between (first ∷ past) cancelled)

@@ -1,28 +1,27 @@
 -- The tasks that wait, and the last finish of a task, read by position.
-use Rattle.std.proofs.Common.{◌≡◌, ℕ, ◌+◌, ◌<◌, ◌≤◌, ◌==◌, Bool, true, false, cond, inl, inr, List, [], ◌∷◌, ◌++◌, Option, Some, None, refl, sym, ap, ◌∙◌, arith, subst}
-use Rattle.std.specs.Prelude.{slice_get, max, not, ◌^◌, ◌&&◌, ◌||◌}
+use Rattle.std.proofs.Common.{◌≡◌, ℕ, ◌<◌, ◌≤◌, Bool, true, false, cond, inl, inr, List, [], ◌∷◌, ◌++◌, Option, Some, None, refl, sym, ap, ◌∙◌, arith, subst}
+use Rattle.std.specs.Prelude.{slice_get, max, not, ◌&&◌, ◌||◌}
 use Rattle.std.specs.Option.{option_map_or}
 use Rattle.std.specs.List.{list_any}
 use Rattle.std.proofs.lemmas.Bool.{false≢true, eqb-true, and_parts, or_cases, or_parts, or_from}
 use Rattle.std.proofs.lemmas.Option.{none-some, same_Some}
-use Rattle.sched_time.specs.declared.timing.Timing.{Timing}
-use Rattle.sched_time.specs.declared.timing.Timing.TheVariants as t
 use Rattle.queue_code.specs.declared.call.CodeCall.{CodeCall}
 use Rattle.queue_code.specs.declared.call.CodeCall.TheVariants as c
 use Rattle.executor_core.specs.declared.types.EventError.TheVariants as x
 use Rattle.executor_core.specs.declared.types.Happening.{Happening}
 use Rattle.executor_core.specs.declared.types.Happening.TheVariants as h
 use Rattle.executor_core.specs.declared.types.Answer.TheVariants as a
-use Rattle.queue_code.specs.Calls.{Planned, Terms, IsOrderlyCall, IsOrderlyFrom, count_after, numbers, terms_of, terms_in, due_at}
+use Rattle.queue_code.specs.Calls.{Planned, numbers}
 use Rattle.executor_core.specs.View.{View, is_running, is_over, first_enabled}
 use Rattle.executor_core.specs.Answers.{plain, reply, called, started, finished, moment_after, effect_on}
-use Rattle.executor_core.specs.Histories.{Entry, Means, look, happenings, made, now_of, is_submit, is_finish, was_accepted, starts, last_finish}
+use Rattle.executor_core.specs.Histories.{HistoryEntry, IsHistoryOf, view_of_history, happenings, made, now_of, is_submit, is_finish, was_accepted, last_finish}
 use Rattle.executor_laws.specs.Positions.{IsSubmissionOf, WasSubmitted, WaitingIsATask, WaitingIsDueInTime, FinishedLast, LastFinishIsTheLast, FinishKeepsNow}
 use Rattle.executor_laws.proofs.Reading.{tasks_are_submitted}
 use Rattle.executor_core.proofs.Within.{dues_within}
 
 -- what an answer that submits a task says of what happened
 
+-- what an answer that submits a task says of the next call
 pub record Submits (calls : List Planned) (v : View) (happening : Happening) (k : ℕ) : Type 0 where
   pub call : Planned
   pub is : happening ≡ h.Call
@@ -34,6 +33,7 @@ call_submits calls v (c.Submit task timing delay) k q = eqb-true task k q
 call_submits calls v (c.Illegal task) k q = absurd (false≢true q)
 call_submits calls v (c.Cancel task) k q = absurd (false≢true q)
 
+-- an answer that submits a task is that of a call that does
 pub submit_says : (calls : List Planned) (workers : ℕ) (v : View) (y : Happening) (k : ℕ) → is_submit k (reply calls workers v y).answer ≡ true → Submits calls v y k
 submit_says calls workers v h.Call k q =
     let pick : (o : Option Planned) → slice_get calls v.made ≡ o → is_submit k (option_map_or (λ p. called calls (record v { moment = max v.moment p.0 }) p.1) o (plain a.Clock)).answer ≡ true → Submits calls v h.Call k =
@@ -73,7 +73,7 @@ made_more (h.Cancel k) past = omega arith
 submitted_behind : (calls : List Planned) (y : Happening) (past : List Happening) (k : ℕ) → WasSubmitted calls past k → WasSubmitted calls (y ∷ past) k
 submitted_behind calls y past k s = record { place = s.place; call = s.call; there = s.there; submits = s.submits; before = omega (arith, s.before, made_more y past) }
 
-submitted_here : (calls : List Planned) (past : List Entry) (y : Happening) (k : ℕ) → Submits calls (look calls past) y k → WasSubmitted calls (y ∷ happenings past) k
+submitted_here : (calls : List Planned) (past : List HistoryEntry) (y : Happening) (k : ℕ) → Submits calls (view_of_history calls past) y k → WasSubmitted calls (y ∷ happenings past) k
 submitted_here calls past y k s = record {
   place = made (happenings past);
   call = s.call;
@@ -82,28 +82,30 @@ submitted_here calls past y k s = record {
   before = subst (λ z. made (happenings past) < made (z ∷ happenings past)) (sym s.is) (omega arith);
 }
 
-was_submitted : (calls : List Planned) (workers : ℕ) (past : List Entry) (k : ℕ) → Means calls workers past → was_accepted k past ≡ true → WasSubmitted calls (happenings past) k
+was_submitted : (calls : List Planned) (workers : ℕ) (past : List HistoryEntry) (k : ℕ) → IsHistoryOf calls workers past → was_accepted k past ≡ true → WasSubmitted calls (happenings past) k
 was_submitted calls workers [] k m q = absurd (false≢true q)
 was_submitted calls workers (e ∷ past) k m q = elim (or_cases (is_submit k e.answer) (was_accepted k past) q) [
-  | inl here ↦ submitted_here calls past e.happening k (submit_says calls workers (look calls past) e.happening k (sym (ap (is_submit k) m.2) ∙ here))
+  | inl here ↦ submitted_here calls past e.happening k (submit_says calls workers (view_of_history calls past) e.happening k (sym (ap (is_submit k) m.2) ∙ here))
   | inr there ↦ submitted_behind calls e.happening (happenings past) k (was_submitted calls workers past k m.0 there)
 ]
 
+-- the law that a task that waits is one of the plan
 pub waiting_is_a_task : WaitingIsATask
 waiting_is_a_task calls workers past k o m q =
-    let fate = (look calls past).fate k in
+    let fate = (view_of_history calls past).fate k in
     let s = was_submitted calls workers past k m (and_parts fate.accepted (not (is_running fate) && not (is_over fate)) q).0 in
     ((tasks_are_submitted calls k o).1 s.place s.call s.there s.submits, s)
 
 -- when a task is due
 
+-- the law that a task that waits is due within 2^63
 pub waiting_is_due_in_time : WaitingIsDueInTime
 waiting_is_due_in_time calls workers past k o m q = dues_within calls workers past o m k
 
 -- the last finish of a task
 
 -- a finish that stands behind one entry more
-finished_behind : (calls : List Planned) (past : List Entry) (f : Entry) (k t : ℕ) → is_finish k f.answer ≡ false → FinishedLast calls past k t → FinishedLast calls (f ∷ past) k t
+finished_behind : (calls : List Planned) (past : List HistoryEntry) (f : HistoryEntry) (k t : ℕ) → is_finish k f.answer ≡ false → FinishedLast calls past k t → FinishedLast calls (f ∷ past) k t
 finished_behind calls past f k t other s = record {
   later = f ∷ s.later;
   e = s.e;
@@ -114,7 +116,8 @@ finished_behind calls past f k t other s = record {
   moment = s.moment;
 }
 
-pub finish_found : (calls : List Planned) (k : ℕ) (past : List Entry) (t : ℕ) → last_finish calls k past ≡ Some t → FinishedLast calls past k t
+-- where a last finish is known, it stands in the history
+pub finish_found : (calls : List Planned) (k : ℕ) (past : List HistoryEntry) (t : ℕ) → last_finish calls k past ≡ Some t → FinishedLast calls past k t
 finish_found calls k [] t q = absurd (none-some t q)
 finish_found calls k (e ∷ past) t q =
     let pick : (b : Bool) → is_finish k e.answer ≡ b → cond b (Some (now_of calls (happenings past))) (last_finish calls k past) ≡ Some t → FinishedLast calls (e ∷ past) k t =
@@ -125,7 +128,7 @@ finish_found calls k (e ∷ past) t q =
     in
     pick (is_finish k e.answer) refl q
 
-finish_stands : (calls : List Planned) (k : ℕ) (later before : List Entry) (e : Entry) → is_finish k e.answer ≡ true → list_any (λ f. is_finish k f.answer) later ≡ false →
+finish_stands : (calls : List Planned) (k : ℕ) (later before : List HistoryEntry) (e : HistoryEntry) → is_finish k e.answer ≡ true → list_any (λ f. is_finish k f.answer) later ≡ false →
     last_finish calls k (later ++ e ∷ before) ≡ Some (now_of calls (happenings before))
 finish_stands calls k [] before e is none = ap (λ b. cond b (Some (now_of calls (happenings before))) (last_finish calls k before)) is
 finish_stands calls k (f ∷ later) before e is none =
@@ -133,7 +136,7 @@ finish_stands calls k (f ∷ later) before e is none =
     let past = later ++ e ∷ before in
     ap (λ b. cond b (Some (now_of calls (happenings past))) (last_finish calls k past)) parts.0 ∙ finish_stands calls k later before e is parts.1
 
-none_finished : (calls : List Planned) (k : ℕ) (past : List Entry) → last_finish calls k past ≡ None → list_any (λ e. is_finish k e.answer) past ≡ false
+none_finished : (calls : List Planned) (k : ℕ) (past : List HistoryEntry) → last_finish calls k past ≡ None → list_any (λ e. is_finish k e.answer) past ≡ false
 none_finished calls k [] q = refl
 none_finished calls k (e ∷ past) q =
     let pick : (b : Bool) → cond b (Some (now_of calls (happenings past))) (last_finish calls k past) ≡ None → (b || list_any (λ f. is_finish k f.answer) past) ≡ false =
@@ -141,7 +144,7 @@ none_finished calls k (e ∷ past) q =
     in
     pick (is_finish k e.answer) q
 
-no_last_finish : (calls : List Planned) (k : ℕ) (past : List Entry) → list_any (λ e. is_finish k e.answer) past ≡ false → last_finish calls k past ≡ None
+no_last_finish : (calls : List Planned) (k : ℕ) (past : List HistoryEntry) → list_any (λ e. is_finish k e.answer) past ≡ false → last_finish calls k past ≡ None
 no_last_finish calls k [] q = refl
 no_last_finish calls k (e ∷ past) q =
     let pick : (b : Bool) → (b || list_any (λ f. is_finish k f.answer) past) ≡ false → cond b (Some (now_of calls (happenings past))) (last_finish calls k past) ≡ None =
@@ -149,6 +152,7 @@ no_last_finish calls k (e ∷ past) q =
     in
     pick (is_finish k e.answer) q
 
+-- the law that the last finish is the one with no other after it
 pub last_finish_is_the_last : LastFinishIsTheLast
 last_finish_is_the_last calls past k = (
   λ t. (
@@ -178,6 +182,7 @@ finish_keeps calls workers v (h.Start w) k now call q = refl
 finish_keeps calls workers v (h.Finish w ending) k now call q = refl
 finish_keeps calls workers v (h.Cancel j) k now call q = refl
 
+-- the law that a finish does not move now
 pub finish_keeps_now : FinishKeepsNow
 finish_keeps_now calls workers past e k m q =
-    finish_keeps calls workers (look calls past) e.happening k (now_of calls (happenings past)) (slice_get calls (made (happenings past))) (sym (ap (is_finish k) m.2) ∙ q)
+    finish_keeps calls workers (view_of_history calls past) e.happening k (now_of calls (happenings past)) (slice_get calls (made (happenings past))) (sym (ap (is_finish k) m.2) ∙ q)

@@ -6,3 +6,4 @@ pub use Rattle.executor_core.specs.State
 pub use Rattle.executor_core.specs.Flows
 pub mod Positions
 pub mod Laws
+pub mod TaskWords

@@ -1,7 +1,8 @@
 -- What the definitions by recursion say of the positions in a history.
 -- All of it is this project's rule.
-use Rattle.std.specs.Prelude.{◌≡◌, ℕ, ◌+◌, ◌<◌, ◌≤◌, ◌==◌, Bool, true, false, List, ◌∷◌, ◌++◌, ◌⊎◌, ◌↔◌, ◌^◌, not, length, map, take, replicate, Option, Some, None, slice_get}
+use Rattle.std.specs.Prelude.{◌≡◌, ℕ, ◌+◌, ◌<◌, ◌≤◌, ◌==◌, Bool, true, false, List, ◌∷◌, ◌++◌, ◌⊎◌, ◌↔◌, not, length, map, take, replicate, Option, Some, None, slice_get}
 use Rattle.std.specs.List.{list_any, filter}
+use Rattle.sched_time.specs.Times.{longest}
 use Rattle.sched_time.specs.declared.timing.Timing.{Timing}
 use Rattle.queue_code.specs.declared.call.CodeCall.{CodeCall}
 use Rattle.queue_code.specs.declared.call.CodeCall.TheVariants as c
@@ -13,7 +14,8 @@ use Rattle.executor_core.specs.declared.types.Answer.{Answer}
 use Rattle.executor_core.specs.declared.types.Answer.TheVariants as a
 use Rattle.queue_code.specs.Calls.{Planned, how_many, numbers, task_count, IsOrderly, terms_of}
 use Rattle.executor_core.specs.View.{View, is_waiting, is_enabled, precedes, first_enabled}
-use Rattle.executor_core.specs.Histories.{Entry, Means, MayCome, happenings, is_call, is_finish, last_finish, look, made, now_of, work_of}
+use Rattle.executor_core.specs.Histories.{HistoryEntry, IsHistoryOf, MayCome, happenings, is_call, is_finish, last_finish, view_of_history, made, now_of, work_of}
+use Rattle.executor_core.specs.Within.{latest_due}
 use Rattle.executor_core.specs.Flows.{reached, flow, happening_of}
 
 -- the work of a worker
@@ -29,10 +31,10 @@ finishes_by w (a.Finish worker task run outcome) = worker == w
 finishes_by w _ = false
 
 -- a start of a task by a worker stands in the history, and no finish by the worker after it
-pub record StartedLast (past : List Entry) (w k : ℕ) : Type 0 where
-  pub later : List Entry
-  pub e : Entry
-  pub before : List Entry
+pub record StartedLast (past : List HistoryEntry) (w k : ℕ) : Type 0 where
+  pub later : List HistoryEntry
+  pub e : HistoryEntry
+  pub before : List HistoryEntry
   pub parts : past ≡ later ++ e ∷ before
   pub run : ℕ
   pub due : ℕ
@@ -41,7 +43,7 @@ pub record StartedLast (past : List Entry) (w k : ℕ) : Type 0 where
 
 -- the work of a worker is the task of its last start, where no finish came after it
 abbrev pub WorkIsTheLastStart : Type 0
-WorkIsTheLastStart = (calls : List Planned) (workers : ℕ) (past : List Entry) (w k : ℕ) → Means calls workers past
+WorkIsTheLastStart = (calls : List Planned) (workers : ℕ) (past : List HistoryEntry) (w k : ℕ) → IsHistoryOf calls workers past
     → (work_of w past ≡ Some k → StartedLast past w k) × (StartedLast past w k → work_of w past ≡ Some k)
 
 -- one while it works
@@ -51,35 +53,35 @@ busy (Some k) = 1
 
 -- a worker that works has started once more than it finished, and any other one as often
 abbrev pub StartsExceedFinishes : Type 0
-StartsExceedFinishes = (calls : List Planned) (workers : ℕ) (past : List Entry) (w : ℕ) → Means calls workers past
+StartsExceedFinishes = (calls : List Planned) (workers : ℕ) (past : List HistoryEntry) (w : ℕ) → IsHistoryOf calls workers past
     → how_many (λ e. starts_by w e.answer) past ≡ busy (work_of w past) + how_many (λ e. finishes_by w e.answer) past
 
 -- the moment
 
 -- an entry is a call that was made, or an accepted clock, and this is its moment
-abbrev pub HasMoment : List Planned → Entry → List Entry → ℕ → Type 0
+abbrev pub HasMoment : List Planned → HistoryEntry → List HistoryEntry → ℕ → Type 0
 HasMoment calls e before t =
     ((e.happening ≡ h.Call) × ((p : Planned) × (slice_get calls (made (happenings before)) ≡ Some p) × (p.0 ≡ t)))
     ⊎ ((e.happening ≡ h.Clock t) × (e.answer ≡ a.Clock))
 
 -- such an entry stands in the history
-pub record Shows (calls : List Planned) (past : List Entry) (t : ℕ) : Type 0 where
-  pub later : List Entry
-  pub e : Entry
-  pub before : List Entry
+pub record Shows (calls : List Planned) (past : List HistoryEntry) (t : ℕ) : Type 0 where
+  pub later : List HistoryEntry
+  pub e : HistoryEntry
+  pub before : List HistoryEntry
   pub parts : past ≡ later ++ e ∷ before
   pub moment : HasMoment calls e before t
 
 -- now is the greatest moment of the calls made and the accepted clocks, and 0 before any
 abbrev pub NowIsTheGreatest : Type 0
-NowIsTheGreatest = (calls : List Planned) (workers : ℕ) (past : List Entry) → Means calls workers past
+NowIsTheGreatest = (calls : List Planned) (workers : ℕ) (past : List HistoryEntry) → IsHistoryOf calls workers past
     → ((t : ℕ) → Shows calls past t → t ≤ now_of calls (happenings past))
     × ((now_of calls (happenings past) ≡ 0) ⊎ Shows calls past (now_of calls (happenings past)))
 
 -- the first enabled task
 
 -- a task of the plan is enabled, and each other enabled one comes after it
-pub record IsFirst (calls : List Planned) (v : View) (k : ℕ) : Type 0 where
+pub record IsFirstEnabled (calls : List Planned) (v : View) (k : ℕ) : Type 0 where
   pub below : k < task_count calls
   pub enabled : is_enabled v k ≡ true
   pub least : (j : ℕ) → j < task_count calls → is_enabled v j ≡ true → (j ≡ k) ⊎ (precedes v k j ≡ true)
@@ -87,9 +89,9 @@ pub record IsFirst (calls : List Planned) (v : View) (k : ℕ) : Type 0 where
 -- the first enabled task is the one that is enabled and precedes each other enabled task of the plan
 abbrev pub FirstIsTheLeast : Type 0
 FirstIsTheLeast = (calls : List Planned) (v : View) (k : ℕ)
-    → (first_enabled v (numbers calls) ≡ Some k → IsFirst calls v k) × (IsFirst calls v k → first_enabled v (numbers calls) ≡ Some k)
+    → (first_enabled v (numbers calls) ≡ Some k → IsFirstEnabled calls v k) × (IsFirstEnabled calls v k → first_enabled v (numbers calls) ≡ Some k)
 
--- there is none just where no task of the plan is enabled
+-- there is none exactly when no task of the plan is enabled
 abbrev pub NoneIsEnabled : Type 0
 NoneIsEnabled = (calls : List Planned) (v : View)
     → (first_enabled v (numbers calls) ≡ None → (j : ℕ) → j < task_count calls → is_enabled v j ≡ false)
@@ -144,9 +146,9 @@ FlowKeepsTheEvents = (calls : List Planned) (events : List Event) → filter is_
 
 -- the event is a clock that shows t, and after these happenings it is accepted
 abbrev pub IsAcceptedClock : List Planned → List Happening → Event → ℕ → Type 0
-IsAcceptedClock calls past event t = (event ≡ v.Clock t) × (now_of calls past ≤ t) × (t ≤ 2 ^ 62)
+IsAcceptedClock calls past event t = (event ≡ v.Clock t) × (now_of calls past ≤ t) × (t ≤ longest)
 
--- so many calls are made between some happenings and an event: before an accepted clock those that are not
+-- `count` calls are made between some happenings and an event: before an accepted clock those that are not
 -- made yet and whose moment is at most its own, and before any other event none
 pub record IsMadeBefore (calls : List Planned) (past : List Happening) (event : Event) (count : ℕ) : Type 0 where
   pub within : made past + count ≤ length calls
@@ -177,33 +179,33 @@ pub record WasSubmitted (calls : List Planned) (past : List Happening) (k : ℕ)
 
 -- a task that waits, as an enabled one does, is one of the plan, and the call that submits it was made
 abbrev pub WaitingIsATask : Type 0
-WaitingIsATask = (calls : List Planned) (workers : ℕ) (past : List Entry) (k : ℕ) → IsOrderly calls → Means calls workers past
-    → is_waiting ((look calls past).fate k) ≡ true → (k < task_count calls) × WasSubmitted calls (happenings past) k
+WaitingIsATask = (calls : List Planned) (workers : ℕ) (past : List HistoryEntry) (k : ℕ) → IsOrderly calls → IsHistoryOf calls workers past
+    → is_waiting ((view_of_history calls past).fate k) ≡ true → (k < task_count calls) × WasSubmitted calls (happenings past) k
 
--- a task that waits is due within twice the limit of a moment
+-- a task that waits is not due later than the latest due moment
 abbrev pub WaitingIsDueInTime : Type 0
-WaitingIsDueInTime = (calls : List Planned) (workers : ℕ) (past : List Entry) (k : ℕ) → IsOrderly calls → Means calls workers past
-    → is_waiting ((look calls past).fate k) ≡ true → ((look calls past).fate k).due ≤ 2 ^ 63
+WaitingIsDueInTime = (calls : List Planned) (workers : ℕ) (past : List HistoryEntry) (k : ℕ) → IsOrderly calls → IsHistoryOf calls workers past
+    → is_waiting ((view_of_history calls past).fate k) ≡ true → ((view_of_history calls past).fate k).due ≤ latest_due
 
 -- the last finish of a task
 
 -- a finish of task k stands in the history, and no finish of it after; the moment before it is t
-pub record FinishedLast (calls : List Planned) (past : List Entry) (k t : ℕ) : Type 0 where
-  pub later : List Entry
-  pub e : Entry
-  pub before : List Entry
+pub record FinishedLast (calls : List Planned) (past : List HistoryEntry) (k t : ℕ) : Type 0 where
+  pub later : List HistoryEntry
+  pub e : HistoryEntry
+  pub before : List HistoryEntry
   pub parts : past ≡ later ++ e ∷ before
   pub finish : is_finish k e.answer ≡ true
   pub none : list_any (λ f. is_finish k f.answer) later ≡ false
   pub moment : t ≡ now_of calls (happenings before)
 
--- the last finish is the one with no other after it, at its moment; there is none just where no finish stands
+-- the last finish is the one with no other after it, at its moment; there is none exactly when no finish stands
 abbrev pub LastFinishIsTheLast : Type 0
-LastFinishIsTheLast = (calls : List Planned) (past : List Entry) (k : ℕ)
+LastFinishIsTheLast = (calls : List Planned) (past : List HistoryEntry) (k : ℕ)
     → ((t : ℕ) → ((last_finish calls k past ≡ Some t) ↔ FinishedLast calls past k t))
     × ((last_finish calls k past ≡ None) ↔ (list_any (λ e. is_finish k e.answer) past ≡ false))
 
 -- a finish does not move now: the moment before it is its own
 abbrev pub FinishKeepsNow : Type 0
-FinishKeepsNow = (calls : List Planned) (workers : ℕ) (past : List Entry) (e : Entry) (k : ℕ) → Means calls workers (e ∷ past)
+FinishKeepsNow = (calls : List Planned) (workers : ℕ) (past : List HistoryEntry) (e : HistoryEntry) (k : ℕ) → IsHistoryOf calls workers (e ∷ past)
     → is_finish k e.answer ≡ true → now_of calls (happenings (e ∷ past)) ≡ now_of calls (happenings past)

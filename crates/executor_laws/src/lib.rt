@@ -9,11 +9,14 @@
 //! # Contents
 //!
 //! The first group says what a client of the executor may rely on: due moments, order, ties, overlap, failures, cancels.
-//! The second one says what the definitions, which count and recur over a history, say of the positions in it.
+//! The second one says what the definitions, which count and recur over a history, say of the positions in it. The
+//! third one is on states: what the words of the tasks say of the history, that no answer lowers the rank of a word or
+//! changes a cancelled one, and that an error changes nothing.
 #![tactic(auto)]
 
 mod laws;
 mod positions;
+mod states;
 
 pub use laws::{
     again_is_due, answers_by_position, cancels_have_one_effect, fixed_runs_are_due,
@@ -27,4 +30,7 @@ pub use positions::{
     flow_may_come, last_finish_is_the_last, none_is_enabled, now_is_the_greatest,
     reached_is_a_front, starts_exceed_finishes, tasks_are_submitted, terms_are_its_own,
     waiting_is_a_task, waiting_is_due_in_time, work_is_the_last_start,
+};
+pub use states::{
+    cancelled_words_stay, errors_change_nothing, ranks_do_not_fall, words_tell_the_history,
 };

@@ -21,7 +21,7 @@ pub fn first_is_the_least()
     ensures { FirstIsTheLeast }
 {}
 
-/// There is no first enabled task just where none is enabled.
+/// There is no first enabled task exactly when none is enabled.
 pub fn none_is_enabled()
     ensures { NoneIsEnabled }
 {}

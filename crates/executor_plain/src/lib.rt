@@ -1,10 +1,29 @@
 //! The executor as a plain program, which stands beside the definitions.
 //!
-//! It keeps no state. Each answer counts again in the whole history before it, and each function
-//! is one definition. So it is slow, and easy to read: what the core answers can be compared with
-//! it.
+//! # Usage
+//!
+//! ```rust
+//! // Two lines: the clock is at 3, and the worker gets no work.
+//! let lines = trace(alloc, &[], 1, &[Event::Clock(3), Event::Start(0)])?;
+//! ```
+//!
+//! [`trace`] gives the lines of some events, as a core of the same calls does. [`answer_after`] gives the answer to
+//! one happening after a history.
+//!
+//! # Behaviour, order and ties
+//!
+//! It keeps no state. Each answer counts again in the whole history before it, and each function is one
+//! definition. So it is easy to read, and what the core answers can be compared with it. It answers as the core
+//! does, in the same order and with the same ties.
+//!
+//! # Memory, errors and cost
+//!
+//! `trace` takes memory for the history and for the lines, and fails where there is none. `answer_after` takes none.
+//! An answer to a start goes over the whole history once and more for each task, and each other one a few times: it
+//! is slow, and for tests.
 #![tactic(auto)]
 
+mod equality;
 mod history;
 mod table;
 mod tasks;

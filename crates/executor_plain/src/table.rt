@@ -41,7 +41,7 @@ pub fn answer_after(
 /// The answer to a call.
 fn answer_call(calls: &[(u64, CodeCall)], past: &[Past], call: CodeCall) -> Answer
     requires { IsOrderly calls.now }
-    ensures { (moment : ℕ) → result ≡ (answers.called calls.now (record (histories.look calls.now (history past.now)) { moment = moment }) call).answer }
+    ensures { (moment : ℕ) → result ≡ (answers.called calls.now (record (histories.view_of_history calls.now (history past.now)) { moment = moment }) call).answer }
 {
     match call {
         CodeCall::Submit { task, timing, .. } => Answer::Submit {
@@ -140,7 +140,7 @@ fn answer_finish(
 fn due_next(calls: &[(u64, CodeCall)], past: &[Past], k: u32) -> u64
     requires orderly { IsOrderly calls.now }
     requires within { IsWithin calls.now (history past.now) }
-    ensures { result ≡ answers.due_next calls.now (histories.look calls.now (history past.now)) k }
+    ensures { result ≡ answers.due_next calls.now (histories.view_of_history calls.now (history past.now)) k }
 {
     due_at(calls, k, starts(k, past), Some(now_of(calls, past)))
 }
@@ -160,7 +160,7 @@ fn kind_of(timing: Timing) -> Kind
 fn outcome_in(calls: &[(u64, CodeCall)], past: &[Past], k: u32, ending: Ending) -> Outcome
     requires orderly { IsOrderly calls.now }
     requires within { IsWithin calls.now (history past.now) }
-    ensures { result ≡ answers.outcome_in (histories.was_cancelled k (history past.now)) (terms_of calls.now k).timing (answers.due_next calls.now (histories.look calls.now (history past.now)) k) ending }
+    ensures { result ≡ answers.outcome_in (histories.was_cancelled k (history past.now)) (terms_of calls.now k).timing (answers.due_next calls.now (histories.view_of_history calls.now (history past.now)) k) ending }
 {
     if was_cancelled(k, past) {
         return Outcome::Dropped;

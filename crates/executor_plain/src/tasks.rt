@@ -1,11 +1,11 @@
-ghost use Rattle.std.specs.Prelude.{◌≡◌, ◌+◌, ◌≤◌, ◌^◌, length};
+ghost use Rattle.std.specs.Prelude.{◌≡◌, ◌+◌, ◌≤◌, length};
 ghost use Rattle.std.specs.List.{range_with_len};
-ghost use Rattle.queue_code.specs.Calls.{IsOrderly, task_count, terms_of, due_at};
+ghost use Rattle.queue_code.specs.Calls.{IsOrderly, most_calls, task_count, terms_of, due_at};
 ghost use Rattle.executor_core.specs.View as views;
 ghost use Rattle.executor_core.specs.Answers as answers;
 ghost use Rattle.executor_core.specs.Histories as histories;
 ghost use Rattle.executor_plain.specs.Plain.{IsOrderlyPart, history};
-ghost use Rattle.executor_core.specs.Within.{IsWithin};
+ghost use Rattle.executor_core.specs.Within.{IsWithin, latest_due};
 
 use crate::history::{
     Past, finishes, last_finish, now_of, starts, was_accepted, was_cancelled, was_done, was_failed,
@@ -55,10 +55,10 @@ fn first_due(calls: &[(u64, CodeCall)], k: u32) -> u64
     }
 }
 
-/// When the next run of a task is due, after so many starts and with the last finish at a moment.
+/// When the next run of task `k` is due, after `starts` starts and with its last finish at `last`.
 pub(crate) fn due_at(calls: &[(u64, CodeCall)], k: u32, starts: u64, last: Option<u64>) -> u64
     requires orderly { IsOrderly calls.now }
-    requires within { due_at (terms_of calls.now k) starts last ≤ 2 ^ 63 }
+    requires within { due_at (terms_of calls.now k) starts last ≤ latest_due }
     ensures { result ≡ due_at (terms_of calls.now k) starts last }
 {
     let first = first_due(calls, k);
@@ -83,14 +83,14 @@ pub(crate) fn due_of(calls: &[(u64, CodeCall)], past: &[Past], k: u32) -> u64
 
 /// Whether a run of a task is under way.
 fn is_running(calls: &[(u64, CodeCall)], past: &[Past], k: u32) -> bool
-    ensures { result ≡ views.is_running ((histories.look calls.now (history past.now)).fate k) }
+    ensures { result ≡ views.is_running ((histories.view_of_history calls.now (history past.now)).fate k) }
 {
     starts(k, past) != finishes(k, past)
 }
 
 /// Whether a task was accepted, is not running and is not over.
 fn is_waiting(calls: &[(u64, CodeCall)], past: &[Past], k: u32) -> bool
-    ensures { result ≡ views.is_waiting ((histories.look calls.now (history past.now)).fate k) }
+    ensures { result ≡ views.is_waiting ((histories.view_of_history calls.now (history past.now)).fate k) }
 {
     was_accepted(k, past)
         && !is_running(calls, past, k)
@@ -101,7 +101,7 @@ fn is_waiting(calls: &[(u64, CodeCall)], past: &[Past], k: u32) -> bool
 
 /// What a cancel does to a task.
 pub(crate) fn effect_on(calls: &[(u64, CodeCall)], past: &[Past], k: u32) -> CancelEffect
-    ensures { result ≡ answers.effect_on ((histories.look calls.now (history past.now)).fate k) }
+    ensures { result ≡ answers.effect_on ((histories.view_of_history calls.now (history past.now)).fate k) }
 {
     if !was_accepted(k, past) {
         CancelEffect::Absent
@@ -114,7 +114,7 @@ pub(crate) fn effect_on(calls: &[(u64, CodeCall)], past: &[Past], k: u32) -> Can
 
 /// Whether a cancel of a task would have an effect.
 fn is_live(calls: &[(u64, CodeCall)], past: &[Past], k: u32) -> bool
-    ensures { result ≡ views.is_live ((histories.look calls.now (history past.now)).fate k) }
+    ensures { result ≡ views.is_live ((histories.view_of_history calls.now (history past.now)).fate k) }
 {
     is_waiting(calls, past, k) || (is_running(calls, past, k) && !was_cancelled(k, past))
 }
@@ -123,7 +123,7 @@ fn is_live(calls: &[(u64, CodeCall)], past: &[Past], k: u32) -> bool
 pub(crate) fn is_enabled(calls: &[(u64, CodeCall)], past: &[Past], k: u32) -> bool
     requires orderly { IsOrderly calls.now }
     requires within { IsWithin calls.now (history past.now) }
-    ensures { result ≡ views.is_enabled (histories.look calls.now (history past.now)) k }
+    ensures { result ≡ views.is_enabled (histories.view_of_history calls.now (history past.now)) k }
 {
     is_waiting(calls, past, k) && due_of(calls, past, k) <= now_of(calls, past)
 }
@@ -132,7 +132,7 @@ pub(crate) fn is_enabled(calls: &[(u64, CodeCall)], past: &[Past], k: u32) -> bo
 fn precedes(calls: &[(u64, CodeCall)], past: &[Past], j: u32, k: u32) -> bool
     requires orderly { IsOrderly calls.now }
     requires within { IsWithin calls.now (history past.now) }
-    ensures { result ≡ views.precedes (histories.look calls.now (history past.now)) j k }
+    ensures { result ≡ views.precedes (histories.view_of_history calls.now (history past.now)) j k }
 {
     let one = due_of(calls, past, j);
     let other = due_of(calls, past, k);
@@ -143,7 +143,7 @@ fn precedes(calls: &[(u64, CodeCall)], past: &[Past], j: u32, k: u32) -> bool
 fn earlier(calls: &[(u64, CodeCall)], past: &[Past], k: u32, other: Option<u32>) -> u32
     requires orderly { IsOrderly calls.now }
     requires within { IsWithin calls.now (history past.now) }
-    ensures { result ≡ views.earlier (histories.look calls.now (history past.now)) k other }
+    ensures { result ≡ views.earlier (histories.view_of_history calls.now (history past.now)) k other }
 {
     match other {
         None => k,
@@ -151,7 +151,7 @@ fn earlier(calls: &[(u64, CodeCall)], past: &[Past], k: u32, other: Option<u32>)
     }
 }
 
-/// The first enabled task among so many from this number on.
+/// The first enabled task of the `count` tasks from `from` on.
 pub(crate) fn first_enabled(
     calls: &[(u64, CodeCall)],
     past: &[Past],
@@ -160,8 +160,8 @@ pub(crate) fn first_enabled(
 ) -> Option<u32>
     requires orderly { IsOrderly calls.now }
     requires due { IsWithin calls.now (history past.now) }
-    requires within { from + count ≤ 65536 }
-    ensures { result ≡ views.first_enabled (histories.look calls.now (history past.now)) (range_with_len from count) }
+    requires within { from + count ≤ most_calls }
+    ensures { result ≡ views.first_enabled (histories.view_of_history calls.now (history past.now)) (range_with_len from count) }
 {
     if count == 0 {
         return None;
@@ -176,7 +176,7 @@ pub(crate) fn first_enabled(
 
 /// How many tasks the calls submit.
 pub(crate) fn count_tasks(calls: &[(u64, CodeCall)]) -> u32
-    requires { length calls.now ≤ 65536 }
+    requires { length calls.now ≤ most_calls }
     ensures { result ≡ task_count calls.now }
 {
     match calls {

@@ -6,7 +6,7 @@ use std::alloc::Allocator;
 use std::process::Abort;
 use std::test::Fail;
 
-/// So many nanoseconds.
+/// A span of `value` nanoseconds.
 fn nanos(value: i64) -> Result<Span, Fail> {
     Ok(span(value, Unit::Ns)?)
 }
@@ -91,7 +91,7 @@ fn compare<A: Allocator + Copy>(
     compare_with(rt, alloc, calls, 1, events, lines)
 }
 
-/// A core with so many workers and the plain program both give these lines.
+/// A core with `workers` workers and the plain program both give these lines.
 fn compare_with<A: Allocator + Copy>(
     rt: &impl Abort,
     alloc: A,
@@ -392,4 +392,29 @@ fn the_plan_cancels(rt: HostRuntime) -> Result<(), Fail> {
     let early = [(0, CodeCall::Cancel { task: 0 }), submission(0, 0, 0)];
     assert!(rt; !orderly(&early));
     Ok(())
+}
+
+#[test]
+fn the_most_workers(rt: HostRuntime) -> Result<(), Fail> {
+    let calls = [submission(0, 0, 0)];
+    let events = [Event::Clock(0), Event::Start(63), Event::Start(64)];
+    let lines = [
+        line(0, accepted(0, 0)),
+        line(0, Answer::Clock),
+        line(0, run_started(63, 0, 0, 0)),
+        line(0, Answer::Error(EventError::NoWorker)),
+    ];
+    compare_with(&rt, rt.alloc(), &calls, 64, &events, &lines)
+}
+
+#[test]
+fn no_calls(rt: HostRuntime) -> Result<(), Fail> {
+    let events = [Event::Clock(3), Event::Start(0), Event::Cancel(0)];
+    let lines = [
+        line(3, Answer::Clock),
+        line(3, Answer::Idle { worker: 0 }),
+        line(3, Answer::Error(EventError::NoTask)),
+    ];
+    compare(&rt, rt.alloc(), &[], &events, &lines)?;
+    compare(&rt, rt.alloc(), &[], &[], &[])
 }

@@ -57,7 +57,7 @@ fn count_reached(calls: &[(u64, CodeCall)], moment: u64) -> usize
     }
 }
 
-/// How many of the calls after so many made ones have a moment of at most this one.
+/// How many of the calls after the first `made` have a moment of at most `moment`.
 fn reached(calls: &[(u64, CodeCall)], made: usize, moment: u64) -> usize
     ensures { result ≡ flows.reached calls.now made moment }
 {
@@ -100,7 +100,7 @@ fn happen<A: Allocator>(
     Ok(())
 }
 
-/// Makes so many calls.
+/// Makes `count` calls.
 fn make_calls<A: Allocator>(
     calls: &[(u64, CodeCall)],
     workers: u8,

@@ -1,8 +1,9 @@
 -- The calls of a plan, what they say of each task, and when its runs are due.
 -- Where a definition names a class, its source is the Java SE 17 documentation of that class.
 -- Where it names no source, it is this project's rule.
-use Rattle.std.specs.Prelude.{◌≡◌, ℕ, ◌+◌, ◌*◌, ◌^◌, ◌<◌, ◌≤◌, ◌==◌, Bool, true, false, if◌then◌else◌, List, [], ◌∷◌, length, Option, Some, None}
+use Rattle.std.specs.Prelude.{◌≡◌, ℕ, ◌+◌, ◌*◌, ◌<◌, ◌≤◌, ◌==◌, Bool, true, false, if◌then◌else◌, List, [], ◌∷◌, length, Option, Some, None}
 use Rattle.std.specs.List.{range_with_len}
+use Rattle.sched_time.specs.Times.{longest}
 use Rattle.sched_time.specs.declared.timing.Timing.{Timing}
 use Rattle.sched_time.specs.declared.timing.Timing.TheVariants as t
 use Rattle.queue_code.specs.declared.call.CodeCall.{CodeCall}
@@ -12,6 +13,10 @@ use Rattle.queue_code.specs.declared.call.CodeCall.TheVariants as c
 -- (this project's rule: a plan call is made at its own moment, even where the clock jumps past it)
 abbrev pub Planned : Type 0
 Planned = ℕ × CodeCall
+
+-- the greatest number of calls, and so of tasks (this project's limit)
+abbrev pub most_calls : ℕ
+most_calls = 65536
 
 -- how many items of a list pass a test
 abbrev pub how_many : {X : Type 0} → (X → Bool) → List X → ℕ
@@ -43,26 +48,26 @@ count_after count (c.Cancel task) = count
 -- a period, or a fixed delay, is within the limit, as each span is
 abbrev pub IsTimed : Timing → Type 0
 IsTimed t.Once = Unit {0}
-IsTimed (t.Rate period) = period ≤ 2 ^ 62
-IsTimed (t.Fixed delay) = delay ≤ 2 ^ 62
+IsTimed (t.Rate period) = period ≤ longest
+IsTimed (t.Fixed delay) = delay ≤ longest
 
 -- a submission has the next number, and its delay and its timing are within the limit; a cancel names an
 -- earlier submission
 abbrev pub IsOrderlyCall : ℕ → CodeCall → Type 0
-IsOrderlyCall count (c.Submit task timing delay) = (task ≡ count) × (delay ≤ 2 ^ 62) × IsTimed timing
+IsOrderlyCall count (c.Submit task timing delay) = (task ≡ count) × (delay ≤ longest) × IsTimed timing
 IsOrderlyCall count (c.Illegal task) = task ≡ count
 IsOrderlyCall count (c.Cancel task) = task < count
 
--- after so many submissions and this moment: moments do not fall and are within the limit,
+-- after `count` submissions and this moment: moments do not fall and are within the limit,
 -- and each call is in order
 abbrev pub IsOrderlyFrom : ℕ → ℕ → List Planned → Type 0
 IsOrderlyFrom count moment [] = Unit {0}
 IsOrderlyFrom count moment (p ∷ calls) =
-    (moment ≤ p.0) × (p.0 ≤ 2 ^ 62) × IsOrderlyCall count p.1 × IsOrderlyFrom (count_after count p.1) p.0 calls
+    (moment ≤ p.0) × (p.0 ≤ longest) × IsOrderlyCall count p.1 × IsOrderlyFrom (count_after count p.1) p.0 calls
 
 -- the calls are in the order in which they are made, and few enough (this project's limits)
 abbrev pub IsOrderly : List Planned → Type 0
-IsOrderly calls = (length calls ≤ 65536) × IsOrderlyFrom 0 0 calls
+IsOrderly calls = (length calls ≤ most_calls) × IsOrderlyFrom 0 0 calls
 
 -- how a task is timed, and when its first run is due
 pub record Terms : Type 0 where

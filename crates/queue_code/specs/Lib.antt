@@ -1,3 +1,9 @@
 pub use Rattle.sched_time.specs.Times
 pub use Rattle.sched_time.specs.Dues
 pub mod Calls
+pub mod Codes
+pub mod Checks
+pub mod Sizes
+pub mod Cursors
+pub mod Listings
+pub mod CodeLaws

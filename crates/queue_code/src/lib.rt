@@ -14,15 +14,95 @@
 //! nanoseconds, where a cancel names an earlier submission, and where there are at most 65,536 of them.
 //! [`orderly`] tells, and the executor takes no other calls.
 //!
-//! # Memory and errors
+//! [`orderly`] goes over the calls once, takes no memory, and does not fail.
 //!
-//! No call takes memory or fails. [`orderly`] goes over the calls once.
+//! # Code
+//!
+//! A [`Code`] is a list of instructions that makes such calls, in which a block that is repeated stands once, as a
+//! loop. A [`Cursor`] fetches its calls one after the other, and [`listing`] is its text.
+//!
+//! ```rust
+//! let instrs = vec![in alloc;
+//!     Instr::Loop(3, 10),
+//!     Instr::Submit(100, Timing::Once, 50),
+//!     Instr::CancelHere(104, 0),
+//!     Instr::EndLoop,
+//!     Instr::Halt,
+//! ]?;
+//! let code = Code::check(alloc, instrs)?; // 6 calls, 3 tasks
+//! let mut cursor = Cursor::new(&code);
+//! cursor.fetch(&code); // Some((100, CodeCall::Submit { task: 0, timing: Timing::Once, delay: 50 }))
+//! cursor.next_moment(&code); // Some(104): the cancel of task 0; then 110 and 114, 120 and 124
+//! listing(alloc, &code)?; // "0 loop 3 every 10\n1 submit 100 schedule 50\n2 cancel 104 here 0\n3 endloop\n4 halt\n"
+//! ```
+//!
+//! ## Instructions
+//!
+//! An [`Instr`] makes a call at its offset from the base. `Loop(times, every)` and the next `EndLoop` stand around
+//! instructions that are made `times` times, at a base of 0, `every`, 2 * `every` and so on nanoseconds; outside a
+//! loop the base is 0. No loop stands in a loop. Tasks are numbered as the calls come. `CancelFixed` names a task by its number, and
+//! `CancelHere` by how many tasks of the same iteration come before it. A `Halt` ends the code. Policies, a shutdown
+//! and questions get their instructions together with their calls.
+//!
+//! Contracts see a code as the list of its instructions, and by `calls_of` (`specs/Codes.antt`) as the list of its
+//! calls with their moments, in which each loop is written out.
+//!
+//! ## Checks
+//!
+//! [`Code::check`] refuses a list with the fault of the least index, and at one index with the first of these
+//! ([`CodeFault`], the table `checks` of `specs/Checks.antt`):
+//!
+//! | Fault | What is wrong |
+//! |---|---|
+//! | `NoHalt` | a `Halt` that is not the last instruction; at the end of the list, that there was none |
+//! | `Nested` | a `Loop` in a loop |
+//! | `Unclosed` | an `EndLoop` outside a loop; a `Halt` in one |
+//! | `Empty` | an `EndLoop` whose loop makes no call |
+//! | `BadTask` | a `CancelFixed` of a task that is not made before it in the first iteration; a `CancelHere` outside a loop, or of a task that is not made before it in the iteration |
+//! | `TooLarge` | a loop's step, or a delay, above 2^62 nanoseconds; a call that is later than that in the last iteration |
+//! | `Order` | a call whose moment in the first iteration is before that of the call in front of it; an `EndLoop` of more than one iteration, the last of whose offsets is more than the first and the step |
+//! | `TooMany` | a loop that is not made 1 to 65,536 times; at a call outside a loop, or at an `EndLoop`, more than 65,536 calls so far |
+//!
+//! So the calls of a code are in order, as [`orderly`] would tell.
+//!
+//! ## Cursors
+//!
+//! [`Cursor::fetch`] answers each call once, in order, with its moment in nanoseconds, and then `None`.
+//! [`Cursor::next_moment`] looks at the next one. Each takes the code that the cursor was made for.
+//! [`Cursor::steps`] counts the instructions that fetches executed: 3 at most in a fetch, one at least up to the first
+//! `None`, and none after it.
+//!
+//! ## Errors, memory and cost of codes
+//!
+//! [`CodeFault`] is the only error. `Memory` says nothing of the instructions but that they have no other fault. A
+//! list that is refused is dropped, and so is a text that could not be made whole.
+//!
+//! [`Code::check`] goes over the list once. It keeps the list, and takes a table with a number for each
+//! instruction, by which an `EndLoop` finds its loop. [`listing`] takes its text. No other call takes memory, and
+//! each costs the same whatever the code: a cursor is six numbers, and no list of calls is ever made, however often
+//! a loop is repeated.
 #![tactic(auto)]
 
 mod call;
+mod check;
+mod code;
+pub mod code_laws;
+#[cfg(test)]
+mod code_tests;
+mod cursor;
+mod equality;
+mod fault;
+mod instr;
 mod limits;
 mod order;
+mod progress;
+mod text;
 
 pub use call::CodeCall;
+pub use code::Code;
+pub use cursor::Cursor;
+pub use fault::CodeFault;
+pub use instr::Instr;
 pub use limits::MOST_CALLS;
 pub use order::orderly;
+pub use text::listing;

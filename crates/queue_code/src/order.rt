@@ -1,5 +1,6 @@
-ghost use Rattle.std.specs.Prelude.{◌≡◌, ◌+◌, ◌<◌, ◌≤◌, ◌^◌, ◌↔◌, IsTrue};
-ghost use Rattle.queue_code.specs.Calls.{IsOrderly, IsOrderlyCall, IsTimed, count_after};
+ghost use Rattle.std.specs.Prelude.{◌≡◌, ◌+◌, ◌<◌, ◌≤◌, ◌↔◌, IsTrue};
+ghost use Rattle.queue_code.specs.Calls.{IsOrderly, IsOrderlyCall, IsTimed, count_after, most_calls};
+ghost use Rattle.sched_time.specs.Times.{longest};
 
 use crate::call::CodeCall;
 use crate::limits::MOST_CALLS;
@@ -28,14 +29,14 @@ pub fn orderly(calls: &[(u64, CodeCall)]) -> bool
     true
 }
 
-/// Whether a call may come after so many submissions and this moment.
+/// Whether a call may come after `count` submissions and `moment`.
 fn follows(count: u32, moment: u64, planned: &(u64, CodeCall)) -> bool
-    ensures { IsTrue result ↔ ((moment ≤ planned.now.0) × (planned.now.0 ≤ 2 ^ 62) × IsOrderlyCall count planned.now.1) }
+    ensures { IsTrue result ↔ ((moment ≤ planned.now.0) × (planned.now.0 ≤ longest) × IsOrderlyCall count planned.now.1) }
 {
     moment <= planned.0 && planned.0 <= LONGEST && is_orderly_call(count, &planned.1)
 }
 
-/// Whether a call may come after so many submissions.
+/// Whether a call may come after `count` submissions.
 fn is_orderly_call(count: u32, call: &CodeCall) -> bool
     ensures { IsTrue result ↔ IsOrderlyCall count call.now }
 {
@@ -62,7 +63,7 @@ fn is_timed(timing: &Timing) -> bool
 
 /// How many submissions there are after a call.
 fn count_after(count: u32, call: &CodeCall) -> u32
-    requires { count < 65536 }
+    requires { count < most_calls }
     ensures { result ≡ count_after count call.now }
 {
     match call {

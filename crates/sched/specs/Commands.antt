@@ -50,7 +50,7 @@ sched_app = record {
   subs = run_app.top ∷ [];
 }
 
--- ---- what the program answers to words
+-- ---- what the program answers to the arguments of a command line
 
 -- help, or the version, which the program does not have
 abbrev pub IsHelp : ErrorKind → Type 0
@@ -62,11 +62,11 @@ pub record IsShown (kind : ErrorKind) (result : Result ℕ Fault) : Type 0 where
   pub help : IsHelp kind → MatchResult result (λ s. s ≡ 0) (λ e. e ≡ Run x.Write)
   pub mistake : kind ≢ k.OutOfMemory → (IsHelp kind → ⊥) → result ≡ Ok 2
 
--- words that the command line does not take, help among them, are answered as one of the kinds that clap may give them, or as want of memory
+-- arguments that the command line does not take, help among them, are answered as one of the kinds that clap may give them, or as want of memory
 abbrev pub IsRefusal : List (List ℕ) → Result ℕ Fault → Type 0
-IsRefusal words result = fault_of sched_app words ≢ []
-    → (kind : ErrorKind) × ((kind ≡ k.OutOfMemory) ⊎ IsAmong kind (fault_of sched_app words)) × IsShown kind result
+IsRefusal arguments result = fault_of sched_app arguments ≢ []
+    → (kind : ErrorKind) × ((kind ≡ k.OutOfMemory) ⊎ IsAmong kind (fault_of sched_app arguments)) × IsShown kind result
 
--- words that it takes end with 0, or with a fault whose exit status is 1
+-- arguments that it takes end with 0, or with a fault whose exit status is 1
 abbrev pub IsTaken : List (List ℕ) → Result ℕ Fault → Type 0
-IsTaken words result = fault_of sched_app words ≡ [] → MatchResult result (λ s. s ≡ 0) (λ e. status_of e ≡ 1)
+IsTaken arguments result = fault_of sched_app arguments ≡ [] → MatchResult result (λ s. s ≡ 0) (λ e. status_of e ≡ 1)

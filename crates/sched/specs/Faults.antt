@@ -12,7 +12,7 @@ use Rattle.sched_engine.specs.declared.report.RunError.TheVariants as x
 
 -- the exit status that goes with a fault: 2 for the command line, else 1
 abbrev pub status_of : Fault → ℕ
-status_of f.Words = 2
+status_of f.Arguments = 2
 status_of f.PlanFile = 1
 status_of (f.Run e) = 1
 

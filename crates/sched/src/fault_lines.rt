@@ -1,6 +1,8 @@
 //! Why the program gives up, and the line that says so.
 
 ghost use Rattle.std.specs.Prelude.{◌≡◌};
+ghost use Rattle.std.specs.Process.{exit_status};
+ghost use Rattle.sched.specs.Answers.{exit_status_of};
 ghost use Rattle.sched.specs.Faults.{status_of, IsToldAs, IsOfSystem};
 ghost use Rattle.sched.specs.declared.fault_lines.Fault.TheVariants.{Run};
 ghost use Rattle.sched_engine.specs.declared.report.RunError.TheVariants.{Memory};
@@ -10,15 +12,16 @@ use sched_engine::RunError;
 use std::alloc::AllocError;
 use std::io;
 use std::io::ErrorKind;
+use std::process::ExitCode;
 use thiserror::Error;
 
 /// Why the program gives up. Its text is what the program's line on standard error says after
 /// `sched: `.
 #[derive(Clone, Copy, Debug, PartialEq, Eq, Error)]
 pub enum Fault {
-    /// A word of the command line is not UTF-8.
+    /// An argument of the command line is not UTF-8.
     #[error("command line not UTF-8")]
-    Words,
+    Arguments,
     /// The plan file can't be read.
     #[error("plan file not read")]
     PlanFile,
@@ -27,13 +30,27 @@ pub enum Fault {
     Run(RunError),
 }
 
+/// Tells an answer: the exit status that it is or that goes with its fault, and a fault's line on
+/// standard error. Where standard error is closed, the status alone tells the fault.
+pub fn told<R: Eprint>(rt: &R, answer: Result<u8, Fault>) -> ExitCode
+    ensures status { exit_status result ≡ exit_status_of answer }
+{
+    match answer {
+        Ok(status) => ExitCode::from(status),
+        Err(fault) => {
+            let _ = eprintln!(rt; "sched: {fault}");
+            ExitCode::from(fault.status())
+        }
+    }
+}
+
 impl Fault {
     /// The exit status that goes with the fault: 2 for the command line, else 1.
     pub fn status(self) -> u8
         ensures { result ≡ status_of self }
     {
         match self {
-            Fault::Words => 2,
+            Fault::Arguments => 2,
             Fault::PlanFile | Fault::Run(_) => 1,
         }
     }

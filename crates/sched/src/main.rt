@@ -1,8 +1,10 @@
-//! An executor of scheduled tasks, run over the events of a trace.
+//! Runs a plan of scheduled tasks over lines of events, and writes the trace of what happens.
 #![tactic(auto)]
 
+mod arguments;
 mod command;
 mod fault_lines;
+mod laws;
 mod plan_file;
 mod program;
 #[cfg(test)]

@@ -3,16 +3,17 @@
 ghost use Rattle.std.specs.Prelude.{◌≡◌, ◌≤◌, ◌⊎◌, map, string_bytes, IfErr, IfOk, MatchResult};
 ghost use Rattle.std.specs.Process.{exit_status};
 ghost use Rattle.clap.specs.Words.{kind_of};
+ghost use Rattle.sched.specs.Answers.{RanAsAsked};
 ghost use Rattle.sched.specs.Commands.{IsRefusal, IsShown, IsTaken};
 ghost use Rattle.sched.specs.Faults.{IsOrMemory, status_of};
-ghost use Rattle.sched.specs.declared.fault_lines.Fault.TheVariants.{Words};
+ghost use Rattle.sched.specs.declared.fault_lines.Fault.TheVariants.{Arguments};
 
-use crate::command::command;
-use crate::fault_lines::Fault;
+use crate::arguments::RunArguments;
+use crate::fault_lines::{Fault, told};
 use crate::plan_file::plan_text;
+use clap::Error;
 use clap::error::ErrorKind;
-use clap::{ArgMatches, Error};
-use sched_engine::{Reading, RunError, Writing, run};
+use sched_engine::{Reading, Room, RunError, Sink, Source, Writing, run};
 use std::process::ExitCode;
 use std::rt::{Env, Files};
 use std::{env, io};
@@ -22,54 +23,41 @@ use std::{env, io};
 pub fn program<R: Env + Files + Input + Print + Eprint + AllocGlobal>(rt: &R) -> ExitCode
     ensures status { exit_status result ≤ 2 }
 {
-    match answer(rt) {
-        Ok(status) => ExitCode::from(status),
-        Err(fault) => {
-            // Where standard error is closed, the status alone tells the fault.
-            let _ = eprintln!(rt; "sched: {fault}");
-            ExitCode::from(fault.status())
-        }
-    }
+    told(rt, answer(rt))
 }
 
 /// Does what the command line says. `Ok` is the exit status, 0 or 2.
 fn answer<R: Env + Files + Input + Print + Eprint + AllocGlobal>(rt: &R) -> Result<u8, Fault>
     ensures status { IfOk result (λ s. (s ≡ 0) ⊎ (s ≡ 2)) }
 {
-    let words = words(rt)?;
-    answer_words(rt, words.as_slice())
+    let arguments = arguments(rt)?;
+    answer_arguments(rt, &arguments)
 }
 
-/// Does what the words of a command line say, the program's name first. `Ok` is the exit status: 0
-/// where a run was done or help was printed, 2 where the program does not take the words.
-fn answer_words<R: Files + Input + Print + Eprint + AllocGlobal>(
-    rt: &R,
-    words: &[String],
-) -> Result<u8, Fault>
-    ensures status { IfOk result (λ s. (s ≡ 0) ⊎ (s ≡ 2)) }
-    ensures refused { IsRefusal (map string_bytes words.now) result }
-    ensures taken { IsTaken (map string_bytes words.now) result }
+/// The arguments of the command line, the program's name first. `Err` where one is not UTF-8, or
+/// where memory ran out.
+fn arguments<R: Env + AllocGlobal>(rt: &R) -> Result<Vec<String>, Fault>
+    ensures fault { IfErr result (λ e. IsOrMemory Arguments e) }
 {
-    let command = command(rt.alloc())?;
-    match command.try_get_matches_from(words) {
-        Ok(matches) => {
-            match matches.subcommand() {
-                Some((_, run)) => run_plan(rt, run),
-                None => unreachable!(),
-            }
-        }
-        Err(error) => show(rt, &error),
+    match env::args(rt) {
+        Ok(arguments) => Ok(arguments.collect(rt.alloc())?),
+        Err(error) => Err(Fault::of_system(error, Fault::Arguments)),
     }
 }
 
-/// The words of the command line, the program's name first. `Err` where one is not UTF-8, or where
-/// memory ran out.
-fn words<R: Env + AllocGlobal>(rt: &R) -> Result<Vec<String>, Fault>
-    ensures fault { IfErr result (λ e. IsOrMemory Words e) }
+/// Does what the arguments of a command line say, the program's name first. `Ok` is the exit
+/// status: 0 where a run was done or help was printed, 2 where the program does not take them.
+fn answer_arguments<R: Files + Input + Print + Eprint + AllocGlobal>(
+    rt: &R,
+    arguments: &[String],
+) -> Result<u8, Fault>
+    ensures status { IfOk result (λ s. (s ≡ 0) ⊎ (s ≡ 2)) }
+    ensures refused { IsRefusal (map string_bytes arguments.now) result }
+    ensures taken { IsTaken (map string_bytes arguments.now) result }
 {
-    match env::args(rt) {
-        Ok(words) => Ok(words.collect(rt.alloc())?),
-        Err(error) => Err(Fault::of_system(error, Fault::Words)),
+    match RunArguments::parse(rt.alloc(), arguments) {
+        Ok(asked) => run_plan(rt, &asked),
+        Err(error) => show(rt, &error),
     }
 }
 
@@ -93,21 +81,33 @@ fn show<R: Print + Eprint>(rt: &R, error: &Error) -> Result<u8, Fault>
     }
 }
 
-/// `sched run`: events on standard input, the trace on standard output. No buffer stands between
-/// the run and the two, since the run reads and writes large pieces itself. A value that is missing,
-/// which the command line does not let through, ends in a fault: no workers, or a limit of 0.
+/// `sched run`: opens the plan file, standard input for the events and standard output for the
+/// trace, and runs. No buffer stands between the run and the two, since the run reads and writes
+/// large pieces itself.
 fn run_plan<R: Files + Input + Print + AllocGlobal>(
     rt: &R,
-    matches: &ArgMatches<'_>,
+    asked: &RunArguments<'_>,
 ) -> Result<u8, Fault>
     ensures status { MatchResult result (λ s. s ≡ 0) (λ e. status_of e ≡ 1) }
 {
-    let path = matches.get_str("plan").unwrap_or("");
-    let workers = matches.get_one::<u8>("workers").unwrap_or(0);
-    let limit = matches.get_one::<u32>("limit").unwrap_or(0);
-    let text = plan_text(rt, path)?;
+    let text = plan_text(rt, asked.path)?;
     let mut reader = Reading::new(rt.reader());
     let mut writer = Writing::new(io::writer(rt));
-    run(rt.alloc(), &text, workers, limit, &mut reader, &mut writer)?;
+    run_text(rt.alloc(), asked, &text, &mut reader, &mut writer)
+}
+
+/// Runs a plan's text as asked, events from the reader and the trace to the writer. `Ok` is the
+/// exit status, 0.
+fn run_text<A: Room, S: Source, W: Sink>(
+    alloc: A,
+    asked: &RunArguments<'_>,
+    text: &[u8],
+    reader: &mut S,
+    writer: &mut W,
+) -> Result<u8, Fault>
+    ensures ran { RanAsAsked result asked.now text.now (S.remaining reader.old) (S.remaining reader.new) (W.contents writer.old) (W.contents writer.new) }
+    ensures status { MatchResult result (λ s. s ≡ 0) (λ e. status_of e ≡ 1) }
+{
+    run(alloc, text, asked.workers, asked.limit, reader, writer)?;
     Ok(0)
 }

@@ -1,7 +1,7 @@
 -- Inputs: the lines of events, and one event more.
-use Rattle.std.proofs.Common.{◌≡◌, ℕ, ◌+◌, ◌^◌, ◌<◌, ◌≤◌, List, [], ◌∷◌, ◌++◌, take, length, refl, ap, ◌∙◌, sym, subst, arith, append_assoc, append-nil, length-append}
+use Rattle.std.proofs.Common.{◌≡◌, ℕ, ◌+◌, ◌^◌, ◌<◌, ◌≤◌, List, [], ◌∷◌, ◌++◌, take, drop, length, refl, ap, ◌∙◌, sym, subst, arith, append_assoc, append-nil, length-append, length-drop, take_all}
 use Rattle.std.specs.Prelude.{replicate}
-use Rattle.std.proofs.lemmas.List.{length-replicate}
+use Rattle.std.proofs.lemmas.List.{length-replicate, take-append-le}
 use Rattle.std.proofs.lemmas.List.Concat.{flat_map-append}
 use Rattle.std.proofs.lemmas.List.Elements.{All-nil, All-cons}
 use Rattle.executor_core.specs.declared.Event.{Event}
@@ -10,24 +10,28 @@ use Rattle.executor_core.specs.declared.Happening.{Happening}
 use Rattle.executor_core.specs.declared.Happening.TheVariants as h
 use Rattle.executor_core.specs.declared.Line.{Line}
 use Rattle.queue_code.specs.Calls.{Planned, IsOrderly}
-use Rattle.executor_core.specs.Histories.{Entry, happenings, made, now_of, Means}
+use Rattle.executor_core.specs.Histories.{HistoryEntry, happenings, made, now_of, IsHistoryOf}
 use Rattle.executor_core.specs.Flows.{flow, part_of, calls_before, history_from, history_of, lines_of}
-use Rattle.executor_core.specs.Machine.{Machine, workers_of, Stands, Steps, Continues}
+use Rattle.executor_core.specs.Machine.{Machine, workers_of, Stands, Continues}
+use Rattle.trace_text.proofs.Texts.{take_add}
 use Rattle.executor_core.proofs.Flowing.{flow_means, history_more, stands_agrees, made_past, made-calls, happenings_from}
-use Rattle.trace_text.specs.Spelling.{FitsEvent, lines_text, line_text}
-use Rattle.sched_engine.specs.Running.{event_line, input_of, text_of, Answers, IsStanding}
+use Rattle.trace_text.specs.Spelling.{event_line, FitsEvent, lines_text, line_text}
+use Rattle.sched_engine.specs.Inputs.{input_of}
+use Rattle.sched_engine.specs.Running.{text_of}
+use Rattle.sched_engine.specs.Turns.{TakesEvent, Extends, IsAnswered, IsStanding}
 
+-- the lines of some events and of more after them
 pub input_of-append : (more before : List Event) → input_of (more ++ before) ≡ input_of before ++ input_of more
 input_of-append [] before = sym (append-nil (input_of before))
 input_of-append (e ∷ more) before = ap (λ l. l ++ event_line e) (input_of-append more before) ∙ append_assoc (input_of before) (input_of more) (event_line e)
 
 -- lines are counted
 
-lines_are : (calls : List Planned) (past : List Entry) → length (lines_of calls past) ≡ length past
+lines_are : (calls : List Planned) (past : List HistoryEntry) → length (lines_of calls past) ≡ length past
 lines_are calls [] = refl
 lines_are calls (e ∷ past) = omega (arith, lines_are calls past, length-append (lines_of calls past) (record { moment = now_of calls (happenings (e ∷ past)); answer = e.answer } ∷ []))
 
-length-happenings : (past : List Entry) → length (happenings past) ≡ length past
+length-happenings : (past : List HistoryEntry) → length (happenings past) ≡ length past
 length-happenings [] = refl
 length-happenings (e ∷ past) = omega (arith, length-happenings past)
 
@@ -48,6 +52,7 @@ flow_are : (calls : List Planned) (events : List Event) → length (flow calls e
 flow_are calls [] = refl
 flow_are calls (e ∷ events) = omega (arith, part_are calls (made (flow calls events)) (now_of calls (flow calls events)) e (flow calls events), flow_are calls events)
 
+-- the happenings of the history of some events are their flow
 pub flow_happens : (calls : List Planned) (workers : ℕ) (events : List Event) → happenings (history_of calls workers events) ≡ flow calls events
 flow_happens calls workers events = happenings_from calls workers [] (flow calls events) ∙ append-nil (flow calls events)
 
@@ -69,8 +74,9 @@ lines_few calls workers events o =
 
 -- ---- one event more
 
+-- the history of one event more, and its lines
 pub continue_history : (m new : Machine) (lines : List Line) (event : Event) (events : List Event) → IsOrderly m.calls → Stands m (history_of m.calls (workers_of m) events) →
-    ((past : List Entry) → Means m.calls (workers_of m) past → Stands m past → Continues m new [] lines event past) →
+    ((past : List HistoryEntry) → IsHistoryOf m.calls (workers_of m) past → Stands m past → Continues m new [] lines event past) →
     Stands new (history_of m.calls (workers_of m) (event ∷ events))
     × (lines_of m.calls (history_of m.calls (workers_of m) (event ∷ events)) ≡ lines_of m.calls (history_of m.calls (workers_of m) events) ++ lines)
 continue_history m new lines event events o stands goes =
@@ -91,65 +97,63 @@ lines_text-append : (xs ys : List Line) → lines_text (xs ++ ys) ≡ lines_text
 lines_text-append xs ys = flat_map-append line_text xs ys
 
 -- the history before, and the answers to one event more
-pub goes_on : (old mid new : Machine) (more events : List Event) (event : Event) (lines : List Line) (text : List ℕ) (count : ℕ) → mid.calls ≡ old.calls → workers_of mid ≡ workers_of old → IsOrderly old.calls →
-    Stands mid (history_of old.calls (workers_of old) (more ++ events))
-    × (text_of old.calls (history_of old.calls (workers_of old) (more ++ events)) ≡ text_of old.calls (history_of old.calls (workers_of old) events) ++ text)
-    × (length (lines_of old.calls (history_of old.calls (workers_of old) (more ++ events))) ≡ length (lines_of old.calls (history_of old.calls (workers_of old) events)) + count) →
-    ((past : List Entry) → Means mid.calls (workers_of mid) past → Stands mid past → Continues mid new [] lines event past) →
-    Stands new (history_of old.calls (workers_of old) (event ∷ (more ++ events)))
-    × (text_of old.calls (history_of old.calls (workers_of old) (event ∷ (more ++ events))) ≡ text_of old.calls (history_of old.calls (workers_of old) events) ++ (text ++ lines_text lines))
-    × (length (lines_of old.calls (history_of old.calls (workers_of old) (event ∷ (more ++ events)))) ≡ length (lines_of old.calls (history_of old.calls (workers_of old) events)) + (count + length lines))
-goes_on old mid new more events event lines text count calls workers o so_far goes =
+extends_more : (old mid new : Machine) (more events : List Event) (event : Event) (before after text : List ℕ) (count n : ℕ) → mid.calls ≡ old.calls → workers_of mid ≡ workers_of old → IsOrderly old.calls →
+    Extends old.calls (workers_of old) mid more events text count → (t : TakesEvent mid new event before after n) → Extends old.calls (workers_of old) new (event ∷ more) events (text ++ lines_text t.lines) (count + n)
+extends_more old mid new more events event before after text count n calls workers o so_far t =
     let all = more ++ events in
-    let P : List Planned → ℕ → Type 0 = λ cs n. Stands new (history_of cs n (event ∷ all)) × (lines_of cs (history_of cs n (event ∷ all)) ≡ lines_of cs (history_of cs n all) ++ lines) in
-    let there : Stands mid (history_of mid.calls (workers_of mid) all) = subst (λ cs. Stands mid (history_of cs (workers_of mid) all)) (sym calls) (subst (λ n. Stands mid (history_of old.calls n all)) (sym workers) so_far.0) in
-    let step = continue_history mid new lines event all (subst IsOrderly (sym calls) o) there goes in
-    let here : P old.calls (workers_of old) = subst (λ n. P old.calls n) workers (subst (λ cs. P cs (workers_of mid)) calls step) in
-    let first = text_of old.calls (history_of old.calls (workers_of old) events) in (
-      here.0,
-      ap lines_text here.1 ∙ (lines_text-append (lines_of old.calls (history_of old.calls (workers_of old) all)) lines ∙ (ap (λ l. l ++ lines_text lines) so_far.1 ∙ append_assoc first text (lines_text lines))),
-      omega (arith, ap length here.1, length-append (lines_of old.calls (history_of old.calls (workers_of old) all)) lines, so_far.2),
-    )
+    let P : List Planned → ℕ → Type 0 = λ cs k. Stands new (history_of cs k (event ∷ all)) × (lines_of cs (history_of cs k (event ∷ all)) ≡ lines_of cs (history_of cs k all) ++ t.lines) in
+    let there : Stands mid (history_of mid.calls (workers_of mid) all) =
+    subst (λ cs. Stands mid (history_of cs (workers_of mid) all)) (sym calls) (subst (λ k. Stands mid (history_of old.calls k all)) (sym workers) so_far.stands) in
+    let step = continue_history mid new t.lines event all (subst IsOrderly (sym calls) o) there t.history in
+    let here : P old.calls (workers_of old) = subst (λ k. P old.calls k) workers (subst (λ cs. P cs (workers_of mid)) calls step) in
+    let first = text_of old.calls (history_of old.calls (workers_of old) events) in
+    record {
+      stands = here.0;
+      says = ap lines_text here.1 ∙ (lines_text-append (lines_of old.calls (history_of old.calls (workers_of old) all)) t.lines ∙ (ap (λ l. l ++ lines_text t.lines) so_far.says ∙ append_assoc first text (lines_text t.lines)));
+      counted = omega (arith, ap length here.1, length-append (lines_of old.calls (history_of old.calls (workers_of old) all)) t.lines, so_far.counted, t.counted);
+    }
+
+-- a front of this size, where the rest is known
+front_is : (xs front : List ℕ) (size : ℕ) → xs ≡ front ++ drop size xs → size ≤ length xs → take size xs ≡ front
+front_is xs front size is inside =
+    let long : length front ≡ size = omega (arith, ap length is, length-append front (drop size xs), length-drop size xs, inside) in
+    ap (take size) is ∙ (take-append-le size front (drop size xs) (omega (arith, long)) ∙ take_all size front (omega (arith, long)))
 
 -- what one event more makes of the answers so far
-pub answers_more : (old mid new : Machine) (held before put put' : List ℕ) (taken taken' count n : ℕ) (event : Event) (start lines : List Line) (part : List Happening) → (a : Answers old mid held taken before put count) →
-    FitsEvent event → take taken' held ≡ input_of a.more ++ event_line event → new.taken ≡ mid.taken + 1 → start ≡ [] → Steps mid new start lines part →
-    ((past : List Entry) → Means mid.calls (workers_of mid) past → Stands mid past → Continues mid new start lines event past) →
-    put' ≡ put ++ lines_text lines → n ≡ length lines → Answers old new held taken' before put' (count + n)
-answers_more old mid new held before put put' taken taken' count n event start lines part a fits front one none steps goes written many = record {
+pub answered_more : (old mid new : Machine) (held before put after : List ℕ) (taken size count n : ℕ) (event : Event) → IsAnswered old mid held taken before put count → FitsEvent event →
+    drop taken held ≡ event_line event ++ drop size (drop taken held) → size ≤ length (drop taken held) → TakesEvent mid new event put after n → IsAnswered old new held (taken + size) before after (count + n)
+answered_more old mid new held before put after taken size count n event a fits front inside t = record {
   more = event ∷ a.more;
   fit = All-cons FitsEvent event a.more fits a.fit;
-  front = front;
-  events = omega (arith, one, a.events);
-  calls = steps.calls ∙ a.calls;
-  limit = steps.limit ∙ a.limit;
-  workers = steps.workers ∙ a.workers;
-  text = a.text ++ lines_text lines;
-  written = written ∙ (ap (λ l. l ++ lines_text lines) a.written ∙ append_assoc before a.text (lines_text lines));
-  goes = λ o events stands.
-      let go : (past : List Entry) → Means mid.calls (workers_of mid) past → Stands mid past → Continues mid new [] lines event past =
-      λ past means there. subst (λ l. Continues mid new l lines event past) none (goes past means there) in
-      let all = goes_on old mid new a.more events event lines a.text count a.calls a.workers o (a.goes o events stands) go in
-      (all.0, all.1, omega (arith, all.2, many));
+  front = sym (take_add taken size held) ∙ (ap (λ l. l ++ take size (drop taken held)) a.front ∙ ap (λ l. input_of a.more ++ l) (front_is (drop taken held) (event_line event) size front inside));
+  within = omega (arith, inside, length-drop taken held, a.within);
+  events = omega (arith, t.taken, a.events);
+  calls = t.calls ∙ a.calls;
+  limit = t.limit ∙ a.limit;
+  workers = t.workers ∙ a.workers;
+  text = a.text ++ lines_text t.lines;
+  written = t.written ∙ (ap (λ l. l ++ lines_text t.lines) a.written ∙ append_assoc before a.text (lines_text t.lines));
+  extends = λ o events stands. extends_more old mid new a.more events event put after a.text count n a.calls a.workers o (a.extends o events stands) t;
 }
 
 -- nothing was answered yet
-pub answers_none : (m : Machine) (held before : List ℕ) → Answers m m held 0 before before 0
-answers_none m held before = record {
+pub answered_none : (m : Machine) (held before : List ℕ) → IsAnswered m m held 0 before before 0
+answered_none m held before = record {
   more = [];
   fit = All-nil FitsEvent;
   front = refl;
+  within = omega arith;
   events = omega arith;
   calls = refl;
   limit = refl;
   workers = refl;
   text = [];
   written = sym (append-nil before);
-  goes = λ o events stands. (stands, sym (append-nil (text_of m.calls (history_of m.calls (workers_of m) events))), omega arith);
+  extends = λ o events stands. record { stands = stands; says = sym (append-nil (text_of m.calls (history_of m.calls (workers_of m) events))); counted = omega arith };
 }
 
 -- the count of lines fits, where the answers to the events so far stand
-pub count_fits : (old mid : Machine) (held before put : List ℕ) (taken count : ℕ) → IsStanding old → Answers old mid held taken before put count → mid.taken ≤ mid.limit → count < 2 ^ 33
+pub count_fits : (old mid : Machine) (held before put : List ℕ) (taken count : ℕ) → IsStanding old → IsAnswered old mid held taken before put count → mid.taken ≤ mid.limit → count < 2 ^ 33
 count_fits old mid held before put taken count s a within =
-    let all = a.goes s.orderly s.events s.stands in
-    omega (arith, all.2, lines_few old.calls (workers_of old) (a.more ++ s.events) s.orderly, length-append a.more s.events, a.events, s.taken, s.small, within, a.limit)
+    let all = a.extends s.orderly s.events s.stands in
+    omega (arith, all.counted, lines_few old.calls (workers_of old) (a.more ++ s.events) s.orderly, length-append a.more s.events, a.events, s.taken, s.small, within, a.limit)

@@ -1,6 +1,5 @@
 pub mod Ranges
-pub mod Newlines
 pub mod Runs
 pub mod Inputs
 pub mod Turns
-pub mod Ones
+pub mod OneText

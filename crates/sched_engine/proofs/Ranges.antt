@@ -3,7 +3,7 @@ use Rattle.std.proofs.Common.{◌≡◌, ℕ, ◌+◌, ◌-◌, ◌≤◌, List,
 use Rattle.trace_text.proofs.Texts.{take_add}
 use lib.Seq.{paste}
 use Rattle.std.proofs.Math.Seq.{take-append-add}
-use Rattle.std.proofs.lemmas.List.{take-take, length-take-le, drop-take, drop-drop, take-append-drop, take_rest, take-append-le}
+use Rattle.std.proofs.lemmas.List.{length-take-le, drop-take, drop-drop, take_rest, take-append-le}
 use Rattle.std.proofs.lemmas.List.Edits.{take-paste}
 
 -- a range without its first n bytes is the range that begins n bytes later

@@ -1,6 +1,5 @@
--- Pieces: what bytes that are no event line are, and what a piece of input makes of a run.
-use Rattle.std.proofs.Common.{◌≡◌, ◌≢◌, ℕ, ◌+◌, ◌-◌, ◌*◌, ◌^◌, ◌<◌, ◌≤◌, List, [], ◌∷◌, ◌++◌, take, drop, length, Option, Some, None, true, false, ◌==◌, refl, ap, ◌∙◌, sym, subst, arith, append_assoc, append-nil, length-append, length-drop, length-take}
-use Rattle.std.proofs.lemmas.Bool.Decides.{nat_tests}
+-- Turns: what a read, the answers to what it brought, and a write make of a run, and how a run ends.
+use Rattle.std.proofs.Common.{◌≡◌, ℕ, zero, suc, ◌+◌, ◌-◌, ◌*◌, ◌^◌, ◌<◌, ◌≤◌, List, [], ◌∷◌, ◌++◌, take, drop, length, Option, Some, None, Result, Ok, Err, MatchResult, inr, refl, ap, ◌∙◌, sym, subst, arith, append_assoc, append-nil, length-append, take-append-drop}
 use Rattle.std.proofs.lemmas.List.Elements.{All-append, All-nil}
 use Rattle.std.specs.Io.KnownBytes.{Consumes, Appends, Keeps, IsAtEnd, prepend_known}
 use Rattle.executor_core.specs.declared.Event.{Event}
@@ -8,227 +7,282 @@ use Rattle.queue_code.specs.Calls.{Planned, IsOrderly}
 use Rattle.executor_core.specs.Flows.{history_of, lines_of}
 use Rattle.executor_core.specs.Machine.{Machine, workers_of, Stands}
 use Rattle.executor_core.proofs.Flowing.{flow_means}
-use Rattle.trace_text.specs.Spelling.{IsLine}
-use Rattle.trace_text.specs.Spelling.{event_text, FitsEvent}
-use Rattle.sched_engine.specs.Running.{event_line, input_of, IsTrace, text_of, IsRefused, BeginsWithEvent, Took, TookPart, Answers, IsFirst, Done}
-use Rattle.trace_text.proofs.EventTexts.{event_is_line, event_short}
-use Rattle.trace_text.proofs.Texts.{first_line, no_short_line, no_line}
-use Rattle.sched_engine.proofs.Runs.{at_end, so_far, at_fault, took, gave, gave_front}
+use Rattle.trace_text.specs.Spelling.{IsLine, event_line, FitsEvent}
+use Rattle.sched_engine.specs.declared.held.TheConstants.{PIECE}
+use Rattle.sched_engine.specs.declared.report.Report.{Report}
+use Rattle.sched_engine.specs.declared.engine.Turn.{Turn}
+use Rattle.sched_engine.specs.declared.engine.Turn.TheVariants as t
+use Rattle.sched_engine.specs.declared.report.RunError.{RunError}
+use Rattle.sched_engine.specs.declared.report.RunError.TheVariants as x
+use Rattle.sched_engine.specs.Inputs.{input_of, IsRefused, BeginsWithEvent}
+use Rattle.sched_engine.specs.Running.{IsAccepted, IsTrace, Ran, Runs, Taken, text_of}
+use Rattle.sched_engine.specs.Turns.{Done, Extends, IsAnswered, IsBetweenTurns, IsStanding, Opens, Progress, Setting, Turns}
+use Rattle.trace_text.specs.declared.front.TheConstants.{MOST_EVENT_BYTES}
+use Rattle.trace_text.proofs.Fronts.{unread_part}
+use Rattle.sched_engine.proofs.Runs.{at_end, so_far, read_so_far, came, took, gave, gave_front}
 use Rattle.sched_engine.proofs.Inputs.{input_of-append, lines_few, flow_happens}
 
--- ---- what is no event line
-
--- a whole line that spells no event is refused, whatever follows
-pub refused_line : (line rest more all : List ℕ) → IsLine line → ((e : Event) → FitsEvent e → line ≢ event_text e) → all ≡ line ++ 10 ∷ rest → IsRefused (all ++ more)
-refused_line line rest more all is other split e tail fits same = other e fits (first_line line rest more all (event_text e) tail is (event_is_line e fits) split same)
-
--- so is a line of 64 bytes or more
-pub refused_long : (more all : List ℕ) → IsLine (take 63 all) → 63 ≤ length all → IsRefused (all ++ more)
-refused_long more all is long e tail fits same = no_short_line 63 more all (event_text e) tail is long (omega (arith, event_short e fits)) same
-
--- and a rest with no newline, at the end
-pub refused_rest : (all : List ℕ) → IsLine all → IsRefused all
-refused_rest all is e tail fits same = no_line all (event_text e) tail is same
-
--- ---- one piece of input
-
+-- the history of some events is their trace
 pub trace_of : (calls : List Planned) (workers : ℕ) (events : List Event) → IsOrderly calls → IsTrace calls workers events (history_of calls workers events)
 trace_of calls workers events o = record { means = flow_means calls workers events o; flows = flow_happens calls workers events }
 
--- bytes came in, the events at their front were answered, and the text was written
-pub piece : (calls : List Planned) (workers limit : ℕ) (a b c o p q : Option (List ℕ)) (held bytes whole seen rest before put : List ℕ) (core next : Machine) (taken count more : ℕ) → IsOrderly calls →
-    Done calls workers limit a b held o p core count → Consumes b c bytes → whole ≡ held ++ bytes → seen ≡ whole → rest ≡ drop taken whole → (d : Answers core next seen taken before put more) → before ≡ [] → Appends p q put →
-    Done calls workers limit a c rest o q next (count + more)
-piece calls workers limit a b c o p q held bytes whole seen rest before put core next taken count more orderly done new all same left d none written =
-    let P : List Planned → ℕ → Type 0 = λ cs n. Stands core (history_of cs n done.events)
-    → Stands next (history_of cs n (d.more ++ done.events))
-    × (text_of cs (history_of cs n (d.more ++ done.events)) ≡ text_of cs (history_of cs n done.events) ++ d.text)
-    × (length (lines_of cs (history_of cs n (d.more ++ done.events))) ≡ length (lines_of cs (history_of cs n done.events)) + more)
-    in
-    let goes_so : P calls workers = subst (λ n. P calls n) done.same_workers (subst (λ cs. P cs (workers_of core)) done.same_calls (d.goes (subst IsOrderly (sym done.same_calls) orderly) done.events)) in
-    let goes = goes_so done.stands in
-    let front : take taken whole ≡ input_of d.more = ap (take taken) (sym same) ∙ d.front in
-    let text : put ≡ d.text = d.written ∙ ap (λ l. l ++ d.text) none in
-    let read : Consumes a (prepend_known (drop taken whole) c) (input_of done.events ++ input_of d.more) = took a b c held bytes whole (input_of done.events) (input_of d.more) taken done.read new all front in
+-- ---- one turn
+
+-- the core of a run stands where its events led it
+pub standing : (run : Setting) (at : Progress) → Done run at → IsStanding at.core
+standing run at done =
+    let P : List Planned → ℕ → Type 0 = λ calls workers. Stands at.core (history_of calls workers done.events) in
     record {
-      events = d.more ++ done.events;
-      fit = All-append FitsEvent d.more done.events d.fit done.fit;
-      read = subst (Consumes a (prepend_known rest c)) (sym (input_of-append d.more done.events)) (subst (λ (l : List ℕ). Consumes a (prepend_known l c) (input_of done.events ++ input_of d.more)) (sym left) read);
-      written = subst (Appends o q) (sym goes.1) (gave o p q (text_of calls (history_of calls workers done.events)) d.text put done.written written text);
-      taken = omega (arith, d.events, done.taken, length-append d.more done.events);
-      lines = omega (arith, goes.2, done.lines);
-      stands = goes.0;
-      same_calls = d.calls ∙ done.same_calls;
-      same_workers = d.workers ∙ done.same_workers;
-      same_limit = d.limit ∙ done.same_limit;
+      events = done.events;
+      orderly = subst IsOrderly (sym done.calls) done.orderly;
+      stands = subst (P at.core.calls) (sym done.workers) (subst (λ calls. P calls run.workers) (sym done.calls) done.stands);
+      taken = done.taken;
+      within = omega (arith, done.within, done.limit);
+      small = omega (arith, done.small, done.limit);
     }
+
+-- the lines of a run are few enough to be counted
+pub few_lines : (run : Setting) (at : Progress) → Done run at → at.count < 2 ^ 33
+few_lines run at done = omega (arith, done.counted, lines_few run.calls run.workers done.events done.orderly, done.taken, done.within, done.small)
+
+-- bytes came in behind those held
+pub filled : (run : Setting) (at : Progress) (left : Option (List ℕ)) (held bytes : List ℕ) → Done run at → Consumes at.left left bytes → held ≡ at.held ++ bytes → Done run (record at { left = left; held = held })
+filled run at left held bytes done new all = record {
+  events = done.events;
+  fit = done.fit;
+  read = came run.input at.left left at.held bytes held (input_of done.events) done.read new all;
+  before = done.before;
+  written = done.written;
+  says = done.says;
+  counted = done.counted;
+  taken = done.taken;
+  within = done.within;
+  stands = done.stands;
+  calls = done.calls;
+  workers = done.workers;
+  limit = done.limit;
+  orderly = done.orderly;
+  small = done.small;
+}
+
+-- the events at the front of the bytes that are held were answered
+pub answered : (run : Setting) (at : Progress) (core : Machine) (taken count : ℕ) (text : List ℕ) → Done run at → IsAnswered at.core core at.held taken at.text text count → core.taken ≤ core.limit →
+    Done run (record at { held = drop taken at.held; text = text; core = core; count = at.count + count })
+answered run at core taken count text done a within =
+    let P : List Planned → ℕ → Type 0 = λ calls workers. Stands at.core (history_of calls workers done.events) → Extends calls workers core a.more done.events a.text count in
+    let goes : P run.calls run.workers = subst (P run.calls) done.workers (subst (λ calls. P calls (workers_of at.core)) done.calls (a.extends (subst IsOrderly (sym done.calls) done.orderly) done.events)) in
+    let more = goes done.stands in
+    record {
+      events = a.more ++ done.events;
+      fit = All-append FitsEvent a.more done.events a.fit done.fit;
+      read = subst (Consumes run.input (prepend_known (drop taken at.held) at.left)) (sym (input_of-append a.more done.events)) (took run.input at.left at.held (input_of done.events) (input_of a.more) taken done.read a.front);
+      before = done.before;
+      written = done.written;
+      says = more.says ∙ (ap (λ l. l ++ a.text) done.says ∙ (append_assoc done.before at.text a.text ∙ ap (λ l. done.before ++ l) (sym a.written)));
+      counted = omega (arith, more.counted, done.counted);
+      taken = omega (arith, a.events, done.taken, length-append a.more done.events);
+      within = omega (arith, within, a.limit, done.limit);
+      stands = more.stands;
+      calls = a.calls ∙ done.calls;
+      workers = a.workers ∙ done.workers;
+      limit = a.limit ∙ done.limit;
+      orderly = done.orderly;
+      small = done.small;
+    }
+
+-- the text at hand was written
+pub wrote : (run : Setting) (at : Progress) (contents : Option (List ℕ)) (text : List ℕ) → Done run at → Appends at.contents contents at.text → text ≡ [] → Done run (record at { contents = contents; text = text })
+wrote run at contents text done appends none = record {
+  events = done.events;
+  fit = done.fit;
+  read = done.read;
+  before = done.before ++ at.text;
+  written = gave run.contents at.contents contents done.before at.text done.written appends;
+  says = done.says ∙ (sym (append-nil (done.before ++ at.text)) ∙ ap (λ l. (done.before ++ at.text) ++ l) (sym none));
+  counted = done.counted;
+  taken = done.taken;
+  within = done.within;
+  stands = done.stands;
+  calls = done.calls;
+  workers = done.workers;
+  limit = done.limit;
+  orderly = done.orderly;
+  small = done.small;
+}
 
 -- ---- the ends of a run
 
-nothing_read : (a : Option (List ℕ)) → Consumes a (prepend_known [] a) []
-nothing_read None = tt
-nothing_read (Some xs) = refl
+nothing_read : (a : Option (List ℕ)) (held : List ℕ) → held ≡ [] → Consumes a (prepend_known held a) []
+nothing_read None held none = tt
+nothing_read (Some xs) held none = ap (λ l. l ++ xs) (sym none)
 
 nothing_written : (o : Option (List ℕ)) → Appends o o []
 nothing_written None = tt
 nothing_written (Some xs) = sym (append-nil xs)
 
+-- what is left as it was gave no byte
+kept_none : (a b : Option (List ℕ)) → Keeps a b → Consumes a b []
+kept_none None b p = tt
+kept_none (Some xs) None p = absurd p
+kept_none (Some xs) (Some ys) p = sym p
+
 -- before anything was read
-pub first_done : (core : Machine) (limit : ℕ) (a o : Option (List ℕ)) (held : List ℕ) → IsFirst core limit → held ≡ [] → Done core.calls (workers_of core) limit a a held o o core 0
-first_done core limit a o held first none = record {
-  events = [];
-  fit = All-nil FitsEvent;
-  read = subst (λ (l : List ℕ). Consumes a (prepend_known l a) []) (sym none) (nothing_read a);
-  written = nothing_written o;
-  taken = first.none;
-  lines = refl;
-  stands = first.stands;
-  same_calls = refl;
-  same_workers = refl;
-  same_limit = first.limit;
+pub first : (at : Progress) (text : List ℕ) (workers limit : ℕ) → Opens at.core text workers limit → at.held ≡ [] → at.text ≡ [] → at.count ≡ 0 →
+    IsBetweenTurns (record { calls = at.core.calls; workers = workers; limit = limit; input = at.left; contents = at.contents }) at
+first at text workers limit opens none blank nought = record {
+  done = record {
+    events = [];
+    fit = All-nil FitsEvent;
+    read = nothing_read at.left at.held none;
+    before = [];
+    written = nothing_written at.contents;
+    says = sym blank;
+    counted = sym nought;
+    taken = opens.taken;
+    within = omega (arith, opens.taken);
+    stands = opens.stands;
+    calls = refl;
+    workers = opens.count;
+    limit = opens.most;
+    orderly = opens.orderly;
+    small = opens.small;
+  };
+  none = blank;
+  part = subst IsLine (sym none) (λ k d low. absurd (omega (arith, low)));
+  short = omega (arith, ap length none);
 }
 
--- what was taken so far, with a rest of which P holds
-took_so_far : (calls : List Planned) (workers limit : ℕ) (a b o p : Option (List ℕ)) (held : List ℕ) (core : Machine) (count : ℕ) (P : List ℕ → Type 0) (Q : ℕ → ℕ → List ℕ → Type 0) → IsOrderly calls →
-    (done : Done calls workers limit a b held o p core count) → core.taken ≤ limit → ((more : List ℕ) → P (held ++ more)) →
-    Q (length done.events) (length (lines_of calls (history_of calls workers done.events))) (text_of calls (history_of calls workers done.events)) → Took calls workers limit a P Q
-took_so_far calls workers limit a b o p held core count P Q orderly done within rest gives = record {
+-- what was written is the trace, where no text is at hand
+all_written : (run : Setting) (at : Progress) → (done : Done run at) → at.text ≡ [] → Appends run.contents at.contents (text_of run.calls (history_of run.calls run.workers done.events))
+all_written run at done none = subst (Appends run.contents at.contents) (sym (done.says ∙ (ap (λ l. done.before ++ l) none ∙ append-nil done.before))) done.written
+
+-- what was taken so far, where more of the input may follow
+taken_so_far : (run : Setting) (at : Progress) (IsAhead IsRest : List ℕ → Type 0) (Gives : ℕ → ℕ → List ℕ → Type 0) → (done : Done run at) → length at.held ≤ PIECE → IsAhead at.held → ((more : List ℕ) → IsRest (at.held ++ more)) →
+    Gives (length done.events) (length (lines_of run.calls (history_of run.calls run.workers done.events))) (text_of run.calls (history_of run.calls run.workers done.events)) →
+    Taken run.calls run.workers run.limit run.input at.left IsAhead IsRest Gives
+taken_so_far run at IsAhead IsRest Gives done near stops rest gives = record {
   events = done.events;
   fit = done.fit;
-  past = history_of calls workers done.events;
-  trace = trace_of calls workers done.events orderly;
-  splits = so_far a b held (input_of done.events) P done.read rest;
-  within = omega (arith, done.taken, within);
+  past = history_of run.calls run.workers done.events;
+  trace = trace_of run.calls run.workers done.events done.orderly;
+  ahead = at.held;
+  read = read_so_far run.input at.left at.held (input_of done.events) done.read;
+  near = near;
+  stops = stops;
+  splits = so_far run.input at.left at.held (input_of done.events) IsRest done.read rest;
+  within = omega (arith, done.taken, done.within);
+  gives = gives;
+}
+
+-- the same where the input has ended
+taken_at_end : (run : Setting) (at : Progress) (IsAhead IsRest : List ℕ → Type 0) (Gives : ℕ → ℕ → List ℕ → Type 0) → (done : Done run at) → IsAtEnd at.left → length at.held ≤ PIECE → IsAhead at.held → IsRest at.held →
+    Gives (length done.events) (length (lines_of run.calls (history_of run.calls run.workers done.events))) (text_of run.calls (history_of run.calls run.workers done.events)) →
+    Taken run.calls run.workers run.limit run.input at.left IsAhead IsRest Gives
+taken_at_end run at IsAhead IsRest Gives done end near stops rest gives = record {
+  events = done.events;
+  fit = done.fit;
+  past = history_of run.calls run.workers done.events;
+  trace = trace_of run.calls run.workers done.events done.orderly;
+  ahead = at.held;
+  read = read_so_far run.input at.left at.held (input_of done.events) done.read;
+  near = near;
+  stops = stops;
+  splits = at_end run.input at.left at.held (input_of done.events) IsRest done.read end rest;
+  within = omega (arith, done.taken, done.within);
   gives = gives;
 }
 
 -- want of memory
-pub out_of_memory : (calls : List Planned) (workers limit : ℕ) (a b o p : Option (List ℕ)) (held : List ℕ) (core : Machine) (count : ℕ) → IsOrderly calls → Done calls workers limit a b held o p core count → core.taken ≤ limit →
-    Took calls workers limit a (λ rest. Unit {0}) (λ events lines trace. Appends o p trace)
-out_of_memory calls workers limit a b o p held core count orderly done within =
-    took_so_far calls workers limit a b o p held core count (λ rest. Unit {0}) (λ events lines trace. Appends o p trace) orderly done within (λ more. tt) done.written
+pub out_of_memory : (run : Setting) (at : Progress) → Done run at → at.text ≡ [] → length at.held ≤ PIECE → Runs (Err x.Memory) run.calls run.workers run.limit run.input at.left run.contents at.contents
+out_of_memory run at done none near =
+    taken_so_far run at (λ ahead. Unit {0}) (λ rest. Unit {0}) (λ events lines trace. Appends run.contents at.contents trace) done near tt (λ more. tt) (all_written run at done none)
 
 -- a rest that is refused
-pub refused : (calls : List Planned) (workers limit : ℕ) (a b o p : Option (List ℕ)) (held : List ℕ) (core : Machine) (count n : ℕ) → IsOrderly calls → Done calls workers limit a b held o p core count → core.taken ≤ limit →
-    ((more : List ℕ) → IsRefused (held ++ more)) → 0 < length held → n ≡ core.taken + 1 →
-    Took calls workers limit a (λ rest. IsRefused rest × (0 < length rest)) (λ events lines trace. (n ≡ events + 1) × Appends o p trace)
-refused calls workers limit a b o p held core count n orderly done within no_event some is =
-    took_so_far calls workers limit a b o p held core count (λ rest. IsRefused rest × (0 < length rest)) (λ events lines trace. (n ≡ events + 1) × Appends o p trace) orderly done within
-    (λ more. (no_event more, omega (arith, some, length-append held more))) (omega (arith, is, done.taken), done.written)
+pub refused : (run : Setting) (at : Progress) (n : ℕ) → Done run at → at.text ≡ [] → length at.held ≤ PIECE → ((more : List ℕ) → IsRefused (at.held ++ more)) → 0 < length at.held → n ≡ at.core.taken + 1 →
+    Runs (Err (x.EventLine n)) run.calls run.workers run.limit run.input at.left run.contents at.contents
+refused run at n done none near no_event some is =
+    taken_so_far run at (λ ahead. 0 < length ahead) (λ rest. IsRefused rest × (0 < length rest)) (λ events lines trace. (n ≡ events + 1) × Appends run.contents at.contents trace) done near some
+    (λ more. (no_event more, omega (arith, some, length-append at.held more))) (omega (arith, is, done.taken), all_written run at done none)
 
 -- a further event at the limit
-pub full : (calls : List Planned) (workers limit : ℕ) (a b o p : Option (List ℕ)) (held : List ℕ) (core : Machine) (count : ℕ) → IsOrderly calls → Done calls workers limit a b held o p core count →
-    core.taken ≡ core.limit → BeginsWithEvent held → Took calls workers limit a BeginsWithEvent (λ events lines trace. (events ≡ limit) × Appends o p trace)
-full calls workers limit a b o p held core count orderly done at begins =
-    took_so_far calls workers limit a b o p held core count BeginsWithEvent (λ events lines trace. (events ≡ limit) × Appends o p trace) orderly done (omega (arith, at, done.same_limit))
-    (λ more. (begins.0, begins.1 ++ more, begins.2, ap (λ l. l ++ more) begins.3 ∙ append_assoc (event_line begins.0) begins.1 more)) (omega (arith, at, done.same_limit, done.taken), done.written)
+pub full : (run : Setting) (at : Progress) → Done run at → at.text ≡ [] → length at.held ≤ PIECE → at.core.taken ≡ at.core.limit → BeginsWithEvent at.held →
+    Runs (Err x.Full) run.calls run.workers run.limit run.input at.left run.contents at.contents
+full run at done none near reached begins =
+    taken_so_far run at BeginsWithEvent BeginsWithEvent (λ events lines trace. (events ≡ run.limit) × Appends run.contents at.contents trace) done near begins
+    (λ more. (begins.0, begins.1 ++ more, begins.2, ap (λ l. l ++ more) begins.3 ∙ append_assoc (event_line begins.0) begins.1 more)) (omega (arith, reached, done.limit, done.taken), all_written run at done none)
 
 -- the end of the input, with nothing held
-pub ended : (calls : List Planned) (workers limit : ℕ) (a b c o p : Option (List ℕ)) (held : List ℕ) (core : Machine) (count n : ℕ) → IsOrderly calls → Done calls workers limit a b held o p core count → core.taken ≤ limit →
-    Consumes b c [] → IsAtEnd c → held ≡ [] → n ≡ core.taken →
-    Took calls workers limit a (λ rest. rest ≡ []) (λ events lines trace. (events ≡ n) × (lines ≡ count) × Appends o p trace)
-ended calls workers limit a b c o p held core count n orderly done within consumed end none is = record {
-  events = done.events;
-  fit = done.fit;
-  past = history_of calls workers done.events;
-  trace = trace_of calls workers done.events orderly;
-  splits = at_end a b c held (input_of done.events) (λ rest. rest ≡ []) done.read consumed end none;
-  within = omega (arith, done.taken, within);
-  gives = (omega (arith, is, done.taken), done.lines, done.written);
-}
+pub ended : (run : Setting) (at : Progress) (report : Report) → Done run at → at.text ≡ [] → IsAtEnd at.left → at.held ≡ [] → report ≡ record { events = at.core.taken; lines = at.count } →
+    Runs (Ok report) run.calls run.workers run.limit run.input at.left run.contents at.contents
+ended run at report done blank end none is =
+    taken_at_end run at (λ ahead. ahead ≡ []) (λ rest. rest ≡ []) (λ events lines trace. (events ≡ report.events) × (lines ≡ report.lines) × Appends run.contents at.contents trace) done end
+    (omega (arith, ap length none)) none none
+    (sym done.taken ∙ sym (ap (λ r. r.events) is), done.counted ∙ sym (ap (λ r. r.lines) is), all_written run at done blank)
 
 -- the end of the input, with a part of a line held
-pub cut_off : (calls : List Planned) (workers limit : ℕ) (a b c o p : Option (List ℕ)) (held : List ℕ) (core : Machine) (count n : ℕ) → IsOrderly calls → Done calls workers limit a b held o p core count → core.taken ≤ limit →
-    Consumes b c [] → IsAtEnd c → IsLine held → 0 < length held → n ≡ core.taken + 1 →
-    Took calls workers limit a (λ rest. IsRefused rest × (0 < length rest)) (λ events lines trace. (n ≡ events + 1) × Appends o p trace)
-cut_off calls workers limit a b c o p held core count n orderly done within consumed end part some is = record {
-  events = done.events;
-  fit = done.fit;
-  past = history_of calls workers done.events;
-  trace = trace_of calls workers done.events orderly;
-  splits = at_end a b c held (input_of done.events) (λ rest. IsRefused rest × (0 < length rest)) done.read consumed end (refused_rest held part, some);
-  within = omega (arith, done.taken, within);
-  gives = (omega (arith, is, done.taken), done.written);
-}
+pub cut_off : (run : Setting) (at : Progress) (n : ℕ) → Done run at → at.text ≡ [] → IsAtEnd at.left → IsLine at.held → length at.held < MOST_EVENT_BYTES → 0 < length at.held → n ≡ at.core.taken + 1 →
+    Runs (Err (x.EventLine n)) run.calls run.workers run.limit run.input at.left run.contents at.contents
+cut_off run at n done none end part short some is =
+    taken_at_end run at (λ ahead. 0 < length ahead) (λ rest. IsRefused rest × (0 < length rest)) (λ events lines trace. (n ≡ events + 1) × Appends run.contents at.contents trace) done end
+    (omega (arith, short)) some (unread_part at.held part, some) (omega (arith, is, done.taken), all_written run at done none)
 
--- a fault of the source
-pub faulted : (calls : List Planned) (workers limit : ℕ) (a b c o p : Option (List ℕ)) (held : List ℕ) (core : Machine) (count : ℕ) → IsOrderly calls → Done calls workers limit a b held o p core count → core.taken ≤ limit →
-    Keeps b c → IsLine held → length held < 63 → TookPart calls workers limit a c o p
-faulted calls workers limit a b c o p held core count orderly done within keeps part short = record {
-  events = done.events;
-  fit = done.fit;
-  past = history_of calls workers done.events;
-  trace = trace_of calls workers done.events orderly;
-  part = held;
-  read = at_fault a b c held (input_of done.events) done.read keeps;
-  line = part;
-  short = short;
-  within = omega (arith, done.taken, within);
-  written = done.written;
-}
+-- a fault of the reader
+pub faulted : (run : Setting) (at : Progress) (left : Option (List ℕ)) → IsBetweenTurns run at → Keeps at.left left → Runs (Err x.Read) run.calls run.workers run.limit run.input left run.contents at.contents
+faulted run at left between keeps =
+    let here : Progress = record at { left = left } in
+    let done = filled run at left at.held [] between.done (kept_none at.left left keeps) (sym (append-nil at.held)) in
+    taken_so_far run here (λ ahead. IsLine ahead × (length ahead < MOST_EVENT_BYTES)) (λ rest. Unit {0}) (λ events lines trace. Appends run.contents at.contents trace) done (omega (arith, between.short)) (between.part, between.short) (λ more. tt)
+    (all_written run here done between.none)
 
--- what was written so far, where nothing is told of the sink
-forget : (calls : List Planned) (workers limit : ℕ) (a b o p : Option (List ℕ)) (held : List ℕ) (core : Machine) (count : ℕ) → Done calls workers limit a b held o p core count → Done calls workers limit a b held None None core count
-forget calls workers limit a b o p held core count done = record {
-  events = done.events;
-  fit = done.fit;
-  read = done.read;
-  written = tt;
-  taken = done.taken;
-  lines = done.lines;
-  stands = done.stands;
-  same_calls = done.same_calls;
-  same_workers = done.same_workers;
-  same_limit = done.same_limit;
-}
+-- a fault of the writer, after a front of the text at hand
+pub unwritten : (run : Setting) (at : Progress) (contents : Option (List ℕ)) (n : ℕ) → Done run at → length at.held ≤ PIECE → Appends at.contents contents (take n at.text) →
+    Runs (Err x.Write) run.calls run.workers run.limit run.input at.left run.contents contents
+unwritten run at contents n done near appends =
+    taken_so_far run at (λ ahead. Unit {0}) (λ rest. Unit {0}) (λ events lines trace. (k : ℕ) × Appends run.contents contents (take k trace)) done near tt (λ more. tt)
+    (length done.before + n, subst (λ (l : List ℕ). Appends run.contents contents (take (length done.before + n) l)) (sym done.says) (gave_front run.contents at.contents contents done.before at.text n done.written appends))
 
--- the number of lines fits, for some numbers of events
-pub lines_fit : (calls : List Planned) (workers limit : ℕ) (a b c o p : Option (List ℕ)) (held bytes whole seen rest before put : List ℕ) (core next : Machine) (taken count more : ℕ) → IsOrderly calls →
-    Done calls workers limit a b held o p core count → Consumes b c bytes → whole ≡ held ++ bytes → seen ≡ whole → rest ≡ drop taken whole → Answers core next seen taken before put more → before ≡ [] → next.taken ≤ next.limit → limit < 2 ^ 32 →
-    count + more < 2 ^ 33
-lines_fit calls workers limit a b c o p held bytes whole seen rest before put core next taken count more orderly done new all same left d none within small =
-    let all_done = piece calls workers limit a b c None None None held bytes whole seen rest before put core next taken count more orderly (forget calls workers limit a b o p held core count done) new all same left d none tt in
-    omega (arith, all_done.lines, lines_few calls workers all_done.events orderly, all_done.taken, all_done.same_limit, within, small)
+-- ---- turns end
 
--- a text that was written in part
-pub unwritten : (calls : List Planned) (workers limit : ℕ) (a b c o p q : Option (List ℕ)) (held bytes whole seen rest before put : List ℕ) (core next : Machine) (taken count more n : ℕ) → IsOrderly calls →
-    Done calls workers limit a b held o p core count → Consumes b c bytes → whole ≡ held ++ bytes → seen ≡ whole → rest ≡ drop taken whole → (d : Answers core next seen taken before put more) → before ≡ [] → next.taken ≤ next.limit → Appends p q (take n put) →
-    Took calls workers limit a (λ rest. Unit {0}) (λ events lines trace. (k : ℕ) × Appends o q (take k trace))
-unfolding piece forget
-unwritten calls workers limit a b c o p q held bytes whole seen rest before put core next taken count more n orderly done new all same left d none within written =
-    let all_done = piece calls workers limit a b c None None None held bytes whole seen rest before put core next taken count more orderly (forget calls workers limit a b o p held core count done) new all same left d none tt in
-    let P : List Planned → ℕ → Type 0 = λ cs n. Stands core (history_of cs n done.events)
-    → text_of cs (history_of cs n (d.more ++ done.events)) ≡ text_of cs (history_of cs n done.events) ++ d.text
-    in
-    let longer : P calls workers = subst (λ n. P calls n) done.same_workers (subst (λ cs. P cs (workers_of core)) done.same_calls (λ stands. (d.goes (subst IsOrderly (sym done.same_calls) orderly) done.events stands).1)) in
-    let text : put ≡ d.text = d.written ∙ ap (λ l. l ++ d.text) none in
-    let first = text_of calls (history_of calls workers done.events) in
-    took_so_far calls workers limit a c None None rest next (count + more) (λ rest. Unit {0}) (λ events lines trace. (k : ℕ) × Appends o q (take k trace)) orderly all_done (omega (arith, within, all_done.same_limit)) (λ more. tt)
-    (length first + n, subst (λ (l : List ℕ). Appends o q (take (length first + n) l)) (sym (longer done.stands)) (gave_front o p q first d.text put n done.written written text))
-
--- each piece brings an event or a byte
-pub smaller : (core next : Machine) (held bytes whole seen rest before put : List ℕ) (taken more limit : ℕ) → whole ≡ held ++ bytes → seen ≡ whole → rest ≡ drop taken whole → 0 < length bytes → taken ≤ length whole → Answers core next seen taken before put more →
-    next.taken ≤ limit → length rest < 63 → length held < 63 → (limit - next.taken) * 64 + (63 - length rest) < (limit - core.taken) * 64 + (63 - length held)
-smaller core next held bytes whole seen rest before put taken more limit all same left some within d room short part =
-    by d.more d.front d.events
+-- each turn brings an event or a byte
+pub smaller : (limit old new : ℕ) (held bytes whole rest : List ℕ) → whole ≡ held ++ bytes → 0 < length bytes → old ≤ new → new ≤ limit → (new ≡ old → rest ≡ whole) → length rest < MOST_EVENT_BYTES → length held < MOST_EVENT_BYTES →
+    (limit - new) * (MOST_EVENT_BYTES + 1) + (MOST_EVENT_BYTES - length rest) < (limit - old) * (MOST_EVENT_BYTES + 1) + (MOST_EVENT_BYTES - length held)
+smaller limit old new held bytes whole rest all some rises within same short part = by (new - old) (omega (arith, rises))
   where
-    long : length whole ≡ length held + length bytes
-    long = ap length all ∙ length-append held bytes
+    by : (n : ℕ) → new ≡ old + n → (limit - new) * (MOST_EVENT_BYTES + 1) + (MOST_EVENT_BYTES - length rest) < (limit - old) * (MOST_EVENT_BYTES + 1) + (MOST_EVENT_BYTES - length held)
+    by zero is = let whole_on : rest ≡ whole = same (omega (arith, is)) in omega (arith, is, ap length whole_on, ap length all, length-append held bytes, some, short, part)
+    by (suc n) is = omega (arith, is, within, short, part)
 
-    by : (events : List Event) → take taken seen ≡ input_of events → next.taken ≡ core.taken + length events → (limit - next.taken) * 64 + (63 - length rest) < (limit - core.taken) * 64 + (63 - length held)
-    by [] front count = omega (arith, count, ap length left, length-drop taken whole, ap length front, length-take taken seen, ap length same, long, some, within, room, short, part)
-    by (e ∷ events) front count = omega (arith, count, room, short, part)
-
--- a text without bytes
-pub empty : (xs : List ℕ) → true ≡ (length xs == 0) → xs ≡ []
-empty [] e = refl
-empty (x ∷ xs) e = absurd (true_is_false (e ∙ no_zero (length xs)))
+-- where no event was taken, no byte was
+pub nothing_taken : (old new : Machine) (held : List ℕ) (taken : ℕ) (before after : List ℕ) (count : ℕ) → IsAnswered old new held taken before after count → new.taken ≡ old.taken → drop taken held ≡ held
+nothing_taken old new held taken before after count a same = by a.more a.front a.events
   where
-    no_zero : (n : ℕ) → (length (x ∷ xs) == 0) ≡ false
-    no_zero n = grind (arith, nat_tests)
+    by : (more : List Event) → take taken held ≡ input_of more → new.taken ≡ old.taken + length more → drop taken held ≡ held
+    by [] front is = ap (λ l. l ++ drop taken held) (sym front) ∙ take-append-drop taken held
+    by (e ∷ more) front is = absurd (omega (arith, is, same))
 
-    true_is_false : true ≡ false → ⊥
-    true_is_false q = cc
+-- the end of the input
+pub at_the_end : (run : Setting) (at : Progress) (left : Option (List ℕ)) (held : List ℕ) (result : Result Turn RunError) → IsBetweenTurns run at → Consumes at.left left [] → IsAtEnd left → held ≡ at.held →
+    MatchResult result
+    (λ turn. (turn ≡ t.Ended (record { events = at.core.taken; lines = at.count })) × (held ≡ []))
+    (λ e. (e ≡ x.EventLine (at.core.taken + 1)) × (0 < length held))
+    → Turns result run at (record at { left = left; held = held })
+at_the_end run at left held (Ok turn) between none end same is =
+    let next : Progress = record at { left = left; held = held } in
+    let done = filled run at left held [] between.done none (same ∙ sym (append-nil at.held)) in
+    subst (λ (turn : Turn). Turns (Ok turn) run at next) (sym is.0) (ended run next (record { events = at.core.taken; lines = at.count }) done between.none end is.1 refl)
+at_the_end run at left held (Err e) between none end same is =
+    let next : Progress = record at { left = left; held = held } in
+    let done = filled run at left held [] between.done none (same ∙ sym (append-nil at.held)) in
+    subst (λ (e : RunError). Turns (Err e) run at next) (sym is.0) (cut_off run next (at.core.taken + 1) done between.none end (subst IsLine (sym same) between.part) (omega (arith, ap length same, between.short)) is.1 refl)
 
-pub not_empty : (xs : List ℕ) → false ≡ (length xs == 0) → 0 < length xs
-not_empty xs e = grind (arith, nat_tests)
+-- a run that ended with a fault, once its plan was accepted
+pub ran_to_a_fault : (run : Setting) (e : RunError) (text : List ℕ) (left contents : Option (List ℕ)) → IsAccepted text run.calls run.workers run.limit → Runs (Err e) run.calls run.workers run.limit run.input left run.contents contents →
+    Ran (Err e) text run.workers run.limit run.input left run.contents contents
+ran_to_a_fault run (x.Plan fault) text left contents accepted runs = absurd runs
+ran_to_a_fault run x.Workers text left contents accepted runs = absurd runs
+ran_to_a_fault run x.Limit text left contents accepted runs = absurd runs
+ran_to_a_fault run (x.EventLine n) text left contents accepted runs = (run.calls, accepted, runs)
+ran_to_a_fault run x.Full text left contents accepted runs = (run.calls, accepted, runs)
+ran_to_a_fault run x.Read text left contents accepted runs = (run.calls, accepted, runs)
+ran_to_a_fault run x.Write text left contents accepted runs = (run.calls, accepted, runs)
+ran_to_a_fault run x.Memory text left contents accepted runs = inr (run.calls, accepted, runs)

@@ -4,6 +4,7 @@ use Rattle.std.specs.Prelude.{◌≡◌, ◌≢◌, ℕ, ◌+◌, ◌-◌, ◌^�
 use Rattle.std.specs.IoError.{error_kind}
 use Rattle.std.specs.Io.KnownBytes.{Consumes, Appends, Keeps, IsAtEnd}
 use Rattle.std.specs.declared.io.Error.{Error}
+use Rattle.std.specs.declared.io.ErrorKind.{ErrorKind}
 use Rattle.std.specs.declared.io.ErrorKind.TheVariants.{Interrupted}
 
 -- the greatest value of a count, at which it stays (this project's rule)
@@ -18,17 +19,21 @@ OneMore count count' = (count < greatest → count' ≡ count + 1) × (greatest 
 abbrev pub NoneMore : ℕ → ℕ → ℕ → ℕ → Type 0
 NoneMore failed fruitless failed' fruitless' = (failed' ≡ failed) × (fruitless' ≡ fruitless)
 
--- a fault of kind Interrupted counts as fruitless, and each other one as failed (this project's rule)
-abbrev pub CountsFault : Error → ℕ → ℕ → ℕ → ℕ → Type 0
-CountsFault e failed fruitless failed' fruitless' =
-    (error_kind e ≡ Interrupted → (failed' ≡ failed) × OneMore fruitless fruitless')
-    × (error_kind e ≢ Interrupted → OneMore failed failed' × (fruitless' ≡ fruitless))
+-- what a fault of this kind counts: one of kind Interrupted as fruitless, and each other one as failed (this project's rule)
+abbrev pub CountsFault : ErrorKind → ℕ → ℕ → ℕ → ℕ → Type 0
+CountsFault kind failed fruitless failed' fruitless' =
+    (kind ≡ Interrupted → (failed' ≡ failed) × OneMore fruitless fruitless')
+    × (kind ≢ Interrupted → OneMore failed failed' × (fruitless' ≡ fruitless))
+
+-- one fault was counted, of some kind
+abbrev pub IsOneFault : ℕ → ℕ → ℕ → ℕ → Type 0
+IsOneFault failed fruitless failed' fruitless' = (kind : ErrorKind) × CountsFault kind failed fruitless failed' fruitless'
 
 -- what a read counts: its faults alone
 abbrev pub CountsRead : Result ℕ Error → ℕ → ℕ → ℕ → ℕ → Type 0
 CountsRead r failed fruitless failed' fruitless' = MatchResult r
     (λ _. NoneMore failed fruitless failed' fruitless')
-    (λ e. CountsFault e failed fruitless failed' fruitless')
+    (λ e. CountsFault (error_kind e) failed fruitless failed' fruitless')
 
 -- what a write counts: its faults, and a write that took nothing of a text that isn't empty, as failed (this project's rule)
 abbrev pub CountsWrite : Result ℕ Error → List ℕ → ℕ → ℕ → ℕ → ℕ → Type 0
@@ -36,15 +41,7 @@ CountsWrite r text failed fruitless failed' fruitless' = MatchResult r
     (λ n. (0 < n → NoneMore failed fruitless failed' fruitless')
     × (length text ≡ 0 → NoneMore failed fruitless failed' fruitless')
     × (n ≡ 0 → 0 < length text → OneMore failed failed' × (fruitless' ≡ fruitless)))
-    (λ e. CountsFault e failed fruitless failed' fruitless')
-
--- neither count falls
-abbrev pub Rises : ℕ → ℕ → ℕ → ℕ → Type 0
-Rises failed fruitless failed' fruitless' = (failed ≤ failed') × (fruitless ≤ fruitless')
-
--- the end was at fault: failed rose, or fruitless rose, or either stands at the greatest value
-abbrev pub IsFaulty : ℕ → ℕ → ℕ → ℕ → Type 0
-IsFaulty failed fruitless failed' fruitless' = failed' ≤ failed → failed' < greatest → fruitless' < greatest → fruitless < fruitless'
+    (λ e. CountsFault (error_kind e) failed fruitless failed' fruitless')
 
 -- `Some n`: n bytes came, and none only at the end or with no room for one; `None`: nothing was consumed
 abbrev pub ReadsSome : Option ℕ → Option (List ℕ) → Option (List ℕ) → List ℕ → Type 0
@@ -56,20 +53,20 @@ abbrev pub WritesSome : Option ℕ → Option (List ℕ) → Option (List ℕ) �
 WritesSome (Some n) old new text = (0 < n) × (n ≤ length text) × Appends old new (take n text)
 WritesSome None old new text = Keeps old new
 
--- `None` comes of a fault alone
-abbrev pub FaultAtNone : Option ℕ → ℕ → ℕ → ℕ → ℕ → Type 0
-FaultAtNone (Some n) failed fruitless failed' fruitless' = Unit {0}
-FaultAtNone None failed fruitless failed' fruitless' = IsFaulty failed fruitless failed' fruitless'
+-- `Some n` counts no fault, and `None` one
+abbrev pub CountsTry : Option ℕ → ℕ → ℕ → ℕ → ℕ → Type 0
+CountsTry (Some n) failed fruitless failed' fruitless' = NoneMore failed fruitless failed' fruitless'
+CountsTry None failed fruitless failed' fruitless' = IsOneFault failed fruitless failed' fruitless'
 
 -- `true`: the whole text was appended; `false`: a front of it
 abbrev pub WritesText : Bool → Option (List ℕ) → Option (List ℕ) → List ℕ → Type 0
 WritesText true old new text = Appends old new text
 WritesText false old new text = (n : ℕ) × (n ≤ length text) × Appends old new (take n text)
 
--- `false` comes of a fault alone
-abbrev pub FaultAtFalse : Bool → ℕ → ℕ → ℕ → ℕ → Type 0
-FaultAtFalse true failed fruitless failed' fruitless' = Unit {0}
-FaultAtFalse false failed fruitless failed' fruitless' = IsFaulty failed fruitless failed' fruitless'
+-- `true` counts no fault, and `false` one
+abbrev pub CountsText : Bool → ℕ → ℕ → ℕ → ℕ → Type 0
+CountsText true failed fruitless failed' fruitless' = NoneMore failed fruitless failed' fruitless'
+CountsText false failed fruitless failed' fruitless' = IsOneFault failed fruitless failed' fruitless'
 
 -- what contracts see of a wrapper: the end within, and its two counts
 pub record Counted (E : Type 0) : Type 0 where

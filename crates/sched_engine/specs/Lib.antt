@@ -6,6 +6,9 @@ pub use Rattle.plan_read.specs.Plans
 pub use Rattle.plan_read.specs.PlanReading
 pub use Rattle.plan_compile.specs.PlanCalls
 pub use Rattle.trace_text.specs.Spelling
+pub use Rattle.trace_text.specs.Reading
 pub mod Ends
-pub mod Lines
+pub mod Inputs
+pub mod Pieces
 pub mod Running
+pub mod Turns

@@ -1,7 +1,7 @@
 ghost use Rattle.std.specs.Prelude.{◌≡◌, ℕ, ◌<◌, List, Option, length};
 ghost use Rattle.std.specs.Io.{ReadsAtMost, WritesAtMost};
 ghost use Rattle.std.specs.Io.KnownBytes.{ReadConsumes, WriteAppends};
-ghost use Rattle.sched_engine.specs.Ends.{CountsRead, CountsWrite, Rises, ReadsSome, WritesSome, WritesText, FaultAtNone, FaultAtFalse};
+ghost use Rattle.sched_engine.specs.Ends.{CountsRead, CountsWrite, CountsTry, CountsText, ReadsSome, WritesSome, WritesText};
 
 use std::io;
 
@@ -48,8 +48,7 @@ pub trait Sink {
 /// kind, and consumes nothing.
 pub fn read_some<S: Source>(source: &mut S, buf: &mut [u8]) -> Option<usize>
     ensures bytes { ReadsSome result (S.remaining source.old) (S.remaining source.new) buf.new }
-    ensures rises { Rises (S.failed source.old) (S.fruitless source.old) (S.failed source.new) (S.fruitless source.new) }
-    ensures fault { FaultAtNone result (S.failed source.old) (S.fruitless source.old) (S.failed source.new) (S.fruitless source.new) }
+    ensures counts { CountsTry result (S.failed source.old) (S.fruitless source.old) (S.failed source.new) (S.fruitless source.new) }
 {
     match source.read(buf) {
         Ok(n) => Some(n),
@@ -62,8 +61,7 @@ pub fn read_some<S: Source>(source: &mut S, buf: &mut [u8]) -> Option<usize>
 pub fn write_some<W: Sink>(sink: &mut W, text: &[u8]) -> Option<usize>
     requires { 0 < length text.now }
     ensures bytes { WritesSome result (W.contents sink.old) (W.contents sink.new) text.now }
-    ensures rises { Rises (W.failed sink.old) (W.fruitless sink.old) (W.failed sink.new) (W.fruitless sink.new) }
-    ensures fault { FaultAtNone result (W.failed sink.old) (W.fruitless sink.old) (W.failed sink.new) (W.fruitless sink.new) }
+    ensures counts { CountsTry result (W.failed sink.old) (W.fruitless sink.old) (W.failed sink.new) (W.fruitless sink.new) }
 {
     match sink.write(text) {
         Ok(0) => None,
@@ -76,8 +74,7 @@ pub fn write_some<W: Sink>(sink: &mut W, text: &[u8]) -> Option<usize>
 /// text was written.
 pub fn write_text<W: Sink>(sink: &mut W, text: &[u8]) -> bool
     ensures bytes { WritesText result (W.contents sink.old) (W.contents sink.new) text.now }
-    ensures rises { Rises (W.failed sink.old) (W.fruitless sink.old) (W.failed sink.new) (W.fruitless sink.new) }
-    ensures fault { FaultAtFalse result (W.failed sink.old) (W.fruitless sink.old) (W.failed sink.new) (W.fruitless sink.new) }
+    ensures counts { CountsText result (W.failed sink.old) (W.fruitless sink.old) (W.failed sink.new) (W.fruitless sink.new) }
 {
     let mut at = 0;
     while at < text.len() {

@@ -1,100 +1,33 @@
-//! The engine: event lines in, trace lines out.
-ghost use Rattle.std.specs.Prelude.{◌≡◌, ◌≤◌, IfOk, IfErr, length, drop};
-ghost use Rattle.executor_core.specs.Machine.{workers_of};
-ghost use Rattle.sched_engine.specs.Running.{IsStanding, IsFirst, Answers, Stops, Opens, Refuses, Runs, Ran, FaultAtRead, FaultAtWrite};
+//! The engine: it reads a piece, answers it and writes the answers, turn by turn.
+ghost use Rattle.std.specs.Prelude.{◌≡◌, ℕ, ◌+◌, ◌^◌, ◌<◌, ◌≤◌, List, [], Option, IfOk, IfErr, MatchResult, OnOk, length};
+ghost use Rattle.sched_engine.specs.Running.{Refuses, Ran, CountsReader, CountsWriter};
+ghost use Rattle.sched_engine.specs.Turns.{Done, IsBetweenTurns, IsPieceEnd, IsStanding, Opens, Progress, Setting, Turns};
+ghost use Rattle.sched_engine.specs.declared.engine.Turn.TheVariants as t;
 
+use crate::answering::{PieceEnd, answer_events};
+use crate::draft::Draft;
 use crate::ends::{Sink, Source, write_text};
-use crate::held::{Filled, Held, ROOM};
-use crate::lines::{Front, front_line};
+use crate::held::{Filled, Held};
 use crate::report::{Report, RunError};
 use crate::room::Room;
 use executor_core::{Core, CoreError, Line};
 use plan_compile::written_out;
 use plan_read::read_plan;
 use std::alloc::{AllocError, Allocator};
-use trace_text::{LineBuffer, read_event, write_lines};
-
-/// Why no further line was taken.
-#[derive(Clone, Copy, Debug, PartialEq, Eq)]
-pub enum Why {
-    /// Less than a line is left.
-    Part,
-    /// What is left does not begin with an event line.
-    Refused,
-    /// As many events were taken as the limit allows.
-    Full,
-}
-
-/// How far the lines at hand were taken.
-#[derive(Clone, Copy, Debug, PartialEq, Eq)]
-pub struct Stop {
-    /// How many bytes were taken.
-    pub taken: usize,
-    /// How many lines of answers were put.
-    pub lines: u64,
-    pub why: Why,
-}
-
-/// Answers each whole event line of the bytes that are held, and puts the text of the answers.
-fn answer_lines<A: Allocator>(
-    core: &mut Core<A>,
-    held: &[u8],
-    lines: &mut Vec<Line, A>,
-    out: &mut Vec<u8, A>,
-) -> Result<Stop, AllocError>
-    requires { IsStanding core.old }
-    ensures taken { IfOk result (λ s. s.taken ≤ length held.now) }
-    ensures answers { IfOk result (λ s. Answers core.old core.new held.now s.taken out.old.items out.new.items s.lines) }
-    ensures within { IfOk result (λ _. core.new.taken ≤ core.new.limit) }
-    ensures why { IfOk result (λ s. Stops s.why core.new.taken core.new.limit (drop s.taken held.now)) }
-{
-    let mut buffer = LineBuffer::new();
-    let mut taken = 0;
-    let mut count = 0;
-    loop {
-        let rest = &held[taken..];
-        let why = match front_line(rest) {
-            Front::Line(n) => {
-                match read_event(&rest[..n]) {
-                    Some(event) => {
-                        lines.clear();
-                        match core.event(event, lines) {
-                            Ok(()) => {
-                                if write_lines(out, &mut buffer, lines).is_err() {
-                                    return Err(AllocError);
-                                }
-                                taken += n + 1;
-                                count += lines.len() as u64;
-                                continue;
-                            }
-                            Err(CoreError::Full) => Why::Full,
-                            Err(_) => return Err(AllocError),
-                        }
-                    }
-                    None => Why::Refused,
-                }
-            }
-            Front::Part => Why::Part,
-            Front::Long => Why::Refused,
-        };
-        return Ok(Stop {
-            taken,
-            lines: count,
-            why,
-        });
-    }
-}
 
 /// Runs a plan over the event lines of the reader, and writes its trace.
 ///
-/// `workers` is the number of workers, 1 to 64, and `limit` the greatest number of events, 1 to
-/// 4,294,967,295. A piece of input is answered whole and its text written before more is read,
-/// so whoever feeds lines sees each answer before the run waits for more.
+/// `plan_text` is the plan's TOML, at most 1,048,576 bytes; `workers` is the number of workers, 1
+/// to 64, and `limit` the greatest number of events, 1 to 4,294,967,295. Moments are nanoseconds.
+/// A piece of input, 64 KiB at most, is answered whole and its text written before more is read,
+/// so whoever feeds lines sees each answer before the run waits for more. Nothing is flushed.
 ///
 /// On [`RunError::Plan`], [`RunError::Workers`] and [`RunError::Limit`], found in this order,
 /// nothing is read or written. On [`RunError::EventLine`], [`RunError::Full`] and
 /// [`RunError::Read`] the text of all events before was written, on [`RunError::Memory`] the
-/// text of some of the first of them, and on [`RunError::Write`] a front of such a text.
+/// text of some of the first of them, and on [`RunError::Write`] a front of such a text. At most
+/// one piece was read behind the last event that was taken. A fault of an end is answered at
+/// once, and nothing is tried again.
 pub fn run<A: Room, S: Source, W: Sink>(
     alloc: A,
     plan_text: &[u8],
@@ -104,11 +37,15 @@ pub fn run<A: Room, S: Source, W: Sink>(
     writer: &mut W,
 ) -> Result<Report, RunError>
     ensures ran { Ran result plan_text.now workers limit (S.remaining reader.old) (S.remaining reader.new) (W.contents writer.old) (W.contents writer.new) }
-    ensures read { FaultAtRead result (S.failed reader.old) (S.fruitless reader.old) (S.failed reader.new) (S.fruitless reader.new) }
-    ensures write { FaultAtWrite result (W.failed writer.old) (W.fruitless writer.old) (W.failed writer.new) (W.fruitless writer.new) }
+    ensures read { CountsReader result (S.failed reader.old) (S.fruitless reader.old) (S.failed reader.new) (S.fruitless reader.new) }
+    ensures write { CountsWriter result (W.failed writer.old) (W.fruitless writer.old) (W.failed writer.new) (W.fruitless writer.new) }
 {
-    let mut core = core_of(alloc, plan_text, workers, limit)?;
-    answer_all(alloc, &mut core, limit, reader, writer)
+    let mut engine = Engine::open(alloc, plan_text, workers, limit)?;
+    loop {
+        if let Turn::Ended(report) = engine.turn(reader, writer)? {
+            return Ok(report);
+        }
+    }
 }
 
 /// The core of the plan that a text writes.
@@ -135,54 +72,122 @@ fn core_of<A: Room>(
     }
 }
 
-/// Answers the event lines of the reader, a piece at a time.
-fn answer_all<A: Allocator + Copy, S: Source, W: Sink>(
-    alloc: A,
-    core: &mut Core<A>,
-    limit: u32,
-    reader: &mut S,
-    writer: &mut W,
-) -> Result<Report, RunError>
-    requires { IsFirst core.old limit }
-    ensures runs { Runs result core.old.calls (workers_of core.old) limit (S.remaining reader.old) (S.remaining reader.new) (W.contents writer.old) (W.contents writer.new) }
-    ensures read { FaultAtRead result (S.failed reader.old) (S.fruitless reader.old) (S.failed reader.new) (S.fruitless reader.new) }
-    ensures write { FaultAtWrite result (W.failed writer.old) (W.fruitless writer.old) (W.failed writer.new) (W.fruitless writer.new) }
-{
-    let Ok(mut held) = Held::new(alloc) else {
-        return Err(RunError::Memory);
-    };
-    let Ok(mut out) = Vec::with_capacity(alloc, ROOM) else {
-        return Err(RunError::Memory);
-    };
-    let mut lines = Vec::new(alloc);
-    let mut count = 0;
-    loop {
-        match held.fill(reader) {
+/// What a turn led to.
+#[derive(Clone, Copy)]
+pub enum Turn {
+    /// All that was read is answered and written, but for a part of one line.
+    More,
+    /// The input ended, and so did the run.
+    Ended(Report),
+}
+
+/// A run under way. Its buffers are made once, so that an event takes no memory of its own.
+#[derive(Drop)]
+pub struct Engine<A: Allocator> {
+    core: Core<A>,
+    held: Held<A>,
+    /// The lines that answer the event at hand.
+    lines: Vec<Line, A>,
+    /// The text that answers the piece at hand.
+    draft: Draft<A>,
+    /// How many lines were answered.
+    count: u64,
+}
+
+impl<A: Allocator> Engine<A> {
+    /// A run of the plan that a text writes, before anything was read.
+    pub fn open(alloc: A, plan_text: &[u8], workers: u8, limit: u32) -> Result<Engine<A>, RunError>
+    where
+        A: Room,
+        ensures opens { IfOk result (λ engine. Opens engine.core plan_text.now workers limit) }
+        ensures held { IfOk result (λ engine. engine.held ≡ []) }
+        ensures text { IfOk result (λ engine. engine.draft.text ≡ []) }
+        ensures count { IfOk result (λ engine. engine.count ≡ 0) }
+        ensures refuses { IfErr result (λ e. Refuses e plan_text.now workers limit) }
+    {
+        Ok(Engine {
+            core: core_of(alloc, plan_text, workers, limit)?,
+            held: Held::new(alloc)?,
+            lines: Vec::new(alloc),
+            draft: Draft::new(alloc)?,
+            count: 0,
+        })
+    }
+
+    /// Reads once, answers each event line that is then held, and writes the answers.
+    ///
+    /// So between two turns nothing that was read waits for an answer, and no answer to be
+    /// written: whoever feeds lines sees each answer before the run waits for more.
+    pub fn turn<S: Source, W: Sink>(
+        &mut self,
+        reader: &mut S,
+        writer: &mut W,
+    ) -> Result<Turn, RunError>
+        requires { (run : Setting) × IsBetweenTurns run (record { left = S.remaining reader.old; held = self.old.held; text = self.old.draft.text; contents = W.contents writer.old; core = self.old.core; count = self.old.count }) }
+        ensures turns { (run : Setting) → let old : Progress = record { left = S.remaining reader.old; held = self.old.held; text = self.old.draft.text; contents = W.contents writer.old; core = self.old.core; count = self.old.count } in
+            IsBetweenTurns run old → Turns result run old (record { left = S.remaining reader.new; held = self.new.held; text = self.new.draft.text; contents = W.contents writer.new; core = self.new.core; count = self.new.count }) }
+        ensures read { CountsReader result (S.failed reader.old) (S.fruitless reader.old) (S.failed reader.new) (S.fruitless reader.new) }
+        ensures write { CountsWriter result (W.failed writer.old) (W.fruitless writer.old) (W.failed writer.new) (W.fruitless writer.new) }
+    {
+        match self.held.fill(reader) {
             Filled::More => {}
-            Filled::End => {
-                if held.bytes().is_empty() {
-                    return Ok(Report {
-                        events: core.taken(),
-                        lines: count,
-                    });
-                }
-                return Err(RunError::EventLine(core.taken() as u64 + 1));
-            }
+            Filled::End => return self.end(),
             Filled::Fault => return Err(RunError::Read),
         }
-        let Ok(stop) = answer_lines(core, held.bytes(), &mut lines, &mut out) else {
-            return Err(RunError::Memory);
-        };
-        held.skip(stop.taken);
-        count += stop.lines;
-        if !write_text(writer, &out) {
+        let end = self.answer_held()?;
+        if !write_text(writer, self.draft.bytes()) {
             return Err(RunError::Write);
         }
-        out.clear();
-        match stop.why {
-            Why::Part => {}
-            Why::Refused => return Err(RunError::EventLine(core.taken() as u64 + 1)),
-            Why::Full => return Err(RunError::Full),
+        self.draft.clear();
+        match end {
+            PieceEnd::Part => Ok(Turn::More),
+            PieceEnd::Refused => Err(self.refused_line()),
+            PieceEnd::Full => Err(RunError::Full),
         }
+    }
+
+    /// Answers each event line that is held, and lets go of these lines.
+    fn answer_held(&mut self) -> Result<PieceEnd, AllocError>
+        requires standing { IsStanding self.old.core }
+        requires few { self.old.count < 2 ^ 33 }
+        ensures done { OnOk result ((run : Setting) (left contents : Option (List ℕ)) →
+            Done run (record { left = left; held = self.old.held; text = self.old.draft.text; contents = contents; core = self.old.core; count = self.old.count }) →
+            Done run (record { left = left; held = self.new.held; text = self.new.draft.text; contents = contents; core = self.new.core; count = self.new.count })) }
+        ensures end { IfOk result (λ end. IsPieceEnd end self.new.core self.new.held) }
+        ensures fewer { OnOk result (length self.new.held ≤ length self.old.held) }
+        ensures rises { OnOk result (self.old.core.taken ≤ self.new.core.taken) }
+        ensures same { OnOk result (self.new.core.taken ≡ self.old.core.taken → self.new.held ≡ self.old.held) }
+    {
+        let answered = answer_events(
+            &mut self.core,
+            self.held.bytes(),
+            &mut self.lines,
+            &mut self.draft,
+        )?;
+        self.held.skip(answered.bytes);
+        self.count += answered.lines;
+        Ok(answered.end)
+    }
+
+    /// What the run comes to at the end of the input: a part of a line is no event line.
+    fn end(&self) -> Result<Turn, RunError>
+        ensures { MatchResult result
+            (λ turn. (turn ≡ t.Ended (record { events = self.now.core.taken; lines = self.now.count })) × (self.now.held ≡ []))
+            (λ e. (e ≡ RunError.EventLine (self.now.core.taken + 1)) × (0 < length self.now.held)) }
+    {
+        if !self.held.bytes().is_empty() {
+            return Err(self.refused_line());
+        }
+        Ok(Turn::Ended(Report {
+            events: self.core.taken(),
+            lines: self.count,
+        }))
+    }
+
+    /// The next line is no event line.
+    fn refused_line(&self) -> RunError
+        ensures { result ≡ RunError.EventLine (self.now.core.taken + 1) }
+    {
+        RunError::EventLine(u64::from(self.core.taken()) + 1)
     }
 }

@@ -1,13 +1,12 @@
 ghost use Rattle.std.specs.Prelude.{◌≡◌, ◌<◌, ◌≤◌, [], length, drop, IfOk};
-ghost use Rattle.sched_engine.specs.Ends.{Rises};
-ghost use Rattle.sched_engine.specs.Lines.{Fills, FaultAtFault};
+ghost use Rattle.sched_engine.specs.Pieces.{Fills, CountsFill};
 
 use crate::ends::{Source, read_some};
 use std::alloc::{AllocError, Allocator};
 use std::marker::Model;
 
-/// How many bytes can be held at once: 64 KiB.
-pub const ROOM: usize = 65_536;
+/// How many bytes are held at most, and read at once: 64 KiB.
+pub const PIECE: usize = 65_536;
 
 /// What a refill brought.
 #[derive(Clone, Copy, Debug, PartialEq, Eq)]
@@ -20,7 +19,7 @@ pub enum Filled {
     Fault,
 }
 
-/// The bytes of a source that were read and not taken yet, at most [`ROOM`].
+/// The bytes of a source that were read and not taken yet, at most [`PIECE`].
 /// Contracts see the list of them.
 #[derive(Drop)]
 pub struct Held<A: Allocator> {
@@ -31,13 +30,13 @@ pub struct Held<A: Allocator> {
 
 impl<A: Allocator> Model for Held<A> {
     ghost use Rattle.std.specs.Prelude.{◌≡◌, ◌≤◌, List, ℕ, slice_range, vec_len};
-    ghost use Rattle.sched_engine.specs.declared.held.TheConstants.{ROOM};
+    ghost use Rattle.sched_engine.specs.declared.held.TheConstants.{PIECE};
 
     ghost Value = { List ℕ };
 
     ghost view = { λ h. slice_range h.buffer.items h.from h.to };
 
-    ghost invariant = { λ h. (h.from ≤ h.to) × (h.to ≤ vec_len h.buffer) × (vec_len h.buffer ≡ ROOM) };
+    ghost invariant = { λ h. (h.from ≤ h.to) × (h.to ≤ vec_len h.buffer) × (vec_len h.buffer ≡ PIECE) };
 }
 
 impl<A: Allocator> Held<A> {
@@ -46,7 +45,7 @@ impl<A: Allocator> Held<A> {
         ensures { IfOk result (λ h. h ≡ []) }
     {
         Ok(Held {
-            buffer: Vec::from_elem(alloc, 0u8, ROOM)?,
+            buffer: Vec::from_elem(alloc, 0u8, PIECE)?,
             from: 0,
             to: 0,
         })
@@ -54,7 +53,8 @@ impl<A: Allocator> Held<A> {
 
     /// The bytes that are held, the oldest first.
     pub fn bytes(&self) -> &[u8]
-        ensures { result.now ≡ self.now }
+        ensures bytes { result.now ≡ self.now }
+        ensures few { length self.now ≤ PIECE }
     {
         &self.buffer[self.from..self.to]
     }
@@ -69,10 +69,10 @@ impl<A: Allocator> Held<A> {
 
     /// Reads once, behind what is held. A fault changes nothing.
     pub fn fill<S: Source>(&mut self, source: &mut S) -> Filled
-        requires { length self.old < ROOM }
+        requires { length self.old < PIECE }
         ensures bytes { Fills result (S.remaining source.old) (S.remaining source.new) self.old self.new }
-        ensures rises { Rises (S.failed source.old) (S.fruitless source.old) (S.failed source.new) (S.fruitless source.new) }
-        ensures fault { FaultAtFault result (S.failed source.old) (S.fruitless source.old) (S.failed source.new) (S.fruitless source.new) }
+        ensures few { length self.new ≤ PIECE }
+        ensures counts { CountsFill result (S.failed source.old) (S.fruitless source.old) (S.failed source.new) (S.fruitless source.new) }
     {
         self.buffer.copy_within(self.from..self.to, 0);
         self.to -= self.from;

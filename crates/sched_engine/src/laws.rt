@@ -1,5 +1,10 @@
-//! What holds of each input, over the definitions alone.
-ghost use Rattle.sched_engine.specs.Running.{EventsAreOne, FrontIsOne};
+//! What holds of each input and of each comparison, over the definitions alone.
+ghost use Rattle.std.specs.Prelude.{◌≡◌, true};
+ghost use Rattle.sched_engine.specs.Inputs.{EventsAreOne, FrontIsOne};
+
+use crate::answering::{Answered, PieceEnd};
+use crate::held::Filled;
+use crate::report::{Report, RunError};
 
 /// A text is the lines of one list of events and of no other.
 pub fn events_are_one()
@@ -11,4 +16,29 @@ pub fn events_are_one()
 /// its input.
 pub fn front_is_one()
     ensures { FrontIsOne }
+{}
+
+/// Reports that compare equal are equal.
+pub fn report_equality_tells()
+    ensures { (a b : Report) → ⟦<Report as PartialEq>⟧.eq a b ≡ true → a ≡ b }
+{}
+
+/// Errors of a run that compare equal are equal.
+pub fn run_error_equality_tells()
+    ensures { (a b : RunError) → ⟦<RunError as PartialEq>⟧.eq a b ≡ true → a ≡ b }
+{}
+
+/// What refills brought is equal where it compares equal.
+pub fn filled_equality_tells()
+    ensures { (a b : Filled) → ⟦<Filled as PartialEq>⟧.eq a b ≡ true → a ≡ b }
+{}
+
+/// Ends of pieces that compare equal are equal.
+pub fn piece_end_equality_tells()
+    ensures { (a b : PieceEnd) → ⟦<PieceEnd as PartialEq>⟧.eq a b ≡ true → a ≡ b }
+{}
+
+/// What was answered of pieces is equal where it compares equal.
+pub fn answered_equality_tells()
+    ensures { (a b : Answered) → ⟦<Answered as PartialEq>⟧.eq a b ≡ true → a ≡ b }
 {}

@@ -1,13 +1,53 @@
-//! The engine: event lines in, trace lines out.
+//! Runs a plan over event lines and writes its trace: from bytes in to bytes out.
+//!
+//! ```text
+//! let (answer, trace) = run_in_memory(rt.alloc(), plan, 1, 1_000, b"clock 5\nstart 0\n");
+//!
+//! let mut reader = Reading::new(rt.reader());
+//! let mut writer = Writing::new(io::writer(&rt));
+//! let report = run(rt.alloc(), plan, workers, limit, &mut reader, &mut writer)?;
+//! ```
+//!
+//! [`run`] takes any [`Source`] and any [`Sink`]: [`Reading`] and [`Writing`] make them of std's
+//! readers and writers, [`Pieces`] of bytes in memory, and [`run_in_memory`] does with no ends at
+//! all.
+//!
+//! # Behaviour
+//!
+//! A run goes in turns. A turn reads once, at most 64 KiB; then it answers each event line that
+//! has come whole, and writes the answers. So between two reads every event that was read has its
+//! answer written, and at most a part of one line is held. An event line has at most 63 bytes with
+//! its newline. The lines of the trace stand in the order of the events; the calls that a clock
+//! reaches stand before it, by their moments.
+//!
+//! # Errors
+//!
+//! | Error | When | What was written |
+//! |---|---|---|
+//! | [`RunError::Plan`], then [`RunError::Workers`], then [`RunError::Limit`] | before anything is read | nothing |
+//! | [`RunError::EventLine`] | that line is no event's, counted from 1 | the answers to all events before |
+//! | [`RunError::Full`] | a further event follows as many as the limit allows | the answers to these |
+//! | [`RunError::Read`] | the reader was at fault | the answers to all whole lines read |
+//! | [`RunError::Write`] | the writer was at fault, or took nothing | a front of some events' answers |
+//! | [`RunError::Memory`] | memory was refused | the answers to some of the first events |
+//!
+//! A fault of an end is told at once, `Interrupted` too, and that end is not called again. At most
+//! one piece, 64 KiB, is read behind the last event that was taken.
+//!
+//! # Memory and cost
+//!
+//! A run takes two buffers of 64 KiB, what the plan's core takes, and room for the answers to one
+//! piece. Once these have grown, an event takes no memory, and a run's memory does not grow with
+//! its input. Each byte of input is looked at a fixed number of times.
 #![tactic(auto)]
 
+mod answering;
+mod draft;
 mod ends;
-#[cfg(test)]
-mod ends_tests;
 mod engine;
 mod held;
+mod in_memory;
 mod laws;
-mod lines;
 mod memory;
 mod readers;
 mod report;
@@ -18,7 +58,8 @@ mod writers;
 
 pub use ends::{Sink, Source, read_some, write_some, write_text};
 pub use engine::run;
-pub use laws::{events_are_one, front_is_one};
+pub use in_memory::run_in_memory;
+pub use laws::{events_are_one, front_is_one, report_equality_tells, run_error_equality_tells};
 pub use memory::Pieces;
 pub use readers::Reading;
 pub use report::{Report, RunError};

@@ -1,4 +1,5 @@
 use crate::engine::run;
+use crate::in_memory::run_in_memory;
 use crate::memory::Pieces;
 use crate::readers::Reading;
 use crate::report::{Report, RunError};
@@ -11,8 +12,11 @@ use std::process::Abort;
 use std::test::Fail;
 
 mod cancels;
+mod ends;
 mod examples;
+mod long_runs;
 mod periodic;
+mod turns;
 
 /// The plan of one delayed task.
 const ONE_DELAY: &str =
@@ -314,4 +318,54 @@ fn tells_faults_of_the_ends(rt: HostRuntime) {
         let answer = run(rt.alloc(), plan, 1, 9, &mut reader, &mut writer);
         assert_eq!(rt; answer, Err(RunError::Write));
     }
+}
+
+#[test]
+fn tells_each_fault_in_words(rt: HostRuntime) -> Result<(), Fail> {
+    let plan = RunError::Plan(PlanFault {
+        kind: PlanFaultKind::BadName,
+        block: 2,
+        call: 3,
+    });
+    for (fault, words) in [
+        (plan, "plan: BadName block 2 call 3"),
+        (RunError::Workers, "the number of workers is not 1 to 64"),
+        (RunError::Limit, "the limit on events is 0"),
+        (RunError::EventLine(4_294_967_296), "event line 4294967296"),
+        (RunError::Full, "full"),
+        (RunError::Read, "read fault"),
+        (RunError::Write, "write fault"),
+        (RunError::Memory, "out of memory"),
+    ] {
+        let told = format!(in rt.alloc(); "{fault}")?;
+        assert_eq!(rt; told.as_str(), words);
+    }
+    Ok(())
+}
+
+/// The lines of the README on embedding.
+#[test]
+fn embeds(rt: HostRuntime) -> Result<(), Fail> {
+    let plan = b"version = 1
+[[block]]
+[[block.call]]
+op = \"schedule\"
+name = \"a\"
+delay = 5
+";
+    let events = b"clock 5\nstart 0\nfinish 0 ok 7\n";
+    let (answer, trace) = run_in_memory(rt.alloc(), plan, 1, 1_000, events);
+    let report = Report {
+        events: 3,
+        lines: 4,
+    };
+    assert_eq!(rt; answer, Ok(report));
+    let lines = b"\
+0 submit 0 schedule due 5
+5 clock
+5 start 0 task 0 run 0 due 5
+5 finish 0 task 0 run 0 done 7
+";
+    assert!(rt; trace.as_slice() == lines.as_slice());
+    Ok(())
 }

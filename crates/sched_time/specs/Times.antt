@@ -8,14 +8,15 @@ use Rattle.sched_time.specs.declared.unit.Unit.TheVariants.{Ns, Us, Ms, S}
 abbrev pub longest : ℕ
 longest = 2 ^ 62
 
--- how many nanoseconds a unit has (TimeUnit)
+-- the nanoseconds in one of a unit (this project's rule: which units there are, their names, and these numbers.
+-- The page of TimeUnit has the ratios: each of the four is a thousandth of the next one)
 abbrev pub nanos_of : Unit → ℕ
 nanos_of Ns = 1
 nanos_of Us = 1000
 nanos_of Ms = 1000000
 nanos_of S = 1000000000
 
--- how many units a value asks for: a negative one counts as 0
+-- the units that a value asks for: a negative one counts as 0
 -- (ScheduledExecutorService: "Zero and negative delays (but not periods) are also allowed
 -- in schedule methods, and are treated as requests for immediate execution.")
 abbrev pub delay_units : ℤ → ℕ
@@ -26,7 +27,7 @@ delay_units (negsuc n) = 0
 abbrev pub span_of : ℤ → Unit → ℕ
 span_of value unit = delay_units value * nanos_of unit
 
--- the nanoseconds of a period in a unit, and none where the value is no period
+-- the nanoseconds of a period in a unit, and none exactly when the value is no period
 -- (ScheduledExecutorService.scheduleAtFixedRate throws IllegalArgumentException "if period less than or equal to
 -- zero", and scheduleWithFixedDelay "if delay less than or equal to zero")
 abbrev pub period_of : ℤ → Unit → Option ℕ

@@ -10,7 +10,7 @@ use crate::unit::Unit;
 ///
 /// The Java documentation of `ScheduledExecutorService` treats a zero or negative
 /// delay as a request for immediate execution. It is refused as
-/// [`TimeError::TooLarge`] just where it is more than 2^62 nanoseconds.
+/// [`TimeError::TooLarge`] exactly when it is more than 2^62 nanoseconds.
 pub fn span(value: i64, unit: Unit) -> Result<Span, TimeError>
     ensures ok { IfOk result (λ s. s ≡ span_of value unit) }
     ensures too_large { IsErrOf result TimeError.TooLarge ↔ (longest < span_of value unit) }
@@ -24,11 +24,11 @@ pub fn span(value: i64, unit: Unit) -> Result<Span, TimeError>
     }
 }
 
-/// The period, or the fixed delay, of `value` units, and none where the value is zero or negative.
+/// The period, or the fixed delay, of `value` units, and none exactly when the value is zero or negative.
 ///
 /// The Java documentation of `ScheduledExecutorService` answers a period or a fixed delay that is
 /// zero or negative by `IllegalArgumentException`. What is there is at least 1 nanosecond. It is
-/// refused as [`TimeError::TooLarge`] just where it is more than 2^62 nanoseconds.
+/// refused as [`TimeError::TooLarge`] exactly when it is more than 2^62 nanoseconds.
 pub fn period(value: i64, unit: Unit) -> Result<Option<Span>, TimeError>
     ensures ok { IfOk result (λ p. p ≡ period_of value unit) }
     ensures too_large { IsErrOf result TimeError.TooLarge ↔ (longest < span_of value unit) }
@@ -41,7 +41,7 @@ pub fn period(value: i64, unit: Unit) -> Result<Option<Span>, TimeError>
 
 /// The moment `offset` nanoseconds after `base`.
 ///
-/// It is refused as [`TimeError::TooLarge`] just where it is past 2^62 nanoseconds.
+/// It is refused as [`TimeError::TooLarge`] exactly when it is past 2^62 nanoseconds.
 /// The limit is this project's rule.
 pub fn moment(base: u64, offset: u64) -> Result<u64, TimeError>
     ensures ok { IfOk result (λ m. m ≡ base + offset) }

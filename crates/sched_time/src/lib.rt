@@ -1,17 +1,45 @@
-//! Moments and spans of time, in whole nanoseconds.
+//! Moments and spans of time in whole nanoseconds, how a task is timed, and how a run of it ended.
 //!
-//! ```text
-//! let offset = span(5, Unit::Ms)?;         // 5,000,000 nanoseconds
-//! let at = moment(base, offset.nanos())?;  // refused past 2^62
+//! # Usage
+//!
+//! A plan states its times as a whole number and a [`Unit`]. [`span`] and [`period`] make a [`Span`] of the two, and
+//! [`moment`] adds an offset to a moment. A [`Timing`] says how often a task runs, and [`next_due`] when it runs again.
+//!
+//! ```rust
+//! let delay = span(5, Unit::Ms)?;                    // 5,000,000 nanoseconds
+//! let at = moment(7, delay.nanos())?;                // 5,000,007
+//! span(-5, Unit::Ms)?.nanos();                       // 0: at once
+//! period(0, Unit::Ms)?;                              // None: no period
+//!
+//! next_due(Timing::Once, at, at + 3);                // None: there is one run
+//! next_due(Timing::Rate(delay), at, at + 3);         // Some(10,000,007): a period after the moment it was due
+//! next_due(Timing::Fixed(delay), at, at + 3);        // Some(10,000,010): a delay after its end
 //! ```
 //!
-//! Nothing here reads a clock: each moment is handed in by the caller. A moment
-//! and a span are 0 to 2^62 nanoseconds, and what would pass that limit is
-//! [`TimeError::TooLarge`].
+//! # Moments
+//!
+//! A moment is a number of nanoseconds since a beginning that the caller chooses. Nothing here reads a clock: each moment
+//! is handed in. A moment and a span are 0 to [`LONGEST`] nanoseconds, 2^62, some 146 years; so the sum of two is exact,
+//! and a run is due at most at 2^63. No value is rounded or cut.
+//!
+//! # Order
+//!
+//! No type here has an order: moments are numbers, and two of them are compared as such. `==` is true of two values of a
+//! type if and only if they are one value ([`laws`]).
+//!
+//! # Errors
+//!
+//! The one error is [`TimeError::TooLarge`]. [`span`], [`period`] and [`moment`] answer it exactly when the exact result
+//! is more than [`LONGEST`]; whether a span is negative or a period is none is looked at first. All else cannot fail.
+//!
+//! # Memory and cost
+//!
+//! No call takes memory, each takes constant time, and all values are `Copy`.
 #![tactic(auto)]
 
 mod conversions;
 mod error;
+pub mod laws;
 mod limits;
 mod policies;
 mod spans;

@@ -31,7 +31,7 @@ impl Span {
         self.nanos
     }
 
-    /// A span of so many nanoseconds.
+    /// The span of `nanos` nanoseconds.
     pub(crate) fn of_nanos(nanos: u64) -> Span
         requires { nanos ≤ longest }
         ensures { result ≡ nanos }

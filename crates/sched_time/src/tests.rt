@@ -1,5 +1,5 @@
 //! Spans and moments by hand.
-use crate::{TimeError, Timing, Unit, moment, next_due, period, span};
+use crate::{Ending, LONGEST, TimeError, Timing, Unit, moment, next_due, period, span};
 use std::test::Fail;
 
 #[test]
@@ -46,5 +46,41 @@ fn a_run_is_due_again(rt: HostRuntime) -> Result<(), Fail> {
     assert_eq!(rt; next_due(Timing::Once, 20, 25), None);
     assert_eq!(rt; next_due(Timing::Rate(ten), 20, 25), Some(30));
     assert_eq!(rt; next_due(Timing::Fixed(ten), 20, 25), Some(35));
+    Ok(())
+}
+
+#[test]
+fn the_longest_is_the_last_that_is_taken(rt: HostRuntime) -> Result<(), Fail> {
+    assert_eq!(rt; LONGEST, 4_611_686_018_427_387_904);
+    assert_eq!(rt; moment(LONGEST, 0), Ok(LONGEST));
+    assert_eq!(rt; moment(1, LONGEST), Err(TimeError::TooLarge));
+    assert_eq!(rt;
+        span(4_611_686_018, Unit::S).map(|s| s.nanos()),
+        Ok(4_611_686_018_000_000_000)
+    );
+    assert_eq!(rt; span(4_611_686_019, Unit::S), Err(TimeError::TooLarge));
+    assert_eq!(rt; period(4_611_686_019, Unit::S), Err(TimeError::TooLarge));
+    assert_eq!(rt; span(i64::MIN, Unit::S).map(|s| s.nanos()), Ok(0));
+    let longest = span(4_611_686_018_427_387_904, Unit::Ns)?;
+    assert_eq!(rt; next_due(Timing::Rate(longest), LONGEST, 0), Some(1 << 63));
+    assert_eq!(rt; next_due(Timing::Fixed(longest), 0, LONGEST), Some(1 << 63));
+    Ok(())
+}
+
+#[test]
+fn the_error_says_what_is_too_large(rt: HostRuntime) -> Result<(), Fail> {
+    let fault = TimeError::TooLarge;
+    let text = format!(in rt.alloc(); "{fault}")?;
+    assert!(rt; text.as_str() == "more than 2^62 nanoseconds");
+    Ok(())
+}
+
+#[test]
+fn values_are_told_apart(rt: HostRuntime) -> Result<(), Fail> {
+    let (ten, six) = (span(10, Unit::Ns)?, span(6, Unit::Ns)?);
+    assert!(rt; ten == span(10, Unit::Ns)? && ten != six);
+    assert!(rt; Timing::Rate(ten) != Timing::Fixed(ten) && Timing::Rate(ten) != Timing::Rate(six));
+    assert!(rt; Ending::Value(1) != Ending::Fault(1) && Ending::Fault(1) != Ending::Fault(2));
+    assert!(rt; Unit::Us != Unit::Ms && Unit::Us == Unit::Us);
     Ok(())
 }

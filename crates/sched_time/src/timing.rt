@@ -28,7 +28,7 @@ pub enum Ending {
     Fault(u32),
 }
 
-/// When the run after one is due, and none where there is no run after it.
+/// When the run after one is due, and none exactly when there is no run after it.
 ///
 /// `due` is the due moment of the run that ended, and `finished_at` the moment at which it ended,
 /// each 0 to 2^62 nanoseconds. The run after it is due at most at 2^63 nanoseconds. A task with

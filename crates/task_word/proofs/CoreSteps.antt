@@ -1,24 +1,25 @@
 -- The steps of the core's seat keep the rule.
-use Rattle.std.proofs.Common.{◌≡◌, ℕ, ◌+◌, ◌<◌, ◌≤◌, ◌≢◌, ◌==◌, suc, Bool, true, false, ◌&&◌, ◌⊎◌, inl, inr, List, [], ◌∷◌, length, set, slice_index, refl, sym, ap, subst, ◌∙◌, arith, length-set, bit_or}
+use Rattle.std.proofs.Common.{◌≡◌, ℕ, ◌+◌, ◌<◌, ◌≤◌, ◌≢◌, ◌==◌, suc, Bool, true, false, ◌⊎◌, inl, inr, List, [], ◌∷◌, length, set, slice_index, refl, sym, ap, subst, ◌∙◌, arith, length-set, bit_or}
 use Rattle.std.proofs.lemmas.List.Sums.{sum_by-cons}
 use mathlib.Core.Option.{some, some-injective, some-ne-none}
 use lib.ListN.{get_elem?}
 use prog.Atomic.{either}
 use Rattle.atomic_table.specs.Table.{Allows}
 use Rattle.atomic_table.proofs.Lists.{at_set, set_here, exchanged}
-use Rattle.task_word.specs.Words.{Parts, IsWord, bit, value, marked, is_live, is_ended, is_cancelled, rank, rank_in, new_in}
-use Rattle.task_word.specs.Views.{entry, times, wins, and_if, core_of, with_entry, core_cancelled, MeetsEntry}
-use Rattle.task_word.specs.Rule.{word_of, word_at, Matches, flag, taken_by, is_handle, EntriesFit, HasMet, taken_in_all, handles, IsKept}
+use Rattle.task_word.specs.Writes.{submit, core_cancel, Exchanges}
+use Rattle.task_word.specs.Words.{Parts, IsWord, bit, value, marked, is_cancelled, new_in}
+use Rattle.task_word.specs.Views.{most_handles, entry, times, wins, and_if, core_of, with_entry, core_cancelled, MeetsEntry}
+use Rattle.task_word.specs.Rule.{word_of, word_at, Matches, flag, taken_by, is_handle, EntriesFit, HasMet, taken_in_all, handles, IsWellFormedTable}
 use Rattle.task_word.specs.Steps.{Holder, AtTask, CoreIs, Submitted, Moved, Tells, CoreMeets, CoreCancelled, CoreLooked}
-use Rattle.task_word.specs.declared.phases.Phase.TheVariants.{Vacant, New, Running, Done, Failed}
-use Rattle.task_word.specs.declared.phases.Phase.{Phase}
+use Rattle.task_word.specs.declared.phases.Phase.TheVariants.{Vacant}
 use Rattle.task_word.specs.declared.views.CoreView.{CoreView}
 use Rattle.task_word.specs.declared.views.View.{View}
 use Rattle.task_word.specs.declared.views.View.TheVariants.{Core, Handle, Spent}
-use Rattle.task_word.proofs.Numbers.{reads_back, marked_word, meets, reads_word, reads_number, or_marks}
-use Rattle.task_word.proofs.Lists.{sum_set, sum_part}
-use Rattle.task_word.proofs.Placing.{Rule, allows}
-use Rattle.task_word.proofs.Keeping.{Goes, goes_same, goes_marked, goes_on, won_still, met_after, once_after, none_after, entries_after, and_if_same, and_if_other, times_append, wins_count}
+use Rattle.task_word.proofs.WordNumbers.{reads_back, marked_word, meets, reads_word, reads_number, or_marks}
+use Rattle.task_word.proofs.ViewLists.{sum_set, sum_part}
+use Rattle.task_word.proofs.TaskPlaces.{Rule, allows}
+use Rattle.task_word.proofs.Writes.{Becomes, becomes, becomes_same, exchanges, vacant_free}
+use Rattle.task_word.proofs.WordChanges.{won_still, met_after, once_after, none_after, entries_after, and_if_same, and_if_other, times_append, wins_count}
 
 -- the view that a core's view is
 pub core_same : (v w : CoreView) → some (Core v) ≡ some (Core w) → v ≡ w
@@ -30,31 +31,35 @@ is_core (Core v) = true
 is_core (Handle h) = false
 is_core Spent = false
 
+-- a view that is not the core's is no core's view
 pub not_core : (v : View) (w : CoreView) → is_core v ≡ false → v ≢ Core w
 not_core v w e same = let f : true ≡ false = sym (ap is_core same) ∙ e in grind (arith)
 
 -- what the rule says of the core's entries
-pub fits : (n : ℕ) (words : List ℕ) (views : List View) (v : CoreView) → IsKept n words views → get_elem? views 0 ≡ some (Core v) → EntriesFit n words v.entries
+pub fits : (n : ℕ) (words : List ℕ) (views : List View) (v : CoreView) → IsWellFormedTable n words views → get_elem? views 0 ≡ some (Core v) → EntriesFit n words v.entries
 fits n words views v kept at = subst (λ (u : CoreView). EntriesFit n words u.entries) (core_same _ _ (sym kept.core.1 ∙ at)) kept.core.2
 
-pub out_is : (n : ℕ) (words : List ℕ) (views : List View) (v : CoreView) → IsKept n words views → get_elem? views 0 ≡ some (Core v) → v.out ≡ handles views
+-- the core counts the handles that are out
+pub out_is : (n : ℕ) (words : List ℕ) (views : List View) (v : CoreView) → IsWellFormedTable n words views → get_elem? views 0 ≡ some (Core v) → v.out ≡ handles views
 out_is n words views v kept at = subst (λ (u : CoreView). u.out ≡ handles views) (core_same _ _ (sym kept.core.1 ∙ at)) kept.core.3
 
-pub out_most : (n : ℕ) (words : List ℕ) (views : List View) (v : CoreView) → IsKept n words views → get_elem? views 0 ≡ some (Core v) → v.out ≤ 63
-out_most n words views v kept at = subst (λ (u : CoreView). u.out ≤ 63) (core_same _ _ (sym kept.core.1 ∙ at)) kept.core.4
+-- the handles that are out are at most `most_handles`
+pub out_most : (n : ℕ) (words : List ℕ) (views : List View) (v : CoreView) → IsWellFormedTable n words views → get_elem? views 0 ≡ some (Core v) → v.out ≤ most_handles
+out_most n words views v kept at = subst (λ (u : CoreView). u.out ≤ most_handles) (core_same _ _ (sym kept.core.1 ∙ at)) kept.core.4
 
+-- there is a first view
 pub in_views : (views : List View) (v : View) → get_elem? views 0 ≡ some v → 0 < length views
 in_views [] v at = absurd (some-ne-none v (sym at))
 in_views (u ∷ us) v at = omega arith
 
--- a step of the core keeps the rule: the word of the task k becomes x, its entry e, and the core's own list goes along
-pub core_keeps : (n k x : ℕ) (words : List ℕ) (views : List View) (v : CoreView) (e : Parts) (own : List ℕ) → IsKept n words views → get_elem? views 0 ≡ some (Core v) → k < n
+-- a step of the core keeps the rule: the word of the task k becomes x, its entry e, and the core's own list becoming along
+pub core_keeps : (n k x : ℕ) (words : List ℕ) (views : List View) (v : CoreView) (e : Parts) (own : List ℕ) → IsWellFormedTable n words views → get_elem? views 0 ≡ some (Core v) → k < n
     → IsWord e → Matches x e
     → times k own + flag (is_cancelled (word_at words k)) ≡ times k v.own + flag (is_cancelled (word_of x))
     → ((j : ℕ) → j ≢ k → times j own ≡ times j v.own)
-    → Goes (word_at words k) (word_of x)
-    → IsKept n (set words k x) (set views 0 (Core record { entries = set v.entries k e; own = own; joined = v.joined; ranks = v.ranks; out = v.out }))
-core_keeps n k x words views v e own kept at in_n is fit here there goes =
+    → Becomes (word_at words k) (word_of x)
+    → IsWellFormedTable n (set words k x) (set views 0 (Core record { entries = set v.entries k e; own = own; joined = v.joined; ranks = v.ranks; out = v.out }))
+core_keeps n k x words views v e own kept at in_n is fit here there becoming =
     let w : CoreView = record { entries = set v.entries k e; own = own; joined = v.joined; ranks = v.ranks; out = v.out } in
     let lt : k < length words = omega (arith, kept.count) in
     let met : HasMet n words (Core v) = kept.met 0 (Core v) at in
@@ -75,8 +80,8 @@ core_keeps n k x words views v e own kept at in_n is fit here there goes =
           kept.once;
       none = none_after n k 0 views (Core v) (Core w) in_n at taken kept.none;
       met = λ id u there'. elim (at_set views 0 id (Core w) u there') [
-        | inl same ↦ subst (HasMet n (set words k x)) same.1 (met_after n k x words (Core w) lt in_n goes (won_still n k 0 x words views (Core v) kept at in_n goes) record { ranks = met.ranks; seen = met.seen; still = met.still; ended = met.ended })
-        | inr other ↦ met_after n k x words u lt in_n goes (won_still n k id x words views u kept other.1 in_n goes) (kept.met id u other.1)
+        | inl same ↦ subst (HasMet n (set words k x)) same.1 (met_after n k x words (Core w) lt in_n becoming (won_still n k 0 x words views (Core v) kept at in_n becoming) record { ranks = met.ranks; seen = met.seen; still = met.still; ended = met.ended })
+        | inr other ↦ met_after n k x words u lt in_n becoming (won_still n k id x words views u kept other.1 in_n becoming) (kept.met id u other.1)
       ];
     }
 
@@ -84,14 +89,9 @@ core_keeps n k x words views v e own kept at in_n is fit here there goes =
 pub seat_is : (P : ℕ → Holder → Type 0) (id : ℕ) (me : Holder) → id ≡ 0 → me.0 ≡ Core (core_of me.0) → P 0 (Core (core_of me.0), me.1) → P id me
 seat_is P id me zero_id core p = subst (λ (i : ℕ). P i me) (sym zero_id) (subst (P 0) (λ i. (sym core i, me.1)) p)
 
+-- what is so of the task k is so of the task whose word is k + 1
 pub at_task : (k : ℕ) (P : ℕ → Type 0) → P k → AtTask (k + 1) P
 at_task k P p = λ j e. let same : k ≡ j = omega arith in subst P same p
-
-vacant_free : (w : Parts) → w.phase ≡ Vacant → is_cancelled w ≡ false
-vacant_free w e = ap (λ p. is_live p && w.marked) e
-
-vacant_rank : (w : Parts) → w.phase ≡ Vacant → rank w ≡ 0
-vacant_rank w e = ap (λ p. rank_in p w.run) e
 
 met_phase : (e w : Parts) → MeetsEntry e w → w.phase ≡ e.phase
 met_phase e w (inl same) = ap (λ p. p.phase) same
@@ -112,8 +112,8 @@ submits n slots id k me zero_id core in_n phase =
       at_task k (λ j. CoreIs (with_entry (core_of me.0) j (new_in 0)) (Core (core_of me.0), me.1) (Core (with_entry (core_of me.0) k (new_in 0)), me.1)) refl,
     )))
   where
-    submit_keeps : (n k : ℕ) (words : List ℕ) (views : List View) (v : CoreView) → IsKept n words views → get_elem? views 0 ≡ some (Core v) → k < n → (entry v k).phase ≡ Vacant
-        → IsKept n (set words k (value (new_in 0))) (set views 0 (Core (with_entry v k (new_in 0))))
+    submit_keeps : (n k : ℕ) (words : List ℕ) (views : List View) (v : CoreView) → IsWellFormedTable n words views → get_elem? views 0 ≡ some (Core v) → k < n → (entry v k).phase ≡ Vacant
+        → IsWellFormedTable n (set words k (value (new_in 0))) (set views 0 (Core (with_entry v k (new_in 0))))
     submit_keeps n k words views v kept at in_n phase =
         let f = fits n words views v kept at in
         let is = f.word k in_n in
@@ -121,45 +121,36 @@ submits n slots id k me zero_id core in_n phase =
         let m : MeetsEntry (entry v k) w = meets _ (entry v k) is (f.each k in_n) in
         let was : w.phase ≡ Vacant = met_phase (entry v k) w m ∙ phase in
         let free : is_cancelled w ≡ false = vacant_free w was in
-        let low : rank w ≡ 0 = vacant_rank w was in
         let fresh : IsWord (new_in 0) = record { vacant = λ e. refl; run = omega arith } in
         let read : word_of (value (new_in 0)) ≡ new_in 0 = reads_back (new_in 0) fresh in
         let live : is_cancelled (word_of (value (new_in 0))) ≡ false = ap is_cancelled read in
         core_keeps n k (value (new_in 0)) words views v (new_in 0) v.own kept at in_n fresh (inl refl)
         (ap (λ b. times k v.own + flag b) (free ∙ sym live))
         (λ j other. refl)
-        (goes_on w _ free (ap is_ended was) (omega (arith, low)))
-
-not_ended : (p : Phase) → is_live p ≡ true → is_ended p ≡ false
-not_ended Vacant e = refl
-not_ended New e = refl
-not_ended Running e = refl
-not_ended Done e = absurd (let f : false ≡ true = e in grind (arith))
-not_ended Failed e = absurd (let f : false ≡ true = e in grind (arith))
+        (becomes submit w _ (was, read))
 
 -- the exchange that finds what it expected keeps the rule
-exchange_keeps : (n k new : ℕ) (next : Parts) (words : List ℕ) (views : List View) (v : CoreView) → IsKept n words views → get_elem? views 0 ≡ some (Core v) → k < n
-    → is_live (entry v k).phase ≡ true → is_cancelled (entry v k) ≡ false → slice_index words k ≡ value (entry v k) → new ≡ value next → (IsWord (entry v k) → IsWord next)
-    → rank (entry v k) ≤ rank next → is_cancelled next ≡ false
-    → IsKept n (set words k new) (set views 0 (Core (with_entry v k (word_of new))))
-exchange_keeps n k new next words views v kept at in_n phase live found is_new word up free =
+exchange_keeps : (n k new : ℕ) (next : Parts) (words : List ℕ) (views : List View) (v : CoreView) → IsWellFormedTable n words views → get_elem? views 0 ≡ some (Core v) → k < n
+    → Exchanges (entry v k) next → slice_index words k ≡ value (entry v k) → new ≡ value next → (IsWord (entry v k) → IsWord next)
+    → IsWellFormedTable n (set words k new) (set views 0 (Core (with_entry v k (word_of new))))
+exchange_keeps n k new next words views v kept at in_n step found is_new word =
     let f = fits n words views v kept at in
     let is = f.word k in_n in
     let read : word_of new ≡ next = ap word_of is_new ∙ reads_back next (word is) in
     let was : word_at words k ≡ entry v k = ap word_of found ∙ reads_back (entry v k) is in
-    let still : is_cancelled (word_at words k) ≡ false = ap is_cancelled was ∙ live in
-    let after : is_cancelled (word_of new) ≡ false = ap is_cancelled read ∙ free in
+    let written : Exchanges (word_at words k) (word_of new) = subst (λ w. Exchanges w (word_of new)) (sym was) (subst (Exchanges (entry v k)) (sym read) step) in
+    let both = exchanges (word_at words k) (word_of new) written in
     core_keeps n k new words views v (word_of new) v.own kept at in_n (subst IsWord (sym read) (word is)) (inl (is_new ∙ ap value (sym read)))
-    (ap (λ b. times k v.own + flag b) (still ∙ sym after))
+    (ap (λ b. times k v.own + flag b) (both.free ∙ sym both.still))
     (λ j other. refl)
-    (goes_on _ _ still (not_ended _ (ap (λ p. is_live p.phase) was ∙ phase)) (omega (arith, ap rank was, ap rank read, up)))
+    (becomes written.0 _ _ written.2)
 
 -- a load of the core's keeps the rule, whatever word of the entry's it takes over
-load_keeps : (n k : ℕ) (words : List ℕ) (views : List View) (v : CoreView) (e : Parts) → IsKept n words views → get_elem? views 0 ≡ some (Core v) → k < n
+load_keeps : (n k : ℕ) (words : List ℕ) (views : List View) (v : CoreView) (e : Parts) → IsWellFormedTable n words views → get_elem? views 0 ≡ some (Core v) → k < n
     → IsWord e → Matches (slice_index words k) e
-    → IsKept n (set words k (slice_index words k)) (set views 0 (Core (with_entry v k e)))
+    → IsWellFormedTable n (set words k (slice_index words k)) (set views 0 (Core (with_entry v k e)))
 load_keeps n k words views v e kept at in_n is fit =
-    core_keeps n k (slice_index words k) words views v e v.own kept at in_n is fit refl (λ j other. refl) (goes_same (word_at words k))
+    core_keeps n k (slice_index words k) words views v e v.own kept at in_n is fit refl (λ j other. refl) (becomes_same (word_at words k))
 
 -- while no handle is out, what is taken is the core's
 none_taken : (k : ℕ) (views : List View) → handles views ≡ 0 → ((id : ℕ) (u : CoreView) → get_elem? views id ≢ some (Core u)) → taken_in_all k views ≡ 0
@@ -179,7 +170,7 @@ alone_taken k (u ∷ us) v at none only =
     omega (arith, sum_by-cons (λ w. times k (taken_by w)) u us, rest, ap (λ w. times k (taken_by w)) same)
 
 -- what the rule tells the core of a word that it met
-pub tells : (n k : ℕ) (words : List ℕ) (views : List View) (v : CoreView) → IsKept n words views → get_elem? views 0 ≡ some (Core v) → k < n → Tells v k (word_at words k)
+pub tells : (n k : ℕ) (words : List ℕ) (views : List View) (v : CoreView) → IsWellFormedTable n words views → get_elem? views 0 ≡ some (Core v) → k < n → Tells v k (word_at words k)
 tells n k words views v kept at in_n =
     let all = kept.once k in_n in
     let both = times_append k v.own v.joined in
@@ -190,7 +181,7 @@ tells n k words views v kept at in_n =
       still = λ some_won. (kept.met 0 (Core v) at).still k in_n (inr some_won);
     }
 
-core_meets : (n k : ℕ) (words : List ℕ) (views : List View) (v : CoreView) → IsKept n words views → get_elem? views 0 ≡ some (Core v) → k < n → CoreMeets v k (slice_index words k)
+core_meets : (n k : ℕ) (words : List ℕ) (views : List View) (v : CoreView) → IsWellFormedTable n words views → get_elem? views 0 ≡ some (Core v) → k < n → CoreMeets v k (slice_index words k)
 core_meets n k words views v kept at in_n =
     let f = fits n words views v kept at in
     let is = f.word k in_n in
@@ -207,19 +198,18 @@ met_bit x e (inl same) other = absurd (other same)
 met_bit x e (inr cut) other = cut
 
 move_either : (n slots k old new : ℕ) (next : Parts) (v : CoreView) (xs : List (ℕ × Unit {0})) → k < n
-    → is_live (entry v k).phase ≡ true → is_cancelled (entry v k) ≡ false → old ≡ value (entry v k) → new ≡ value next → (IsWord (entry v k) → IsWord next)
-    → rank (entry v k) ≤ rank next → is_cancelled next ≡ false
+    → Exchanges (entry v k) next → old ≡ value (entry v k) → new ≡ value next → (IsWord (entry v k) → IsWord next)
     → Allows {S = Unit {0}} (Rule n) slots 0 (Core v, xs) (k + 1) (λ x. either (x == old) new x) (Moved (k + 1) old new (Core v, xs))
-move_either n slots k old new next v xs in_n phase live is_old is_new word up free =
+move_either n slots k old new next v xs in_n step is_old is_new word =
     allows n slots 0 k (Core v, xs) (λ x. either (x == old) new x) (Moved (k + 1) old new (Core v, xs)) (λ words views kept at.
     let x : ℕ = slice_index words k in
     let f = fits n words views v kept at in
     let is = f.word k in_n in
     exchanged x old new
-    (λ y. (w : View) × IsKept n (set words k y) (set views 0 w) × Moved (k + 1) old new (Core v, xs) x (w, xs))
+    (λ y. (w : View) × IsWellFormedTable n (set words k y) (set views 0 w) × Moved (k + 1) old new (Core v, xs) x (w, xs))
     (λ hit. (
       Core (with_entry v k (word_of new)),
-      exchange_keeps n k new next words views v kept at in_n phase live (hit ∙ is_old) is_new word up free,
+      exchange_keeps n k new next words views v kept at in_n step (hit ∙ is_old) is_new word,
       at_task k (λ j. CoreMeets v j x × (((x ≡ old) × CoreIs (with_entry v j (word_of new)) (Core v, xs) (Core (with_entry v k (word_of new)), xs)) ⊎ ((x ≢ old) × CoreIs (with_entry v j (marked (entry v j))) (Core v, xs) (Core (with_entry v k (word_of new)), xs)))) (core_meets n k words views v kept at in_n, inl (hit, refl)),
     ))
     (λ miss. (
@@ -230,12 +220,11 @@ move_either n slots k old new next v xs in_n phase live is_old is_new word up fr
 
 -- an exchange of the core's keeps the rule, and where it fails it met the bit
 pub moves : (n slots id k old new : ℕ) (next : Parts) (me : Holder) → id ≡ 0 → me.0 ≡ Core (core_of me.0) → k < n
-    → is_live (entry (core_of me.0) k).phase ≡ true → is_cancelled (entry (core_of me.0) k) ≡ false → old ≡ value (entry (core_of me.0) k) → new ≡ value next
-    → (IsWord (entry (core_of me.0) k) → IsWord next) → rank (entry (core_of me.0) k) ≤ rank next → is_cancelled next ≡ false
+    → Exchanges (entry (core_of me.0) k) next → old ≡ value (entry (core_of me.0) k) → new ≡ value next → (IsWord (entry (core_of me.0) k) → IsWord next)
     → Allows {S = Unit {0}} (Rule n) slots id me (k + 1) (λ x. either (x == old) new x) (Moved (k + 1) old new me)
-moves n slots id k old new next me zero_id core in_n phase live is_old is_new word up free =
+moves n slots id k old new next me zero_id core in_n step is_old is_new word =
     seat_is (λ i m. Allows {S = Unit {0}} (Rule n) slots i m (k + 1) (λ x. either (x == old) new x) (Moved (k + 1) old new m)) id me zero_id core
-    (move_either n slots k old new next (core_of me.0) me.1 in_n phase live is_old is_new word up free)
+    (move_either n slots k old new next (core_of me.0) me.1 in_n step is_old is_new word)
 
 -- a load of the core's keeps the rule
 pub core_looks : (n slots id k : ℕ) (me : Holder) → id ≡ 0 → me.0 ≡ Core (core_of me.0) → k < n
@@ -252,8 +241,8 @@ core_looks n slots id k me zero_id core in_n =
     )))
 
 -- the setting of the bit by the core keeps the rule
-bit_keeps : (n k : ℕ) (words : List ℕ) (views : List View) (v : CoreView) → IsKept n words views → get_elem? views 0 ≡ some (Core v) → k < n
-    → IsKept n (set words k (bit_or (slice_index words k) bit)) (set views 0 (Core (core_cancelled v k (word_at words k))))
+bit_keeps : (n k : ℕ) (words : List ℕ) (views : List View) (v : CoreView) → IsWellFormedTable n words views → get_elem? views 0 ≡ some (Core v) → k < n
+    → IsWellFormedTable n (set words k (bit_or (slice_index words k) bit)) (set views 0 (Core (core_cancelled v k (word_at words k))))
 bit_keeps n k words views v kept at in_n =
     let f = fits n words views v kept at in
     let is = f.word k in_n in
@@ -266,8 +255,9 @@ bit_keeps n k words views v kept at in_n =
     core_keeps n k (bit_or x bit) words views v (marked w) (and_if (wins w) k v.own) kept at in_n (marked_word w word) (inl cut)
     (let a = and_if_same (wins w) k v.own in let b = wins_count w in let c = ap (λ u. flag (is_cancelled u)) read in omega (arith, a, b, c))
     (λ j other. and_if_other (wins w) k j v.own other)
-    (goes_marked w _ read)
+    (becomes core_cancel w _ read)
 
+-- the core's setting of the bit keeps the rule, and tells the core what it met
 pub core_cancels : (n slots id k : ℕ) (me : Holder) → id ≡ 0 → me.0 ≡ Core (core_of me.0) → k < n
     → Allows {S = Unit {0}} (Rule n) slots id me (k + 1) (λ x. bit_or x bit) (CoreCancelled (k + 1) me)
 core_cancels n slots id k me zero_id core in_n =

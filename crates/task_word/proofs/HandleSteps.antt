@@ -5,17 +5,19 @@ use mathlib.Core.Option.{some, some-injective}
 use lib.ListN.{get_elem?}
 use Rattle.atomic_table.specs.Table.{Allows}
 use Rattle.atomic_table.proofs.Lists.{at_set, set_else}
+use Rattle.task_word.specs.Writes.{handle_cancel}
 use Rattle.task_word.specs.Words.{Parts, IsWord, bit, value, marked, is_cancelled, rank}
 use Rattle.task_word.specs.Views.{times, wins, handle_of, handle_looked, handle_cancelled, MeetsHandle}
-use Rattle.task_word.specs.Rule.{word_of, word_at, Matches, flag, is_handle, HasMet, IsKept}
+use Rattle.task_word.specs.Rule.{word_of, word_at, Matches, flag, is_handle, HasMet, IsWellFormedTable}
 use Rattle.task_word.specs.Steps.{Holder, HandleIs, HandleCancelled, HandleLooked}
 use Rattle.task_word.specs.declared.views.HandleView.{HandleView}
 use Rattle.task_word.specs.declared.views.View.{View}
 use Rattle.task_word.specs.declared.views.View.TheVariants.{Core, Handle}
-use Rattle.task_word.proofs.Numbers.{reads_back, marked_word, reads_word, reads_number, or_marks}
-use Rattle.task_word.proofs.Lists.{sum_set}
-use Rattle.task_word.proofs.Placing.{Rule, allows}
-use Rattle.task_word.proofs.Keeping.{Goes, goes_same, goes_marked, won_cancelled, won_still, met_after, once_after, none_after, word_after, and_if_same, and_if_other, wins_count}
+use Rattle.task_word.proofs.WordNumbers.{reads_back, marked_word, reads_word, reads_number, or_marks}
+use Rattle.task_word.proofs.ViewLists.{sum_set}
+use Rattle.task_word.proofs.TaskPlaces.{Rule, allows}
+use Rattle.task_word.proofs.Writes.{Becomes, becomes, becomes_same}
+use Rattle.task_word.proofs.WordChanges.{won_cancelled, won_still, met_after, once_after, none_after, word_after, and_if_same, and_if_other, wins_count}
 use Rattle.task_word.proofs.CoreSteps.{not_core, at_task}
 
 -- a list of numbers with one of them set is below what it was below, and the new one is
@@ -35,11 +37,11 @@ set_true (x ∷ xs) (suc k) zero b e = inl e
 set_true (x ∷ xs) (suc k) (suc j) b e = elim (set_true xs k j b e) [ inl before ↦ inl before | inr new ↦ inr (ap suc new.0, new.1) ]
 
 -- the core's word of the task is a word that the table's fits
-some_entry : (n k : ℕ) (words : List ℕ) (views : List View) → IsKept n words views → k < n → (e : Parts) × IsWord e × Matches (slice_index words k) e
+some_entry : (n k : ℕ) (words : List ℕ) (views : List View) → IsWellFormedTable n words views → k < n → (e : Parts) × IsWord e × Matches (slice_index words k) e
 some_entry n k words views kept in_n = (_, kept.core.2.word k in_n, kept.core.2.each k in_n)
 
 -- the seat of a handle is not the first
-not_first : (n id : ℕ) (words : List ℕ) (views : List View) (h : HandleView) → IsKept n words views → get_elem? views id ≡ some (Handle h) → id ≢ 0
+not_first : (n id : ℕ) (words : List ℕ) (views : List View) (h : HandleView) → IsWellFormedTable n words views → get_elem? views id ≡ some (Handle h) → id ≢ 0
 not_first n id words views h kept at zero_id =
     let here : get_elem? views 0 ≡ some (Handle h) = subst (λ (i : ℕ). get_elem? views i ≡ some (Handle h)) zero_id at in
     not_core (Handle h) kept.core.0 refl (some-injective _ _ (sym here ∙ kept.core.1))
@@ -77,13 +79,13 @@ met_more n k words h h' w in_n room is new met =
       | inr g ↦ inr (let e = new.won j other in omega (arith, g, e))
     ]
 
--- a step of a handle keeps the rule: the word of the task k becomes x, and what the handle won goes along
-handle_keeps : (n k x id : ℕ) (words : List ℕ) (views : List View) (h h' : HandleView) → IsKept n words views → get_elem? views id ≡ some (Handle h) → k < n
+-- a step of a handle keeps the rule: the word of the task k becomes x, and what the handle won becoming along
+handle_keeps : (n k x id : ℕ) (words : List ℕ) (views : List View) (h h' : HandleView) → IsWellFormedTable n words views → get_elem? views id ≡ some (Handle h) → k < n
     → ((e : Parts) → IsWord e → Matches (slice_index words k) e → Matches x e)
     → times k h'.won + flag (is_cancelled (word_at words k)) ≡ times k h.won + flag (is_cancelled (word_of x))
-    → k < length h.ranks → Goes (word_at words k) (word_of x) → rank (word_at words k) ≡ rank (word_of x) → Meets k (word_at words k) h h'
-    → IsKept n (set words k x) (set views id (Handle h'))
-handle_keeps n k x id words views h h' kept at in_n fit here room goes level new =
+    → k < length h.ranks → Becomes (word_at words k) (word_of x) → rank (word_at words k) ≡ rank (word_of x) → Meets k (word_at words k) h h'
+    → IsWellFormedTable n (set words k x) (set views id (Handle h'))
+handle_keeps n k x id words views h h' kept at in_n fit here room becoming level new =
     let lt : k < length words = omega (arith, kept.count) in
     let other_id : 0 ≢ id = (λ e. not_first n id words views h kept at (sym e)) in
     let f = kept.core.2 in
@@ -100,8 +102,8 @@ handle_keeps n k x id words views h h' kept at in_n fit here room goes level new
       once = once_after n k x id words views (Handle h) (Handle h') lt in_n at here new.won kept.once;
       none = none_after n k id views (Handle h) (Handle h') in_n at new.won kept.none;
       met = λ i u there'. elim (at_set views id i (Handle h') u there') [
-        | inl same ↦ subst (HasMet n (set words k x)) same.1 (met_after n k x words (Handle h') lt in_n goes (λ g. level) (met_more n k words h h' (word_at words k) in_n room refl new (kept.met id (Handle h) at)))
-        | inr other ↦ met_after n k x words u lt in_n goes (won_still n k i x words views u kept other.1 in_n goes) (kept.met i u other.1)
+        | inl same ↦ subst (HasMet n (set words k x)) same.1 (met_after n k x words (Handle h') lt in_n becoming (λ g. level) (met_more n k words h h' (word_at words k) in_n room refl new (kept.met id (Handle h) at)))
+        | inr other ↦ met_after n k x words u lt in_n becoming (won_still n k i x words views u kept other.1 in_n becoming) (kept.met i u other.1)
       ];
     }
 
@@ -110,7 +112,7 @@ handle_is : (P : Holder → Type 0) (me : Holder) → me.0 ≡ Handle (handle_of
 handle_is P me handle p = subst P (λ i. (sym handle i, me.1)) p
 
 -- what a handle meets
-handle_meets : (n k id : ℕ) (words : List ℕ) (views : List View) (h : HandleView) → IsKept n words views → get_elem? views id ≡ some (Handle h) → k < n → MeetsHandle h k (word_at words k)
+handle_meets : (n k id : ℕ) (words : List ℕ) (views : List View) (h : HandleView) → IsWellFormedTable n words views → get_elem? views id ≡ some (Handle h) → k < n → MeetsHandle h k (word_at words k)
 handle_meets n k id words views h kept at in_n =
     let e = some_entry n k words views kept in_n in
     let met : HasMet n words (Handle h) = kept.met id (Handle h) at in
@@ -123,7 +125,7 @@ handle_meets n k id words views h kept at in_n =
       ended = λ same over. subst (λ (i : ℕ). ((word_at words i).phase ≡ h.last.1.phase) × ((word_at words i).run ≡ h.last.1.run)) same (met.ended (omega (arith, same, in_n)) over);
     }
 
-read_number : (n k : ℕ) (words : List ℕ) (views : List View) → IsKept n words views → k < n → value (word_at words k) ≡ slice_index words k
+read_number : (n k : ℕ) (words : List ℕ) (views : List View) → IsWellFormedTable n words views → k < n → value (word_at words k) ≡ slice_index words k
 read_number n k words views kept in_n = let e = some_entry n k words views kept in_n in reads_number _ e.0 e.1 e.2
 
 -- a load of a handle's keeps the rule
@@ -136,13 +138,13 @@ handle_looks n slots id k me handle in_n room =
     let x : ℕ = slice_index words k in
     let h' : HandleView = handle_looked h k (word_of x) in (
       Handle h',
-      handle_keeps n k x id words views h h' kept at in_n (λ e is m. m) refl room (goes_same (word_of x)) refl (record { ranks = refl; seen = refl; last = refl; won = λ j other. refl }),
+      handle_keeps n k x id words views h h' kept at in_n (λ e is m. m) refl room (becomes_same (word_of x)) refl (record { ranks = refl; seen = refl; last = refl; won = λ j other. refl }),
       at_task k (λ j. MeetsHandle h j (word_of x) × (value (word_of x) ≡ x) × HandleIs (handle_looked h j (word_of x)) (Handle h, me.1) (Handle h', me.1)) (handle_meets n k id words views h kept at in_n, read_number n k words views kept in_n, refl),
     )))
 
 -- the setting of the bit by a handle keeps the rule
-bit_keeps : (n k id : ℕ) (words : List ℕ) (views : List View) (h : HandleView) → IsKept n words views → get_elem? views id ≡ some (Handle h) → k < n → k < length h.ranks
-    → IsKept n (set words k (bit_or (slice_index words k) bit)) (set views id (Handle (handle_cancelled h k (word_at words k))))
+bit_keeps : (n k id : ℕ) (words : List ℕ) (views : List View) (h : HandleView) → IsWellFormedTable n words views → get_elem? views id ≡ some (Handle h) → k < n → k < length h.ranks
+    → IsWellFormedTable n (set words k (bit_or (slice_index words k) bit)) (set views id (Handle (handle_cancelled h k (word_at words k))))
 bit_keeps n k id words views h kept at in_n room =
     let x : ℕ = slice_index words k in
     let w : Parts = word_of x in
@@ -154,10 +156,11 @@ bit_keeps n k id words views h kept at in_n room =
     (λ e is fit. inr (or_marks x e is fit))
     (let a = and_if_same (wins w) k h.won in let b = wins_count w in let c = ap (λ u. flag (is_cancelled u)) read in omega (arith, a, b, c))
     room
-    (goes_marked w _ read)
+    (becomes handle_cancel w _ read)
     (sym (ap rank read))
     (record { ranks = refl; seen = refl; last = refl; won = λ j other. and_if_other (wins w) k j h.won other })
 
+-- a handle's setting of the bit keeps the rule, and tells the handle what it met
 pub handle_cancels : (n slots id k : ℕ) (me : Holder) → me.0 ≡ Handle (handle_of me.0) → k < n → k < length (handle_of me.0).ranks
     → Allows {S = Unit {0}} (Rule n) slots id me (k + 1) (λ x. bit_or x bit) (HandleCancelled (k + 1) me)
 handle_cancels n slots id k me handle in_n room =

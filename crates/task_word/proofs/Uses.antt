@@ -5,23 +5,26 @@ use Rattle.task_word.specs.Words.{Parts, vacant}
 use Rattle.task_word.specs.Views.{entry, with_entry, greater}
 use Rattle.task_word.specs.declared.views.CoreView.{CoreView}
 
--- the entry that was set, the others, and how many there are
+-- the entry that was set is the word given
 pub entry_here : (v : CoreView) (k : ℕ) (w : Parts) → k < length v.entries → entry (with_entry v k w) k ≡ w
 entry_here v k w lt = get_or-set_same v.entries k w vacant lt
 
+-- the entries of the other tasks stay as they were
 pub entry_other : (v : CoreView) (k j : ℕ) (w : Parts) → j ≢ k → entry (with_entry v k w) j ≡ entry v j
 entry_other v k j w other = get_or-set_other v.entries k j w vacant other
 
+-- the core has as many entries as before
 pub entry_count : (v : CoreView) (k : ℕ) (w : Parts) → length (with_entry v k w).entries ≡ length v.entries
 entry_count v k w = length-set v.entries k w
 
--- after a join the core's ranks are not below those that it had, nor those of the handle
+-- after a join the core's ranks are not below those that it had
 pub greater_left : (xs ys : List ℕ) (k : ℕ) → slice_index xs k ≤ slice_index (greater xs ys) k
 greater_left [] ys k = omega arith
 greater_left (x ∷ xs) [] k = omega arith
 greater_left (x ∷ xs) (y ∷ ys) zero = le-max_left x y
 greater_left (x ∷ xs) (y ∷ ys) (suc k) = greater_left xs ys k
 
+-- nor those of the handle
 pub greater_right : (xs ys : List ℕ) (k : ℕ) → slice_index ys k ≤ slice_index (greater xs ys) k
 greater_right [] ys k = omega arith
 greater_right (x ∷ xs) [] k = omega arith

@@ -3,6 +3,7 @@
 use Rattle.std.specs.Prelude.{◌≡◌, ℕ, ◌<◌, Bool, true, false, List, slice_index, if◌then◌else◌}
 use Rattle.atomic_table.specs.Seated.{TableId}
 use Rattle.task_word.specs.Words.{Parts, IsWord, marked, is_cancelled, rank}
+use Rattle.task_word.specs.Writes.{Kind, Writes, core_cancel}
 use Rattle.task_word.specs.Views.{entry, with_entry, core_cancelled, handle_looked, handle_cancelled, seen_at, MeetsEntry, MeetsHandle}
 use Rattle.task_word.specs.Rule.{word_of, Matches}
 use Rattle.task_word.specs.Steps.{Tells}
@@ -19,7 +20,7 @@ use Rattle.task_word.specs.declared.answers.CancelAnswer.TheVariants as cancel
 use Rattle.task_word.specs.declared.answers.TaskState.{TaskState}
 use Rattle.task_word.specs.declared.answers.TaskState.TheVariants as state
 
--- a table of words: which it is, and how many tasks it has
+-- a table of words: which it is, and the number of its tasks
 pub record TableOf : Type 0 where
   pub table : TableId
   pub tasks : ℕ
@@ -40,7 +41,13 @@ abbrev pub after_move : CoreView → ℕ → Moved → Parts → CoreView
 after_move v k move.Yes w = with_entry v k w
 after_move v k move.Cancelled w = with_entry v k (marked (entry v k))
 
--- the answer of a move of the core's, by the word that it met
+-- where a move answered Yes, its write took the core's word of the task to the one that the core knows now; where it
+-- met the bit, the core's word has it now
+abbrev pub MoveWrites : Kind → Parts → Moved → Parts → Type 0
+MoveWrites kind e move.Yes now = Writes kind e now
+MoveWrites kind e move.Cancelled now = now ≡ marked e
+
+-- the answer of a move of the core's that met the word w
 abbrev pub move_answer : Parts → Moved
 move_answer w = if w.marked then move.Cancelled else move.Yes
 
@@ -48,7 +55,7 @@ move_answer w = if w.marked then move.Cancelled else move.Yes
 abbrev pub MoveMeets : CoreView → ℕ → Moved → Type 0
 MoveMeets v k answer = (w : Parts) × MeetsEntry (entry v k) w × Tells v k w × (answer ≡ move_answer w)
 
--- the answer of the core's cancel, by the word that it met
+-- the same, by the word's phase and bit
 abbrev pub core_answer_in : Phase → Bool → CoreCancel
 core_answer_in Vacant bit = core.Vacant
 core_answer_in New bit = if bit then core.Late else core.Won
@@ -56,6 +63,7 @@ core_answer_in Running bit = if bit then core.Late else core.Won
 core_answer_in Done bit = core.Over
 core_answer_in Failed bit = core.Over
 
+-- the answer of the core's cancel that met the word w
 abbrev pub core_answer : Parts → CoreCancel
 core_answer w = core_answer_in w.phase w.marked
 
@@ -66,7 +74,7 @@ is_won core.Late = false
 is_won core.Over = false
 is_won core.Vacant = false
 
--- the answer of a handle's cancel, by the word that it met
+-- the same, by the word's phase and bit
 abbrev pub cancel_answer_in : Phase → Bool → CancelAnswer
 cancel_answer_in Vacant bit = cancel.Absent
 cancel_answer_in New bit = if bit then cancel.No else cancel.Yes
@@ -74,6 +82,7 @@ cancel_answer_in Running bit = if bit then cancel.No else cancel.Yes
 cancel_answer_in Done bit = cancel.No
 cancel_answer_in Failed bit = cancel.No
 
+-- the answer of a handle's cancel that met the word w
 abbrev pub cancel_answer : Parts → CancelAnswer
 cancel_answer w = cancel_answer_in w.phase w.marked
 
@@ -84,7 +93,7 @@ is_yes cancel.No = false
 is_yes cancel.Absent = false
 is_yes cancel.NoTask = false
 
--- the state that a word shows
+-- the same, by the word's phase and bit
 abbrev pub state_in : Phase → Bool → TaskState
 state_in Vacant bit = state.Unsubmitted
 state_in New bit = if bit then state.Cancelled else state.Waiting
@@ -92,24 +101,25 @@ state_in Running bit = if bit then state.Cancelled else state.Running
 state_in Done bit = state.Done
 state_in Failed bit = state.Failed
 
+-- the state that the word w shows
 abbrev pub state_of : Parts → TaskState
 state_of w = state_in w.phase w.marked
 
--- the core's cancel met some word, answered by it, and knows the word with the bit
+-- the core's cancel met some word, answered by it, and knows the word that its write made of it
 abbrev pub CoreCancels : CoreView → ℕ → CoreCancel → CoreView → Type 0
-CoreCancels v k answer next = (w : Parts) × MeetsEntry (entry v k) w × Tells v k w × (answer ≡ core_answer w) × (next ≡ core_cancelled v k w)
+CoreCancels v k answer next = (w : Parts) × MeetsEntry (entry v k) w × Tells v k w × (answer ≡ core_answer w) × (next ≡ core_cancelled v k w) × Writes core_cancel w (entry next k)
 
 -- what a handle keeps of the word that it met: its rank, and whether it was cancelled
-abbrev pub Keeps : HandleView → ℕ → Parts → Type 0
-Keeps h k w = (slice_index h.ranks k ≡ rank w) × (seen_at h k ≡ is_cancelled w)
+abbrev pub HandleKeeps : HandleView → ℕ → Parts → Type 0
+HandleKeeps h k w = (slice_index h.ranks k ≡ rank w) × (seen_at h k ≡ is_cancelled w)
 
 -- a handle's cancel met some word, answered by it, and keeps it
 abbrev pub HandleCancels : HandleView → ℕ → CancelAnswer → HandleView → Type 0
-HandleCancels h k answer next = (w : Parts) × MeetsHandle h k w × (answer ≡ cancel_answer w) × (next ≡ handle_cancelled h k w) × Keeps next k w
+HandleCancels h k answer next = (w : Parts) × MeetsHandle h k w × (answer ≡ cancel_answer w) × (next ≡ handle_cancelled h k w) × HandleKeeps next k w
 
 -- a handle's look met some word, answered by it, and keeps it
 abbrev pub HandleLooks : HandleView → ℕ → TaskState → HandleView → Type 0
-HandleLooks h k answer next = (w : Parts) × MeetsHandle h k w × (answer ≡ state_of w) × (next ≡ handle_looked h k w) × Keeps next k w
+HandleLooks h k answer next = (w : Parts) × MeetsHandle h k w × (answer ≡ state_of w) × (next ≡ handle_looked h k w) × HandleKeeps next k w
 
 -- the words with which a table of n tasks was closed: each is the core's, as it is or with the bit
 pub record Closes (n : ℕ) (v : CoreView) (words : List ℕ) : Type 0 where

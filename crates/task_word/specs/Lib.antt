@@ -1,4 +1,5 @@
 pub mod Words
+pub mod Writes
 pub mod Views
 pub mod Rule
 pub mod Steps

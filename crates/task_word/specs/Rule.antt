@@ -5,7 +5,7 @@ use Rattle.std.specs.List.{sum_by}
 use mathlib.Core.Option.{some}
 use lib.ListN.{get_elem?}
 use Rattle.task_word.specs.Words.{Parts, IsWord, bit, value, vacant, marked, is_ended, is_cancelled, rank}
-use Rattle.task_word.specs.Views.{times}
+use Rattle.task_word.specs.Views.{times, most_handles}
 use Rattle.task_word.specs.declared.phases.Phase.{Phase}
 use Rattle.task_word.specs.declared.phases.Phase.TheVariants.{Vacant, New, Running, Done, Failed}
 use Rattle.task_word.specs.declared.views.CoreView.{CoreView}
@@ -33,7 +33,7 @@ word_at words k = word_of (slice_index words k)
 abbrev pub Matches : ℕ → Parts → Type 0
 Matches n w = (n ≡ value w) ⊎ (n ≡ value (marked w))
 
--- 1 where it is so, else 0
+-- 1 if it is so, else 0
 abbrev pub flag : Bool → ℕ
 flag true = 1
 flag false = 0
@@ -95,16 +95,16 @@ pub record HasMet (n : ℕ) (words : List ℕ) (v : View) : Type 0 where
 abbrev pub taken_in_all : ℕ → List View → ℕ
 taken_in_all k views = sum_by (λ v. times k (taken_by v)) views
 
--- how many handles are out
+-- the number of handles that are out
 abbrev pub handles : List View → ℕ
 handles views = sum_by is_handle views
 
 -- the words of n tasks and the views of the seats
-pub record IsKept (n : ℕ) (words : List ℕ) (views : List View) : Type 0 where
+pub record IsWellFormedTable (n : ℕ) (words : List ℕ) (views : List View) : Type 0 where
   -- one word for each task
   pub count : length words ≡ n
   -- the first seat is the core's, and no other
-  pub core : (v : CoreView) × (get_elem? views 0 ≡ some (Core v)) × EntriesFit n words v.entries × (v.out ≡ handles views) × (v.out ≤ 63)
+  pub core : (v : CoreView) × (get_elem? views 0 ≡ some (Core v)) × EntriesFit n words v.entries × (v.out ≡ handles views) × (v.out ≤ most_handles)
   pub only : (id : ℕ) (v : CoreView) → get_elem? views id ≡ some (Core v) → id ≡ 0
   -- each cancelled task stands in what one seat took, once, and no other task stands in any
   pub once : (k : ℕ) → k < n → taken_in_all k views ≡ flag (is_cancelled (word_at words k))

@@ -21,9 +21,11 @@ AtTask word about = (k : ℕ) → word ≡ k + 1 → about k
 abbrev pub CoreIs : CoreView → Holder → Holder → Type 0
 CoreIs v me next = next ≡ (Core v, me.1)
 
+-- the handle's view has become h, and the rest is as it was
 abbrev pub HandleIs : HandleView → Holder → Holder → Type 0
 HandleIs h me next = next ≡ (Handle h, me.1)
 
+-- the core's store: the core knows the word new in run 0
 abbrev pub Submitted : ℕ → Holder → Holder → Type 0
 Submitted word me next = AtTask word (λ k. CoreIs (with_entry (core_of me.0) k (new_in 0)) me next)
 
@@ -35,7 +37,7 @@ pub record Tells (v : CoreView) (k : ℕ) (w : Parts) : Type 0 where
   pub alone : v.out ≡ 0 → times k v.own + times k v.joined ≡ flag (is_cancelled w)
   -- a joined handle met no higher rank
   pub met : slice_index v.ranks k ≤ rank w
-  -- and one that cancelled the task met just this rank
+  -- and one that cancelled the task met this very rank
   pub still : 0 < times k v.joined → slice_index v.ranks k ≡ rank w
 
 -- the core met the word w of the task k, which is its entry or has the bit besides
@@ -45,20 +47,25 @@ pub record CoreMeets (v : CoreView) (k found : ℕ) : Type 0 where
   pub meets : MeetsEntry (entry v k) (word_of found)
   pub tells : Tells v k (word_of found)
 
--- the number expected was found, and the word is the new one; or another was, and it is the entry with the bit
+-- the core's exchange: the number expected was found, and the core knows the new word; or another was, and the core
+-- knows its entry with the bit
 abbrev pub Moved : ℕ → ℕ → ℕ → Holder → ℕ → Holder → Type 0
 Moved word old new me found next = AtTask word (λ k. CoreMeets (core_of me.0) k found × (
     ((found ≡ old) × CoreIs (with_entry (core_of me.0) k (word_of new)) me next)
     ⊎ ((found ≢ old) × CoreIs (with_entry (core_of me.0) k (marked (entry (core_of me.0) k))) me next)))
 
+-- the core's setting of the bit: the core knows the word that it met with the bit, and whether it won
 abbrev pub CoreCancelled : ℕ → Holder → ℕ → Holder → Type 0
 CoreCancelled word me found next = AtTask word (λ k. CoreMeets (core_of me.0) k found × CoreIs (core_cancelled (core_of me.0) k (word_of found)) me next)
 
+-- the core's load: the core knows the word that it met
 abbrev pub CoreLooked : ℕ → Holder → ℕ → Holder → Type 0
 CoreLooked word me found next = AtTask word (λ k. CoreMeets (core_of me.0) k found × CoreIs (with_entry (core_of me.0) k (word_of found)) me next)
 
+-- a handle's setting of the bit: the handle knows the word that it met, and whether it won
 abbrev pub HandleCancelled : ℕ → Holder → ℕ → Holder → Type 0
 HandleCancelled word me found next = AtTask word (λ k. MeetsHandle (handle_of me.0) k (word_of found) × (value (word_of found) ≡ found) × HandleIs (handle_cancelled (handle_of me.0) k (word_of found)) me next)
 
+-- a handle's load: the handle knows the word that it met
 abbrev pub HandleLooked : ℕ → Holder → ℕ → Holder → Type 0
 HandleLooked word me found next = AtTask word (λ k. MeetsHandle (handle_of me.0) k (word_of found) × (value (word_of found) ≡ found) × HandleIs (handle_looked (handle_of me.0) k (word_of found)) me next)

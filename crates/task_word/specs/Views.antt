@@ -41,6 +41,10 @@ with_entry v k w = record { entries = slice_set v.entries k w; own = v.own; join
 abbrev pub core_cancelled : CoreView → ℕ → Parts → CoreView
 core_cancelled v k w = record { entries = slice_set v.entries k (marked w); own = and_if (wins w) k v.own; joined = v.joined; ranks = v.ranks; out = v.out }
 
+-- the handles that may be out at once
+abbrev pub most_handles : ℕ
+most_handles = 63
+
 -- one more handle is out
 abbrev pub one_out : CoreView → CoreView
 one_out v = record { entries = v.entries; own = v.own; joined = v.joined; ranks = v.ranks; out = v.out + 1 }
@@ -102,6 +106,7 @@ first_view n = Core (new_core n)
 abbrev pub lender : View → View
 lender v = Core (one_out (core_of v))
 
+-- the view of the handle that is cut off
 abbrev pub lent : View → View
 lent v = Handle (new_handle (length (core_of v).entries))
 
@@ -109,5 +114,6 @@ lent v = Handle (new_handle (length (core_of v).entries))
 abbrev pub together : View → View → View
 together v w = Core (joined_with (core_of v) (handle_of w))
 
+-- what is left of the view of a handle that is back
 abbrev pub spent : View
 spent = Spent

@@ -80,19 +80,23 @@ vacant = record { phase = Vacant; run = 0; marked = false }
 abbrev pub new_in : ℕ → Parts
 new_in n = record { phase = New; run = n; marked = false }
 
--- the moves. A submission clears the bit, and the others leave it
+-- the task is submitted. This clears the bit, and the other moves leave it
 abbrev pub submitted : Parts → Parts
 submitted w = new_in 0
 
+-- the task's run begins
 abbrev pub started : Parts → Parts
 started w = record { phase = Running; run = w.run; marked = w.marked }
 
+-- the task waits for its next run
 abbrev pub rearmed : Parts → Parts
 rearmed w = record { phase = New; run = w.run + 1; marked = w.marked }
 
+-- the task's last run ended well
 abbrev pub ended_well : Parts → Parts
 ended_well w = record { phase = Done; run = w.run; marked = w.marked }
 
+-- the task's run failed
 abbrev pub ended_badly : Parts → Parts
 ended_badly w = record { phase = Failed; run = w.run; marked = w.marked }
 

@@ -1,14 +1,16 @@
 ghost use Rattle.std.specs.Prelude.{◌≡◌, ◌+◌, ◌<◌, ◌≤◌, ◌^◌, ◌⊎◌, true, false, length, IfOk, IfErr};
 ghost use Rattle.task_word.specs.declared.phases.Phase.TheVariants.{Vacant, New, Running};
 ghost use Rattle.task_word.specs.Words.{new_in, started, rearmed, ended_well, ended_badly, is_live, is_cancelled, rank, IsWord};
-ghost use Rattle.task_word.specs.Views.{entry, with_entry, and_if, MeetsEntry, one_out, new_handle, joined_with};
+ghost use Rattle.task_word.specs.Views.{entry, with_entry, and_if, MeetsEntry, most_handles, one_out, new_handle, joined_with};
 ghost use Rattle.task_word.specs.declared.fault.WordError.TheVariants.{Seats};
 ghost use Rattle.task_word.specs.Steps.{Tells};
-ghost use Rattle.task_word.specs.Answers.{after_move, is_won, MoveMeets, CoreCancels};
+ghost use Rattle.task_word.specs.Answers.{after_move, is_won, MoveMeets, MoveWrites, CoreCancels};
+ghost use Rattle.task_word.specs.Writes as write;
 
 use crate::answers::{CoreCancel, Moved};
 use crate::fault::WordError;
 use crate::handle_side::HandleSeat;
+use crate::limits::MOST_HANDLES;
 use crate::plays;
 use crate::rule::Handing;
 use crate::table::TaskWords;
@@ -18,14 +20,11 @@ use atomic_table::Seat;
 use std::alloc::Allocator;
 use std::marker::Model;
 
-// The most handles that may be out.
-const MOST_HANDLES: u8 = 63;
-
 /// The one seat of a table that moves its tasks.
 ///
 /// It knows a word of each task, its entry: the task's word is the entry, or the entry with the bit of a
 /// cancel. Contracts see the entries, the tasks that this seat cancelled, those that the handles cancelled
-/// which came back, the ranks that these handles met, and how many handles are out. Each call takes the
+/// which came back, the ranks that these handles met, and the number of handles that are out. Each call takes the
 /// seat's own table, and is one atomic step.
 #[derive(Drop)]
 pub struct CoreSeat<A: Allocator> {
@@ -37,14 +36,14 @@ pub struct CoreSeat<A: Allocator> {
 impl<A: Allocator> Model for CoreSeat<A> {
     ghost use Rattle.std.specs.Prelude.{◌≡◌, ◌+◌, ◌≤◌, length};
     ghost use Rattle.task_word.specs.declared.views.View.TheVariants.{Core};
-    ghost use Rattle.task_word.specs.Views.{core_of};
+    ghost use Rattle.task_word.specs.Views.{core_of, most_handles};
     ghost use Rattle.task_word.specs.Answers.{CoreKnows};
 
     ghost Value = { CoreKnows };
 
     ghost view = { λ s. record { table = s.seat.table_id; view = core_of s.seat.me.0 } };
 
-    ghost invariant = { λ s. (s.seat.id ≡ 0) × (s.seat.me.0 ≡ Core (core_of s.seat.me.0)) × (s.entries.items ≡ (core_of s.seat.me.0).entries) × (s.out ≡ (core_of s.seat.me.0).out) × (s.out ≤ 63) × (length s.entries.items + 1 ≡ s.seat.table_id.words) };
+    ghost invariant = { λ s. (s.seat.id ≡ 0) × (s.seat.me.0 ≡ Core (core_of s.seat.me.0)) × (s.entries.items ≡ (core_of s.seat.me.0).entries) × (s.out ≡ (core_of s.seat.me.0).out) × (s.out ≤ most_handles) × (length s.entries.items + 1 ≡ s.seat.table_id.words) };
 }
 
 impl<A: Allocator> CoreSeat<A> {
@@ -56,6 +55,7 @@ impl<A: Allocator> CoreSeat<A> {
         requires phase { (entry self.old.view k).phase ≡ Vacant }
         ensures table { self.new.table ≡ self.old.table }
         ensures view { self.new.view ≡ with_entry self.old.view k (new_in 0) }
+        ensures write { write.Writes write.submit (entry self.old.view k) (entry self.new.view k) }
     {
         let next = self.known(words, k).submitted();
         words
@@ -77,6 +77,7 @@ impl<A: Allocator> CoreSeat<A> {
         ensures table { self.new.table ≡ self.old.table }
         ensures view { self.new.view ≡ after_move self.old.view k result (started (entry self.old.view k)) }
         ensures met { MoveMeets self.old.view k result }
+        ensures write { MoveWrites write.start (entry self.old.view k) result (entry self.new.view k) }
     {
         let next = self.known(words, k).started();
         self.advance(words, k, next)
@@ -91,6 +92,7 @@ impl<A: Allocator> CoreSeat<A> {
         ensures table { self.new.table ≡ self.old.table }
         ensures view { self.new.view ≡ after_move self.old.view k result (ended_well (entry self.old.view k)) }
         ensures met { MoveMeets self.old.view k result }
+        ensures write { MoveWrites write.done (entry self.old.view k) result (entry self.new.view k) }
     {
         let next = self.known(words, k).done();
         self.advance(words, k, next)
@@ -105,6 +107,7 @@ impl<A: Allocator> CoreSeat<A> {
         ensures table { self.new.table ≡ self.old.table }
         ensures view { self.new.view ≡ after_move self.old.view k result (ended_badly (entry self.old.view k)) }
         ensures met { MoveMeets self.old.view k result }
+        ensures write { MoveWrites write.fail (entry self.old.view k) result (entry self.new.view k) }
     {
         let next = self.known(words, k).failed();
         self.advance(words, k, next)
@@ -121,6 +124,7 @@ impl<A: Allocator> CoreSeat<A> {
         ensures table { self.new.table ≡ self.old.table }
         ensures view { self.new.view ≡ after_move self.old.view k result (rearmed (entry self.old.view k)) }
         ensures met { MoveMeets self.old.view k result }
+        ensures write { MoveWrites write.rearm (entry self.old.view k) result (entry self.new.view k) }
     {
         let next = self.known(words, k).rearmed();
         self.advance(words, k, next)
@@ -140,7 +144,7 @@ impl<A: Allocator> CoreSeat<A> {
             .shared
             .fetch_or::<plays::CoreCancels>(&mut self.seat, k as usize + 1, BIT);
         let met = Word::of_value(found);
-        self.entries[k as usize] = met.cancelled();
+        self.entries[k as usize] = met.with_cancel_bit();
         CoreCancel::of_word(met)
     }
 
@@ -165,14 +169,14 @@ impl<A: Allocator> CoreSeat<A> {
 
     /// Cuts off a new handle, which has met and cancelled nothing.
     ///
-    /// The error is [`WordError::Seats`], just where 63 handles are out; then nothing changed. So at most 63
-    /// handles are out.
+    /// The error is [`WordError::Seats`], exactly when [`MOST_HANDLES`] are out; then nothing changed. So at most
+    /// that many are out.
     pub fn split(&mut self, words: &TaskWords<A>) -> Result<HandleSeat, WordError>
         requires table { self.old.table ≡ words.now.table }
-        ensures ok { IfOk result (λ h. (self.old.view.out < 63) × (self.new.view ≡ one_out self.old.view) × (h.table ≡ self.old.table) × (h.view ≡ new_handle words.now.tasks)) }
-        ensures err { IfErr result (λ e. (e ≡ Seats) × (self.old.view.out ≡ 63) × (self.new.view ≡ self.old.view)) }
+        ensures ok { IfOk result (λ h. (self.old.view.out < most_handles) × (self.new.view ≡ one_out self.old.view) × (h.table ≡ self.old.table) × (h.view ≡ new_handle words.now.tasks)) }
+        ensures err { IfErr result (λ e. (e ≡ Seats) × (self.old.view.out ≡ most_handles) × (self.new.view ≡ self.old.view)) }
         ensures table { self.new.table ≡ self.old.table }
-        ensures most { self.new.view.out ≤ 63 }
+        ensures most { self.new.view.out ≤ most_handles }
     {
         if self.out >= MOST_HANDLES {
             return Err(WordError::Seats);
@@ -213,13 +217,11 @@ impl<A: Allocator> CoreSeat<A> {
     fn advance(&mut self, words: &TaskWords<A>, k: u32, next: Word) -> Moved
         requires table { self.old.table ≡ words.now.table }
         requires task { k < words.now.tasks }
-        requires phase { is_live (entry self.old.view k).phase ≡ true }
-        requires live { is_cancelled (entry self.old.view k) ≡ false }
-        requires rank { rank (entry self.old.view k) ≤ rank next }
-        requires free { is_cancelled next ≡ false }
+        requires exchange { write.Exchanges (entry self.old.view k) next }
         ensures table { self.new.table ≡ self.old.table }
         ensures view { self.new.view ≡ after_move self.old.view k result next }
         ensures met { MoveMeets self.old.view k result }
+        ensures write { (kind : write.Kind) → write.Writes kind (entry self.old.view k) next → MoveWrites kind (entry self.old.view k) result (entry self.new.view k) }
     {
         let word = self.known(words, k);
         let old = word.value();
@@ -231,7 +233,7 @@ impl<A: Allocator> CoreSeat<A> {
             self.entries[k as usize] = next;
             Moved::Yes
         } else {
-            self.entries[k as usize] = word.cancelled();
+            self.entries[k as usize] = word.with_cancel_bit();
             Moved::Cancelled
         }
     }

@@ -7,10 +7,10 @@ use thiserror::Error;
 /// Why a call on a table of words was refused.
 #[derive(Clone, Copy, Debug, PartialEq, Eq, Error)]
 pub enum WordError {
-    /// There was no memory.
+    /// The allocator had no memory.
     #[error("out of memory")]
     Memory,
-    /// 63 handles are out.
+    /// [`MOST_HANDLES`](crate::MOST_HANDLES) are out, 63.
     #[error("63 handles are out")]
     Seats,
 }

@@ -16,7 +16,8 @@ use std::marker::Model;
 /// A seat of a table that cancels tasks and reads their states, in any thread and without a lock.
 ///
 /// It knows the tasks that it cancelled, and of each task the greatest rank that it met and whether it
-/// met it cancelled. One that is dropped counts as out for good.
+/// met it cancelled. One that is dropped counts as out for good, and what it cancelled is in no list of the
+/// core's seat.
 #[derive(Drop)]
 pub struct HandleSeat {
     pub(crate) seat: Seat<(), View>,
@@ -39,7 +40,7 @@ impl HandleSeat {
     /// Sets the bit of the task's word, and answers by the word that it met, in one atomic step.
     ///
     /// That word has no lower rank than this handle met of the task before. Where the handle met it
-    /// cancelled, or cancelled it, it is cancelled, and has just the rank met then. Where the handle's last
+    /// cancelled, or cancelled it, it is cancelled, and has the very rank met then. Where the handle's last
     /// step met it ended, it has the phase and the run met then. Past the table it answers
     /// [`CancelAnswer::NoTask`], and nothing is touched.
     pub fn cancel<A: Allocator>(&mut self, words: &TaskWords<A>, k: u32) -> CancelAnswer

@@ -7,10 +7,10 @@ use atomic_table::{Join, Split, TableRule};
 pub struct WordRule;
 
 impl TableRule<(), View, u32> for WordRule {
-    ghost use Rattle.task_word.specs.Rule.{IsKept, task_words};
+    ghost use Rattle.task_word.specs.Rule.{IsWellFormedTable, task_words};
     ghost use Rattle.task_word.specs.Views.{first_view};
 
-    ghost holds = { λ n s. IsKept n (task_words s.words) s.views };
+    ghost holds = { λ n s. IsWellFormedTable n (task_words s.words) s.views };
 
     ghost first = { first_view };
 }

@@ -1,4 +1,5 @@
 ghost use Rattle.std.specs.Prelude.{◌≡◌, IfOk, IfErr, vec_len};
+ghost use Rattle.std.specs.Vec.{vec_capacity};
 ghost use Rattle.task_word.specs.Answers.{Closes};
 ghost use Rattle.task_word.specs.Views.{new_core};
 ghost use Rattle.task_word.specs.declared.fault.WordError.TheVariants.{Memory};
@@ -12,7 +13,7 @@ use atomic_table::Table;
 use std::alloc::Allocator;
 use std::marker::Model;
 
-/// The words of some tasks, which threads share by `&`.
+/// The words of the tasks 0, 1, .., which threads share by `&`.
 ///
 /// Each word changes in single atomic steps, which the core's seat and the handles make.
 #[derive(Drop)]
@@ -33,9 +34,9 @@ impl<A: Allocator> Model for TaskWords<A> {
 }
 
 impl<A: Allocator + Copy> TaskWords<A> {
-    /// The words of so many tasks, all vacant, and the one seat that moves them. No handle is out.
+    /// The words of `tasks` tasks, all vacant, and the one seat that moves them. No handle is out.
     ///
-    /// The error is [`WordError::Memory`], where the allocator refused.
+    /// The error is [`WordError::Memory`], where the allocator refused; then nothing is held.
     pub fn new(alloc: A, tasks: u32) -> Result<(TaskWords<A>, CoreSeat<A>), WordError>
         ensures ok { IfOk result (λ r. (r.0.tasks ≡ tasks) × (r.1.table ≡ r.0.table) × (r.1.view ≡ new_core tasks)) }
         ensures err { IfErr result (λ e. e ≡ Memory) }
@@ -53,13 +54,15 @@ impl<A: Allocator + Copy> TaskWords<A> {
 }
 
 impl<A: Allocator> TaskWords<A> {
-    /// The words of the tasks as they are once all threads have returned, in the allocator given: each is
-    /// the word that the core's seat knows, or that one with the bit of a cancel.
+    /// The words of the tasks as numbers ([`Word::value`](crate::Word::value)), as they are once all threads have
+    /// returned, in the allocator given, with no room for more: each is the word that the core's seat knows, or that
+    /// one with the bit of a cancel.
     ///
-    /// The error is [`WordError::Memory`], where the allocator refused; then nothing comes back.
+    /// The error is [`WordError::Memory`], where the allocator refused; then nothing comes back, and the table is
+    /// dropped.
     pub fn close<B: Allocator>(self, alloc: B, core: CoreSeat<A>) -> Result<Vec<u64, B>, WordError>
         requires table { core.table ≡ self.table }
-        ensures ok { IfOk result (λ v. (vec_len v ≡ self.tasks) × Closes self.tasks core.view v.items) }
+        ensures ok { IfOk result (λ v. (vec_len v ≡ self.tasks) × (vec_capacity v ≡ self.tasks) × Closes self.tasks core.view v.items) }
         ensures err { IfErr result (λ e. e ≡ Memory) }
     {
         let mut words = Vec::with_capacity(alloc, self.tasks as usize)?;

@@ -18,9 +18,16 @@ fn words_have_their_values_and_ranks(rt: HostRuntime) {
     assert!(rt; (running.failed().value(), running.failed().rank()) == (4, 3));
     assert!(rt; (next.value(), next.rank()) == (9, 3));
     assert!(rt; (late.value(), late.rank()) == (26, 8));
-    assert!(rt; (late.cancelled().value(), late.cancelled().rank()) == (9223372036854775834, 8));
-    assert!(rt; late.cancelled().is_cancelled() && !running.done().cancelled().is_cancelled());
-    assert!(rt; Word::vacant().cancelled().submitted() == new);
+    assert!(rt;
+        (
+            late.with_cancel_bit().value(),
+            late.with_cancel_bit().rank()
+        ) == (9223372036854775834, 8)
+    );
+    assert!(rt;
+        late.with_cancel_bit().is_cancelled() && !running.done().with_cancel_bit().is_cancelled()
+    );
+    assert!(rt; Word::vacant().with_cancel_bit().submitted() == new);
 }
 
 #[test]
@@ -39,7 +46,7 @@ fn a_handle_cancels_a_task_that_is_run(rt: HostRuntime) -> Result<(), Fail> {
     assert!(rt; core.cancel(&words, 0) == CoreCancel::Late);
     assert!(rt; core.look(&words, 0).value() == 9223372036854775810);
     let absent = core.look(&words, 1);
-    assert!(rt; absent == Word::vacant().cancelled());
+    assert!(rt; absent == Word::vacant().with_cancel_bit());
     core.submit(&words, 1);
     assert!(rt; core.look(&words, 1).value() == 1);
     assert!(rt; handle.state(&words, 1) == TaskState::Waiting);
@@ -93,37 +100,14 @@ fn errors_say_what_is_wanting(rt: HostRuntime) -> Result<(), Fail> {
     let memory = WordError::Memory;
     let seats = WordError::Seats;
     assert!(rt; format!(in rt.alloc(); "{memory}")?.as_str() == "out of memory");
-    assert!(rt; format!(in rt.alloc(); "{seats}")?.as_str() == "63 handles are out");
+    let text = format!(in rt.alloc(); "{MOST_HANDLES} handles are out")?;
+    assert!(rt;
+        format!(in rt.alloc(); "{seats}")? == text && text.as_str() == "63 handles are out"
+    );
     Ok(())
 }
 
-// The words of a table of so many tasks, of which the last one was submitted.
-fn with_the_last_submitted(alloc: Global, tasks: u32) -> Result<Vec<u64, Global>, WordError> {
-    let (words, mut core) = TaskWords::new(alloc, tasks)?;
-    if tasks > 0 {
-        let last = tasks - 1;
-        if core.look(&words, last).phase() == Phase::Vacant {
-            core.submit(&words, last);
-        }
-    }
-    words.close(alloc, core)
-}
-
-#[test]
-fn tables_of_any_size_are_closed(rt: HostRuntime) -> Result<(), Fail> {
-    let alloc = rt.alloc();
-    assert!(rt; with_the_last_submitted(alloc, 0)?.is_empty());
-    assert!(rt; with_the_last_submitted(alloc, 1)?.as_slice() == [1].as_slice());
-    assert!(rt; with_the_last_submitted(alloc, 2)?.as_slice() == [0, 1].as_slice());
-    let seven = with_the_last_submitted(alloc, 7)?;
-    assert!(rt; seven.as_slice() == [0, 0, 0, 0, 0, 0, 1].as_slice());
-    let many = with_the_last_submitted(alloc, 64)?;
-    assert!(rt; many.len() == 64 && many.last() == Some(&1));
-    assert!(rt; many.iter().take(63).all(|word| *word == 0));
-    Ok(())
-}
-
-// How many tasks the two threads cancel.
+// The tasks that the two threads cancel are those below this number.
 const TASKS: u32 = 1000;
 
 // Cancels all tasks through the handle, and says of each whether this cancelled it.

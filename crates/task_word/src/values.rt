@@ -181,7 +181,7 @@ impl Word {
     }
 
     /// The word with the bit, whatever it is.
-    pub fn cancelled(self) -> Word
+    pub fn with_cancel_bit(self) -> Word
         ensures { result ≡ marked self }
     {
         Word {

@@ -26,10 +26,6 @@ one_number n m x y a b e f h =
     let both = one_front (decimal n) (decimal m) x y (digits_decimal numerals n a) (digits_decimal numerals m b) e f h in
     (decimal_injective n m a b both.0, both.1)
 
--- no byte is no digit
-pub ends_at_nil : EndsNumber []
-ends_at_nil = λ r. omega (arith, r)
-
 -- a byte that is no digit ends a number
 pub ends_before : (xs : List ℕ) (i c : ℕ) → get_or xs i 0 ≡ c → (IsInRange 48 57 c → ⊥) → EndsNumber (drop i xs)
 ends_before xs i c e no_digit =

@@ -1,7 +1,8 @@
--- EventTexts: what the lines of events look like, and that each is the line of one event.
-use Rattle.std.proofs.Common.{◌≡◌, ◌≢◌, ℕ, ◌^◌, ◌<◌, ◌≤◌, List, [], ◌∷◌, ◌++◌, drop, length, get_or, ap, ◌∙◌, sym, arith, rules, length-append, codes}
+-- EventTexts: one event alone has its line at the front of some bytes; an event's line has one newline, at its end.
+use Rattle.std.proofs.Common.{◌≡◌, ◌≢◌, ℕ, ◌^◌, ◌<◌, List, [], ◌∷◌, ◌++◌, length, refl, ap, ◌∙◌, sym, arith, rules, append_assoc, append-nil, codes, false, ◌==◌}
+use Rattle.std.proofs.lemmas.Bool.{false≢true}
 use Rattle.std.specs.Fmt.{decimal}
-use Rattle.std.proofs.lemmas.Fmt.{length-decimal-le, digits_decimal, decimal_injective}
+use Rattle.std.proofs.lemmas.Fmt.{digits_decimal}
 use Rattle.std.proofs.lemmas.Str.Parse.{digit_at}
 use Rattle.std.proofs.lemmas.List.{append_cancel_left}
 use Rattle.std.proofs.lemmas.List.Elements.{All-append, All-from_get_or}
@@ -9,28 +10,129 @@ use Rattle.sched_time.specs.declared.timing.Ending.{Ending}
 use Rattle.sched_time.specs.declared.timing.Ending.TheVariants.{Value, Fault}
 use Rattle.executor_core.specs.declared.Event.{Event}
 use Rattle.executor_core.specs.declared.Event.TheVariants.{Clock, Start, Finish, Cancel}
-use Rattle.trace_text.specs.Spelling.{IsLine}
-use Rattle.trace_text.specs.Spelling.{EndsNumber, event_text, ending_text, FitsEvent, FitsEnding}
+use Rattle.trace_text.specs.Spelling.{IsLine, EndsNumber, event_line, ending_line, FitsEvent, FitsEnding}
+use Rattle.trace_text.specs.Reading.{number_then, IsUnread}
 use Rattle.trace_text.proofs.Digits.{one_number}
 use Rattle.trace_text.proofs.Numbers.{numerals}
-use Rattle.trace_text.proofs.Texts.{one_line, with_end}
+use Rattle.trace_text.proofs.Choice.{one_before}
+use Rattle.trace_text.proofs.Clashes.{clashes}
+
+-- ---- one event
+
+-- the word that an ending begins with, and what follows it
+abbrev ending_word : Ending → List ℕ
+ending_word (Value v) = codes " ok "
+ending_word (Fault c) = codes " fail "
+
+abbrev after_ending_word : Ending → List ℕ
+after_ending_word (Value v) = number_then (codes "\n") v
+after_ending_word (Fault c) = number_then (codes "\n") c
+
+-- the word that an event's line begins with, and what follows it
+abbrev event_word : Event → List ℕ
+event_word (Clock t) = codes "clock "
+event_word (Start w) = codes "start "
+event_word (Finish w e) = codes "finish "
+event_word (Cancel k) = codes "cancel "
+
+abbrev after_event_word : Event → List ℕ
+after_event_word (Clock t) = number_then (codes "\n") t
+after_event_word (Start w) = number_then (codes "\n") w
+after_event_word (Finish w e) = decimal w ++ ending_line e
+after_event_word (Cancel k) = number_then (codes "\n") k
+
+-- a newline ends a number, and so does the word of an ending
+newline_ends : EndsNumber (codes "\n")
+newline_ends = λ r. omega (arith, r)
+
+ending_ends : (e : Ending) (rest : List ℕ) → EndsNumber (ending_line e ++ rest)
+ending_ends (Value v) rest = λ r. omega (arith, r)
+ending_ends (Fault c) rest = λ r. omega (arith, r)
+
+one_numbered : (n m : ℕ) (s t : List ℕ) → n < 2 ^ 64 → m < 2 ^ 64 → number_then (codes "\n") n ++ s ≡ number_then (codes "\n") m ++ t → (n ≡ m) × (s ≡ t)
+one_numbered n m s t p q h = one_before (codes "\n") n m s t p q newline_ends (omega arith) h
+
+-- where the lines of two endings stand at the front of some bytes, they are one, and the rests are one
+pub one_ending : (e f : Ending) (s t : List ℕ) → FitsEnding e → FitsEnding f → ending_line e ++ s ≡ ending_line f ++ t → (e ≡ f) × (s ≡ t)
+one_ending (Value v) (Value u) s t p q h =
+    let r = one_numbered v u s t p q (append_cancel_left (codes " ok ") (number_then (codes "\n") v ++ s) (number_then (codes "\n") u ++ t) h) in (ap Value r.0, r.1)
+one_ending (Fault c) (Fault d) s t p q h =
+    let r = one_numbered c d s t (omega (arith, p)) (omega (arith, q)) (append_cancel_left (codes " fail ") (number_then (codes "\n") c ++ s) (number_then (codes "\n") d ++ t) h) in (ap Fault r.0, r.1)
+one_ending (Value v) f s t p q h = absurd (clashes (codes " ok ") (ending_word f) (after_ending_word (Value v) ++ s) (after_ending_word f ++ t) refl h)
+one_ending (Fault c) f s t p q h = absurd (clashes (codes " fail ") (ending_word f) (after_ending_word (Fault c) ++ s) (after_ending_word f ++ t) refl h)
+
+one_finish : (w v : ℕ) (e f : Ending) (s t : List ℕ) → w < 2 ^ 8 → v < 2 ^ 8 → FitsEnding e → FitsEnding f → (decimal w ++ ending_line e) ++ s ≡ (decimal v ++ ending_line f) ++ t
+    → (w ≡ v) × (e ≡ f) × (s ≡ t)
+one_finish w v e f s t a b p q h =
+    let both = one_number w v (ending_line e ++ s) (ending_line f ++ t) (omega (arith, a)) (omega (arith, b)) (ending_ends e s) (ending_ends f t)
+    (sym (append_assoc (decimal w) (ending_line e) s) ∙ (h ∙ append_assoc (decimal v) (ending_line f) t)) in
+    let rest = one_ending e f s t p q both.1 in
+    (both.0, rest.0, rest.1)
+
+-- where the lines of two events stand at the front of some bytes, they are one, and the rests are one: so one line spells
+-- one event, and no event's line is the front of another's
+pub first_event : (e f : Event) (s t : List ℕ) → FitsEvent e → FitsEvent f → event_line e ++ s ≡ event_line f ++ t → (e ≡ f) × (s ≡ t)
+first_event (Clock n) (Clock m) s t p q h =
+    let r = one_numbered n m s t p q (append_cancel_left (codes "clock ") (number_then (codes "\n") n ++ s) (number_then (codes "\n") m ++ t) h) in (ap Clock r.0, r.1)
+first_event (Start w) (Start v) s t p q h =
+    let r = one_numbered w v s t (omega (arith, p)) (omega (arith, q)) (append_cancel_left (codes "start ") (number_then (codes "\n") w ++ s) (number_then (codes "\n") v ++ t) h) in (ap Start r.0, r.1)
+first_event (Cancel k) (Cancel j) s t p q h =
+    let r = one_numbered k j s t (omega (arith, p)) (omega (arith, q)) (append_cancel_left (codes "cancel ") (number_then (codes "\n") k ++ s) (number_then (codes "\n") j ++ t) h) in (ap Cancel r.0, r.1)
+first_event (Finish w e) (Finish v f) s t p q h =
+    let r = one_finish w v e f s t p.0 q.0 p.1 q.1 (append_cancel_left (codes "finish ") ((decimal w ++ ending_line e) ++ s) ((decimal v ++ ending_line f) ++ t) h) in
+    (λ i. Finish (r.0 i) (r.1 i), r.2)
+first_event (Clock n) f s t p q h = absurd (clashes (codes "clock ") (event_word f) (after_event_word (Clock n) ++ s) (after_event_word f ++ t) refl h)
+first_event (Start w) f s t p q h = absurd (clashes (codes "start ") (event_word f) (after_event_word (Start w) ++ s) (after_event_word f ++ t) refl h)
+first_event (Cancel k) f s t p q h = absurd (clashes (codes "cancel ") (event_word f) (after_event_word (Cancel k) ++ s) (after_event_word f ++ t) refl h)
+first_event (Finish w e) f s t p q h = absurd (clashes (codes "finish ") (event_word f) (after_event_word (Finish w e) ++ s) (after_event_word f ++ t) refl h)
+
+-- bytes behind an event's line make a line that spells no event
+pub nothing_behind : (line rest : List ℕ) (f : Event) → FitsEvent f → line ≡ event_line f ++ rest → false ≡ (length rest == 0) → (e : Event) → FitsEvent e → line ≡ event_line e → ⊥
+nothing_behind line rest f p is some e q h =
+    let none : rest ≡ [] = (first_event f e rest [] p q (sym is ∙ (h ∙ sym (append-nil (event_line e))))).1 in
+    false≢true (some ∙ ap (λ l. length l == 0) none)
+
+-- ---- no event
+
+-- bytes of which no worker and ending stand behind `finish `
+pub unread_finish : (bytes : List ℕ) → ((w : ℕ) (e : Ending) (tail : List ℕ) → w < 2 ^ 8 → FitsEnding e → bytes ≡ (decimal w ++ ending_line e) ++ tail → ⊥)
+    → IsUnread event_line FitsEvent (codes "finish " ++ bytes)
+unread_finish bytes none (Finish w e) tail fits h = none w e tail fits.0 fits.1 (append_cancel_left (codes "finish ") bytes ((decimal w ++ ending_line e) ++ tail) h)
+unread_finish bytes none f tail fits h = absurd (clashes (codes "finish ") (event_word f) bytes (after_event_word f ++ tail) refl h)
+
+-- the number that stands in front is the worker's, and what follows it is the ending
+pub the_finish : (bytes rest : List ℕ) (n : ℕ) → bytes ≡ decimal n ++ rest → EndsNumber rest → n < 2 ^ 64 → (w : ℕ) (e : Ending) (tail : List ℕ) → w < 2 ^ 8 → FitsEnding e → bytes ≡ (decimal w ++ ending_line e) ++ tail
+    → (n ≡ w) × (rest ≡ ending_line e ++ tail)
+the_finish bytes rest n is ends fits w e tail small p h =
+    one_number n w rest (ending_line e ++ tail) fits (omega (arith, small)) ends (ending_ends e tail) (sym is ∙ (h ∙ append_assoc (decimal w) (ending_line e) tail))
+
+-- ---- the newline
+
+-- bytes without a newline, and a newline behind them
+pub record IsEnded (line : List ℕ) : Type 0 where
+  pub front : List ℕ
+  pub is : line ≡ front ++ 10 ∷ []
+  pub plain : IsLine front
 
 -- digits hold no newline
 pub number_is_line : (n : ℕ) → n < 2 ^ 64 → IsLine (decimal n)
 number_is_line n h = All-from_get_or (λ b. b ≢ 10) (decimal n) 0 (λ i l e. let r = digit_at (decimal n) i (digits_decimal numerals n h) l in absurd (omega (arith, r, e)))
 
--- a line behind a line
-behind : (a b : List ℕ) → IsLine a → IsLine b → IsLine (a ++ b)
-behind a b p q = All-append (λ c. c ≢ 10) a b p q
+ended_number : (n : ℕ) → n < 2 ^ 64 → IsEnded (decimal n ++ codes "\n")
+ended_number n fits = record { front = decimal n; is = refl; plain = number_is_line n fits }
 
-ok_line : IsLine (codes "ok ")
+ended_behind : (word line : List ℕ) → IsLine word → IsEnded line → IsEnded (word ++ line)
+ended_behind word line plain end = record {
+  front = word ++ end.front;
+  is = ap (λ l. word ++ l) end.is ∙ sym (append_assoc word end.front (10 ∷ []));
+  plain = All-append (λ b. b ≢ 10) word end.front plain end.plain;
+}
+
+ok_line : IsLine (codes " ok ")
 ok_line = search rules
 
-fail_line : IsLine (codes "fail ")
+fail_line : IsLine (codes " fail ")
 fail_line = search rules
-
-space_line : IsLine (codes " ")
-space_line = search rules
 
 clock_line : IsLine (codes "clock ")
 clock_line = search rules
@@ -44,92 +146,15 @@ finish_line = search rules
 cancel_line : IsLine (codes "cancel ")
 cancel_line = search rules
 
-ending_is_line : (e : Ending) → FitsEnding e → IsLine (ending_text e)
-ending_is_line (Value v) h = behind (codes "ok ") (decimal v) ok_line (number_is_line v h)
-ending_is_line (Fault c) h = behind (codes "fail ") (decimal c) fail_line (number_is_line c (omega (arith, h)))
+ending_ended : (e : Ending) → FitsEnding e → IsEnded (ending_line e)
+ending_ended (Value v) h = ended_behind (codes " ok ") (decimal v ++ codes "\n") ok_line (ended_number v h)
+ending_ended (Fault c) h = ended_behind (codes " fail ") (decimal c ++ codes "\n") fail_line (ended_number c (omega (arith, h)))
 
--- the text of an event holds no newline
-pub event_is_line : (e : Event) → FitsEvent e → IsLine (event_text e)
-event_is_line (Clock t) h = behind (codes "clock ") (decimal t) clock_line (number_is_line t h)
-event_is_line (Start w) h = behind (codes "start ") (decimal w) start_line (number_is_line w (omega (arith, h)))
-event_is_line (Finish w e) h =
-    behind (codes "finish ") (decimal w ++ (codes " " ++ ending_text e)) finish_line
-    (behind (decimal w) (codes " " ++ ending_text e) (number_is_line w (omega (arith, h.0))) (behind (codes " ") (ending_text e) space_line (ending_is_line e h.1)))
-event_is_line (Cancel k) h = behind (codes "cancel ") (decimal k) cancel_line (number_is_line k (omega (arith, h)))
-
-number_short : (n : ℕ) → n < 2 ^ 64 → length (decimal n) ≤ 20
-number_short n h = length-decimal-le 20 n (omega arith) (omega arith) h
-
-worker_short : (n : ℕ) → n < 2 ^ 8 → length (decimal n) ≤ 3
-worker_short n h = length-decimal-le 3 n (omega arith) (omega arith) (omega arith)
-
-code_short : (n : ℕ) → n < 2 ^ 32 → length (decimal n) ≤ 10
-code_short n h = length-decimal-le 10 n (omega arith) (omega arith) (omega arith)
-
-ending_short : (e : Ending) → FitsEnding e → length (ending_text e) ≤ 23
-ending_short (Value v) h = omega (arith, length-append (codes "ok ") (decimal v), number_short v h)
-ending_short (Fault c) h = omega (arith, length-append (codes "fail ") (decimal c), code_short c h)
-
--- the text of an event has at most 34 bytes
-pub event_short : (e : Event) → FitsEvent e → length (event_text e) ≤ 34
-event_short (Clock t) h = omega (arith, length-append (codes "clock ") (decimal t), number_short t h)
-event_short (Start w) h = omega (arith, length-append (codes "start ") (decimal w), worker_short w h)
-event_short (Finish w e) h =
-    omega (
-      arith,
-      length-append (codes "finish ") (decimal w ++ (codes " " ++ ending_text e)),
-      length-append (decimal w) (codes " " ++ ending_text e),
-      length-append (codes " ") (ending_text e),
-      worker_short w h.0,
-      ending_short e h.1,
-    )
-event_short (Cancel k) h = omega (arith, length-append (codes "cancel ") (decimal k), code_short k h)
-
--- a space ends a number
-pub space_ends : (rest : List ℕ) → EndsNumber (codes " " ++ rest)
-space_ends rest = λ r. omega (arith, r)
-
--- equal lists have equal bytes
-pub first_byte : (xs ys : List ℕ) (i : ℕ) → xs ≡ ys → get_or xs i 0 ≡ get_or ys i 0
-first_byte xs ys i e = ap (λ l. get_or l i 0) e
-
-ending_is_one : (e f : Ending) → FitsEnding e → FitsEnding f → ending_text e ≡ ending_text f → e ≡ f
-ending_is_one (Value v) (Value u) p q h = ap Value (decimal_injective v u p q (append_cancel_left (codes "ok ") (decimal v) (decimal u) h))
-ending_is_one (Value v) (Fault c) p q h = let e = first_byte (ending_text (Value v)) (ending_text (Fault c)) 0 h in absurd (omega (arith, e))
-ending_is_one (Fault c) (Value v) p q h = let e = first_byte (ending_text (Fault c)) (ending_text (Value v)) 0 h in absurd (omega (arith, e))
-ending_is_one (Fault c) (Fault d) p q h =
-    ap Fault (decimal_injective c d (omega (arith, p)) (omega (arith, q)) (append_cancel_left (codes "fail ") (decimal c) (decimal d) h))
-
--- a text is the text of one event alone
-pub event_is_one : (e f : Event) → FitsEvent e → FitsEvent f → event_text e ≡ event_text f → e ≡ f
-event_is_one (Clock t) (Clock u) p q h = ap Clock (decimal_injective t u p q (append_cancel_left (codes "clock ") (decimal t) (decimal u) h))
-event_is_one (Clock t) (Start w) p q h = let e = first_byte (event_text (Clock t)) (event_text (Start w)) 0 h in absurd (omega (arith, e))
-event_is_one (Clock t) (Finish w x) p q h = let e = first_byte (event_text (Clock t)) (event_text (Finish w x)) 0 h in absurd (omega (arith, e))
-event_is_one (Clock t) (Cancel k) p q h = let e = first_byte (event_text (Clock t)) (event_text (Cancel k)) 1 h in absurd (omega (arith, e))
-event_is_one (Start w) (Clock t) p q h = let e = first_byte (event_text (Start w)) (event_text (Clock t)) 0 h in absurd (omega (arith, e))
-event_is_one (Start w) (Start v) p q h =
-    ap Start (decimal_injective w v (omega (arith, p)) (omega (arith, q)) (append_cancel_left (codes "start ") (decimal w) (decimal v) h))
-event_is_one (Start w) (Finish v x) p q h = let e = first_byte (event_text (Start w)) (event_text (Finish v x)) 0 h in absurd (omega (arith, e))
-event_is_one (Start w) (Cancel k) p q h = let e = first_byte (event_text (Start w)) (event_text (Cancel k)) 0 h in absurd (omega (arith, e))
-event_is_one (Finish w x) (Clock t) p q h = let e = first_byte (event_text (Finish w x)) (event_text (Clock t)) 0 h in absurd (omega (arith, e))
-event_is_one (Finish w x) (Start v) p q h = let e = first_byte (event_text (Finish w x)) (event_text (Start v)) 0 h in absurd (omega (arith, e))
-event_is_one (Finish w x) (Finish v y) p q h =
-    let rest = append_cancel_left (codes "finish ") (decimal w ++ (codes " " ++ ending_text x)) (decimal v ++ (codes " " ++ ending_text y)) h in
-    let both = one_number w v (codes " " ++ ending_text x) (codes " " ++ ending_text y) (omega (arith, p.0)) (omega (arith, q.0)) (space_ends (ending_text x)) (space_ends (ending_text y)) rest in
-    let worker : w ≡ v = both.0 in
-    let ending : x ≡ y = ending_is_one x y p.1 q.1 (append_cancel_left (codes " ") (ending_text x) (ending_text y) both.1) in
-    cc
-event_is_one (Finish w x) (Cancel k) p q h = let e = first_byte (event_text (Finish w x)) (event_text (Cancel k)) 0 h in absurd (omega (arith, e))
-event_is_one (Cancel k) (Clock t) p q h = let e = first_byte (event_text (Cancel k)) (event_text (Clock t)) 1 h in absurd (omega (arith, e))
-event_is_one (Cancel k) (Start w) p q h = let e = first_byte (event_text (Cancel k)) (event_text (Start w)) 0 h in absurd (omega (arith, e))
-event_is_one (Cancel k) (Finish w x) p q h = let e = first_byte (event_text (Cancel k)) (event_text (Finish w x)) 0 h in absurd (omega (arith, e))
-event_is_one (Cancel k) (Cancel m) p q h =
-    ap Cancel (decimal_injective k m (omega (arith, p)) (omega (arith, q)) (append_cancel_left (codes "cancel ") (decimal k) (decimal m) h))
-
--- where two events' lines stand at the front of one text, they are one event, and the rests are one
-pub first_event : (e f : Event) (x y : List ℕ) → FitsEvent e → FitsEvent f → (event_text e ++ 10 ∷ []) ++ x ≡ (event_text f ++ 10 ∷ []) ++ y → (e ≡ f) × (x ≡ y)
-first_event e f x y p q h =
-    let split : event_text e ++ 10 ∷ x ≡ event_text f ++ 10 ∷ y = sym (with_end (event_text e) x) ∙ h ∙ with_end (event_text f) y in
-    let text : event_text e ≡ event_text f = one_line (event_text e) (event_text f) x y (event_is_line e p) (event_is_line f q) split in
-    let rest : 10 ∷ x ≡ 10 ∷ y = append_cancel_left (event_text f) (10 ∷ x) (10 ∷ y) (ap (λ l. l ++ 10 ∷ x) (sym text) ∙ split) in
-    (event_is_one e f p q text, ap (drop 1) rest)
+-- an event's line has one newline, at its end
+pub event_ended : (e : Event) → FitsEvent e → IsEnded (event_line e)
+event_ended (Clock t) h = ended_behind (codes "clock ") (decimal t ++ codes "\n") clock_line (ended_number t h)
+event_ended (Start w) h = ended_behind (codes "start ") (decimal w ++ codes "\n") start_line (ended_number w (omega (arith, h)))
+event_ended (Cancel k) h = ended_behind (codes "cancel ") (decimal k ++ codes "\n") cancel_line (ended_number k (omega (arith, h)))
+event_ended (Finish w e) h =
+    ended_behind (codes "finish ") (decimal w ++ ending_line e) finish_line
+    (ended_behind (decimal w) (ending_line e) (number_is_line w (omega (arith, h.0))) (ending_ended e h.1))

@@ -1,6 +1,11 @@
 pub mod Numbers
 pub mod Digits
-pub mod LineBuffers
+pub mod OnePass
+pub mod Choice
+pub mod Clashes
 pub mod Texts
+pub mod Fours
 pub mod EventTexts
-pub mod Refusals
+pub mod Fronts
+pub mod Counts
+pub mod Chains

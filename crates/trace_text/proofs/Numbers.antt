@@ -1,14 +1,12 @@
 -- Numbers: which digits are the decimal text of a number, and the value of a front of them.
-use Rattle.std.proofs.Common.{◌≡◌, ℕ, ◌+◌, ◌-◌, ◌*◌, ◌^◌, ◌<◌, ◌≤◌, List, take, length, get_or, ap, ◌∙◌, sym, subst, ◌⊎◌, arith, inl, inr, eq-zero-or-pos}
+use Rattle.std.proofs.Common.{◌≡◌, ℕ, ◌+◌, ◌-◌, ◌*◌, ◌^◌, ◌<◌, ◌≤◌, List, take, length, get_or, ap, ◌∙◌, sym, arith, inl, inr, eq-zero-or-pos}
 use Rattle.std.specs.Fmt.{decimal}
 use Rattle.std.specs.Char.{digit_value}
-use Rattle.std.specs.Int.{IsInRange}
 use Rattle.std.specs.Str.Parse.{digits_value, AllDigits}
 use Rattle.std.proofs.lemmas.Bool.Decides.{nat_tests}
-use Rattle.std.proofs.lemmas.Fmt.{decimal_nonempty, decimal_digit, first_decimal, digits_decimal, digits_value-decimal, decimal-digits_value}
-use Rattle.std.proofs.lemmas.List.{take_all}
+use Rattle.std.proofs.lemmas.Fmt.{decimal_nonempty, decimal_digit, first_decimal, digits_value-decimal, decimal-digits_value}
 use Rattle.std.proofs.lemmas.Int.Digits.{digits_value_more, digits_more}
-use Rattle.std.proofs.lemmas.Str.Parse.{IsNumeralModel, numerals_by_value, tells_digits, digit_at, digits_value-take-le}
+use Rattle.std.proofs.lemmas.Str.Parse.{IsNumeralModel, numerals_by_value, tells_digits, digits_value-take-le}
 
 -- digits, and their value, in std's words
 pub numerals : IsNumeralModel (AllDigits 10) (digits_value 10)
@@ -29,11 +27,8 @@ none_of_leading_zero ds n first long fits e =
       | inr p ↦ absurd (omega (arith, first_decimal n p fits, ap (λ l. get_or l 0 0) e))
     ]
 
--- each byte of a number's text is a digit
-pub digit_within : (ds : List ℕ) (n i : ℕ) → i < length ds → n < 2 ^ 64 → ds ≡ decimal n → IsInRange 48 57 (get_or ds i 0)
-digit_within ds n i within fits e = digit_at ds i (subst (AllDigits 10) (sym e) (digits_decimal numerals n fits)) within
-
-value_of_digit : (c : ℕ) → 48 ≤ c → c ≤ 57 → digit_value c ≡ c - 48
+-- the value of a digit
+pub value_of_digit : (c : ℕ) → 48 ≤ c → c ≤ 57 → digit_value c ≡ c - 48
 value_of_digit c low high = grind (arith, nat_tests)
 
 -- the value of a number's first digits, and one digit more, stays below 2^64
@@ -49,17 +44,6 @@ value_next ds i c within is low high = digits_value_more 10 ds i within ∙ ap (
 pub digits_next : (ds : List ℕ) (i c : ℕ) → i < length ds → get_or ds i 0 ≡ c → 48 ≤ c → c ≤ 57 → AllDigits 10 (take i ds) → AllDigits 10 (take (i + 1) ds)
 digits_next ds i c within is low high front = digits_more 10 ds i within front (omega (arith, ap digit_value is, value_of_digit c low high))
 
-one_zero : (ds : List ℕ) → (((get_or ds 0 0 ≡ 48) × (length ds ≤ 1)) ⊎ (get_or ds 0 0 ≡ 48 → ⊥)) → get_or ds 0 0 ≡ 48 → length ds ≤ 1
-one_zero ds (inl p) first = p.1
-one_zero ds (inr f) first = absurd (f first)
-
-of_value : (ds : List ℕ) → AllDigits 10 ds → 0 < length ds → (get_or ds 0 0 ≡ 48 → length ds ≤ 1) → digits_value 10 ds < 2 ^ 64 → ds ≡ decimal (digits_value 10 ds)
-of_value ds all some zero_is fits = sym (decimal-digits_value numerals ds all some (λ e. let short = zero_is e in omega arith) fits)
-
 -- digits without a leading zero are the text of their value
-pub text_of_value : (ds : List ℕ) (i v : ℕ) → length ds ≤ i → v ≡ digits_value 10 (take i ds) → AllDigits 10 (take i ds) → 0 < length ds
-    → (((get_or ds 0 0 ≡ 48) × (length ds ≤ 1)) ⊎ (get_or ds 0 0 ≡ 48 → ⊥)) → v < 2 ^ 64 → ds ≡ decimal v
-text_of_value ds i v end is all some zero_is fits =
-    let whole : take i ds ≡ ds = take_all i ds end in
-    let value : v ≡ digits_value 10 ds = is ∙ ap (digits_value 10) whole in
-    of_value ds (subst (AllDigits 10) whole all) some (one_zero ds zero_is) (omega arith) ∙ ap decimal (sym value)
+pub of_value : (ds : List ℕ) → AllDigits 10 ds → 0 < length ds → (get_or ds 0 0 ≡ 48 → length ds ≤ 1) → digits_value 10 ds < 2 ^ 64 → ds ≡ decimal (digits_value 10 ds)
+of_value ds all some zero_is fits = sym (decimal-digits_value numerals ds all some (λ e. let short = zero_is e in omega arith) fits)

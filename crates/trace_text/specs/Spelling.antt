@@ -1,5 +1,6 @@
--- Spelling: the text of events and of answers (this project's rule).
--- Numbers are decimals with no leading zero, one space stands between two words, and a text is grouped to the right.
+-- Spelling: the text of events and of the lines of a trace (this project's rule).
+-- Numbers are decimals with no leading zero, one space stands between two words, each line ends with a newline (byte 10),
+-- and a text is grouped to the right.
 use Rattle.std.specs.Prelude.{◌≡◌, ◌≢◌, ℕ, ◌^◌, ◌<◌, List, ◌++◌, All, Option, Some, None, codes, flat_map, slice_index}
 use Rattle.std.specs.Fmt.{decimal}
 use Rattle.std.specs.Int.{IsInRange}
@@ -21,7 +22,7 @@ use Rattle.executor_core.specs.declared.Answer.{Answer}
 use Rattle.executor_core.specs.declared.Answer.TheVariants as answer
 use Rattle.executor_core.specs.declared.Line.{Line}
 
--- a line, written without its newline, holds no newline
+-- no newline stands among some bytes
 abbrev pub IsLine : List ℕ → Type 0
 IsLine line = All (λ b. b ≢ 10) line
 
@@ -29,17 +30,17 @@ IsLine line = All (λ b. b ≢ 10) line
 abbrev pub EndsNumber : List ℕ → Type 0
 EndsNumber rest = IsInRange 48 57 (slice_index rest 0) → ⊥
 
--- how a run ended: `ok V` with a value, `fail C` with a code
-abbrev pub ending_text : Ending → List ℕ
-ending_text (ending.Value v) = codes "ok " ++ decimal v
-ending_text (ending.Fault c) = codes "fail " ++ decimal c
+-- how a run ended, and the newline: ` ok V` with a value, ` fail C` with a code
+abbrev pub ending_line : Ending → List ℕ
+ending_line (ending.Value v) = codes " ok " ++ (decimal v ++ codes "\n")
+ending_line (ending.Fault c) = codes " fail " ++ (decimal c ++ codes "\n")
 
--- an event's line, without its newline
-abbrev pub event_text : Event → List ℕ
-event_text (event.Clock t) = codes "clock " ++ decimal t
-event_text (event.Start w) = codes "start " ++ decimal w
-event_text (event.Finish w e) = codes "finish " ++ (decimal w ++ (codes " " ++ ending_text e))
-event_text (event.Cancel k) = codes "cancel " ++ decimal k
+-- an event's line, with its newline
+abbrev pub event_line : Event → List ℕ
+event_line (event.Clock t) = codes "clock " ++ (decimal t ++ codes "\n")
+event_line (event.Start w) = codes "start " ++ (decimal w ++ codes "\n")
+event_line (event.Finish w e) = codes "finish " ++ (decimal w ++ ending_line e)
+event_line (event.Cancel k) = codes "cancel " ++ (decimal k ++ codes "\n")
 
 -- a value below 2^64, a code below 2^32
 abbrev pub FitsEnding : Ending → Type 0
@@ -106,12 +107,7 @@ line_text line = decimal line.moment ++ answer_text line.answer
 abbrev pub lines_text : List Line → List ℕ
 lines_text lines = flat_map line_text lines
 
--- how a run ended, as some words say: `Some e`: this ending, which fits; `None`: no ending that fits
-abbrev pub ReadsEnding : List ℕ → Option Ending → Type 0
-ReadsEnding words (Some e) = (words ≡ ending_text e) × FitsEnding e
-ReadsEnding words None = (e : Ending) → FitsEnding e → words ≢ ending_text e
-
--- what a line, without its newline, spells: `Some e`: this event, which fits; `None`: no event that fits
+-- what a line, with its newline, spells: `Some e`: this event, which fits; `None`: no event that fits
 abbrev pub Spells : List ℕ → Option Event → Type 0
-Spells line (Some e) = (line ≡ event_text e) × FitsEvent e
-Spells line None = (e : Event) → FitsEvent e → line ≢ event_text e
+Spells line (Some e) = (line ≡ event_line e) × FitsEvent e
+Spells line None = (e : Event) → FitsEvent e → line ≢ event_line e

@@ -1,142 +1,91 @@
-ghost use Rattle.std.specs.Prelude.{◌≡◌, ◌≢◌, ℕ, ◌^◌, ◌<◌, ◌≤◌, ◌++◌, MatchOption, codes};
-ghost use Rattle.std.specs.Fmt.{decimal};
-ghost use Rattle.trace_text.specs.Spelling.{ReadsEnding, Spells};
+//! The events that lines spell.
+ghost use Rattle.std.specs.Prelude.{◌≡◌, ◌≢◌, ℕ, ◌++◌, MatchOption, codes};
+ghost use Rattle.trace_text.specs.Spelling.{Spells, event_line, ending_line, FitsEvent, FitsEnding};
+ghost use Rattle.trace_text.specs.Reading.{IsRead, IsUnread};
 
-use crate::number::read_number;
-use crate::scan::{split_number, strip};
+use crate::scan::{code_before, number_before, split_number, strip_word, worker_before};
 use executor_core::Event;
 use sched_time::Ending;
 
-/// The event that a line spells, given without its newline. `None` where it
-/// spells none whose moment and value are below 2^64, whose worker is below 256
-/// and whose code and task are below 2^32.
+/// The event that a line spells, given with its newline and nothing after it. `None` exactly when it spells none whose moment
+/// and value are below 2^64, whose worker is below 256 and whose code and task are below 2^32.
 pub fn read_event(line: &[u8]) -> Option<Event>
     ensures { Spells line.now result }
 {
-    if let Some(rest) = strip(line, b"start ") {
-        return read_start(rest);
+    let Some((event, rest)) = split_event(line) else {
+        return None;
+    };
+    if !rest.is_empty() {
+        return None;
     }
-    if let Some(rest) = strip(line, b"finish ") {
-        return read_finish(rest);
-    }
-    if let Some(rest) = strip(line, b"clock ") {
-        return read_clock(rest);
-    }
-    if let Some(rest) = strip(line, b"cancel ") {
-        return read_cancel(rest);
-    }
-    None
+    Some(event)
 }
 
-/// The event of a line that begins with `clock`.
-fn read_clock(rest: &[u8]) -> Option<Event>
-    ensures { Spells (codes "clock " ++ rest.now) result }
+/// The event whose line stands at the front of some bytes, and what follows its newline. `None` exactly when no event's line
+/// stands there; the limits of its numbers are those of [`read_event`].
+#[inline]
+pub fn split_event(bytes: &[u8]) -> Option<(Event, &[u8])>
+    ensures { MatchOption result (IsUnread event_line FitsEvent bytes.now) (λ r. IsRead event_line FitsEvent bytes.now r.0 r.1.now) }
 {
-    let Some(moment) = read_number(rest) else {
-        return None;
-    };
-    Some(Event::Clock(moment))
-}
-
-/// The event of a line that begins with `start`.
-fn read_start(rest: &[u8]) -> Option<Event>
-    ensures { Spells (codes "start " ++ rest.now) result }
-{
-    let Some(number) = read_number(rest) else {
-        return None;
-    };
-    let Some(worker) = worker_of(number) else {
-        return None;
-    };
-    Some(Event::Start(worker))
-}
-
-/// The event of a line that begins with `finish`.
-fn read_finish(rest: &[u8]) -> Option<Event>
-    ensures { Spells (codes "finish " ++ rest.now) result }
-{
-    let Some((number, rest)) = split_number(rest) else {
-        return None;
-    };
-    let Some(worker) = worker_of(number) else {
-        return None;
-    };
-    let Some(rest) = strip(rest, b" ") else {
-        return None;
-    };
-    let Some(ending) = read_ending(rest) else {
-        return None;
-    };
-    Some(Event::Finish(worker, ending))
-}
-
-/// The event of a line that begins with `cancel`.
-fn read_cancel(rest: &[u8]) -> Option<Event>
-    ensures { Spells (codes "cancel " ++ rest.now) result }
-{
-    let Some(number) = read_number(rest) else {
-        return None;
-    };
-    let Some(task) = code_of(number) else {
-        return None;
-    };
-    Some(Event::Cancel(task))
-}
-
-/// How a run ended, as these words say: `ok V` or `fail C`.
-fn read_ending(words: &[u8]) -> Option<Ending>
-    ensures { ReadsEnding words.now result }
-{
-    if let Some(rest) = strip(words, b"ok ") {
-        return read_value(rest);
+    if let Some(rest) = strip_word(bytes, *b"start ") {
+        let Some((worker, rest)) = worker_before(rest, b"\n") else {
+            return None;
+        };
+        return Some((Event::Start(worker), rest));
     }
-    if let Some(rest) = strip(words, b"fail ") {
-        return read_fault(rest);
+    if let Some(rest) = strip_word(bytes, *b"finish ") {
+        return split_finish(rest);
+    }
+    if let Some(rest) = strip_word(bytes, *b"clock ") {
+        let Some((moment, rest)) = number_before(rest, b"\n") else {
+            return None;
+        };
+        return Some((Event::Clock(moment), rest));
+    }
+    if let Some(rest) = strip_word(bytes, *b"cancel ") {
+        let Some((task, rest)) = code_before(rest, b"\n") else {
+            return None;
+        };
+        return Some((Event::Cancel(task), rest));
     }
     None
 }
 
-/// The ending of words that begin with `ok`.
-fn read_value(rest: &[u8]) -> Option<Ending>
-    ensures { ReadsEnding (codes "ok " ++ rest.now) result }
+/// The event of a line that begins with `finish `, of which these bytes are what follows.
+#[inline(always)]
+fn split_finish(bytes: &[u8]) -> Option<(Event, &[u8])>
+    ensures { MatchOption result (IsUnread event_line FitsEvent (codes "finish " ++ bytes.now)) (λ r. IsRead event_line FitsEvent (codes "finish " ++ bytes.now) r.0 r.1.now) }
 {
-    let Some(value) = read_number(rest) else {
+    let Some((number, rest)) = split_number(bytes) else {
         return None;
     };
-    Some(Ending::Value(value))
-}
-
-/// The ending of words that begin with `fail`.
-fn read_fault(rest: &[u8]) -> Option<Ending>
-    ensures { ReadsEnding (codes "fail " ++ rest.now) result }
-{
-    let Some(number) = read_number(rest) else {
-        return None;
-    };
-    let Some(code) = code_of(number) else {
-        return None;
-    };
-    Some(Ending::Fault(code))
-}
-
-/// The worker of this number, below 256.
-fn worker_of(number: u64) -> Option<u8>
-    ensures { MatchOption result (2 ^ 8 ≤ number) (λ w. w ≡ number) }
-{
-    if number > 255 {
+    if number > u8::MAX as u64 {
         return None;
     }
-    Some(number as u8)
+    let Some((ending, rest)) = split_ending(rest) else {
+        return None;
+    };
+    Some((Event::Finish(number as u8, ending), rest))
 }
 
-/// The code, or the task, of this number, below 2^32.
-fn code_of(number: u64) -> Option<u32>
-    ensures { MatchOption result (2 ^ 32 ≤ number) (λ c. c ≡ number) }
+/// How a run ended, to the newline, and what follows it.
+#[inline(always)]
+fn split_ending(bytes: &[u8]) -> Option<(Ending, &[u8])>
+    ensures { MatchOption result (IsUnread ending_line FitsEnding bytes.now) (λ r. IsRead ending_line FitsEnding bytes.now r.0 r.1.now) }
 {
-    if number > 4_294_967_295 {
-        return None;
+    if let Some(rest) = strip_word(bytes, *b" ok ") {
+        let Some((value, rest)) = number_before(rest, b"\n") else {
+            return None;
+        };
+        return Some((Ending::Value(value), rest));
     }
-    Some(number as u32)
+    if let Some(rest) = strip_word(bytes, *b" fail ") {
+        let Some((code, rest)) = code_before(rest, b"\n") else {
+            return None;
+        };
+        return Some((Ending::Fault(code), rest));
+    }
+    None
 }
 
 #[cfg(test)]

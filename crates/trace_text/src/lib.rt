@@ -1,12 +1,67 @@
-//! The text of events and of traces.
+//! The text of events and of traces: events are read, lines are written.
+//!
+//! # Usage
+//!
+//! - [`read_event`] reads one line of input, with its newline. [`front_event`] reads at the front of bytes that come piece by
+//!   piece, in one pass, and tells a part of a line from one that is refused. [`split_event`] also gives what follows.
+//! - [`write_line`] and [`write_lines`] append to a `Vec<u8>`. A [`TextBuffer`] does the same in a buffer that keeps its bytes,
+//!   so that none is cleared before it is written: the faster of the two. [`put_line`] writes at a place of any slice.
+//!
+//! # Behaviour
+//!
+//! All text is ASCII. A line ends with one newline (byte 10), one space stands between two words, and none elsewhere. Numbers
+//! are decimals with no leading zero and no sign. Moments T and M, due moments D, values V and run numbers N are below 2^64;
+//! tasks K and codes C below 2^32; workers W below 256.
+//!
+//! | Event | Its line |
+//! |---|---|
+//! | `Clock(T)` | `clock T` |
+//! | `Start(W)` | `start W` |
+//! | `Finish(W, Value(V))` | `finish W ok V` |
+//! | `Finish(W, Fault(C))` | `finish W fail C` |
+//! | `Cancel(K)` | `cancel K` |
+//!
+//! | Answer, given at the moment M | Its line |
+//! |---|---|
+//! | `Submit` | `M submit K schedule due D`, `M submit K rate due D`, `M submit K fixed due D` |
+//! | `Refuse` | `M refuse K illegal` |
+//! | `Cancel` | `M cancel K yes`, `M cancel K no`, `M cancel K none` |
+//! | `Outside` | `M outside K yes`, `M outside K no`, `M outside K none` |
+//! | `Clock` | `M clock` |
+//! | `Start` | `M start W task K run N due D` |
+//! | `Idle` | `M start W idle` |
+//! | `Finish` | `M finish W task K run N`, and one of `done V`, `failed C`, `again due D`, `dropped` |
+//! | `Error` | `M error`, and one of `backward`, `too far`, `no worker`, `busy`, `not running`, `no task` |
+//!
+//! One line spells one event, and no event's line is the front of another's ([`event_lines_are_one`]). A reader answers an event
+//! exactly when the bytes spell it.
+//!
+//! # Errors
+//!
+//! [`TextError::Memory`]: the memory for a text was refused. Where there is room for [`LINE_ROOM`] bytes a line it does not come.
+//! A line that was not written leaves the text as it was; of several lines a front was written. A reader has no errors: it
+//! answers `None`, or [`Front::Refused`].
+//!
+//! # Memory and cost
+//!
+//! Readers take no memory, and look at each byte of a line once, or twice at the front of a word. Writers write each byte where it
+//! stays, and take memory only where there is less room than [`LINE_ROOM`] bytes; a capacity never falls. The longest event's
+//! line has 35 bytes, the longest line of a trace 104.
 #![tactic(auto)]
 
+mod answer_text;
 mod event;
-mod line_buffer;
+mod front;
+mod laws;
 mod line_text;
-mod number;
+mod put;
 mod scan;
+mod text_buffer;
+mod text_error;
 
-pub use event::read_event;
-pub use line_buffer::LineBuffer;
-pub use line_text::{TextError, write_line, write_lines};
+pub use event::{read_event, split_event};
+pub use front::{Front, MOST_EVENT_BYTES, front_event};
+pub use laws::{event_lines_are_one, front_equality_tells, text_error_equality_tells};
+pub use line_text::{LINE_ROOM, put_line, write_line, write_lines};
+pub use text_buffer::TextBuffer;
+pub use text_error::TextError;

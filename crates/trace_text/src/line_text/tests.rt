@@ -1,5 +1,4 @@
 //! Lines of a trace by hand.
-use crate::line_buffer::LineBuffer;
 use crate::line_text::write_lines;
 use executor_core::{Answer, CancelEffect, EventError, Kind, Line, Outcome, Refusal};
 use std::process::Abort;
@@ -7,7 +6,7 @@ use std::process::Abort;
 /// Checks the text of one line.
 fn writes(rt: &(impl AllocGlobal + Abort), moment: u64, answer: Answer, text: &str) {
     let mut out = Vec::new(rt.alloc());
-    let said = write_lines(&mut out, &mut LineBuffer::new(), &[Line { moment, answer }]);
+    let said = write_lines(&mut out, &[Line { moment, answer }]);
     assert!(rt; said.is_ok(), "{text}");
     assert!(rt; out.as_slice() == text.as_bytes(), "{text}");
 }

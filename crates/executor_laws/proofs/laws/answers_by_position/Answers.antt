@@ -1,5 +1,5 @@
-use Rattle.executor_laws.proofs.Facts
+use Rattle.executor_laws.proofs.StartLaws
 use Rattle.executor_laws.proofs.laws.answers_by_position.Goals as goal
 
 pub returns : goal.returns
-returns c = Facts.answers_by_position
+returns c = StartLaws.answers_by_position

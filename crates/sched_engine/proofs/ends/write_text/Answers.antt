@@ -1,4 +1,4 @@
-use Rattle.std.proofs.Common.{take, drop, length, ◌-◌, subst, ap, arith, length-drop}
+use Rattle.std.proofs.Common.{take, drop, length, ◌-◌, subst, ap, ◌∙◌, arith, length-drop}
 use Rattle.std.proofs.KnownBytes.{Appends-trans}
 use Rattle.std.specs.Io.KnownBytes.{Appends}
 use Rattle.std.proofs.lemmas.List.{take_rest}
@@ -16,10 +16,10 @@ loop-at-preserved g c =
     let after = g.W.Sink.contents c.write_some.new.sink in
     let so_far = c.loop-at.invariant in
     let taken = c.in-Some.ensures.bytes in
-    let rose = c.write_some.ensures.rises in
+    let none = c.in-Some.ensures.counts in
     let rest = take (length text - at) (drop at text) in
     record {
       written = subst (Appends start after) (take_next at n text) (Appends-trans start before after (take at text) (take n rest) so_far.written taken.2);
-      rises = (omega (arith, rose.0, so_far.rises.0), omega (arith, rose.1, so_far.rises.1));
+      counts = (none.0 ∙ so_far.counts.0, none.1 ∙ so_far.counts.1);
       within = omega (arith, taken, ap length (take_rest text at), length-drop at text);
     }

@@ -1,13 +1,13 @@
 use Rattle.std.proofs.Common.{length, take, ◌-◌, ◌≤◌}
 use Rattle.std.specs.Io.KnownBytes.{Appends}
-use Rattle.sched_engine.specs.Ends.{Rises}
+use Rattle.sched_engine.specs.Ends.{NoneMore}
 use Rattle.sched_engine.proofs.ends.write_text.Given as goal
 
--- the text up to `at` was written, and no count fell
+-- the text up to `at` was written, and no fault was counted
 abbrev pub invariant-loop-at : goal.invariant-loop-at
 invariant-loop-at g l = record {
   written : Appends (g.W.Sink.contents l.fn.sink) (g.W.Sink.contents l.sink) (take l.at l.text);
-  rises : Rises (g.W.Sink.failed l.fn.sink) (g.W.Sink.fruitless l.fn.sink) (g.W.Sink.failed l.sink) (g.W.Sink.fruitless l.sink);
+  counts : NoneMore (g.W.Sink.failed l.fn.sink) (g.W.Sink.fruitless l.fn.sink) (g.W.Sink.failed l.sink) (g.W.Sink.fruitless l.sink);
   within : l.at ≤ length l.text;
 }
 

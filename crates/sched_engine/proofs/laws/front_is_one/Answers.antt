@@ -1,5 +1,5 @@
-use Rattle.sched_engine.proofs.Ones
+use Rattle.sched_engine.proofs.OneText
 use Rattle.sched_engine.proofs.laws.front_is_one.Goals as goal
 
 pub returns : goal.returns
-returns c = Ones.front_is_one
+returns c = OneText.front_is_one

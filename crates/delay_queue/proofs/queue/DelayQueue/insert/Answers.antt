@@ -1,41 +1,87 @@
--- The place is within the list, there is room for the entry, and it stands in its order.
-use Rattle.std.proofs.Common.{◌≡◌, ℕ, ◌<◌, ◌≤◌, length, None, List, Option, deque_capacity, arith, ap, sym, ◌∙◌}
-use Rattle.delay_queue.specs.Queues.{due_in, comes_before}
-use Rattle.delay_queue.specs.Sorted.{table}
+-- The entry has room, comes last, and rises.
+use Rattle.std.proofs.Common.{◌≡◌, ◌≢◌, ⊎_elim, ℕ, min, Bool, true, false, cond, eqb, eqb-true, ◌+◌, ◌*◌, ◌<◌, ◌≤◌, length, None, Option, arith, List, [], ◌∷◌, ◌++◌, refl, sym, ap, subst, subst₂, ◌∙◌, length-append}
+use Rattle.std.specs.Prelude.{slice_index_or}
+use Rattle.std.proofs.lemmas.Bool.{cases_eq}
+use Rattle.delay_queue.specs.Queues.{Queue, due_in, entry_count, most_touches, greatest_count, binary_digits}
+use Rattle.delay_queue.specs.Heaps.{IsPlacedWith, table}
 use Rattle.delay_queue.specs.declared.entry.Entry.{Entry}
-use Rattle.delay_queue.proofs.Order.{place_within, place_for}
-use Rattle.delay_queue.proofs.Table.{length-table}
-use Rattle.delay_queue.proofs.Counts.{room_left}
-use Rattle.delay_queue.proofs.Steps.{inserted}
+use Rattle.delay_queue.proofs.Digits.{digits_one, digits_two, digits_some, digits_next}
+use Rattle.delay_queue.proofs.Tables.{length-table}
+use Rattle.delay_queue.proofs.Counts.{count_placed, room_left}
+use Rattle.delay_queue.proofs.Calls.{entries_of, beside_pushed, inserted_lent}
+use Rattle.delay_queue.proofs.Places.{placed_from_beside}
 use Rattle.delay_queue.proofs.queue.DelayQueue.insert.Goals as goal
 
-pub insert-requires : goal.insert-requires
-insert-requires g c =
-    let m = c.self.inside.entries in
-    let within : place_for m.items c.args.entry ≤ length m.items = place_within (λ (e : Entry). comes_before e.due e.task c.args.entry.due c.args.entry.task) m.items in
-    omega (arith, within, c.place_for-place.ensures, m.ok.0)
+pub push_reserved-requires : goal.push_reserved-requires
+push_reserved-requires g c =
+    let q = c.self.inside in
+    let view : table q.heap.items q.places.items ≡ c.args.self.now.entries = ap entries_of c.self.view_is in
+    let known : c.args.entry.task < length q.places.items = omega (arith, c.requires.known, ap length view, length-table q.heap.items q.places.items) in
+    let none : due_in (table q.heap.items q.places.items) c.args.entry.task ≡ None = ap (λ (l : List (Option ℕ)). due_in l c.args.entry.task) view ∙ c.requires.absent in
+    omega (arith, room_left q.heap.items q.places.items c.args.entry.task c.self.invariant.placed known none, c.self.invariant.roomy, q.heap.ok.0)
 
-pub unreachable-requires : goal.unreachable-requires
-unreachable-requires g c =
-    let m = c.self.inside.entries in
-    let size : length c.args.self.now ≡ c.self.inside.tasks = ap length (sym c.self.view_is) ∙ length-table c.self.inside.tasks m.items in
-    let none : due_in (table c.self.inside.tasks m.items) c.args.entry.task ≡ None =
-    ap (λ (l : List (Option ℕ)). due_in l c.args.entry.task) c.self.view_is ∙ c.requires.absent in
-    let below : c.args.entry.task < length c.args.self.now = c.requires.known in
-    let room : length m.items < c.self.inside.tasks =
-    room_left c.self.inside.tasks m.items c.args.entry.task c.self.invariant.descends c.self.invariant.known (omega arith) none in
-    let roomy : c.self.inside.tasks ≤ deque_capacity m = c.self.invariant.roomy in
-    omega (arith, roomy, room, m.ok.0, c.in_default.ensures.full)
+pub rise-touches-requires-clause-few : goal.rise-touches-requires-clause-few
+rise-touches-requires-clause-few g c =
+    let q = c.self.inside in
+    let view : table q.heap.items q.places.items ≡ c.args.self.now.entries = ap entries_of c.self.view_is in
+    let known : c.args.entry.task < length q.places.items = omega (arith, c.requires.known, ap length view, length-table q.heap.items q.places.items) in
+    let none : due_in (table q.heap.items q.places.items) c.args.entry.task ≡ None = ap (λ (l : List (Option ℕ)). due_in l c.args.entry.task) view ∙ c.requires.absent in
+    omega (
+      arith,
+      room_left q.heap.items q.places.items c.args.entry.task c.self.invariant.placed known none,
+      c.self.invariant.few,
+      ap length c.deref_mut.ensures.value,
+      ap length c.push_reserved.ensures.items,
+      length-append q.heap.items (c.args.entry ∷ []),
+    )
 
-pub invariant_of-self : goal.invariant_of-self
-invariant_of-self g c =
-    let m = c.self.inside.entries in
-    let r = inserted c.self.inside.tasks m.items c.insert.new.self.items c.args.self.now c.args.entry c.place_for-place.result
-    c.self.invariant.descends c.self.invariant.known c.self.view_is c.requires.known c.requires.absent c.place_for-place.ensures c.in-Ok.ensures.items in
-    let roomy : c.self.inside.tasks ≤ deque_capacity m = c.self.invariant.roomy in
-    record { descends = r.descends; known = r.known; roomy = omega (arith, roomy, c.insert.ensures.capacity) }
+pub rise-touches-requires-clause-placed : goal.rise-touches-requires-clause-placed
+rise-touches-requires-clause-placed g c =
+    let q = c.self.inside in
+    let x = c.args.entry in
+    let view : table q.heap.items q.places.items ≡ c.args.self.now.entries = ap entries_of c.self.view_is in
+    let known : x.task < length q.places.items = omega (arith, c.requires.known, ap length view, length-table q.heap.items q.places.items) in
+    let whole = c.deref_mut.ensures.value ∙ c.push_reserved.ensures.items in
+    let place : c.len-place.result ≡ length q.heap.items = omega (arith, c.len-place.ensures, q.heap.ok.0) in
+    let here : IsPlacedWith (q.heap.items ++ x ∷ []) q.places.items (length q.heap.items) x =
+    placed_from_beside (q.heap.items ++ x ∷ []) q.places.items (length q.heap.items) x (omega (arith, length-append q.heap.items (x ∷ [])))
+    (beside_pushed q.heap.items q.places.items c.args.self.now.entries x view c.self.invariant.placed known c.requires.absent) in
+    subst (λ (n : ℕ). IsPlacedWith c.deref_mut.result.now c.deref_mut-2.result.now n x) (sym place)
+    (subst₂ (λ (l : List Entry) (k : List ℕ). IsPlacedWith l k (length q.heap.items) x) (sym whole) (sym c.deref_mut-2.ensures.value) here)
 
-pub returns : goal.returns
-returns g c =
-    (inserted c.self.inside.tasks c.self.inside.entries.items c.insert.new.self.items c.args.self.now c.args.entry c.place_for-place.result
-    c.self.invariant.descends c.self.invariant.known c.self.view_is c.requires.known c.requires.absent c.place_for-place.ensures c.in-Ok.ensures.items).view
+pub returns-clause-inserted : goal.returns-clause-inserted
+returns-clause-inserted g c =
+    let q = c.self.inside in
+    let v = c.push_reserved.new.self in
+    let r = c.rise-touches in
+    inserted_lent q.heap.items v.items c.deref_mut.result.now r.new.heap q.places.items c.deref_mut-2.result.now r.new.places c.args.self.now.entries c.args.entry c.len-place.result v.len q.places.len
+    (ap entries_of c.self.view_is) c.self.invariant.placed c.requires.known c.push_reserved.ensures.items c.deref_mut.ensures.value c.deref_mut-2.ensures.value
+    (omega (arith, c.len-place.ensures, q.heap.ok.0)) v.ok.0 q.places.ok.0 r.ensures.heap_length r.ensures.places_length r.ensures.dues
+
+-- an entry that rises from the end of so many touches some of them, and at most so often
+rise_within : (times count stop : ℕ) (b : Bool) → eqb stop 0 ≡ b → times + 2 * binary_digits (stop + 1) ≡ 2 * binary_digits (count + 1) + cond b 0 1
+    → (min 1 count ≤ times) × (times ≤ most_touches count)
+rise_within times count stop true top h =
+    let first : binary_digits (stop + 1) ≡ 1 = ap (λ (n : ℕ). binary_digits (n + 1)) (eqb-true stop 0 top) ∙ digits_one in (
+      ⊎_elim
+          (λ (none : count ≡ 0). omega (arith, none))
+          (λ (some : count ≢ 0). omega (arith, first, h, digits_two count (omega (arith, some))))
+          (cases_eq count 0),
+      omega (arith, first, h, digits_next count),
+    )
+rise_within times count stop false low h = (omega (arith, h), omega (arith, h, digits_next count, digits_some stop))
+
+pub returns-clause-touched : goal.returns-clause-touched
+returns-clause-touched g c =
+    let q = c.self.inside in
+    let stop = slice_index_or c.rise-touches.new.places c.args.entry.task 0 in
+    let size : c.len-place.result ≡ entry_count c.args.self.now.entries =
+    omega (arith, ap entry_count (ap entries_of c.self.view_is), count_placed q.heap.items q.places.items c.self.invariant.placed, c.len-place.ensures, q.heap.ok.0) in
+    let both = rise_within c.rise-touches.result (entry_count c.args.self.now.entries) stop (eqb stop 0) refl
+    (subst (λ (n : ℕ). c.rise-touches.result + 2 * binary_digits (stop + 1) ≡ 2 * binary_digits (n + 1) + cond (eqb stop 0) 0 1) size c.rise-touches.ensures.touches) in
+    record {
+      times = c.rise-touches.result;
+      many = both.0;
+      few = both.1;
+      counted = c.count.ensures ∙ ap (λ (v : Queue). min (v.touched + c.rise-touches.result) greatest_count) c.self.view_is;
+    }

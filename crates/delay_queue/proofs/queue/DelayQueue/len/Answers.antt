@@ -1,10 +1,10 @@
--- The list has as many entries as the table.
-use Rattle.std.proofs.Common.{◌≡◌, length, count_by, is_some, ap, sym, ◌∙◌, arith}
-use Rattle.delay_queue.proofs.Counts.{count-table}
+-- The heap has as many entries as the table.
+use Rattle.std.proofs.Common.{ap, sym, arith}
+use Rattle.delay_queue.specs.Queues.{Queue, entry_count}
+use Rattle.delay_queue.proofs.Counts.{count_placed}
 use Rattle.delay_queue.proofs.queue.DelayQueue.len.Goals as goal
 
 pub returns : goal.returns
 returns g c =
-    let all : count_by is_some c.args.self.now ≡ length c.self.inside.entries.items =
-    ap (count_by is_some) (sym c.self.view_is) ∙ count-table c.self.inside.tasks c.self.inside.entries.items c.self.invariant.descends c.self.invariant.known in
-    omega (arith, all, c.len.ensures, c.self.inside.entries.ok.0)
+    let q = c.self.inside in
+    omega (arith, ap (λ (q : Queue). entry_count q.entries) (sym c.self.view_is), count_placed q.heap.items q.places.items c.self.invariant.placed, c.len.ensures, q.heap.ok.0)

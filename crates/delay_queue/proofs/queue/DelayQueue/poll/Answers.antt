@@ -1,34 +1,61 @@
--- The last of a list that descends is the least, and without it the table has none there.
-use Rattle.std.proofs.Common.{◌≤◌, deque_capacity, refl, arith}
-use Rattle.delay_queue.proofs.Table.{none_due_from_least}
-use Rattle.delay_queue.proofs.Steps.{least, popped, back_is}
+-- The first entry is the least, and is taken out.
+use Rattle.std.proofs.Common.{◌≡◌, ℕ, ◌+◌, ◌-◌, ◌<◌, ◌≤◌, ⊎_elim, Option, None, length, set, min, ap, sym, subst, ◌∙◌, arith}
+use Rattle.std.specs.Prelude.{IfNone}
+use Rattle.std.proofs.lemmas.Bool.{cases_lt}
+use Rattle.delay_queue.specs.Queues.{Queue, IsLeast, NoneIsDue, entry_count, most_touches, greatest_count}
+use Rattle.delay_queue.specs.declared.entry.Entry.{Entry}
+use Rattle.delay_queue.proofs.Counts.{count_placed, count_within}
+use Rattle.delay_queue.proofs.Calls.{entries_of, least, empty, nothing_first, none_due, first_read, removed_lent}
 use Rattle.delay_queue.proofs.queue.DelayQueue.poll.Goals as goal
+
+pub returns-in_err-least-clause-none_due : goal.returns-in_err-least-clause-none_due
+returns-in_err-least-clause-none_due g c =
+    let q = c.self.inside in
+    let none = nothing_first q.heap.items c.deref.result.now c.deref.ensures.value c.in_err-least.ensures.value in
+    subst (λ (o : Option Entry). IfNone o (NoneIsDue c.args.self.now.entries c.args.now)) (sym c.from_residual.ensures)
+    (λ j d there. absurd (empty q.heap.items q.places.items c.args.self.now.entries (ap entries_of c.self.view_is) none j d there))
 
 pub returns-then-now-least-clause-none_due : goal.returns-then-now-least-clause-none_due
 returns-then-now-least-clause-none_due g c =
-    let m = c.self.inside.entries in
-    let here = back_is m.items m.len c.in-Some.last.now m.ok.0 (c.in-Some.ensures.variant.0 refl) c.in-Some.ensures.lookup in
-    let head = least c.self.inside.tasks m.items c.args.self.now c.in-Some.last.now c.self.invariant.descends c.self.invariant.known c.self.view_is here in
-    none_due_from_least c.args.self.now c.in-Some.last.now.due c.in-Some.last.now.task c.args.now head (omega arith)
+    let q = c.self.inside in
+    let e = c.in_ok-least.field-0.now in
+    let f = first_read q.heap.items c.deref.result.now e c.deref.ensures.value c.in_ok-least.ensures.value in
+    none_due q.heap.items q.places.items c.args.self.now.entries c.args.now (ap entries_of c.self.view_is) c.self.invariant.heap
+    (subst (λ (x : Entry). c.args.now < x.due) (sym f.1) c.if-now-least.true)
 
-pub invariant_of-self : goal.invariant_of-self
-invariant_of-self g c =
-    let m = c.self.inside.entries in
-    let here = back_is m.items m.len c.in-Some.last.now m.ok.0 (c.in-Some.ensures.variant.0 refl) c.in-Some.ensures.lookup in
-    let r = popped c.self.inside.tasks m.items c.pop_back.new.self.items c.args.self.now c.in-Some.last.now m.len
-    c.self.invariant.descends c.self.invariant.known c.self.view_is here m.ok.0 c.pop_back.ensures.rest in
-    let roomy : c.self.inside.tasks ≤ deque_capacity m = c.self.invariant.roomy in
-    record { descends = r.descends; known = r.known; roomy = omega (arith, roomy, c.pop_back.ensures.capacity) }
+pub take_out-touches-requires-clause-few : goal.take_out-touches-requires-clause-few
+take_out-touches-requires-clause-few g c =
+    let q = c.self.inside in
+    omega (arith, count_within q.heap.items q.places.items c.self.invariant.placed, c.self.invariant.few)
 
 pub returns-clause-least : goal.returns-clause-least
 returns-clause-least g c =
-    let m = c.self.inside.entries in
-    least c.self.inside.tasks m.items c.args.self.now c.in-Some.last.now c.self.invariant.descends c.self.invariant.known c.self.view_is
-    (back_is m.items m.len c.in-Some.last.now m.ok.0 (c.in-Some.ensures.variant.0 refl) c.in-Some.ensures.lookup)
+    let q = c.self.inside in
+    let f = first_read q.heap.items c.deref.result.now c.in_ok-least.field-0.now c.deref.ensures.value c.in_ok-least.ensures.value in
+    subst (λ (x : Entry). IsLeast c.args.self.now.entries x.due x.task) f.1
+    (least q.heap.items q.places.items c.args.self.now.entries (ap entries_of c.self.view_is) c.self.invariant.heap c.self.invariant.placed f.0)
 
 pub returns-clause-removed : goal.returns-clause-removed
 returns-clause-removed g c =
-    let m = c.self.inside.entries in
-    let here = back_is m.items m.len c.in-Some.last.now m.ok.0 (c.in-Some.ensures.variant.0 refl) c.in-Some.ensures.lookup in
-    (popped c.self.inside.tasks m.items c.pop_back.new.self.items c.args.self.now c.in-Some.last.now m.len
-    c.self.invariant.descends c.self.invariant.known c.self.view_is here m.ok.0 c.pop_back.ensures.rest).view
+    let q = c.self.inside in
+    let r = c.take_out-touches in
+    let f = first_read q.heap.items c.deref.result.now c.in_ok-least.field-0.now c.deref.ensures.value c.in_ok-least.ensures.value in
+    removed_lent q.heap.items r.new.heap.items q.places.items c.deref_mut.result.now r.new.places c.args.self.now.entries 0 q.places.len (ap entries_of c.self.view_is) c.self.invariant.placed f.0
+    c.deref_mut.ensures.value q.places.ok.0 r.ensures.places_length r.ensures.taken r.ensures.others
+    ∙ ap (λ (x : Entry). set c.args.self.now.entries x.task None) f.1
+
+-- another entry is left, and moves
+some_touched : (count times : ℕ) → (0 + 1 < count → 0 < times) → min 1 (count - 1) ≤ times
+some_touched count times h = ⊎_elim (λ (more : 1 < count). omega (arith, h (omega arith))) (λ (few : count ≤ 1). omega (arith, few)) (cases_lt 1 count)
+
+pub returns-clause-touched : goal.returns-clause-touched
+returns-clause-touched g c =
+    let q = c.self.inside in
+    let size : length q.heap.items ≡ entry_count c.args.self.now.entries =
+    sym (count_placed q.heap.items q.places.items c.self.invariant.placed) ∙ ap entry_count (ap entries_of c.self.view_is) in
+    record {
+      times = c.take_out-touches.result;
+      many = some_touched (entry_count c.args.self.now.entries) c.take_out-touches.result (subst (λ (n : ℕ). 0 + 1 < n → 0 < c.take_out-touches.result) size c.take_out-touches.ensures.many);
+      few = subst (λ (n : ℕ). c.take_out-touches.result ≤ most_touches n) size c.take_out-touches.ensures.few;
+      counted = c.count.ensures ∙ ap (λ (v : Queue). min (v.touched + c.take_out-touches.result) greatest_count) c.self.view_is;
+    }

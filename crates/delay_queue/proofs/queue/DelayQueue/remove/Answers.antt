@@ -1,42 +1,54 @@
--- The entry at the place that was found is the task's, and without it the table has none there.
-use Rattle.std.specs.List.{remove}
-use Rattle.std.proofs.Common.{◌≡◌, ℕ, ◌≤◌, None, set, is_some, deque_capacity, ap, sym, ◌∙◌, arith}
-use Rattle.delay_queue.specs.declared.entry.Entry.{Entry}
-use Rattle.delay_queue.proofs.Steps.{taken, found, found_place, missing, nothing_there, of_some}
+-- The place of a task's entry, from which it is taken out, or that it has none.
+use Rattle.std.proofs.Common.{◌≡◌, ℕ, ◌+◌, ◌≤◌, None, length, is_some, set, min, ap, sym, subst, ◌∙◌, arith}
+use Rattle.delay_queue.specs.Queues.{Queue, entry_count, most_touches, greatest_count}
+use Rattle.delay_queue.proofs.Counts.{count_placed, count_within}
+use Rattle.delay_queue.proofs.Calls.{entries_of, place_found, place_missing, nothing_there, removed_lent}
 use Rattle.delay_queue.proofs.queue.DelayQueue.remove.Goals as goal
 
--- any entry serves past the end of a list
-none : Entry
-none = record { due = 0; task = 0 }
+pub returns-in_default-clause-there : goal.returns-in_default-clause-there
+returns-in_default-clause-there g c =
+    let q = c.self.inside in
+    sym (ap is_some (place_missing q.heap.items c.deref.result.now q.places.items c.deref-2.result.now c.args.self.now.entries c.args.task (ap entries_of c.self.view_is) c.deref.ensures.value
+    c.deref-2.ensures.value c.in_default.ensures.missing))
 
-pub invariant_of-self : goal.invariant_of-self
-invariant_of-self g c =
-    let place = found_place c.self.inside.entries.items c.args.task c.in-Some.place none (sym c.place_of.ensures ∙ c.in-Some.is) in
-    let m = c.self.inside.entries in
-    let after = of_some c.remove.result _ (c.remove.new.self.items ≡ remove m.items c.in-Some.place) (c.remove.ensures.succeeds none (omega (arith, place.0, m.ok.0))) c.remove.ensures.items in
-    let r = taken c.self.inside.tasks c.self.inside.entries.items c.remove.new.self.items c.args.self.now c.in-Some.place none
-    c.self.invariant.descends c.self.invariant.known c.self.view_is place.0 after in
-    let roomy : c.self.inside.tasks ≤ deque_capacity c.self.inside.entries = c.self.invariant.roomy in
-    record { descends = r.descends; known = r.known; roomy = omega (arith, roomy, c.remove.ensures.capacity) }
+pub returns-in_default-clause-removed : goal.returns-in_default-clause-removed
+returns-in_default-clause-removed g c =
+    let q = c.self.inside in
+    nothing_there c.args.self.now.entries c.args.task
+    (place_missing q.heap.items c.deref.result.now q.places.items c.deref-2.result.now c.args.self.now.entries c.args.task (ap entries_of c.self.view_is) c.deref.ensures.value
+    c.deref-2.ensures.value c.in_default.ensures.missing)
 
-pub returns-in-Some-clause-there : goal.returns-in-Some-clause-there
-returns-in-Some-clause-there g c =
-    sym (ap is_some (found c.self.inside.tasks c.self.inside.entries.items c.args.self.now c.args.task c.in-Some.place none
-    c.self.invariant.descends c.self.invariant.known c.self.view_is (sym c.place_of.ensures ∙ c.in-Some.is)))
+pub take_out-touches-requires-clause-few : goal.take_out-touches-requires-clause-few
+take_out-touches-requires-clause-few g c =
+    let q = c.self.inside in
+    omega (arith, count_within q.heap.items q.places.items c.self.invariant.placed, c.self.invariant.few)
 
-pub returns-in-Some-clause-removed : goal.returns-in-Some-clause-removed
-returns-in-Some-clause-removed g c =
-    let place = found_place c.self.inside.entries.items c.args.task c.in-Some.place none (sym c.place_of.ensures ∙ c.in-Some.is) in
-    let m = c.self.inside.entries in
-    let after = of_some c.remove.result _ (c.remove.new.self.items ≡ remove m.items c.in-Some.place) (c.remove.ensures.succeeds none (omega (arith, place.0, m.ok.0))) c.remove.ensures.items in
-    let r = taken c.self.inside.tasks c.self.inside.entries.items c.remove.new.self.items c.args.self.now c.in-Some.place none
-    c.self.invariant.descends c.self.invariant.known c.self.view_is place.0 after in
-    r.view ∙ ap (λ (n : ℕ). set c.args.self.now n None) place.1
+pub returns-clause-there : goal.returns-clause-there
+returns-clause-there g c =
+    let q = c.self.inside in
+    let f = place_found q.heap.items c.deref.result.now q.places.items c.args.self.now.entries c.args.task c.in-Some.place (ap entries_of c.self.view_is) c.self.invariant.placed
+    c.deref.ensures.value c.in-Some.ensures.found in
+    sym (ap is_some f.2)
 
-pub returns-in-None-clause-there : goal.returns-in-None-clause-there
-returns-in-None-clause-there g c =
-    sym (ap is_some (missing c.self.inside.tasks c.self.inside.entries.items c.args.self.now c.args.task c.self.view_is (sym c.place_of.ensures ∙ c.in-None.is)))
+pub returns-clause-removed : goal.returns-clause-removed
+returns-clause-removed g c =
+    let q = c.self.inside in
+    let r = c.take_out-touches in
+    let k = c.in-Some.place in
+    let f = place_found q.heap.items c.deref.result.now q.places.items c.args.self.now.entries c.args.task k (ap entries_of c.self.view_is) c.self.invariant.placed c.deref.ensures.value
+    c.in-Some.ensures.found in
+    removed_lent q.heap.items r.new.heap.items q.places.items c.deref_mut.result.now r.new.places c.args.self.now.entries k q.places.len (ap entries_of c.self.view_is) c.self.invariant.placed f.0
+    c.deref_mut.ensures.value q.places.ok.0 r.ensures.places_length r.ensures.taken r.ensures.others
+    ∙ ap (λ (n : ℕ). set c.args.self.now.entries n None) f.1
 
-pub returns-in-None-clause-removed : goal.returns-in-None-clause-removed
-returns-in-None-clause-removed g c =
-    nothing_there c.args.self.now c.args.task (missing c.self.inside.tasks c.self.inside.entries.items c.args.self.now c.args.task c.self.view_is (sym c.place_of.ensures ∙ c.in-None.is))
+pub returns-clause-touched : goal.returns-clause-touched
+returns-clause-touched g c =
+    let q = c.self.inside in
+    let size : length q.heap.items ≡ entry_count c.args.self.now.entries =
+    sym (count_placed q.heap.items q.places.items c.self.invariant.placed) ∙ ap entry_count (ap entries_of c.self.view_is) in
+    record {
+      times = c.take_out-touches.result;
+      many = omega arith;
+      few = subst (λ (n : ℕ). c.take_out-touches.result ≤ most_touches n) size c.take_out-touches.ensures.few;
+      counted = c.count.ensures ∙ ap (λ (v : Queue). min (v.touched + c.take_out-touches.result) greatest_count) c.self.view_is;
+    }

@@ -17,7 +17,7 @@ invariant_of-self g c =
     let old = c.args.self.now in
     let did = c.cancel-effect.ensures in
     let same = c.self-2.view_is ∙ is_cancelled_so old c.cancel-effect.new.self c.args.task c.cancel-effect.result did.yes did.no in
-    call_kept _ c.self-2.inside.queue c.self-2.inside.timings.items c.max-now.result c.args.moment c.args.task c.self-2.invariant (ap (λ x. slice_get x.calls x.made) same ∙ c.requires)
+    call_kept _ c.self-2.inside.queue.entries c.self-2.inside.timings.items c.max-now.result c.args.moment c.args.task c.self-2.invariant (ap (λ x. slice_get x.calls x.made) same ∙ c.requires)
     (c.max-now.ensures ∙ ap (λ n. max n c.args.moment) (ap (λ (x : Machine). x.moment) c.self.view_is ∙ sym (ap (λ x. x.moment) same)))
 
 pub returns-clause-step : goal.returns-clause-step

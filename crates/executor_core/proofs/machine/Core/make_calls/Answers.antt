@@ -10,6 +10,7 @@ loop-self-preserved g c =
     let next = c.loop-self-test.ensures.next refl in
     record {
       room = omega (arith, kept.room, call.len, call.capacity, call.made, ap length call.steps.calls, next.0);
+      capacity = call.capacity ∙ kept.capacity;
       taken = call.taken ∙ kept.taken;
       steps = (
         steps.0 + 1,

@@ -8,6 +8,7 @@ use Rattle.executor_core.proofs.machine.Core.make_calls.Given as goal
 abbrev pub invariant-loop-self : goal.invariant-loop-self
 invariant-loop-self g l = record {
   room : vec_len l.out + (length l.self.calls - l.self.made) < vec_capacity l.out;
+  capacity : vec_capacity l.out ≡ vec_capacity l.fn.out;
   taken : l.self.taken ≡ l.fn.self.taken;
   steps : (n : ℕ) × Steps l.fn.self l.self l.fn.out.items l.out.items (replicate n h.Call)
       × (reached l.fn.self.calls l.fn.self.made l.moment ≡ n + reached l.self.calls l.self.made l.moment);

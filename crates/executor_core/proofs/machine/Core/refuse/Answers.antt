@@ -8,7 +8,7 @@ pub invariant_of-self : goal.invariant_of-self
 invariant_of-self g c =
     let m = c.self.inside in
     let is : slice_get m.calls.items m.made ≡ Some (c.args.moment, call.Illegal c.args.task) = ap (λ x. slice_get x.calls x.made) c.self.view_is ∙ c.requires in
-    refuse_keeps _ m.queue m.timings.items c.max-self-inside.result c.args.moment c.args.task c.self.invariant is c.max-self-inside.ensures
+    refuse_keeps _ m.queue.entries m.timings.items c.max-self-inside.result c.args.moment c.args.task c.self.invariant is c.max-self-inside.ensures
 
 pub returns-clause-step : goal.returns-clause-step
 returns-clause-step g c =

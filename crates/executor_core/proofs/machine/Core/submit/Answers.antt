@@ -4,7 +4,7 @@ use Rattle.std.proofs.lemmas.List.{length-map}
 use Rattle.queue_code.specs.declared.call.CodeCall.TheVariants as call
 use Rattle.executor_core.specs.Machine.{queued}
 use Rattle.executor_core.proofs.Tables.{submission}
-use Rattle.executor_core.proofs.Works.{queued_at}
+use Rattle.executor_core.proofs.WorkerSteps.{queued_at}
 use Rattle.executor_core.proofs.Submits.{submit_keeps_in, submit_steps_in}
 use Rattle.executor_core.proofs.machine.Core.submit.Goals as goal
 
@@ -54,10 +54,10 @@ pub invariant_of-self : goal.invariant_of-self
 invariant_of-self g c =
     let m = c.self.inside in
     let is : slice_get m.calls.items m.made ≡ Some (c.args.moment, call.Submit c.args.task c.args.timing c.args.delay) = ap (λ x. slice_get x.calls x.made) c.self.view_is ∙ c.requires in
-    submit_keeps_in _ m.queue c.insert.new.self m.timings.items c.max-self-inside.result c.args.moment c.args.task c.args.delay c.args.timing c.submit.new.self c.self.invariant is c.max-self-inside.ensures c.insert.ensures c.submit.ensures
+    submit_keeps_in _ m.queue.entries c.insert.new.self.entries m.timings.items c.max-self-inside.result c.args.moment c.args.task c.args.delay c.args.timing c.submit.new.self c.self.invariant is c.max-self-inside.ensures c.insert.ensures.inserted c.submit.ensures
 
 pub returns-clause-step : goal.returns-clause-step
 returns-clause-step g c =
     let m = c.self.inside in
     let is : slice_get m.calls.items m.made ≡ Some (c.args.moment, call.Submit c.args.task c.args.timing c.args.delay) = ap (λ x. slice_get x.calls x.made) c.self.view_is ∙ c.requires in
-    submit_steps_in _ c.args.self.now m.queue m.timings.items c.max-self-inside.result c.args.moment c.args.task c.args.delay c.args.timing c.kind_of-kind.result c.submit.new.self c.self.invariant is c.kind_of-kind.ensures c.max-self-inside.ensures c.self.view_is c.submit.ensures
+    submit_steps_in _ c.args.self.now m.queue.entries m.timings.items c.max-self-inside.result c.args.moment c.args.task c.args.delay c.args.timing c.kind_of-kind.result c.submit.new.self c.self.invariant is c.kind_of-kind.ensures c.max-self-inside.ensures c.self.view_is c.submit.ensures

@@ -1,6 +1,15 @@
-use Rattle.std.proofs.Common.{rules}
-use Rattle.executor_core.proofs.Pairs.{vacant_tables}
+use Rattle.std.proofs.Common.{◌≡◌, length, replicate, ap, arith, rules}
+use Rattle.executor_core.proofs.Pairs.{blank, vacant_tables}
+use Rattle.std.proofs.lemmas.List.{length-replicate}
+use Rattle.executor_core.proofs.Counting.{vacant_counted}
 use Rattle.executor_core.proofs.tasks.Tasks.new.Goals as goal
 
 pub returns : goal.returns
 returns g c = vacant_tables c.args.count c.vacant.result c.in_ok-from_elem.field-0.items c.in_ok-from_elem-2.field-0.items c.vacant.ensures (c.in_ok-from_elem.ensures.items_if_clones_equal (search rules)) (c.in_ok-from_elem-2.ensures.items_if_clones_equal (search rules))
+
+pub invariant_of-result : goal.invariant_of-result
+invariant_of-result g c =
+    let words : c.in_ok-from_elem.field-0.items ≡ replicate c.args.count c.vacant.result = c.in_ok-from_elem.ensures.items_if_clones_equal (search rules) in
+    let details : c.in_ok-from_elem-2.field-0.items ≡ replicate c.args.count blank = c.in_ok-from_elem-2.ensures.items_if_clones_equal (search rules) in
+    vacant_counted c.args.count c.in_ok-from_elem.field-0.items c.in_ok-from_elem-2.field-0.items (omega (arith, ap length words, ap length details, length-replicate c.args.count c.vacant.result, length-replicate c.args.count blank))
+    (vacant_tables c.args.count c.vacant.result c.in_ok-from_elem.field-0.items c.in_ok-from_elem-2.field-0.items c.vacant.ensures words details)

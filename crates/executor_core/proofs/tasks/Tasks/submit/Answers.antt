@@ -1,29 +1,38 @@
-use Rattle.std.proofs.Common.{ap, arith}
+use Rattle.std.proofs.Common.{ap, arith, sym}
 use Rattle.executor_core.specs.declared.task.Task.{Task}
 use Rattle.executor_core.proofs.Pairs.{is_in, word_vacant, submit_sets}
+use Rattle.std.proofs.lemmas.List.{length-set}
+use Rattle.executor_core.proofs.Counting.{tables_same}
 use Rattle.executor_core.proofs.tasks.Tasks.submit.Goals as goal
 
 pub index-requires : goal.index-requires
 index-requires g c =
     let m = c.self.inside in
-    omega (arith, m.words.ok.0, is_in m.words.items m.details.items c.args.self.now c.args.task c.self.invariant c.self.view_is c.requires.known)
+    omega (arith, m.words.ok.0, is_in m.words.items m.details.items c.args.self.now c.args.task c.self.invariant.paired c.self.view_is c.requires.known)
 
 pub submitted-requires : goal.submitted-requires
 submitted-requires g c =
     let m = c.self.inside in
-    word_vacant m.words.items m.details.items c.args.self.now c.args.task c.index.result.now c.self.invariant c.self.view_is c.requires.known c.index.ensures (ap (λ (t : Task). t.phase) c.requires.vacant)
+    word_vacant m.words.items m.details.items c.args.self.now c.args.task c.index.result.now c.self.invariant.paired c.self.view_is c.requires.known c.index.ensures (ap (λ (t : Task). t.phase) c.requires.vacant)
 
 pub index_mut-requires : goal.index_mut-requires
 index_mut-requires g c =
     let m = c.self.inside in
-    omega (arith, m.words.ok.0, is_in m.words.items m.details.items c.args.self.now c.args.task c.self.invariant c.self.view_is c.requires.known)
+    omega (arith, m.words.ok.0, is_in m.words.items m.details.items c.args.self.now c.args.task c.self.invariant.paired c.self.view_is c.requires.known)
 
 pub index_mut-requires-2 : goal.index_mut-requires-2
 index_mut-requires-2 g c =
     let m = c.self.inside in
-    omega (arith, m.details.ok.0, c.self.invariant, is_in m.words.items m.details.items c.args.self.now c.args.task c.self.invariant c.self.view_is c.requires.known)
+    omega (arith, m.details.ok.0, c.self.invariant.paired, is_in m.words.items m.details.items c.args.self.now c.args.task c.self.invariant.paired c.self.view_is c.requires.known)
 
 pub returns : goal.returns
 returns g c =
     let m = c.self.inside in
-    submit_sets m.words.items m.details.items c.args.self.now c.args.task c.args.due c.index.result.now c.submitted.result c.self.invariant c.self.view_is c.submitted.ensures
+    submit_sets m.words.items m.details.items c.args.self.now c.args.task c.args.due c.index.result.now c.submitted.result c.self.invariant.paired c.self.view_is c.submitted.ensures
+
+pub invariant_of-self : goal.invariant_of-self
+invariant_of-self g c =
+    let m = c.self.inside in
+    tables_same m.words.items _ m.details.items _ c.args.self.now m.uncancelled c.args.task _ c.self.invariant c.self.view_is (length-set m.words.items c.args.task c.submitted.result) (length-set m.details.items c.args.task _)
+    (submit_sets m.words.items m.details.items c.args.self.now c.args.task c.args.due c.index.result.now c.submitted.result c.self.invariant.paired c.self.view_is c.submitted.ensures)
+    c.requires.known (sym (ap (λ (t : Task). t.cancelled) c.requires.vacant))

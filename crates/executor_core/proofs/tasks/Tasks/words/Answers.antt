@@ -6,4 +6,4 @@ use Rattle.executor_core.proofs.tasks.Tasks.words.Goals as goal
 pub returns : goal.returns
 returns g c =
     let m = c.self.inside in
-    c.deref.ensures.value ∙ (sym (words_of m.words.items m.details.items c.self.invariant) ∙ ap (map word_of) c.self.view_is)
+    c.deref.ensures.value ∙ (sym (words_of m.words.items m.details.items c.self.invariant.paired) ∙ ap (map word_of) c.self.view_is)

@@ -1,9 +1,10 @@
-use Rattle.std.proofs.Common.{◌≡◌, ◌+◌, ◌≤◌, true, false, sym, ap, ◌∙◌, refl, arith, subst}
-use Rattle.task_word.specs.Words.{value, is_live, is_cancelled, rank}
+use Rattle.std.proofs.Common.{◌≡◌, ◌+◌, sym, ap, ◌∙◌, refl, arith, subst}
+use Rattle.task_word.specs.Words.{value}
+use Rattle.task_word.specs.Writes.{Exchanges}
 use Rattle.task_word.specs.Views.{entry, with_entry, core_of}
 use Rattle.task_word.specs.Rule.{word_of}
-use Rattle.task_word.proofs.Numbers.{reads_back}
-use Rattle.task_word.proofs.Sitting.{core_sits, found_it}
+use Rattle.task_word.proofs.WordNumbers.{reads_back}
+use Rattle.task_word.proofs.SeatFields.{core_sits, found_it}
 use Rattle.task_word.proofs.CoreSteps.{moves}
 use Rattle.task_word.proofs.core_side.CoreSeat.advance.Goals as goal
 
@@ -15,13 +16,10 @@ compare_exchange-found-requires g c =
       omega (arith, tasks, c.words.invariant.1, c.requires.task),
       moves c.words.inside.table.shared.key _ seat.id c.args.k c.value-old.result c.value.result c.args.next seat.me c.self.invariant.0 c.self.invariant.1
           (omega (arith, tasks, c.words.invariant.0, c.requires.task))
-          (subst (λ s. is_live (entry s.view c.args.k).phase ≡ true) (sym c.self.view_is) c.requires.phase)
-          (subst (λ s. is_cancelled (entry s.view c.args.k) ≡ false) (sym c.self.view_is) c.requires.live)
+          (subst (λ s. Exchanges (entry s.view c.args.k) c.args.next) (sym c.self.view_is) c.requires.exchange)
           (c.value-old.ensures.value ∙ ap value (c.known-word.ensures ∙ ap (λ s. entry s.view c.args.k) (sym c.self.view_is)))
           c.value.ensures.value
-          (λ _. c.value.ensures.word)
-          (subst (λ s. rank (entry s.view c.args.k) ≤ rank c.args.next) (sym c.self.view_is) c.requires.rank)
-          c.requires.free,
+          (λ _. c.value.ensures.word),
     )
 
 pub invariant_of-self : goal.invariant_of-self

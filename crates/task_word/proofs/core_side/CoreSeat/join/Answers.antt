@@ -1,5 +1,5 @@
 use Rattle.std.proofs.Common.{sym, ap, ◌∙◌, arith}
-use Rattle.task_word.proofs.Handing.{joins}
+use Rattle.task_word.proofs.SeatSplits.{joins}
 use Rattle.task_word.proofs.core_side.CoreSeat.join.Goals as goal
 
 pub join_seat-requires : goal.join_seat-requires

@@ -1,5 +1,5 @@
 use Rattle.std.proofs.Common.{sym, ap, ◌∙◌, arith}
-use Rattle.task_word.proofs.Handing.{splits}
+use Rattle.task_word.proofs.SeatSplits.{splits}
 use Rattle.task_word.proofs.core_side.CoreSeat.split.Goals as goal
 
 pub split_seat-seat-requires : goal.split_seat-seat-requires

@@ -1,12 +1,13 @@
-use Rattle.std.proofs.Common.{◌≡◌, ◌+◌, sym, ap, ◌∙◌, refl, arith, subst, set, ℕ}
+use Rattle.std.proofs.Common.{◌≡◌, ◌+◌, ◌<◌, length, sym, ap, ◌∙◌, refl, arith, subst, set, ℕ}
 use Rattle.atomic_table.specs.Table.{Allows}
 use Rattle.task_word.specs.Words.{value, new_in}
 use Rattle.task_word.specs.Views.{entry, with_entry, core_of}
-use Rattle.task_word.proofs.Sitting.{core_sits}
+use Rattle.task_word.proofs.SeatFields.{core_sits}
 use Rattle.task_word.specs.Steps.{Submitted}
 use Rattle.task_word.specs.declared.phases.Phase.TheVariants.{Vacant}
-use Rattle.task_word.proofs.Placing.{Rule}
+use Rattle.task_word.proofs.TaskPlaces.{Rule}
 use Rattle.task_word.proofs.CoreSteps.{submits}
+use Rattle.task_word.proofs.Uses.{entry_here}
 use Rattle.task_word.proofs.core_side.CoreSeat.submit.Goals as goal
 
 pub store-requires : goal.store-requires
@@ -29,3 +30,14 @@ invariant_of-self g c =
     (ap (set (core_of seat.me.0).entries c.args.k) (sym c.submitted-next.ensures))
     refl
     c.self.invariant
+
+pub returns-clause-write : goal.returns-clause-write
+returns-clause-write g c =
+    let seat = c.self.inside.seat in
+    let step = c.store.ensures.2 c.args.k (refl {a = c.args.k + 1}) in
+    let words = ap (λ s. s.table.words) c.self.view_is ∙ (ap (λ t. t.words) c.requires.table ∙ sym (ap (λ t. t.table.words) c.words.view_is)) in
+    let tasks : c.words.inside.tasks ≡ c.args.words.now.tasks = ap (λ w. w.tasks) c.words.view_is in
+    let room : c.args.k < length (core_of seat.me.0).entries = omega (arith, ap length c.self.invariant.2, c.self.invariant.5, c.words.invariant.1, tasks, words, c.requires.task) in (
+      c.requires.phase,
+      ap (λ m. entry (core_of m.0) c.args.k) step ∙ entry_here (core_of seat.me.0) c.args.k (new_in 0) room,
+    )

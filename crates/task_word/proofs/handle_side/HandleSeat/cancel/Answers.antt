@@ -4,7 +4,7 @@ use Rattle.task_word.specs.Views.{handle_of, handle_cancelled, wins, and_if, Mee
 use Rattle.task_word.specs.Rule.{word_of}
 use Rattle.task_word.specs.Answers.{cancel_answer, is_yes}
 use Rattle.task_word.proofs.HandleSteps.{handle_cancels}
-use Rattle.task_word.proofs.Sitting.{handle_sits, keeps_met, yes_wins}
+use Rattle.task_word.proofs.SeatFields.{handle_sits, keeps_met, yes_wins}
 use Rattle.task_word.proofs.handle_side.HandleSeat.cancel.Goals as goal
 
 pub fetch_or-found-requires : goal.fetch_or-found-requires

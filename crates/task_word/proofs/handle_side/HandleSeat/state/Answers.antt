@@ -4,7 +4,7 @@ use Rattle.task_word.specs.Views.{handle_of, handle_looked, MeetsHandle}
 use Rattle.task_word.specs.Rule.{word_of}
 use Rattle.task_word.specs.Answers.{state_of}
 use Rattle.task_word.proofs.HandleSteps.{handle_looks}
-use Rattle.task_word.proofs.Sitting.{handle_sits, keeps_met, cancelled_shows}
+use Rattle.task_word.proofs.SeatFields.{handle_sits, keeps_met, cancelled_shows}
 use Rattle.task_word.proofs.handle_side.HandleSeat.state.Goals as goal
 
 pub load-found-requires : goal.load-found-requires

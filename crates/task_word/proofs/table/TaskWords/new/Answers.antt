@@ -1,5 +1,5 @@
 use Rattle.std.proofs.Common.{◌∙◌}
-use Rattle.task_word.proofs.Opening.{opens}
+use Rattle.task_word.proofs.NewTables.{opens}
 use Rattle.task_word.proofs.table.TaskWords.new.Goals as goal
 
 pub of_words-requires : goal.of_words-requires

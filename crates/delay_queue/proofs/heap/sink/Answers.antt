@@ -1,0 +1,64 @@
+-- The hole sinks by one place, and to an only entry below it.
+use Rattle.std.proofs.Common.{◌≡◌, ℕ, ◌+◌, ◌*◌, ◌<◌, ◌≤◌, ◌⊎◌, ⊎_elim, inl, inr, true, false, Bool, List, length, arith, subst, sym}
+use mir.Val.{bool_byte}
+use Rattle.delay_queue.specs.Queues.{comes_before}
+use Rattle.delay_queue.specs.Heaps.{entry_at, parent, IsOrdered, IsHeapAround}
+use Rattle.delay_queue.specs.declared.entry.Entry.{Entry}
+use Rattle.delay_queue.proofs.Digits.{digits_within, digits_below}
+use Rattle.delay_queue.proofs.Order.{ordered_from_before}
+use Rattle.delay_queue.proofs.Holes.{around_down, lesser_is_least}
+use Rattle.delay_queue.proofs.Places.{beside, moves_on}
+use Rattle.delay_queue.proofs.heap.sink.Goals as goal
+
+pub overflow_add-touches : goal.overflow_add-touches
+overflow_add-touches c =
+    omega (arith, digits_within (c.loop-hole.hole + 1) 64 (omega (arith, c.loop-hole.invariant.inside, c.requires.few, c.loop-hole.auto.heap)), c.loop-hole.invariant.count)
+
+-- the second of two entries is the lesser exactly when it comes before the first
+which : (heap : List Entry) (hole more : ℕ) (b : Bool) → more ≡ bool_byte b
+    → b ≡ comes_before (entry_at heap (2 * hole + 1 + 1)).due (entry_at heap (2 * hole + 1 + 1)).task (entry_at heap (2 * hole + 1)).due (entry_at heap (2 * hole + 1)).task
+    → ((2 * hole + 1 + more ≡ 2 * hole + 2) × IsOrdered (entry_at heap (2 * hole + 2)) (entry_at heap (2 * hole + 1)))
+    ⊎ ((2 * hole + 1 + more ≡ 2 * hole + 1) × IsOrdered (entry_at heap (2 * hole + 1)) (entry_at heap (2 * hole + 2)))
+which heap hole more true is test =
+    let right : 2 * hole + 1 + 1 ≡ 2 * hole + 2 = omega arith in
+    inl (omega (arith, is), subst (λ (n : ℕ). IsOrdered (entry_at heap n) (entry_at heap (2 * hole + 1))) right (ordered_from_before (entry_at heap (2 * hole + 1 + 1)) (entry_at heap (2 * hole + 1)) (sym test)))
+which heap hole more false is test =
+    let right : 2 * hole + 1 + 1 ≡ 2 * hole + 2 = omega arith in
+    inr (omega (arith, is), subst (λ (n : ℕ). IsOrdered (entry_at heap (2 * hole + 1)) (entry_at heap n)) right (sym test))
+
+pub loop-hole-preserved : goal.loop-hole-preserved
+loop-hole-preserved c =
+    let h = c.loop-hole.heap in
+    let i = c.loop-hole.hole in
+    let more = c.from.result in
+    let low = 2 * i + 1 + more in
+    let one_of = which h i more c.is_before.result c.from.ensures c.is_before.ensures in
+    let near : more ≤ 1 = ⊎_elim (λ r. omega (arith, r.0)) (λ r. omega (arith, r.0)) one_of in
+    let inside : low < length h = omega (arith, near, c.loop-hole-test.true) in
+    let above : parent low ≡ i = omega (arith, near) in
+    record {
+      inside = omega (arith, inside, c.put.auto.heap);
+      around = subst (λ (l : List Entry). IsHeapAround l low) (sym c.put.ensures.heap) (around_down h i low inside (omega arith) above c.loop-hole.invariant.around (lesser_is_least h i low one_of));
+      moves = moves_on c.args.heap.now c.args.places.now c.args.hole h c.loop-hole.places i low c.put.new.heap c.put.new.places c.loop-hole.invariant.moves
+          c.requires.inside inside (λ same. omega (arith, same)) c.put.ensures.heap c.put.ensures.places;
+      count = omega (arith, c.loop-hole.invariant.count, digits_below low i (omega arith) above);
+    }
+
+pub put-requires-then-only-heap-clause-known : goal.put-requires-then-only-heap-clause-known
+put-requires-then-only-heap-clause-known c =
+    let x = c.requires.placed.0 in
+    let w = c.loop-hole.invariant.moves.placed x c.requires.inside c.requires.placed.1 in
+    (beside c.loop-hole.heap c.loop-hole.places c.loop-hole.hole x c.loop-hole.invariant.inside w).known (2 * c.loop-hole.hole + 1) c.if-only-heap.true (λ same. omega (arith, same))
+
+pub returns-then-only-heap-clause-moves : goal.returns-then-only-heap-clause-moves
+returns-then-only-heap-clause-moves c =
+    moves_on c.args.heap.now c.args.places.now c.args.hole c.loop-hole.heap c.loop-hole.places c.loop-hole.hole (2 * c.loop-hole.hole + 1) c.put-then-only-heap.new.heap
+    c.put-then-only-heap.new.places c.loop-hole.invariant.moves c.requires.inside c.if-only-heap.true (λ same. omega (arith, same)) c.put-then-only-heap.ensures.heap c.put-then-only-heap.ensures.places
+
+pub returns-then-only-heap-clause-few : goal.returns-then-only-heap-clause-few
+returns-then-only-heap-clause-few c =
+    omega (arith, c.loop-hole.invariant.count, digits_below (2 * c.loop-hole.hole + 1) c.loop-hole.hole (omega arith) (omega arith))
+
+pub returns-then-only-heap-clause-many : goal.returns-then-only-heap-clause-many
+returns-then-only-heap-clause-many c =
+    omega (arith, c.loop-hole.invariant.count, digits_below (2 * c.loop-hole.hole + 1) c.loop-hole.hole (omega arith) (omega arith))

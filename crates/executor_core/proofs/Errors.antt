@@ -1,0 +1,100 @@
+-- Events that are answered by an error: they change nothing but the number of events taken.
+use Rattle.std.proofs.Common.{suc, ◌≡◌, ℕ, ◌+◌, ◌^◌, ◌&&◌, ◌||◌, nat_lt, nat_le, Bool, true, false, cond, List, [], ◌∷◌, ◌++◌, length, Option, Some, None, refl, ap, ◌∙◌, arith}
+use Rattle.std.specs.Prelude.{slice_get, slice_index_or, max, replicate}
+use Rattle.std.specs.Option.{option_map_or}
+use Rattle.std.proofs.lemmas.Bool.Decides.{nat_tests}
+use Rattle.queue_code.specs.declared.call.CodeCall.{CodeCall}
+use Rattle.queue_code.specs.declared.call.CodeCall.TheVariants as c
+use Rattle.executor_core.specs.declared.types.Event.{Event}
+use Rattle.executor_core.specs.declared.types.Event.TheVariants as v
+use Rattle.executor_core.specs.declared.types.EventError.{EventError}
+use Rattle.executor_core.specs.declared.types.EventError.TheVariants as x
+use Rattle.executor_core.specs.declared.types.Happening.{Happening}
+use Rattle.executor_core.specs.declared.types.Happening.TheVariants as h
+use Rattle.executor_core.specs.declared.types.Line.{Line}
+use Rattle.executor_core.specs.declared.types.Answer.TheVariants as a
+use Rattle.queue_code.specs.Calls.{Planned, terms_of}
+use Rattle.executor_core.specs.View.{View}
+use Rattle.executor_core.specs.Answers.{Reply, plain, called, is_accepted, moment_after}
+use Rattle.executor_core.specs.Histories.{is_call, is_cancel, work_after}
+use Rattle.executor_core.specs.State.{State, vacant, view_of_state, move_task, state_after, reply_of, next, after_from}
+use Rattle.executor_core.specs.Flows.{happening_of, reached, calls_before, part_of, lines_from}
+use Rattle.executor_core.specs.Machine.{Machine, workers_of, state_of, Steps, ErrorOnlyCounts}
+
+-- a state after an error that is no call and does not move the clock
+unmoved : (calls : List Planned) (s : State) (x : Happening) (r : Reply) (error : EventError) → r.answer ≡ a.Error error → is_call x ≡ false → moment_after s.moment (slice_get calls s.made) x ≡ s.moment →
+    state_after calls s x r ≡ s
+unmoved calls s x r error q event still = λ i. record {
+  made = cond (event i) (1 + s.made) s.made;
+  moment = still i;
+  tasks = λ k. record (move_task (terms_of calls k).timing s.moment k (q i) (s.tasks k)) { cancelled = is_cancel k (q i) || (s.tasks k).cancelled };
+  workers = λ w. work_after w (q i) (s.workers w);
+}
+
+-- a call is not answered by an error
+no_error : (calls : List Planned) (v : View) (call : CodeCall) (error : EventError) → (called calls v call).answer ≡ a.Error error → ⊥
+no_error calls v (c.Submit task timing delay) error q = cc
+no_error calls v (c.Illegal task) error q = cc
+no_error calls v (c.Cancel task) error q = cc
+
+-- a clock that is answered by an error is not accepted
+pub refused_clock : (now t : ℕ) (error : EventError) → cond (nat_lt t now) (a.Error x.Backward) (cond (nat_lt (2 ^ 62) t) (a.Error x.TooFar) a.Clock) ≡ a.Error error → is_accepted now t ≡ false
+refused_clock now t error q =
+    let pick : (b d : Bool) → nat_lt t now ≡ b → nat_lt (2 ^ 62) t ≡ d → cond b (a.Error x.Backward) (cond d (a.Error x.TooFar) a.Clock) ≡ a.Error error → is_accepted now t ≡ false =
+    elim [
+      | true ↦ λ d back far q. ap (λ b. b && nat_le t (2 ^ 62)) (not_after now t back)
+      | false ↦ elim [ true ↦ λ back far q. ap (λ b. nat_le now t && b) (not_after t (2 ^ 62) far) ∙ and_false (nat_le now t) | false ↦ λ back far q. absurd cc ]
+    ]
+    in
+    pick (nat_lt t now) (nat_lt (2 ^ 62) t) refl refl q
+  where
+    not_after : (m n : ℕ) → nat_lt n m ≡ true → nat_le m n ≡ false
+    not_after m n q = grind (arith, nat_tests)
+
+    and_false : (b : Bool) → (b && false) ≡ false
+    and_false true = refl
+    and_false false = refl
+
+-- the state after a happening that is answered by an error
+pub errors_change_nothing : (calls : List Planned) (workers : ℕ) (s : State) (happening : Happening) (error : EventError) → (reply_of calls workers s happening).answer ≡ a.Error error → next calls workers s happening ≡ s
+errors_change_nothing calls workers s h.Call error q =
+    let pick : (p : Option Planned) → (option_map_or (λ p. called calls (record (view_of_state calls s) { moment = max s.moment p.0 }) p.1) p (plain a.Clock)).answer ≡ a.Error error → ⊥ =
+    elim [ None ↦ λ q. cc | Some p ↦ no_error calls (record (view_of_state calls s) { moment = max s.moment p.0 }) p.1 error ]
+    in
+    absurd (pick (slice_get calls s.made) q)
+errors_change_nothing calls workers s (h.Clock t) error q =
+    unmoved calls s (h.Clock t) (reply_of calls workers s (h.Clock t)) error q refl (ap (λ b. cond b t s.moment) (refused_clock s.moment t error q))
+errors_change_nothing calls workers s (h.Start w) error q = unmoved calls s (h.Start w) (reply_of calls workers s (h.Start w)) error q refl refl
+errors_change_nothing calls workers s (h.Finish w ending) error q = unmoved calls s (h.Finish w ending) (reply_of calls workers s (h.Finish w ending)) error q refl refl
+errors_change_nothing calls workers s (h.Cancel k) error q = unmoved calls s (h.Cancel k) (reply_of calls workers s (h.Cancel k)) error q refl refl
+
+-- no call is made before an event that is answered by an error
+none_before : (calls : List Planned) (workers : ℕ) (s : State) (event : Event) (error : EventError) → (reply_of calls workers s (happening_of event)).answer ≡ a.Error error → calls_before calls s.made s.moment event ≡ 0
+none_before calls workers s (v.Clock t) error q = ap (λ b. cond b (reached calls s.made t) 0) (refused_clock s.moment t error q)
+none_before calls workers s (v.Start w) error q = refl
+none_before calls workers s (v.Finish w ending) error q = refl
+none_before calls workers s (v.Cancel k) error q = refl
+
+-- tables of one length with the same items are one
+same_table : {X : Type 0} (d : X) (xs ys : List X) → length xs ≡ length ys → ((k : ℕ) → slice_index_or xs k d ≡ slice_index_or ys k d) → xs ≡ ys
+same_table d [] [] e same = refl
+same_table d [] (y ∷ ys) e same = absurd (omega (arith, e))
+same_table d (x ∷ xs) [] e same = absurd (omega (arith, e))
+same_table d (x ∷ xs) (y ∷ ys) e same = λ i. same 0 i ∷ same_table d xs ys (omega (arith, e)) (λ k. same (suc k)) i
+
+-- an event that is answered by an error changes nothing in a core but the number of events taken
+pub error_only_counts : (old new : Machine) (before lines : List Line) (event : Event) → Steps old new before lines (part_of old.calls old.made old.moment event) → new.taken ≡ old.taken + 1 → length new.tasks ≡ length old.tasks →
+    ErrorOnlyCounts old new before lines event
+error_only_counts old new before lines event steps taken count error q =
+    let calls = old.calls in
+    let workers = workers_of old in
+    let s = state_of old in
+    let none = none_before calls workers s event error q in
+    let still = errors_change_nothing calls workers s (happening_of event) error q in
+    let part : part_of calls old.made old.moment event ≡ happening_of event ∷ [] = ap (λ n. happening_of event ∷ replicate n h.Call) none in
+    let state : state_of new ≡ s = steps.state ∙ (ap (after_from calls workers s) part ∙ still) in
+    let tasks = same_table vacant new.tasks old.tasks count (λ k. ap (λ (z : State). z.tasks k) state) in
+    let work = same_table None new.work old.work steps.workers (λ w. ap (λ (z : State). z.workers w) state) in (
+      λ i. record { calls = steps.calls i; limit = steps.limit i; taken = taken i; made = (state i).made; moment = (state i).moment; tasks = tasks i; work = work i },
+      steps.lines ∙ (ap (λ hs. before ++ lines_from calls workers s hs) part ∙ λ i. before ++ record { moment = (still i).moment; answer = q i } ∷ []),
+    )

@@ -1,0 +1,68 @@
+//! What the comparisons of this crate's types say, as laws: `==` leaves no field out.
+ghost use Rattle.std.specs.Prelude.{◌≡◌, true};
+
+use crate::error::CoreError;
+use crate::task::{Phase, Task};
+use crate::types::{
+    Answer, CancelEffect, Event, EventError, Happening, Kind, Line, Outcome, Refusal,
+};
+
+/// `==` of two CoreErrors says that they are equal.
+pub(crate) fn core_error_equality_tells()
+    ensures { (a b : CoreError) → ⟦<CoreError as PartialEq>⟧.eq a b ≡ true → a ≡ b }
+{}
+
+/// `==` of two Phases says that they are equal.
+pub(crate) fn phase_equality_tells()
+    ensures { (a b : Phase) → ⟦<Phase as PartialEq>⟧.eq a b ≡ true → a ≡ b }
+{}
+
+/// `==` of two Tasks says that they are equal.
+pub(crate) fn task_equality_tells()
+    ensures { (a b : Task) → ⟦<Task as PartialEq>⟧.eq a b ≡ true → a ≡ b }
+{}
+
+/// `==` of two Events says that they are equal.
+pub(crate) fn event_equality_tells()
+    ensures { (a b : Event) → ⟦<Event as PartialEq>⟧.eq a b ≡ true → a ≡ b }
+{}
+
+/// `==` of two Happenings says that they are equal.
+pub(crate) fn happening_equality_tells()
+    ensures { (a b : Happening) → ⟦<Happening as PartialEq>⟧.eq a b ≡ true → a ≡ b }
+{}
+
+/// `==` of two Kinds says that they are equal.
+pub(crate) fn kind_equality_tells()
+    ensures { (a b : Kind) → ⟦<Kind as PartialEq>⟧.eq a b ≡ true → a ≡ b }
+{}
+
+/// `==` of two Refusals says that they are equal.
+pub(crate) fn refusal_equality_tells()
+    ensures { (a b : Refusal) → ⟦<Refusal as PartialEq>⟧.eq a b ≡ true → a ≡ b }
+{}
+
+/// `==` of two EventErrors says that they are equal.
+pub(crate) fn event_error_equality_tells()
+    ensures { (a b : EventError) → ⟦<EventError as PartialEq>⟧.eq a b ≡ true → a ≡ b }
+{}
+
+/// `==` of two CancelEffects says that they are equal.
+pub(crate) fn cancel_effect_equality_tells()
+    ensures { (a b : CancelEffect) → ⟦<CancelEffect as PartialEq>⟧.eq a b ≡ true → a ≡ b }
+{}
+
+/// `==` of two Outcomes says that they are equal.
+pub(crate) fn outcome_equality_tells()
+    ensures { (a b : Outcome) → ⟦<Outcome as PartialEq>⟧.eq a b ≡ true → a ≡ b }
+{}
+
+/// `==` of two Answers says that they are equal.
+pub(crate) fn answer_equality_tells()
+    ensures { (a b : Answer) → ⟦<Answer as PartialEq>⟧.eq a b ≡ true → a ≡ b }
+{}
+
+/// `==` of two Lines says that they are equal.
+pub(crate) fn line_equality_tells()
+    ensures { (a b : Line) → ⟦<Line as PartialEq>⟧.eq a b ≡ true → a ≡ b }
+{}

@@ -1,0 +1,144 @@
+//! The calls of the plan, as a core makes them.
+ghost use Rattle.std.specs.Prelude.{◌≡◌, ◌+◌, ◌-◌, ◌<◌, [], ◌∷◌, length, replicate, Some, slice_get, IsTrue, false, vec_len, vec_capacity};
+ghost use Rattle.executor_core.specs.declared.types.Happening.TheVariants as happening;
+ghost use Rattle.queue_code.specs.declared.call.CodeCall.TheVariants as call;
+ghost use Rattle.executor_core.specs.Answers.{kind_of};
+ghost use Rattle.executor_core.specs.Flows.{reached, ReachesNext, calls_before};
+
+use super::Core;
+use crate::types::{Answer, Event, Kind, Line, Refusal};
+use delay_queue::Entry;
+use queue_code::CodeCall;
+use sched_time::{LONGEST, Timing};
+use std::alloc::Allocator;
+
+impl<A: Allocator> Core<A> {
+    ghost use Rattle.executor_core.specs.Machine.{Takes, Steps};
+
+    /// Makes the calls that are made just before an event.
+    pub(super) fn make_calls_before<B: Allocator>(&mut self, event: Event, out: &mut Vec<Line, B>)
+        requires { vec_len out.old + (length self.old.calls - self.old.made) < vec_capacity out.old }
+        ensures steps { Steps self.old self.new out.old.items out.new.items (replicate (calls_before self.old.calls self.old.made self.old.moment event) happening.Call) }
+        ensures taken { self.new.taken ≡ self.old.taken }
+        ensures room { vec_len out.new < vec_capacity out.new }
+        ensures capacity { vec_capacity out.new ≡ vec_capacity out.old }
+    {
+        let Event::Clock(moment) = event else {
+            return;
+        };
+        if self.moment <= moment && moment <= LONGEST {
+            self.make_calls(moment, out);
+        }
+    }
+
+    /// Makes the calls with a moment of at most this one.
+    fn make_calls<B: Allocator>(&mut self, moment: u64, out: &mut Vec<Line, B>)
+        requires { vec_len out.old + (length self.old.calls - self.old.made) < vec_capacity out.old }
+        ensures steps { Steps self.old self.new out.old.items out.new.items (replicate (reached self.old.calls self.old.made moment) happening.Call) }
+        ensures taken { self.new.taken ≡ self.old.taken }
+        ensures room { vec_len out.new < vec_capacity out.new }
+        ensures capacity { vec_capacity out.new ≡ vec_capacity out.old }
+    {
+        while self.reaches(moment) {
+            self.make_call(out);
+        }
+    }
+
+    /// Whether the next call has a moment of at most this one.
+    fn reaches(&self, moment: u64) -> bool
+        ensures next { IsTrue result → ReachesNext self.now.calls self.now.made moment }
+        ensures none { result ≡ false → reached self.now.calls self.now.made moment ≡ 0 }
+    {
+        self.made < self.calls.len() && self.calls[self.made].0 <= moment
+    }
+
+    /// Makes the next call.
+    fn make_call<B: Allocator>(&mut self, out: &mut Vec<Line, B>)
+        requires left { self.old.made < length self.old.calls }
+        requires room { vec_len out.old < vec_capacity out.old }
+        ensures steps { Steps self.old self.new out.old.items out.new.items (happening.Call ∷ []) }
+        ensures made { self.new.made ≡ self.old.made + 1 }
+        ensures taken { self.new.taken ≡ self.old.taken }
+        ensures len { vec_len out.new ≡ vec_len out.old + 1 }
+        ensures capacity { vec_capacity out.new ≡ vec_capacity out.old }
+    {
+        let answer = self.answer_call();
+        out.push_reserved(Line {
+            moment: self.moment,
+            answer,
+        });
+    }
+
+    /// The next call is made.
+    fn answer_call(&mut self) -> Answer
+        requires { self.old.made < length self.old.calls }
+        ensures step { Takes self.old self.new happening.Call result }
+        ensures made { self.new.made ≡ self.old.made + 1 }
+    {
+        let (moment, call) = self.calls[self.made];
+        match call {
+            CodeCall::Submit {
+                task,
+                timing,
+                delay,
+            } => self.submit(moment, task, timing, delay),
+            CodeCall::Illegal { task } => self.refuse(moment, task),
+            CodeCall::Cancel { task } => self.cancel_by_plan(moment, task),
+        }
+    }
+
+    /// The next call submits a task.
+    fn submit(&mut self, moment: u64, task: u32, timing: Timing, delay: u64) -> Answer
+        requires { slice_get self.old.calls self.old.made ≡ Some (moment, call.Submit task timing delay) }
+        ensures step { Takes self.old self.new happening.Call result }
+        ensures made { self.new.made ≡ self.old.made + 1 }
+    {
+        let place = task as usize;
+        let kind = kind_of(&timing);
+        self.made += 1;
+        let due = moment + delay;
+        self.moment = self.moment.max(moment);
+        self.tasks.submit(place, due);
+        self.timings[place] = timing;
+        self.queue.insert(Entry { due, task });
+        Answer::Submit { task, kind, due }
+    }
+
+    /// The next call asks for a task with an illegal period.
+    fn refuse(&mut self, moment: u64, task: u32) -> Answer
+        requires { slice_get self.old.calls self.old.made ≡ Some (moment, call.Illegal task) }
+        ensures step { Takes self.old self.new happening.Call result }
+        ensures made { self.new.made ≡ self.old.made + 1 }
+    {
+        self.made += 1;
+        self.moment = self.moment.max(moment);
+        Answer::Refuse {
+            task,
+            refusal: Refusal::Illegal,
+        }
+    }
+
+    /// The next call cancels a task.
+    fn cancel_by_plan(&mut self, moment: u64, task: u32) -> Answer
+        requires { slice_get self.old.calls self.old.made ≡ Some (moment, call.Cancel task) }
+        ensures step { Takes self.old self.new happening.Call result }
+        ensures made { self.new.made ≡ self.old.made + 1 }
+    {
+        let now = self.moment.max(moment);
+        let effect = self.cancel(task);
+        self.made += 1;
+        self.moment = now;
+        Answer::Cancel { task, effect }
+    }
+}
+
+/// The kind of a task of this timing.
+fn kind_of(timing: &Timing) -> Kind
+    ensures { result ≡ kind_of timing.now }
+{
+    match timing {
+        Timing::Once => Kind::Schedule,
+        Timing::Rate(_) => Kind::Rate,
+        Timing::Fixed(_) => Kind::Fixed,
+    }
+}

@@ -1,0 +1,119 @@
+-- A check that meets no fault counts the calls and the tasks of the code.
+use Rattle.std.proofs.Common.{◌≡◌, ℕ, zero, suc, ◌+◌, ◌*◌, ◌-◌, ◌≤◌, Bool, true, false, cond, eqb, List, [], ◌∷◌, ◌++◌, Option, Some, None, length, refl, ap, subst, ◌∙◌, arith, append_assoc, length-append}
+use Rattle.queue_code.specs.declared.call.CodeCall.TheVariants as call
+use Rattle.queue_code.specs.declared.instr.Instr.{Instr}
+use Rattle.queue_code.specs.declared.instr.Instr.TheVariants.{Submit, Illegal, Loop, EndLoop, Halt}
+use Rattle.queue_code.specs.declared.progress.OpenLoop.{OpenLoop}
+use Rattle.queue_code.specs.declared.progress.Progress.{Progress}
+use Rattle.queue_code.specs.Calls.{Planned, task_count}
+use Rattle.queue_code.specs.Codes.{call_of, in_front, tasks_by, tasks_in, pass, iterations, body_of, calls_from, calls_of}
+use Rattle.queue_code.specs.Checks.{opening, offset_of, is_call, first_fault, fault_of, walked, AreTimed}
+use Rattle.queue_code.specs.Cursors.{IsCode}
+use Rattle.queue_code.proofs.Passing.{passes_all, passes_first, length_call, in_front_append}
+use Rattle.queue_code.proofs.Soundness.{sound, met_in, met_out}
+
+abbrev AreCalls : List Instr → Type 0
+AreCalls [] = Unit {0}
+AreCalls (i ∷ is) = (is_call i ≡ true) × AreCalls is
+
+tasks_call : (base start count : ℕ) (i : Instr) (rest : List Planned) → task_count (in_front (call_of base start count i) rest) ≡ tasks_by i + task_count rest
+tasks_call base start count (Submit offset timing delay) rest = omega arith
+tasks_call base start count (Illegal offset) rest = omega arith
+tasks_call base start count i rest = omega arith
+
+tasks_pass : (base start count : ℕ) (is : List Instr) (ys : List Planned) → task_count (pass base start count is ++ ys) ≡ tasks_in is + task_count ys
+tasks_pass base start count [] ys = omega arith
+tasks_pass base start count (i ∷ is) ys =
+    omega (
+      arith,
+      ap task_count (in_front_append (call_of base start count i) (pass base start (count + tasks_by i) is) ys),
+      tasks_call base start count i (pass base start (count + tasks_by i) is ++ ys),
+      tasks_pass base start (count + tasks_by i) is ys,
+    )
+
+tasks_turns : (n q every count : ℕ) (body : List Instr) (ys : List Planned) → task_count (iterations n q every body count ++ ys) ≡ n * tasks_in body + task_count ys
+tasks_turns zero q every count body ys = omega arith
+tasks_turns (suc n) q every count body ys =
+    omega (
+      arith,
+      ap task_count (append_assoc (pass (q * every) count count body) (iterations n (q + 1) every body (count + tasks_in body)) ys),
+      tasks_pass (q * every) count count body (iterations n (q + 1) every body (count + tasks_in body) ++ ys),
+      tasks_turns n (q + 1) every (count + tasks_in body) body ys,
+    )
+
+length_pass : (base start count : ℕ) (is : List Instr) → AreCalls is → length (pass base start count is) ≡ length is
+length_pass base start count [] calls = refl
+length_pass base start count (i ∷ is) calls =
+    omega (arith, length_call i base start count (pass base start (count + tasks_by i) is) calls.0, length_pass base start (count + tasks_by i) is calls.1)
+
+length_turns : (n q every count : ℕ) (body : List Instr) → AreCalls body → length (iterations n q every body count) ≡ n * length body
+length_turns zero q every count body calls = omega arith
+length_turns (suc n) q every count body calls =
+    omega (arith, length-append (pass (q * every) count count body) (iterations n (q + 1) every body (count + tasks_in body)), length_pass (q * every) count count body calls, length_turns n (q + 1) every (count + tasks_in body) body calls)
+
+-- in the end there are the calls and the tasks so far, and those of the instructions
+abbrev Counts : Bool → ℕ → ℕ → Progress → List Instr → Type 0
+Counts inside calls tasks end is = (end.calls ≡ calls + length (calls_from inside tasks is)) × (end.tasks ≡ tasks + task_count (calls_from inside tasks is))
+
+abbrev Goal : Option OpenLoop → ℕ → ℕ → Progress → List Instr → Type 0
+Goal None calls tasks end is = Counts false calls tasks end is
+Goal (Some r) calls tasks end is = AreCalls (body_of is) × Counts true (calls + r.times * (r.calls + length (body_of is))) (r.start + r.times * (tasks + tasks_in (body_of is) - r.start)) end is
+
+from_equal : (inside : Bool) (a b c d : ℕ) (end : Progress) (is : List Instr) → a ≡ b → c ≡ d → Counts inside a c end is → Counts inside b d end is
+from_equal inside a b c d end is e f h = subst (λ (n : ℕ). Counts inside n d end is) e (subst (λ (n : ℕ). Counts inside a n end is) f h)
+
+counted : (open_loop : Option OpenLoop) (calls tasks last : ℕ) (is : List Instr) → first_fault (record { open_loop = open_loop; calls = calls; tasks = tasks; last = last }) is ≡ None
+    → Goal open_loop calls tasks (walked (record { open_loop = open_loop; calls = calls; tasks = tasks; last = last }) is) is
+counted open_loop calls tasks last [] none = cc
+counted None calls tasks last (Halt ∷ is) none = (omega arith, omega arith)
+counted (Some r) calls tasks last (Halt ∷ is) none = let e = (passes_all (met_in r calls tasks last) Halt is none).unclosed in cc
+counted None calls tasks last (Loop times every ∷ is) none =
+    let r : OpenLoop = record { times = times; every = every; start = tasks; calls = 0; first = 0 } in
+    let k = counted (Some r) calls tasks last is (passes_first (met_out calls tasks last) (Loop times every) is none).1 in
+    let body = body_of is in
+    let less : tasks + tasks_in body - tasks ≡ tasks_in body = omega arith in
+    let e : tasks + times * (tasks + tasks_in body - tasks) ≡ tasks + times * tasks_in body = ap (λ (n : ℕ). tasks + times * n) less in
+    let zeros : 0 + length body ≡ length body = omega arith in
+    let f : calls + times * (0 + length body) ≡ calls + times * length body = ap (λ (n : ℕ). calls + times * n) zeros in
+    let m = from_equal true _ _ _ _ (walked (met_in r calls tasks last) is) is f e k.1 in
+    let ys = calls_from true (tasks + times * tasks_in body) is in
+    (omega (arith, m.0, length-append (iterations times 0 every body tasks) ys, length_turns times 0 every tasks body k.0), omega (arith, m.1, tasks_turns times 0 every tasks body ys))
+counted (Some r) calls tasks last (Loop times every ∷ is) none = let e = (passes_first (met_in r calls tasks last) (Loop times every) is none).0.nested in cc
+counted None calls tasks last (EndLoop ∷ is) none = let e = (passes_first (met_out calls tasks last) EndLoop is none).0.unclosed in cc
+counted (Some r) calls tasks last (EndLoop ∷ is) none =
+    let k = counted None (calls + r.times * r.calls) (r.start + r.times * (tasks - r.start)) ((r.times - 1) * r.every + last) is (passes_first (met_in r calls tasks last) EndLoop is none).1 in
+    let a : r.calls ≡ r.calls + 0 = omega arith in
+    let b : tasks ≡ tasks + 0 = omega arith in
+    (tt, from_equal false _ _ _ _ (walked (met_out (calls + r.times * r.calls) (r.start + r.times * (tasks - r.start)) ((r.times - 1) * r.every + last)) is) is (ap (λ (n : ℕ). calls + r.times * n) a) (ap (λ (n : ℕ). r.start + r.times * (n - r.start)) b) k)
+counted None calls tasks last (i ∷ is) none =
+    let k = counted None (calls + 1) (tasks + tasks_by i) (offset_of i) is (passes_first (met_out calls tasks last) i is none).1 in
+    let ys = calls_from false (tasks + tasks_by i) is in
+    (omega (arith, k.0, length_call i 0 0 tasks ys refl), omega (arith, k.1, tasks_call 0 0 tasks i ys))
+counted (Some r) calls tasks last (i ∷ is) none =
+    let next : OpenLoop = record r { calls = r.calls + 1; first = cond (eqb r.calls 0) (offset_of i) r.first } in
+    let k = counted (Some next) calls (tasks + tasks_by i) (offset_of i) is (passes_first (met_in r calls tasks last) i is none).1 in
+    let a : r.calls + 1 + length (body_of is) ≡ r.calls + suc (length (body_of is)) = omega arith in
+    let b : tasks + tasks_by i + tasks_in (body_of is) ≡ tasks + (tasks_by i + tasks_in (body_of is)) = omega arith in
+    ((refl, k.0), from_equal true _ _ _ _ (walked (met_in next calls (tasks + tasks_by i) (offset_of i)) is) is (ap (λ (n : ℕ). calls + r.times * n) a) (ap (λ (n : ℕ). r.start + r.times * (n - r.start)) b) k.1)
+
+tasks_low : (ps : List Planned) → task_count ps ≤ length ps
+tasks_low [] = omega arith
+tasks_low ((moment, call.Submit task timing delay) ∷ ps) = omega (arith, tasks_low ps)
+tasks_low ((moment, call.Illegal task) ∷ ps) = omega (arith, tasks_low ps)
+tasks_low ((moment, what) ∷ ps) = omega (arith, tasks_low ps)
+
+-- all that is known of a list of instructions without a fault, and of what was met in it
+pub record Known (code : List Instr) (p : Progress) : Type 0 where
+  pub sound : IsCode code
+  pub calls : p.calls ≡ length (calls_of code)
+  pub tasks : p.tasks ≡ task_count (calls_of code)
+  pub few_calls : p.calls ≤ 65536
+  pub few_tasks : p.tasks ≤ 65536
+
+pub known : (code : List Instr) (p : Progress) → fault_of code ≡ None → p ≡ walked opening code → AreTimed code → Known code p
+known code p none is timed =
+    let k = counted None 0 0 0 code none in
+    let good = sound code timed none in
+    let calls : p.calls ≡ length (calls_of code) = ap (λ (q : Progress). q.calls) is ∙ omega (arith, k.0) in
+    let tasks : p.tasks ≡ task_count (calls_of code) = ap (λ (q : Progress). q.tasks) is ∙ omega (arith, k.1) in
+    record { sound = good; calls = calls; tasks = tasks; few_calls = omega (arith, calls, good.order.0); few_tasks = omega (arith, tasks, tasks_low (calls_of code), good.order.0) }

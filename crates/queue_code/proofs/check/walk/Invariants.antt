@@ -1,0 +1,13 @@
+use Rattle.std.proofs.Common.{◌≡◌, drop}
+use Rattle.queue_code.specs.Checks.{opening, first_fault, fault_of, walked, AreTimed}
+use Rattle.queue_code.specs.Sizes.{IsBounded}
+use Rattle.queue_code.proofs.check.walk.Given as goal
+
+-- the rest has the fault of the whole, and meets in the end what the whole does
+abbrev pub invariant-loop-index : goal.invariant-loop-index
+invariant-loop-index l = record {
+  fault : first_fault l.progress (drop l.index l.instrs) ≡ fault_of l.instrs;
+  ends : walked l.progress (drop l.index l.instrs) ≡ walked opening l.instrs;
+  timed : AreTimed (drop l.index l.instrs) → AreTimed l.instrs;
+  bounded : IsBounded l.index l.progress;
+}

@@ -1,0 +1,30 @@
+//! What is so of all codes and faults, in functions that do nothing: each ensures a law.
+ghost use Rattle.std.specs.Prelude.{◌≡◌, true};
+ghost use Rattle.queue_code.specs.declared.fault.CodeFault.{CodeFault};
+ghost use Rattle.queue_code.specs.declared.instr.Instr.{Instr};
+ghost use Rattle.queue_code.specs.CodeLaws.{LeastIndex, NothingWrong, CodesAreOrderly};
+
+use crate::fault::CodeFault;
+use crate::instr::Instr;
+
+/// Instructions that compare as equal are the same.
+pub fn equal_instrs_are_one()
+    ensures { (a b : Instr) → ⟦<Instr as PartialEq>⟧.eq a b ≡ true → a ≡ b }
+{}
+
+/// Faults that compare as equal are the same.
+pub fn equal_faults_are_one()
+    ensures { (a b : CodeFault) → ⟦<CodeFault as PartialEq>⟧.eq a b ≡ true → a ≡ b }
+{}
+
+/// The fault of a list of instructions is that of the least index at which a check fails, and where it has none no
+/// check fails at any index.
+pub fn faults_are_the_first()
+    ensures least { LeastIndex }
+    ensures none { NothingWrong }
+{}
+
+/// The calls of a list of instructions without a fault are in order.
+pub fn codes_are_orderly()
+    ensures { CodesAreOrderly }
+{}

@@ -1,0 +1,92 @@
+ghost use Rattle.std.specs.Prelude.{◌≡◌};
+ghost use Rattle.queue_code.specs.Codes.{tasks_by};
+ghost use Rattle.queue_code.specs.Checks.{offset_of, is_call};
+
+use sched_time::Timing;
+use std::fmt;
+
+/// An instruction of queue code.
+///
+/// The first number of an instruction that makes a call is its offset, in nanoseconds: the call is made so long
+/// after the base, which is 0 outside a loop and in a loop's first iteration.
+#[derive(Clone, Copy, Debug, PartialEq, Eq)]
+pub enum Instr {
+    /// Submits a task, which gets the next number. Behind the offset stand how often the task runs, and the
+    /// delay from the call to its first run, in nanoseconds.
+    Submit(u64, Timing, u64),
+    /// Submits a task with a period, or a fixed delay, that is zero or negative. It gets the next number too.
+    Illegal(u64),
+    /// Cancels the task with this number.
+    CancelFixed(u64, u32),
+    /// Cancels a task of this iteration: the one that so many tasks of the iteration come before.
+    CancelHere(u64, u32),
+    /// Begins a loop: the instructions up to the next [`EndLoop`](Instr::EndLoop) are executed so often, and
+    /// each iteration's base is so many nanoseconds above that of the one before.
+    Loop(u32, u64),
+    /// Ends a loop.
+    EndLoop,
+    /// Ends the code.
+    Halt,
+}
+
+impl Instr {
+    /// The offset of a call, and 0 where the instruction makes none.
+    pub(crate) fn offset(&self) -> u64
+        ensures { result ≡ offset_of self.now }
+    {
+        match self {
+            Instr::Submit(offset, ..)
+            | Instr::Illegal(offset)
+            | Instr::CancelFixed(offset, _)
+            | Instr::CancelHere(offset, _) => *offset,
+            Instr::Loop(..) | Instr::EndLoop | Instr::Halt => 0,
+        }
+    }
+
+    /// Whether it makes a call.
+    pub(crate) fn is_call(&self) -> bool
+        ensures { result ≡ is_call self.now }
+    {
+        !matches!(self, Instr::Loop(..) | Instr::EndLoop | Instr::Halt)
+    }
+
+    /// How many tasks it makes.
+    pub(crate) fn tasks(&self) -> u32
+        ensures { result ≡ tasks_by self.now }
+    {
+        match self {
+            Instr::Submit(..) | Instr::Illegal(_) => 1,
+            _ => 0,
+        }
+    }
+}
+
+impl fmt::Display for Instr {
+    ghost use Rattle.std.specs.Prelude.{Some};
+    ghost use Rattle.queue_code.specs.Listings.{instr_text};
+
+    ghost output = { λ i. Some (instr_text i) };
+
+    fn fmt<W: fmt::Write>(&self, f: &mut fmt::Formatter<W>) -> fmt::Result {
+        match self {
+            Instr::Submit(offset, Timing::Once, delay) => write!(
+                f,
+                "submit {offset} schedule {delay}"
+            ),
+            Instr::Submit(offset, Timing::Rate(period), first) => {
+                let period = period.nanos();
+                write!(f, "submit {offset} rate {first} {period}")
+            }
+            Instr::Submit(offset, Timing::Fixed(delay), first) => {
+                let delay = delay.nanos();
+                write!(f, "submit {offset} fixed {first} {delay}")
+            }
+            Instr::Illegal(offset) => write!(f, "illegal {offset}"),
+            Instr::CancelFixed(offset, task) => write!(f, "cancel {offset} task {task}"),
+            Instr::CancelHere(offset, nth) => write!(f, "cancel {offset} here {nth}"),
+            Instr::Loop(times, every) => write!(f, "loop {times} every {every}"),
+            Instr::EndLoop => write!(f, "endloop"),
+            Instr::Halt => write!(f, "halt"),
+        }
+    }
+}

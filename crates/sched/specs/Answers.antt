@@ -1,0 +1,25 @@
+-- Answers: how the end of a run is told.
+-- All of it is this project's rule.
+use Rattle.std.specs.Prelude.{◌≡◌, ℕ, List, Option, Result, Ok, Err}
+use Rattle.sched.specs.Faults.{IsToldAs, status_of}
+use Rattle.sched.specs.declared.arguments.RunArguments.{RunArguments}
+use Rattle.sched.specs.declared.fault_lines.Fault.{Fault}
+use Rattle.sched_engine.specs.Running.{Ran}
+use Rattle.sched_engine.specs.declared.report.Report.{Report}
+use Rattle.sched_engine.specs.declared.report.RunError.{RunError}
+
+-- a run that took its whole input is told by status 0, and each other one by its fault
+abbrev pub Tells : Result Report RunError → Result ℕ Fault → Type 0
+Tells (Ok report) answer = answer ≡ Ok 0
+Tells (Err error) answer = (fault : Fault) × IsToldAs error fault × (answer ≡ Err fault)
+
+-- the run that was asked for, over the plan that the text writes, and its end as the answer tells it
+pub record RanAsAsked (answer : Result ℕ Fault) (asked : RunArguments) (text : List ℕ) (input left old new : Option (List ℕ)) : Type 0 where
+  pub ended : Result Report RunError
+  pub ran : Ran ended text asked.workers asked.limit input left old new
+  pub told : Tells ended answer
+
+-- the exit status that goes with an answer
+abbrev pub exit_status_of : Result ℕ Fault → ℕ
+exit_status_of (Ok status) = status
+exit_status_of (Err fault) = status_of fault

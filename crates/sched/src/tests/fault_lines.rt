@@ -1,0 +1,90 @@
+//! The lines on standard error, and the exit statuses.
+
+use super::world::World;
+use super::{ends, given};
+use crate::fault_lines::{Fault, told};
+use plan_read::{PlanFault, PlanFaultKind};
+use sched_engine::RunError;
+use std::process::Abort;
+use std::test::Fail;
+
+/// Checks that a fault is told by just this line on standard error, and this status.
+fn is_told(rt: &(impl AllocGlobal + Abort), fault: Fault, status: u8, line: &str) {
+    let world = World::new(rt.alloc(), given(&[], ""));
+    let code = told(&world, Err(fault));
+    ends(rt, &world.end(code), status, "", line)
+}
+
+/// A fault of a plan in the second call of its third block.
+fn of_plan(kind: PlanFaultKind) -> Fault {
+    Fault::from(RunError::Plan(PlanFault {
+        kind,
+        block: 3,
+        call: 2,
+    }))
+}
+
+#[test]
+fn tells_each_kind_of_plan_fault(rt: HostRuntime) -> Result<(), Fail> {
+    for (kind, name) in [
+        (PlanFaultKind::TooLong, "TooLong"),
+        (PlanFaultKind::Toml, "Toml"),
+        (PlanFaultKind::Version, "Version"),
+        (PlanFaultKind::UnknownKey, "UnknownKey"),
+        (PlanFaultKind::Missing, "Missing"),
+        (PlanFaultKind::WrongType, "WrongType"),
+        (PlanFaultKind::TooMany, "TooMany"),
+        (PlanFaultKind::BadName, "BadName"),
+        (PlanFaultKind::DuplicateName, "DuplicateName"),
+        (PlanFaultKind::UnknownName, "UnknownName"),
+        (PlanFaultKind::Negative, "Negative"),
+        (PlanFaultKind::TooLarge, "TooLarge"),
+        (PlanFaultKind::OutOfOrder, "OutOfOrder"),
+    ] {
+        let line = format!(in rt.alloc(); "sched: plan: {name} block 3 call 2\n")?;
+        is_told(&rt, of_plan(kind), 1, line.as_str());
+    }
+    is_told(
+        &rt,
+        of_plan(PlanFaultKind::Memory),
+        1,
+        "sched: out of memory\n",
+    );
+    Ok(())
+}
+
+#[test]
+fn tells_each_end_of_a_run(rt: HostRuntime) {
+    for (error, line) in [
+        (
+            RunError::EventLine(4_294_967_296),
+            "sched: event line 4294967296\n",
+        ),
+        (RunError::Full, "sched: full\n"),
+        (RunError::Read, "sched: read fault\n"),
+        (RunError::Write, "sched: write fault\n"),
+        (RunError::Memory, "sched: out of memory\n"),
+        (
+            RunError::Workers,
+            "sched: the number of workers is not 1 to 64\n",
+        ),
+        (RunError::Limit, "sched: the limit on events is 0\n"),
+    ] {
+        is_told(&rt, Fault::from(error), 1, line);
+    }
+}
+
+#[test]
+fn tells_faults_of_the_plan_file_and_of_the_arguments(rt: HostRuntime) {
+    is_told(&rt, Fault::PlanFile, 1, "sched: plan file not read\n");
+    is_told(&rt, Fault::Arguments, 2, "sched: command line not UTF-8\n");
+}
+
+#[test]
+fn tells_a_status_by_no_line(rt: HostRuntime) {
+    for status in [0, 2] {
+        let world = World::new(rt.alloc(), given(&[], ""));
+        let code = told(&world, Ok(status));
+        ends(&rt, &world.end(code), status, "", "");
+    }
+}

@@ -1,0 +1,95 @@
+//! The texts of help, and of faults of the command line.
+
+use super::given;
+use super::world::run_in;
+use std::process::{Abort, ExitCode};
+
+/// Checks that a command line is answered by a text with each of these parts: on standard output
+/// with status 0, or on standard error with status 2.
+fn shows(rt: &(impl AllocGlobal + Abort), arguments: &[&[u8]], status: u8, parts: &[&str]) {
+    let ended = run_in(rt.alloc(), given(arguments, ""));
+    assert_eq!(rt; ended.status, ExitCode::from(status));
+    let (shown, other) = if status == 0 {
+        (&ended.out, &ended.err)
+    } else {
+        (&ended.err, &ended.out)
+    };
+    assert!(rt; other.is_empty());
+    match std::str::from_utf8(shown) {
+        Ok(text) => {
+            for part in parts {
+                assert!(rt; text.contains(*part), "{part}");
+            }
+        }
+        Err(_) => assert!(rt; false),
+    }
+}
+
+#[test]
+fn help_names_the_command_and_the_statuses(rt: HostRuntime) {
+    shows(
+        &rt,
+        &[b"sched", b"--help"],
+        0,
+        &[
+            "Usage: sched <COMMAND>\n",
+            "  run   Runs a plan over the events on standard input",
+            "'sched run --help' tells what a plan, an event and a trace look like.\n",
+            "  0  done\n",
+            "  1  a fault, told by a line on standard error\n",
+            "  2  a fault of the command line\n",
+        ],
+    );
+}
+
+#[test]
+fn help_of_run_names_forms_limits_and_statuses(rt: HostRuntime) {
+    shows(
+        &rt,
+        &[b"sched", b"run", b"--help"],
+        0,
+        &[
+            "Usage: sched run [OPTIONS] --workers <N> <PLAN>\n",
+            "How many workers there are, 1 to 64",
+            "How many events are taken at most, 1 to 4,294,967,295",
+            "[default: 1000000]",
+            "at most 1,048,576 bytes",
+            "\"schedule\"",
+            "\"rate\"",
+            "\"fixed\"",
+            "\"cancel\"",
+            "  clock T  ",
+            "  start W  ",
+            "  finish W ok V  ",
+            "  finish W fail C  ",
+            "  cancel K  ",
+            "at most 63 bytes with its newline",
+            "  0  all events were answered\n",
+            "  1  a fault",
+            "sched: plan file not read\n",
+            "sched: plan: KIND block B call C",
+            "sched: event line N",
+            "sched: full",
+            "sched: read fault\n",
+            "sched: write fault\n",
+            "sched: out of memory\n",
+            "  2  a fault of the command line\n",
+        ],
+    );
+}
+
+#[test]
+fn tells_a_fault_of_the_command_line(rt: HostRuntime) {
+    shows(
+        &rt,
+        &[b"sched", b"run", b"plan.toml", b"--workers", b"65"],
+        2,
+        &["error: ", "'65'", "'--workers <N>'", "try '--help'"],
+    );
+    shows(
+        &rt,
+        &[b"sched"],
+        2,
+        &["error: ", "requires a subcommand", "Usage: sched <COMMAND>"],
+    );
+}

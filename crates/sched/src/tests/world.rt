@@ -1,0 +1,254 @@
+//! A world in memory: all that the program reads and writes.
+
+ghost use Rattle.std.specs.Prelude.{IsErr};
+
+use crate::program::program;
+use std::alloc::{Allocator, Global};
+use std::cell::RefCell;
+use std::env::FillError;
+use std::fmt::Display;
+use std::fs::{Metadata, OpenFile, OpenOptions};
+use std::io;
+use std::io::{BufRead, ErrorKind, Lines, Read, Seek, SeekFrom, Write};
+use std::process::ExitCode;
+use std::rt::{Env, Files};
+
+/// A plan file: its bytes, and whether it is at fault after them.
+#[derive(Clone, Copy)]
+pub struct PlanFile<'a> {
+    pub rest: &'a [u8],
+    pub is_broken: bool,
+}
+
+/// The command line, the plan file with its name, standard input, and whether standard output is
+/// closed.
+#[derive(Clone, Copy)]
+pub struct Given<'a> {
+    pub arguments: &'a [&'a [u8]],
+    pub name: &'a str,
+    pub plan: PlanFile<'a>,
+    pub events: &'a [u8],
+    pub is_closed: bool,
+}
+
+/// What is given, and what was written so far to standard output and to standard error.
+#[derive(Drop)]
+pub struct World<'a> {
+    alloc: Global,
+    given: Given<'a>,
+    out: RefCell<Vec<u8>>,
+    err: RefCell<Vec<u8>>,
+}
+
+/// How the program ended, and what it wrote.
+#[derive(Drop)]
+pub struct Ended {
+    pub status: ExitCode,
+    pub out: Vec<u8>,
+    pub err: Vec<u8>,
+}
+
+impl<'a> World<'a> {
+    /// Nothing was written so far.
+    pub fn new(alloc: Global, given: Given<'a>) -> World<'a> {
+        World {
+            alloc,
+            given,
+            out: RefCell::new(Vec::new(alloc)),
+            err: RefCell::new(Vec::new(alloc)),
+        }
+    }
+
+    /// What was written, with an exit status.
+    pub fn end(self, status: ExitCode) -> Ended {
+        Ended {
+            status,
+            out: self.out.into_inner(),
+            err: self.err.into_inner(),
+        }
+    }
+}
+
+/// Runs the program in a world of what is given.
+pub fn run_in(alloc: Global, given: Given<'_>) -> Ended {
+    let world = World::new(alloc, given);
+    let status = program(&world);
+    world.end(status)
+}
+
+fn append(text: &RefCell<Vec<u8>>, bytes: &[u8]) -> io::Result<()> {
+    match text.try_borrow_mut() {
+        Ok(mut text) => Ok(text.extend_from_slice(bytes)?),
+        Err(_) => unsupported(),
+    }
+}
+
+fn unsupported<T>() -> io::Result<T>
+    ensures { IsErr result }
+{
+    Err(io::Error::from(ErrorKind::Unsupported))
+}
+
+impl Alloc for World<'_> {
+    type A = Global;
+
+    fn alloc(&self) -> Global {
+        self.alloc
+    }
+}
+
+impl Env for World<'_> {
+    fn arg(&self, i: usize, buf: &mut [u8]) -> Result<usize, FillError> {
+        let Some(argument) = self.given.arguments.get(i) else {
+            return Err(FillError::NotPresent);
+        };
+        if argument.len() > buf.len() {
+            return Err(FillError::TooLong);
+        }
+        buf[..argument.len()].copy_from_slice(argument);
+        Ok(argument.len())
+    }
+
+    fn var(&self, _name: &str, _buf: &mut [u8]) -> Result<usize, FillError> {
+        Err(FillError::NotPresent)
+    }
+
+    fn var_at(&self, _i: usize, _buf: &mut [u8]) -> Result<usize, FillError> {
+        Err(FillError::NotPresent)
+    }
+}
+
+impl Print for World<'_> {
+    fn print<D: Display + Drop>(&self, value: D) -> io::Result<()> {
+        self.write_all(format!(in self.alloc; "{value}")?.as_bytes())
+    }
+
+    fn println<D: Display + Drop>(&self, value: D) -> io::Result<()> {
+        self.write_all(format!(in self.alloc; "{value}\n")?.as_bytes())
+    }
+
+    fn write_all(&self, bytes: &[u8]) -> io::Result<()> {
+        if self.given.is_closed {
+            return Err(io::Error::from(ErrorKind::BrokenPipe));
+        }
+        append(&self.out, bytes)
+    }
+}
+
+impl Eprint for World<'_> {
+    fn eprint<D: Display + Drop>(&self, value: D) -> io::Result<()> {
+        append(&self.err, format!(in self.alloc; "{value}")?.as_bytes())
+    }
+
+    fn eprintln<D: Display + Drop>(&self, value: D) -> io::Result<()> {
+        append(&self.err, format!(in self.alloc; "{value}\n")?.as_bytes())
+    }
+}
+
+impl<'a> Input for World<'a> {
+    type Reader = &'a [u8];
+
+    fn read_line<A: Allocator + Clone>(&self, _buf: &mut String<A>) -> io::Result<usize> {
+        unsupported()
+    }
+
+    fn lines<A: Allocator>(&self, alloc: A) -> Lines<&'a [u8], A> {
+        self.given.events.lines(alloc)
+    }
+
+    fn reader(&self) -> &'a [u8] {
+        self.given.events
+    }
+}
+
+impl<'a> Files for World<'a> {
+    type File = PlanFile<'a>;
+
+    type Dir = &'a [u8];
+
+    fn open_file(&self, _how: &OpenOptions, path: &str) -> io::Result<PlanFile<'a>> {
+        if path != self.given.name {
+            return Err(io::Error::from(ErrorKind::NotFound));
+        }
+        Ok(self.given.plan)
+    }
+
+    fn open_dir(&self, _path: &str) -> io::Result<&'a [u8]> {
+        unsupported()
+    }
+
+    fn metadata(&self, _path: &str) -> io::Result<Metadata> {
+        unsupported()
+    }
+
+    fn symlink_metadata(&self, _path: &str) -> io::Result<Metadata> {
+        unsupported()
+    }
+
+    fn copy(&self, _from: &str, _to: &str) -> io::Result<u64> {
+        unsupported()
+    }
+
+    fn rename(&self, _from: &str, _to: &str) -> io::Result<()> {
+        unsupported()
+    }
+
+    fn remove_file(&self, _path: &str) -> io::Result<()> {
+        unsupported()
+    }
+
+    fn create_dir(&self, _path: &str) -> io::Result<()> {
+        unsupported()
+    }
+
+    fn remove_dir(&self, _path: &str) -> io::Result<()> {
+        unsupported()
+    }
+
+    fn remove_dir_all<B: Allocator>(&self, _alloc: B, _path: &str) -> io::Result<()> {
+        unsupported()
+    }
+}
+
+impl Read for PlanFile<'_> {
+    fn read(&mut self, buf: &mut [u8]) -> io::Result<usize> {
+        if self.rest.is_empty() && self.is_broken {
+            return unsupported();
+        }
+        self.rest.read(buf)
+    }
+}
+
+impl Write for PlanFile<'_> {
+    fn write(&mut self, _buf: &[u8]) -> io::Result<usize> {
+        unsupported()
+    }
+
+    fn flush(&mut self) -> io::Result<()> {
+        Ok(())
+    }
+}
+
+impl Seek for PlanFile<'_> {
+    fn seek(&mut self, _to: SeekFrom) -> io::Result<u64> {
+        unsupported()
+    }
+}
+
+impl OpenFile for PlanFile<'_> {
+    fn metadata(&self) -> io::Result<Metadata> {
+        unsupported()
+    }
+
+    fn set_len(&self, _size: u64) -> io::Result<()> {
+        unsupported()
+    }
+
+    fn sync_all(&self) -> io::Result<()> {
+        unsupported()
+    }
+
+    fn sync_data(&self) -> io::Result<()> {
+        unsupported()
+    }
+}

@@ -1,0 +1,133 @@
+-- Turns: how far a run has come, between one read and the next.
+-- All of it is this project's rule.
+use Rattle.std.specs.Prelude.{◌≡◌, ℕ, ◌+◌, ◌-◌, ◌*◌, ◌^◌, ◌<◌, ◌≤◌, List, [], ◌++◌, Option, Result, Ok, Err, length, take}
+use Rattle.std.specs.Io.KnownBytes.{Appends, Consumes, prepend_known}
+use Rattle.executor_core.specs.declared.Event.{Event}
+use Rattle.executor_core.specs.declared.Line.{Line}
+use Rattle.queue_code.specs.Calls.{Planned, IsOrderly}
+use Rattle.executor_core.specs.Histories.{HistoryEntry, IsHistoryOf}
+use Rattle.executor_core.specs.Flows.{history_of, lines_of}
+use Rattle.executor_core.specs.Machine.{Machine, workers_of, Stands, Continues}
+use Rattle.trace_text.specs.Spelling.{IsLine, lines_text}
+use Rattle.trace_text.specs.declared.front.TheConstants.{MOST_EVENT_BYTES}
+use Rattle.sched_engine.specs.declared.answering.PieceEnd.{PieceEnd}
+use Rattle.sched_engine.specs.declared.answering.PieceEnd.TheVariants as e
+use Rattle.sched_engine.specs.declared.engine.Turn.{Turn}
+use Rattle.sched_engine.specs.declared.engine.Turn.TheVariants as t
+use Rattle.sched_engine.specs.declared.report.RunError.{RunError}
+use Rattle.sched_engine.specs.Inputs.{input_of, AreEvents, IsRefused, BeginsWithEvent}
+use Rattle.sched_engine.specs.Running.{IsAccepted, Runs, text_of}
+
+-- ---- one event, and the events of a piece
+
+-- the core took an event, and the text of the lines that answer it was appended
+pub record TakesEvent (old new : Machine) (event : Event) (before after : List ℕ) (count : ℕ) : Type 0 where
+  pub calls : new.calls ≡ old.calls
+  pub limit : new.limit ≡ old.limit
+  pub workers : workers_of new ≡ workers_of old
+  pub taken : new.taken ≡ old.taken + 1
+  pub lines : List Line
+  pub history : (past : List HistoryEntry) → IsHistoryOf old.calls (workers_of old) past → Stands old past → Continues old new [] lines event past
+  pub written : after ≡ before ++ lines_text lines
+  pub counted : count ≡ length lines
+
+-- a core that took some events and then more: where it stands, and the text and the number of lines that it gave for the latter
+pub record Extends (calls : List Planned) (workers : ℕ) (core : Machine) (more events : List Event) (text : List ℕ) (count : ℕ) : Type 0 where
+  pub stands : Stands core (history_of calls workers (more ++ events))
+  pub says : text_of calls (history_of calls workers (more ++ events)) ≡ text_of calls (history_of calls workers events) ++ text
+  pub counted : length (lines_of calls (history_of calls workers (more ++ events))) ≡ length (lines_of calls (history_of calls workers events)) + count
+
+-- the first bytes of those held are the lines of events, which were answered: `more` are the events, the newest first
+pub record IsAnswered (old new : Machine) (held : List ℕ) (taken : ℕ) (before after : List ℕ) (count : ℕ) : Type 0 where
+  pub more : List Event
+  pub fit : AreEvents more
+  pub front : take taken held ≡ input_of more
+  pub within : taken ≤ length held
+  pub events : new.taken ≡ old.taken + length more
+  pub calls : new.calls ≡ old.calls
+  pub limit : new.limit ≡ old.limit
+  pub workers : workers_of new ≡ workers_of old
+  pub text : List ℕ
+  pub written : after ≡ before ++ text
+  pub extends : IsOrderly old.calls → (events : List Event) → Stands old (history_of old.calls (workers_of old) events)
+      → Extends old.calls (workers_of old) new more events text count
+
+-- why the bytes that are held were not taken further
+abbrev pub IsPieceEnd : PieceEnd → Machine → List ℕ → Type 0
+IsPieceEnd e.Part core rest = IsLine rest × (length rest < MOST_EVENT_BYTES)
+IsPieceEnd e.Refused core rest = (0 < length rest) × ((more : List ℕ) → IsRefused (rest ++ more))
+IsPieceEnd e.Full core rest = (core.taken ≡ core.limit) × BeginsWithEvent rest
+
+-- the core is where some events led it
+pub record IsStanding (core : Machine) : Type 0 where
+  pub events : List Event
+  pub orderly : IsOrderly core.calls
+  pub stands : Stands core (history_of core.calls (workers_of core) events)
+  pub taken : core.taken ≡ length events
+  pub within : core.taken ≤ core.limit
+  pub small : core.limit < 2 ^ 32
+
+-- ---- a run under way
+
+-- what a run runs over: the calls, how many workers there are and how many events are taken at most, and what the ends had at first
+pub record Setting : Type 0 where
+  pub calls : List Planned
+  pub workers : ℕ
+  pub limit : ℕ
+  pub input : Option (List ℕ)
+  pub contents : Option (List ℕ)
+
+-- how far a run has come: what is left of the input and what of it is held, the text that was not written yet and what the
+-- writer has, the core, and the number of lines that were answered
+pub record Progress : Type 0 where
+  pub left : Option (List ℕ)
+  pub held : List ℕ
+  pub text : List ℕ
+  pub contents : Option (List ℕ)
+  pub core : Machine
+  pub count : ℕ
+
+-- so far these events were taken, and their trace was written but for the text at hand
+pub record Done (run : Setting) (at : Progress) : Type 0 where
+  pub events : List Event
+  pub fit : AreEvents events
+  pub read : Consumes run.input (prepend_known at.held at.left) (input_of events)
+  pub before : List ℕ
+  pub written : Appends run.contents at.contents before
+  pub says : text_of run.calls (history_of run.calls run.workers events) ≡ before ++ at.text
+  pub counted : length (lines_of run.calls (history_of run.calls run.workers events)) ≡ at.count
+  pub taken : at.core.taken ≡ length events
+  pub within : at.core.taken ≤ run.limit
+  pub stands : Stands at.core (history_of run.calls run.workers events)
+  pub calls : at.core.calls ≡ run.calls
+  pub workers : workers_of at.core ≡ run.workers
+  pub limit : at.core.limit ≡ run.limit
+  pub orderly : IsOrderly run.calls
+  pub small : run.limit < 2 ^ 32
+
+-- between two turns each event that was read is answered and the answers are written: what is held is a part of one line
+pub record IsBetweenTurns (run : Setting) (at : Progress) : Type 0 where
+  pub done : Done run at
+  pub none : at.text ≡ []
+  pub part : IsLine at.held
+  pub short : length at.held < MOST_EVENT_BYTES
+
+-- falls from turn to turn: each brings an event, or a byte more of a line
+abbrev pub still_to_come : Setting → Progress → ℕ
+still_to_come run at = (run.limit - at.core.taken) * (MOST_EVENT_BYTES + 1) + (MOST_EVENT_BYTES - length at.held)
+
+-- what a turn did: the run goes on, or it ended so
+abbrev pub Turns : Result Turn RunError → Setting → Progress → Progress → Type 0
+Turns (Ok t.More) run old new = IsBetweenTurns run new × (still_to_come run new < still_to_come run old)
+Turns (Ok (t.Ended report)) run old new = Runs (Ok report) run.calls run.workers run.limit run.input new.left run.contents new.contents
+Turns (Err e) run old new = Runs (Err e) run.calls run.workers run.limit run.input new.left run.contents new.contents
+
+-- a core of the plan that the text writes, before anything happened
+pub record Opens (core : Machine) (text : List ℕ) (workers limit : ℕ) : Type 0 where
+  pub accepted : IsAccepted text core.calls workers limit
+  pub count : workers_of core ≡ workers
+  pub most : core.limit ≡ limit
+  pub small : limit < 2 ^ 32
+  pub orderly : IsOrderly core.calls
+  pub taken : core.taken ≡ 0
+  pub stands : Stands core []

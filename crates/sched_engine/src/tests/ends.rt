@@ -1,0 +1,138 @@
+ghost use Rattle.std.specs.Prelude.{◌≡◌, ◌≤◌, ◌++◌, ℕ, List, take, IfOk, IfSome};
+
+use crate::ends::{read_some, write_text};
+use crate::held::{Filled, Held};
+use crate::memory::Pieces;
+use crate::readers::Reading;
+use crate::writers::Writing;
+use linked_list_allocator::LocalHeap;
+use std::alloc::Global;
+use std::io;
+use std::io::{ErrorKind, Read, Write};
+use std::test::Fail;
+use trace_text::{Front, front_event};
+
+/// A text through a fresh sink: its contents are known from the start.
+fn through(alloc: Global, text: &[u8]) -> Option<Vec<u8>>
+    ensures { IfSome result (λ v. v.items ≡ text.now) }
+{
+    let mut sink = Writing::new(Vec::new(alloc));
+    if !write_text(&mut sink, text) {
+        return None;
+    }
+    Some(sink.into_inner())
+}
+
+/// The first bytes of a fresh source: what it has left is known from the start.
+fn front_of(bytes: &[u8], most: usize, buf: &mut [u8]) -> Option<usize>
+    ensures { IfSome result (λ n. (rest : List ℕ) × (bytes.now ≡ take n buf.new ++ rest)) }
+{
+    let mut source = Pieces::new(bytes, most);
+    read_some(&mut source, buf)
+}
+
+/// The first bytes of a fresh source out of a reader.
+fn front_of_reader(bytes: &[u8], buf: &mut [u8]) -> Option<usize>
+    ensures { IfSome result (λ n. (rest : List ℕ) × (bytes.now ≡ take n buf.new ++ rest)) }
+{
+    let mut source = Reading::new(bytes);
+    read_some(&mut source, buf)
+}
+
+/// A reader and writer that is at fault at its second call, and takes nothing at
+/// its third.
+#[derive(Drop)]
+struct Faulty {
+    calls: u32,
+    kind: ErrorKind,
+}
+
+impl Faulty {
+    fn call(&mut self, len: usize) -> io::Result<usize>
+        ensures { IfOk result (λ n. n ≤ len) }
+    {
+        self.calls = self.calls.saturating_add(1);
+        if self.calls == 2 {
+            return Err(io::Error::from(self.kind));
+        }
+        if self.calls == 3 {
+            return Ok(0);
+        }
+        Ok(len.min(2))
+    }
+}
+
+impl Write for Faulty {
+    fn write(&mut self, buf: &[u8]) -> io::Result<usize> {
+        self.call(buf.len())
+    }
+
+    fn flush(&mut self) -> io::Result<()> {
+        Ok(())
+    }
+}
+
+impl Read for Faulty {
+    fn read(&mut self, buf: &mut [u8]) -> io::Result<usize> {
+        self.call(buf.len())
+    }
+}
+
+#[test]
+fn passes_bytes(rt: HostRuntime) -> Result<(), Fail> {
+    let text = through(rt.alloc(), b"5 clock\n");
+    assert!(rt; text.is_some_and(|text| text.as_slice() == b"5 clock\n".as_slice()));
+    let mut buf = [0u8; 4];
+    assert_eq!(rt; front_of(b"abcdef", 3, &mut buf), Some(3));
+    assert_eq!(rt; front_of(b"abcdef", 0, &mut buf), Some(1));
+    assert_eq!(rt; front_of_reader(b"abcdef", &mut buf), Some(4));
+    assert_eq!(rt; front_of(b"", 3, &mut buf), Some(0));
+    Ok(())
+}
+
+#[test]
+fn answers_each_fault_at_once(rt: HostRuntime) -> Result<(), Fail> {
+    for kind in [ErrorKind::Interrupted, ErrorKind::Other] {
+        let mut buf = [0u8; 4];
+        let mut source = Reading::new(Faulty { calls: 0, kind });
+        assert_eq!(rt; read_some(&mut source, &mut buf), Some(2));
+        assert_eq!(rt; read_some(&mut source, &mut buf), None);
+        assert_eq!(rt; read_some(&mut source, &mut buf), Some(0));
+
+        let mut sink = Writing::new(Faulty { calls: 0, kind });
+        assert!(rt; write_text(&mut sink, b"ab"));
+        assert!(rt; !write_text(&mut sink, b"ab"));
+        assert!(rt; !write_text(&mut sink, b"ab"));
+        assert!(rt; write_text(&mut sink, b"abcdef"));
+    }
+    Ok(())
+}
+
+#[test]
+fn holds_pieces(rt: HostRuntime) -> Result<(), Fail> {
+    for most in 1..20usize {
+        let mut source = Pieces::new(b"start 1\nclock 22\n", most);
+        let mut held = Held::new(rt.alloc())?;
+        let mut sizes = Vec::new(rt.alloc());
+        for _ in 0..40u32 {
+            if let Front::Event(_, size) = front_event(held.bytes()) {
+                sizes.push(size)?;
+                held.skip(size);
+            } else if held.bytes().len() < 64 && held.fill(&mut source) == Filled::End {
+                break;
+            }
+        }
+        assert!(rt; sizes.as_slice() == [8, 9].as_slice());
+        assert!(rt; held.bytes().is_empty());
+    }
+    Ok(())
+}
+
+#[test]
+fn tells_want_of_memory(rt: HostRuntime) -> Result<(), Fail> {
+    let narrow = LocalHeap::new(rt.alloc(), 1_000)?;
+    assert!(rt; Held::new(&narrow).is_err());
+    let wide = LocalHeap::new(rt.alloc(), 100_000)?;
+    assert!(rt; Held::new(&wide).is_ok());
+    Ok(())
+}

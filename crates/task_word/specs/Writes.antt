@@ -1,0 +1,59 @@
+-- The writes of the word of a task: for each kind of write, which word becomes which. A load writes nothing, and neither
+-- does cutting off a handle or taking one back. This project's rule.
+use Rattle.std.specs.Prelude.{◌≡◌, ℕ, ◌+◌, Bool, true, false}
+use Rattle.task_word.specs.Words.{Parts, marked}
+use Rattle.task_word.specs.declared.phases.Phase.{Phase}
+use Rattle.task_word.specs.declared.phases.Phase.TheVariants.{Vacant, New, Running, Done, Failed}
+
+-- the kinds of write. A handle makes the last one, and the core's seat all others
+pub data Kind : Type 0 where
+  submit : Kind
+  start : Kind
+  done : Kind
+  fail : Kind
+  rearm : Kind
+  core_cancel : Kind
+  handle_cancel : Kind
+
+-- the word without the bit
+abbrev pub plain : Phase → ℕ → Parts
+plain p n = record { phase = p; run = n; marked = false }
+
+-- a write of the kind takes the word w to the word u:
+-- submit: a vacant word, with the bit or without, to new in run 0;
+-- start: new in run n to running in run n;
+-- done, fail: running in run n to done, to failed in run n;
+-- rearm: running in run n to new in run n + 1;
+-- core_cancel, handle_cancel: any word to the same with the bit
+abbrev pub Writes : Kind → Parts → Parts → Type 0
+Writes submit w u = (w.phase ≡ Vacant) × (u ≡ plain New 0)
+Writes start w u = (n : ℕ) × (w ≡ plain New n) × (u ≡ plain Running n)
+Writes done w u = (n : ℕ) × (w ≡ plain Running n) × (u ≡ plain Done n)
+Writes fail w u = (n : ℕ) × (w ≡ plain Running n) × (u ≡ plain Failed n)
+Writes rearm w u = (n : ℕ) × (w ≡ plain Running n) × (u ≡ plain New (n + 1))
+Writes core_cancel w u = u ≡ marked w
+Writes handle_cancel w u = u ≡ marked w
+
+-- the write is an exchange, which expects the word that it takes on
+abbrev pub is_exchange : Kind → Bool
+is_exchange submit = false
+is_exchange start = true
+is_exchange done = true
+is_exchange fail = true
+is_exchange rearm = true
+is_exchange core_cancel = false
+is_exchange handle_cancel = false
+
+-- the write is a cancel, which sets the bit and nothing else
+abbrev pub is_cancel : Kind → Bool
+is_cancel submit = false
+is_cancel start = false
+is_cancel done = false
+is_cancel fail = false
+is_cancel rearm = false
+is_cancel core_cancel = true
+is_cancel handle_cancel = true
+
+-- some exchange takes the word w to the word u
+abbrev pub Exchanges : Parts → Parts → Type 0
+Exchanges w u = (kind : Kind) × (is_exchange kind ≡ true) × Writes kind w u

@@ -1,0 +1,35 @@
+-- Reading: what stands at the front of some bytes (this project's rule).
+use Rattle.std.specs.Prelude.{◌≡◌, ◌≢◌, ℕ, ◌<◌, ◌≤◌, List, ◌++◌, drop, length}
+use Rattle.std.specs.Fmt.{decimal}
+use Rattle.executor_core.specs.declared.Event.{Event}
+use Rattle.trace_text.specs.declared.front.Front.{Front}
+use Rattle.trace_text.specs.declared.front.Front.TheVariants as front
+use Rattle.trace_text.specs.declared.front.TheConstants.{MOST_EVENT_BYTES}
+use Rattle.trace_text.specs.Spelling.{IsLine, event_line, FitsEvent}
+
+-- the spelling of a value that fits stands at the front, and what follows it
+abbrev pub IsRead : {V : Type 0} → (V → List ℕ) → (V → Type 0) → List ℕ → V → List ℕ → Type 0
+IsRead spell fits bytes v rest = fits v × (bytes ≡ spell v ++ rest)
+
+-- no spelling of a value that fits stands at the front
+abbrev pub IsUnread : {V : Type 0} → (V → List ℕ) → (V → Type 0) → List ℕ → Type 0
+IsUnread {V} spell fits bytes = (v : V) (rest : List ℕ) → fits v → bytes ≢ spell v ++ rest
+
+-- a number, and a word behind it
+abbrev pub number_then : List ℕ → ℕ → List ℕ
+number_then word n = decimal n ++ word
+
+-- below a limit
+abbrev pub Below : ℕ → ℕ → Type 0
+Below limit n = n < limit
+
+-- `Event e n`: the line of the event e stands at the front, n bytes with its newline; `Part`: no newline yet, and room for
+-- one; `Refused`: whatever follows, no event's line stands at the front
+abbrev pub IsFront : Front → List ℕ → Type 0
+IsFront (front.Event e n) bytes = IsRead event_line FitsEvent bytes e (drop n bytes) × (0 < n) × (n ≤ length bytes)
+IsFront front.Part bytes = IsLine bytes × (length bytes < MOST_EVENT_BYTES)
+IsFront front.Refused bytes = (0 < length bytes) × ((more : List ℕ) → IsUnread event_line FitsEvent (bytes ++ more))
+
+-- one line spells one event, and no event's line is the front of another's
+abbrev pub EventLinesAreOne : Type 0
+EventLinesAreOne = (e f : Event) (rest tail : List ℕ) → FitsEvent e → FitsEvent f → event_line e ++ rest ≡ event_line f ++ tail → (e ≡ f) × (rest ≡ tail)

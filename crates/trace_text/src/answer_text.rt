@@ -1,0 +1,239 @@
+//! The text of an answer as it stands behind its moment, with the newline. Each function here puts a part of it at a place of
+//! a buffer and returns where it ends: at most [`ANSWER_ROOM`] bytes on, which have to be there.
+
+ghost use Rattle.std.specs.Prelude.{◌≡◌, ℕ, ◌+◌, ◌≤◌, ◌<◌, ◌++◌, length, take, codes};
+ghost use Rattle.std.specs.Fmt.{decimal};
+ghost use Rattle.trace_text.specs.Spelling.{kind_text, refusal_text, error_text, effect_text, outcome_text, answer_text};
+ghost use Rattle.trace_text.specs.Writing.{Puts};
+ghost use Rattle.executor_core.specs.declared.Answer.TheVariants as a;
+
+use crate::put::{put_number, put_text};
+use executor_core::{Answer, CancelEffect, EventError, Kind, Outcome, Refusal};
+
+/// How many bytes there have to be for an answer.
+pub const ANSWER_ROOM: usize = 108;
+
+/// Puts an answer.
+#[inline(always)]
+pub fn put_answer(buffer: &mut [u8], at: usize, answer: Answer) -> usize
+    requires { at + ANSWER_ROOM ≤ length buffer.old }
+    ensures end { result ≤ at + ANSWER_ROOM }
+    ensures put { Puts (take at buffer.old) (take result buffer.new) (answer_text answer) }
+{
+    match answer {
+        Answer::Submit { task, kind, due } => put_submit(buffer, at, task, kind, due),
+        Answer::Refuse { task, refusal } => put_refuse(buffer, at, task, refusal),
+        Answer::Cancel { task, effect } => {
+            let at = put_text(buffer, at, *b" cancel ");
+            put_effect(buffer, at, task, effect)
+        }
+        Answer::Outside { task, effect } => {
+            let at = put_text(buffer, at, *b" outside ");
+            put_effect(buffer, at, task, effect)
+        }
+        Answer::Clock => put_text(buffer, at, *b" clock\n"),
+        Answer::Start {
+            worker,
+            task,
+            run,
+            due,
+        } => put_start(buffer, at, worker, task, run, due),
+        Answer::Idle { worker } => put_idle(buffer, at, worker),
+        Answer::Finish {
+            worker,
+            task,
+            run,
+            outcome,
+        } => put_finish(buffer, at, worker, task, run, outcome),
+        Answer::Error(error) => put_error(buffer, at, error),
+    }
+}
+
+/// Puts a task that was accepted.
+fn put_submit(buffer: &mut [u8], at: usize, task: u32, kind: Kind, due: u64) -> usize
+    requires { at + ANSWER_ROOM ≤ length buffer.old }
+    ensures end { result ≤ at + ANSWER_ROOM }
+    ensures put { Puts (take at buffer.old) (take result buffer.new) (answer_text (a.Submit task kind due)) }
+{
+    let at = put_text(buffer, at, *b" submit ");
+    let at = put_number(buffer, at, task as u64);
+    let at = put_text(buffer, at, *b" ");
+    let at = put_kind(buffer, at, kind);
+    let at = put_text(buffer, at, *b" due ");
+    let at = put_number(buffer, at, due);
+    put_text(buffer, at, *b"\n")
+}
+
+/// Puts a task that was not accepted.
+fn put_refuse(buffer: &mut [u8], at: usize, task: u32, refusal: Refusal) -> usize
+    requires { at + ANSWER_ROOM ≤ length buffer.old }
+    ensures end { result ≤ at + ANSWER_ROOM }
+    ensures put { Puts (take at buffer.old) (take result buffer.new) (answer_text (a.Refuse task refusal)) }
+{
+    let at = put_text(buffer, at, *b" refuse ");
+    let at = put_number(buffer, at, task as u64);
+    let at = put_text(buffer, at, *b" ");
+    let at = put_refusal(buffer, at, refusal);
+    put_text(buffer, at, *b"\n")
+}
+
+/// Puts a task of which a cancel was asked for, and what that did.
+fn put_effect(buffer: &mut [u8], at: usize, task: u32, effect: CancelEffect) -> usize
+    requires { at + 60 ≤ length buffer.old }
+    ensures end { result ≤ at + 60 }
+    ensures put { Puts (take at buffer.old) (take result buffer.new) (decimal task ++ (codes " " ++ (effect_text effect ++ codes "\n"))) }
+{
+    let at = put_number(buffer, at, task as u64);
+    let at = put_text(buffer, at, *b" ");
+    let at = put_effect_text(buffer, at, effect);
+    put_text(buffer, at, *b"\n")
+}
+
+/// Puts a worker that starts a run.
+#[inline(always)]
+fn put_start(buffer: &mut [u8], at: usize, worker: u8, task: u32, run: u64, due: u64) -> usize
+    requires { at + ANSWER_ROOM ≤ length buffer.old }
+    ensures end { result ≤ at + ANSWER_ROOM }
+    ensures put { Puts (take at buffer.old) (take result buffer.new) (answer_text (a.Start worker task run due)) }
+{
+    let at = put_text(buffer, at, *b" start ");
+    let at = put_number(buffer, at, worker as u64);
+    let at = put_text(buffer, at, *b" task ");
+    let at = put_number(buffer, at, task as u64);
+    let at = put_text(buffer, at, *b" run ");
+    let at = put_number(buffer, at, run);
+    let at = put_text(buffer, at, *b" due ");
+    let at = put_number(buffer, at, due);
+    put_text(buffer, at, *b"\n")
+}
+
+/// Puts a worker that gets no work.
+#[inline(always)]
+fn put_idle(buffer: &mut [u8], at: usize, worker: u8) -> usize
+    requires { at + ANSWER_ROOM ≤ length buffer.old }
+    ensures end { result ≤ at + ANSWER_ROOM }
+    ensures put { Puts (take at buffer.old) (take result buffer.new) (answer_text (a.Idle worker)) }
+{
+    let at = put_text(buffer, at, *b" start ");
+    let at = put_number(buffer, at, worker as u64);
+    put_text(buffer, at, *b" idle\n")
+}
+
+/// Puts a worker whose run ended, and what it led to.
+#[inline(always)]
+fn put_finish(
+    buffer: &mut [u8],
+    at: usize,
+    worker: u8,
+    task: u32,
+    run: u64,
+    outcome: Outcome,
+) -> usize
+    requires { at + ANSWER_ROOM ≤ length buffer.old }
+    ensures end { result ≤ at + ANSWER_ROOM }
+    ensures put { Puts (take at buffer.old) (take result buffer.new) (answer_text (a.Finish worker task run outcome)) }
+{
+    let at = put_text(buffer, at, *b" finish ");
+    let at = put_number(buffer, at, worker as u64);
+    let at = put_text(buffer, at, *b" task ");
+    let at = put_number(buffer, at, task as u64);
+    let at = put_text(buffer, at, *b" run ");
+    let at = put_number(buffer, at, run);
+    put_outcome(buffer, at, outcome)
+}
+
+/// Puts what a finished run led to, with the newline.
+#[inline(always)]
+fn put_outcome(buffer: &mut [u8], at: usize, outcome: Outcome) -> usize
+    requires { at + 40 ≤ length buffer.old }
+    ensures end { result ≤ at + 40 }
+    ensures put { Puts (take at buffer.old) (take result buffer.new) (outcome_text outcome) }
+{
+    match outcome {
+        Outcome::Done(value) => {
+            let at = put_text(buffer, at, *b" done ");
+            let at = put_number(buffer, at, value);
+            put_text(buffer, at, *b"\n")
+        }
+        Outcome::Failed(code) => {
+            let at = put_text(buffer, at, *b" failed ");
+            let at = put_number(buffer, at, code as u64);
+            put_text(buffer, at, *b"\n")
+        }
+        Outcome::Again(due) => {
+            let at = put_text(buffer, at, *b" again due ");
+            let at = put_number(buffer, at, due);
+            put_text(buffer, at, *b"\n")
+        }
+        Outcome::Dropped => put_text(buffer, at, *b" dropped\n"),
+    }
+}
+
+/// Puts an event that had no effect.
+#[inline(always)]
+fn put_error(buffer: &mut [u8], at: usize, error: EventError) -> usize
+    requires { at + ANSWER_ROOM ≤ length buffer.old }
+    ensures end { result ≤ at + ANSWER_ROOM }
+    ensures put { Puts (take at buffer.old) (take result buffer.new) (answer_text (a.Error error)) }
+{
+    let at = put_text(buffer, at, *b" error ");
+    let at = put_error_text(buffer, at, error);
+    put_text(buffer, at, *b"\n")
+}
+
+/// Puts the word of a kind of task.
+#[inline(always)]
+fn put_kind(buffer: &mut [u8], at: usize, kind: Kind) -> usize
+    requires { at + 10 ≤ length buffer.old }
+    ensures end { result ≤ at + 10 }
+    ensures put { Puts (take at buffer.old) (take result buffer.new) (kind_text kind) }
+{
+    match kind {
+        Kind::Schedule => put_text(buffer, at, *b"schedule"),
+        Kind::Rate => put_text(buffer, at, *b"rate"),
+        Kind::Fixed => put_text(buffer, at, *b"fixed"),
+    }
+}
+
+/// Puts the word of a refusal.
+#[inline(always)]
+fn put_refusal(buffer: &mut [u8], at: usize, refusal: Refusal) -> usize
+    requires { at + 10 ≤ length buffer.old }
+    ensures end { result ≤ at + 10 }
+    ensures put { Puts (take at buffer.old) (take result buffer.new) (refusal_text refusal) }
+{
+    match refusal {
+        Refusal::Illegal => put_text(buffer, at, *b"illegal"),
+    }
+}
+
+/// Puts why an event had no effect, in words.
+#[inline(always)]
+fn put_error_text(buffer: &mut [u8], at: usize, error: EventError) -> usize
+    requires { at + 20 ≤ length buffer.old }
+    ensures end { result ≤ at + 20 }
+    ensures put { Puts (take at buffer.old) (take result buffer.new) (error_text error) }
+{
+    match error {
+        EventError::Backward => put_text(buffer, at, *b"backward"),
+        EventError::TooFar => put_text(buffer, at, *b"too far"),
+        EventError::NoWorker => put_text(buffer, at, *b"no worker"),
+        EventError::Busy => put_text(buffer, at, *b"busy"),
+        EventError::NotRunning => put_text(buffer, at, *b"not running"),
+        EventError::NoTask => put_text(buffer, at, *b"no task"),
+    }
+}
+
+/// Puts what a cancel did, in a word.
+#[inline(always)]
+fn put_effect_text(buffer: &mut [u8], at: usize, effect: CancelEffect) -> usize
+    requires { at + 10 ≤ length buffer.old }
+    ensures end { result ≤ at + 10 }
+    ensures put { Puts (take at buffer.old) (take result buffer.new) (effect_text effect) }
+{
+    match effect {
+        CancelEffect::Yes => put_text(buffer, at, *b"yes"),
+        CancelEffect::No => put_text(buffer, at, *b"no"),
+        CancelEffect::Absent => put_text(buffer, at, *b"none"),
+    }
+}

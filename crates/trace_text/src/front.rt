@@ -1,0 +1,48 @@
+//! What stands at the front of bytes that are read piece by piece.
+ghost use Rattle.std.specs.Prelude.{◌≡◌, ◌<◌, ◌↔◌, IsTrue, length};
+ghost use Rattle.trace_text.specs.Spelling.{IsLine};
+ghost use Rattle.trace_text.specs.Reading.{IsFront};
+
+use crate::event::split_event;
+use executor_core::Event;
+use memchr::memchr;
+
+/// How many bytes an event's line has at most, with its newline: a longer line is refused, whatever it spells.
+pub const MOST_EVENT_BYTES: usize = 63;
+
+/// What stands at the front of some bytes.
+#[derive(Clone, Copy, Debug, PartialEq, Eq)]
+pub enum Front {
+    /// The line of an event, and how many bytes it has, with its newline.
+    Event(Event, usize),
+    /// No newline yet, and fewer than [`MOST_EVENT_BYTES`] bytes: more of them may make a line.
+    Part,
+    /// No event's line, whatever follows.
+    Refused,
+}
+
+/// What stands at the front of some bytes, in one pass over the line where it is an event's.
+#[inline]
+pub fn front_event(bytes: &[u8]) -> Front
+    ensures { IsFront result bytes.now }
+{
+    let Some((event, rest)) = split_event(bytes) else {
+        if is_part(bytes) {
+            return Front::Part;
+        }
+        return Front::Refused;
+    };
+    Front::Event(event, bytes.len() - rest.len())
+}
+
+/// Whether some bytes, which do not begin with an event's line, are too few to tell: no newline is among them, and there is
+/// room for one.
+#[cold]
+fn is_part(bytes: &[u8]) -> bool
+    ensures { IsTrue result ↔ (IsLine bytes.now × (length bytes.now < MOST_EVENT_BYTES)) }
+{
+    bytes.len() < MOST_EVENT_BYTES && memchr(b'\n', bytes).is_none()
+}
+
+#[cfg(test)]
+mod tests;

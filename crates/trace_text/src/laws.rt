@@ -1,0 +1,22 @@
+//! Laws of the spellings, and of what compares equal. The functions do nothing: what they ensure is the law.
+ghost use Rattle.std.specs.Prelude.{◌≡◌, true};
+ghost use Rattle.trace_text.specs.Reading.{EventLinesAreOne};
+
+use crate::front::Front;
+use crate::text_error::TextError;
+
+/// One line spells one event, and no event's line is the front of another's: where the lines of two events stand at the front
+/// of the same bytes, the events are one, and what follows is the same.
+pub fn event_lines_are_one()
+    ensures { EventLinesAreOne }
+{}
+
+/// Fronts that compare equal are the same.
+pub fn front_equality_tells()
+    ensures { (a b : Front) → ⟦<Front as PartialEq>⟧.eq a b ≡ true → a ≡ b }
+{}
+
+/// Errors that compare equal are the same.
+pub fn text_error_equality_tells()
+    ensures { (a b : TextError) → ⟦<TextError as PartialEq>⟧.eq a b ≡ true → a ≡ b }
+{}
