@@ -1,17 +1,109 @@
--- Counts of submissions grow from block to block.
-use Rattle.std.proofs.Common.{◌≡◌, ℕ, ◌+◌, ◌<◌, ◌≤◌, [], ◌∷◌, length, get_or, drop, arith, ap, ◌∙◌, sym}
-use Rattle.std.proofs.lemmas.List.{drop_more}
-use Rattle.plan_read.specs.Plans.{BlockTree, PlanTree, tasks_after_calls, tasks_after_blocks}
-use Rattle.plan_read.proofs.Counting.{grows}
+-- How many submissions and calls there are.
+use Rattle.std.proofs.Common.{◌≡◌, ◌⊎◌, ℕ, zero, suc, ◌+◌, ◌*◌, ◌≤◌, ◌<◌, ◌==◌, List, [], ◌∷◌, ◌++◌, length, Option, Some, None, is_some, if◌then◌else◌, true, false, refl, sym, ◌∙◌, ap, inl, inr, arith, length-append, add-one}
+use Rattle.std.proofs.lemmas.Nat.{mul-le}
+use Rattle.std.proofs.lemmas.Bool.{cases_Bool}
+use Rattle.std.proofs.lemmas.Bool.Decides.{nat_tests}
+use Rattle.queue_code.specs.declared.call.CodeCall.{CodeCall}
+use Rattle.plan_read.specs.declared.plans.Call.{Call}
+use Rattle.plan_read.specs.declared.plans.Op.{Op}
+use Rattle.plan_read.specs.Plans.{BlockTree, PlanTree, is_submission, name_of, names_of, tasks_after, tasks_after_calls, made_from}
+use Rattle.plan_compile.specs.PlanCalls.{code_call, at_moment, calls_at, tasks_of, iteration, iterations, calls_from}
 
--- the number of submissions after some blocks is at least that before them
-pub grows_with_blocks : (task : ℕ) (bs : PlanTree) → task ≤ tasks_after_blocks task bs
-grows_with_blocks task [] = omega arith
-grows_with_blocks task (b ∷ bs) = omega (arith, grows task b.calls, grows_with_blocks (tasks_after_calls task b.calls) bs)
+pub none_or_some : {A : Type 0} (o : Option A) → (o ≡ None) ⊎ ((x : A) × (o ≡ Some x))
+none_or_some None = inl refl
+none_or_some (Some x) = inr (x, refl)
 
--- the number of tasks after a block is at most that after the whole
-pub room_in_block : (task : ℕ) (bs : PlanTree) (i : ℕ) (b : BlockTree) → i < length bs → b ≡ get_or bs i b
-    → tasks_after_blocks task (drop i bs) ≤ 65536 → tasks_after_calls task b.calls ≤ 65536
-room_in_block task bs i b h is room =
-    let turn : drop i bs ≡ b ∷ drop (i + 1) bs = drop_more bs i b h ∙ ap (λ (d : BlockTree). d ∷ drop (i + 1) bs) (sym is) in
-    omega (arith, (rw turn at room), grows_with_blocks (tasks_after_calls task b.calls) (drop (i + 1) bs))
+-- ---- submissions
+
+-- counting may begin anywhere
+tasks_after-shift : (n k : ℕ) (op : Op) → tasks_after (n + k) op ≡ n + tasks_after k op
+tasks_after-shift n k op = elim (cases_Bool (is_submission op)) [ inl t ↦ rw t (omega arith) | inr f ↦ rw f refl ]
+
+-- counting may begin anywhere
+pub tasks_after_calls-shift : (n k : ℕ) (cs : List Call) → tasks_after_calls (n + k) cs ≡ n + tasks_after_calls k cs
+tasks_after_calls-shift n k [] = refl
+tasks_after_calls-shift n k (c ∷ cs) = rw (tasks_after-shift n k c.op) (tasks_after_calls-shift n (tasks_after k c.op) cs)
+
+-- counting from 0, and then adding
+pub tasks_after_calls-from : (n : ℕ) (cs : List Call) → tasks_after_calls n cs ≡ n + tasks_after_calls 0 cs
+tasks_after_calls-from n cs = let e : n + 0 ≡ n = omega arith in rw e at (tasks_after_calls-shift n 0 cs)
+
+-- one more at most
+pub tasks_after-le : (n : ℕ) (op : Op) → tasks_after n op ≤ n + 1
+tasks_after-le n op = elim (cases_Bool (is_submission op)) [ inl t ↦ rw t (omega arith) | inr f ↦ rw f (omega arith) ]
+
+-- no more submissions than calls
+pub tasks_after_calls-le : (n : ℕ) (cs : List Call) → tasks_after_calls n cs ≤ n + length cs
+tasks_after_calls-le n [] = omega arith
+tasks_after_calls-le n (c ∷ cs) = omega (arith, tasks_after_calls-le (tasks_after n c.op) cs, tasks_after-le n c.op)
+
+-- each submission has a name
+pub length-names_of : (n : ℕ) (cs : List Call) → n + length (names_of cs) ≡ tasks_after_calls n cs
+length-names_of n [] = omega arith
+length-names_of n (c ∷ cs) =
+    elim (none_or_some (name_of c.op)) [
+      | inl e ↦ rw e (length-names_of n cs)
+      | inr e ↦ rw e.1 (omega (arith, length-names_of (n + 1) cs))
+    ]
+
+-- ---- calls
+
+length-at_moment : (m : ℕ) (o : Option CodeCall) → length (at_moment m o) ≤ 1
+length-at_moment m None = omega arith
+length-at_moment m (Some call) = omega arith
+
+-- an iteration makes no more calls than stand in the text
+pub length-calls_at : (firsts : List ℕ) (base start task : ℕ) (cs : List Call) → length (calls_at firsts base start task cs) ≤ length cs
+length-calls_at firsts base start task [] = omega arith
+length-calls_at firsts base start task (c ∷ cs) =
+    let here = at_moment (base + c.at) (code_call firsts start task c.op) in
+    let rest = calls_at firsts base start (tasks_after task c.op) cs in
+    omega (arith, length-append here rest, length-at_moment (base + c.at) (code_call firsts start task c.op), length-calls_at firsts base start (tasks_after task c.op) cs)
+
+-- one more iteration
+pub times-suc : (n k : ℕ) → suc n * k ≡ n * k + k
+times-suc n k = grind arith
+
+length-iterations : (firsts : List ℕ) (first : ℕ) (b : BlockTree) (n : ℕ) → length (iterations firsts first b n) ≤ n * length b.calls
+length-iterations firsts first b zero = omega arith
+length-iterations firsts first b (suc n) =
+    omega (
+      arith,
+      times-suc n (length b.calls),
+      length-append (iterations firsts first b n) (iteration firsts first b n),
+      length-iterations firsts first b n,
+      length-calls_at firsts (b.header.at + n * b.header.every) (first + n * tasks_of b) (first + n * tasks_of b) b.calls,
+    )
+
+-- a plan makes no more calls than its text says
+pub length-calls_from : (firsts : List ℕ) (first made : ℕ) (bs : PlanTree) → made + length (calls_from firsts first bs) ≤ made_from made bs
+length-calls_from firsts first made [] = omega arith
+length-calls_from firsts first made (b ∷ bs) =
+    let rest = calls_from (firsts ++ first ∷ []) (first + b.header.times * tasks_of b) bs in
+    omega (
+      arith,
+      length-append (iterations firsts first b b.header.times) rest,
+      length-iterations firsts first b b.header.times,
+      length-calls_from (firsts ++ first ∷ []) (first + b.header.times * tasks_of b) (made + b.header.times * length b.calls) bs,
+    )
+
+-- the submissions of some iterations are no more than their calls
+pub tasks_of-le : (b : BlockTree) → tasks_of b ≤ length b.calls
+tasks_of-le b = omega (arith, tasks_after_calls-le 0 b.calls)
+
+-- there is room for one more iteration
+pub room_left : (first r times tasks calls : ℕ) → r < times → tasks ≤ calls → first + times * calls ≤ 65536 → first + r * tasks + calls ≤ 65536
+room_left first r times tasks calls within few room =
+    omega (arith, times-suc r calls, mul-le (suc r) calls times calls (omega arith) (omega arith), mul-le r tasks r calls (omega arith) few)
+
+-- a list without items
+pub none_left : (n : ℕ) → true ≡ (n == 0) → n ≡ 0
+none_left n h = grind (arith, nat_tests)
+
+-- a list with items
+pub some_left : (n : ℕ) → false ≡ (n == 0) → 1 ≤ n
+some_left n h = grind (arith, nat_tests)
+
+-- one more iteration
+pub iterations-more : (firsts : List ℕ) (first : ℕ) (b : BlockTree) (r : ℕ) → iterations firsts first b (r + 1) ≡ iterations firsts first b r ++ iteration firsts first b r
+iterations-more firsts first b r = ap (iterations firsts first b) (add-one r)

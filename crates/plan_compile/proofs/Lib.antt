@@ -1,3 +1,4 @@
 pub mod Counting
+pub mod Runs
 pub mod Ordering
 pub mod Listing

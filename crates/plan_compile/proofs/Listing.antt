@@ -1,91 +1,135 @@
--- One turn of the writing out of a plan's blocks, and one of that of a block's calls.
-use Rattle.std.proofs.Common.{◌≡◌, ℕ, ◌+◌, ◌<◌, ◌≤◌, List, [], ◌∷◌, ◌++◌, length, get_or, drop, ap, sym, subst, arith, ◌∙◌, append_assoc, length-append}
-use Rattle.std.proofs.lemmas.List.{drop_more}
+-- One turn of each loop that writes out a plan's calls.
+use Rattle.std.proofs.Common.{◌≡◌, ℕ, suc, ◌+◌, ◌*◌, ◌≤◌, ◌<◌, List, [], ◌∷◌, ◌++◌, length, get_or, drop, take, Option, Some, None, refl, sym, ◌∙◌, ap, subst, arith, append_assoc}
+use Rattle.std.proofs.lemmas.List.{append-nil, drop_more, take_more}
 use Rattle.queue_code.specs.declared.call.CodeCall.{CodeCall}
-use Rattle.plan_read.specs.declared.plans.Call.{Call}
-use Rattle.plan_read.specs.declared.plans.Op.{Op}
-use Rattle.plan_read.specs.declared.plans.Op.TheVariants.{Schedule, Rate, Fixed, Cancel}
-use Rattle.plan_read.specs.Plans.{BlockTree, PlanTree, tasks_after, tasks_after_calls}
-use Rattle.plan_compile.specs.PlanCalls.{code_call, calls_of_block, calls_from}
 use Rattle.queue_code.specs.Calls.{count_after, IsOrderlyFrom}
-use Rattle.plan_compile.proofs.Ordering.{counts_alike, length-calls_of_block}
+use Rattle.plan_read.specs.declared.plans.Call.{Call}
+use Rattle.plan_read.specs.declared.plans.Header.{Header}
+use Rattle.plan_read.specs.declared.plans.Op.{Op}
+use Rattle.sched_time.specs.Times.{longest}
+use Rattle.plan_read.specs.declared.plans.Op.TheVariants as ops
+use Rattle.plan_read.specs.Plans.{BlockTree, PlanTree, tasks_after, tasks_after_calls, made_by, IsBlockAfter, AreBlocksAfter, IsOrdered}
+use Rattle.plan_read.proofs.Accepted.{made_from_one_more}
+use Rattle.plan_compile.specs.PlanCalls.{code_call, at_moment, calls_at, tasks_of, iteration, iterations, calls_from, calls_of, CanWrite}
+use Rattle.plan_compile.proofs.Counting.{tasks_after-le, tasks_of-le}
+use Rattle.plan_compile.proofs.Ordering.{AreFirsts, firsts_start, firsts_next, base_reach, no_iterations, iteration_runs}
+use Rattle.plan_compile.proofs.Runs.{runs_orderly}
+use Rattle.std.proofs.lemmas.Nat.{mul-le}
 
-abbrev Made : Type 0
-Made = ℕ × CodeCall
+-- ---- the calls of an iteration
 
 -- the calls before some others are in order
-pub front : (count moment : ℕ) (xs ys : List (ℕ × CodeCall)) → IsOrderlyFrom count moment (xs ++ ys) → IsOrderlyFrom count moment xs
-front count moment [] ys h = tt
-front count moment (x ∷ xs) ys h = (h.0, h.1, h.2, front (count_after count x.1) x.0 xs ys h.3)
+orderly_front : (count moment : ℕ) (xs ys : List (ℕ × CodeCall)) → IsOrderlyFrom count moment (xs ++ ys) → IsOrderlyFrom count moment xs
+orderly_front count moment [] ys h = tt
+orderly_front count moment (x ∷ xs) ys h = (h.0, h.1, h.2, orderly_front (count_after count x.1) x.0 xs ys h.3)
 
--- and so are those behind a block, from the number of tasks that it leads to
-pub back : (all : PlanTree) (at task moment : ℕ) (cs : List Call) (ys : List (ℕ × CodeCall)) → IsOrderlyFrom task moment (calls_of_block all at task cs ++ ys)
-    → (m : ℕ) × IsOrderlyFrom (tasks_after_calls task cs) m ys
-back all at task moment [] ys h = (moment, h)
-back all at task moment (c ∷ cs) ys h =
-    back all at (tasks_after task c.op) (at + c.at) cs ys (subst (λ n. IsOrderlyFrom n (at + c.at) (calls_of_block all at (tasks_after task c.op) cs ++ ys)) (counts_alike all task c.op) h.3)
+-- and so are those behind a call
+orderly_back : (firsts : List ℕ) (start task moment at : ℕ) (op : Op) (rest : List (ℕ × CodeCall)) → IsOrderlyFrom task moment (at_moment at (code_call firsts start task op) ++ rest)
+    → (m : ℕ) × IsOrderlyFrom (tasks_after task op) m rest
+orderly_back firsts start task moment at (ops.Schedule name delay) rest h = (at, h.3)
+orderly_back firsts start task moment at (ops.Rate name first (Some period)) rest h = (at, h.3)
+orderly_back firsts start task moment at (ops.Rate name first None) rest h = (at, h.3)
+orderly_back firsts start task moment at (ops.Fixed name first (Some delay)) rest h = (at, h.3)
+orderly_back firsts start task moment at (ops.Fixed name first None) rest h = (at, h.3)
+orderly_back firsts start task moment at (ops.Cancel target) rest h = (at, h.3)
+orderly_back firsts start task moment at (ops.Policy which value) rest h = (moment, h)
+orderly_back firsts start task moment at ops.Shutdown rest h = (moment, h)
+orderly_back firsts start task moment at ops.Ask rest h = (moment, h)
 
--- what is left at a block
-pub blocks_turn : (all : PlanTree) (task : ℕ) (bs : PlanTree) (i : ℕ) (b : BlockTree) → i < length bs → b ≡ get_or bs i b
-    → calls_from all task (drop i bs) ≡ calls_of_block all b.at task b.calls ++ calls_from all (tasks_after_calls task b.calls) (drop (i + 1) bs)
-blocks_turn all task bs i b h is = ap (calls_from all task) (drop_more bs i b h ∙ ap (λ (d : BlockTree). d ∷ drop (i + 1) bs) (sym is))
+-- where `rest` of an iteration's calls is still to be written, behind `out`
+pub record CallsLeft (firsts : List ℕ) (base start : ℕ) (all : List Call) (old out : List (ℕ × CodeCall)) (task : ℕ) (rest : List Call) : Type 0 where
+  pub done : out ++ calls_at firsts base start task rest ≡ old ++ calls_at firsts base start start all
+  pub tasks : tasks_after_calls task rest ≡ tasks_after_calls start all
+  pub moment : ℕ
+  pub ordered : IsOrderlyFrom task moment (calls_at firsts base start task rest)
+  pub room : task + length rest ≤ 65536
 
-at_most_one : (task : ℕ) (op : Op) → tasks_after task op ≤ task + 1
-at_most_one task (Schedule name delay) = omega arith
-at_most_one task (Rate name first period) = omega arith
-at_most_one task (Fixed name first delay) = omega arith
-at_most_one task (Cancel target) = omega arith
-
--- a block has no more tasks than calls
-tasks_count : (task : ℕ) (cs : List Call) → tasks_after_calls task cs ≤ task + length cs
-tasks_count task [] = omega arith
-tasks_count task (c ∷ cs) = omega (arith, tasks_count (tasks_after task c.op) cs, at_most_one task c.op)
-
-pub room_here : (all : PlanTree) (task : ℕ) (bs : PlanTree) (i : ℕ) (b : BlockTree) → i < length bs → b ≡ get_or bs i b
-    → task + length (calls_from all task (drop i bs)) ≤ 65536 → task + length b.calls ≤ 65536
-room_here all task bs i b h is room =
-    let turn = ap length (blocks_turn all task bs i b h is) in
-    omega (arith, turn, length-append (calls_of_block all b.at task b.calls) (calls_from all (tasks_after_calls task b.calls) (drop (i + 1) bs)), length-calls_of_block all b.at task b.calls)
-
-pub room_after : (all : PlanTree) (task : ℕ) (bs : PlanTree) (i : ℕ) (b : BlockTree) → i < length bs → b ≡ get_or bs i b
-    → task + length (calls_from all task (drop i bs)) ≤ 65536
-    → tasks_after_calls task b.calls + length (calls_from all (tasks_after_calls task b.calls) (drop (i + 1) bs)) ≤ 65536
-room_after all task bs i b h is room =
-    let turn = ap length (blocks_turn all task bs i b h is) in
-    omega (arith, turn, tasks_count task b.calls, length-append (calls_of_block all b.at task b.calls) (calls_from all (tasks_after_calls task b.calls) (drop (i + 1) bs)), length-calls_of_block all b.at task b.calls)
-
-pub done_after : (all : PlanTree) (task : ℕ) (bs : PlanTree) (i : ℕ) (b : BlockTree) (out whole : List (ℕ × CodeCall)) → i < length bs → b ≡ get_or bs i b
-    → out ++ calls_from all task (drop i bs) ≡ whole
-    → (out ++ calls_of_block all b.at task b.calls) ++ calls_from all (tasks_after_calls task b.calls) (drop (i + 1) bs) ≡ whole
-done_after all task bs i b out whole h is done =
-    append_assoc out (calls_of_block all b.at task b.calls) (calls_from all (tasks_after_calls task b.calls) (drop (i + 1) bs)) ∙ sym (ap (λ (xs : List Made). out ++ xs) (blocks_turn all task bs i b h is)) ∙ done
-
--- the call that is listed next
-next_call : (cs : List Call) (i : ℕ) (c : Call) → i < length cs → c ≡ get_or cs i c → drop i cs ≡ c ∷ drop (i + 1) cs
+-- the calls left at an index
+pub next_call : (cs : List Call) (i : ℕ) (c : Call) → i < length cs → c ≡ get_or cs i c → drop i cs ≡ c ∷ drop (i + 1) cs
 next_call cs i c h is = drop_more cs i c h ∙ ap (λ (d : Call). d ∷ drop (i + 1) cs) (sym is)
 
--- what is left at a call
-call_turn : (all : PlanTree) (at task : ℕ) (cs : List Call) (i : ℕ) (c : Call) → i < length cs → c ≡ get_or cs i c
-    → calls_of_block all at task (drop i cs) ≡ (at + c.at, code_call all task c.op) ∷ calls_of_block all at (tasks_after task c.op) (drop (i + 1) cs)
-call_turn all at task cs i c h is = ap (calls_of_block all at task) (next_call cs i c h is)
+-- the next call is in order
+pub call_ordered : (firsts : List ℕ) (base start : ℕ) (all : List Call) (old out : List (ℕ × CodeCall)) (task : ℕ) (c : Call) (rest : List Call)
+    → CallsLeft firsts base start all old out task (c ∷ rest) → (moment : ℕ) × (at : ℕ) × IsOrderlyFrom task moment (at_moment at (code_call firsts start task c.op))
+call_ordered firsts base start all old out task c rest left =
+    (left.moment, base + c.at, orderly_front task left.moment (at_moment (base + c.at) (code_call firsts start task c.op)) (calls_at firsts base start (tasks_after task c.op) rest) left.ordered)
 
-pub call_done : (all : PlanTree) (at task : ℕ) (cs : List Call) (i : ℕ) (c : Call) (out whole : List (ℕ × CodeCall)) → i < length cs → c ≡ get_or cs i c
-    → out ++ calls_of_block all at task (drop i cs) ≡ whole
-    → (out ++ (at + c.at, code_call all task c.op) ∷ []) ++ calls_of_block all at (tasks_after task c.op) (drop (i + 1) cs) ≡ whole
-call_done all at task cs i c out whole h is done =
-    append_assoc out ((at + c.at, code_call all task c.op) ∷ []) (calls_of_block all at (tasks_after task c.op) (drop (i + 1) cs)) ∙ sym (ap (λ (xs : List Made). out ++ xs) (call_turn all at task cs i c h is)) ∙ done
+-- after the next call
+pub call_written : (firsts : List ℕ) (base start : ℕ) (all : List Call) (old out : List (ℕ × CodeCall)) (task : ℕ) (c : Call) (rest : List Call)
+    → CallsLeft firsts base start all old out task (c ∷ rest)
+    → CallsLeft firsts base start all old (out ++ at_moment (base + c.at) (code_call firsts start task c.op)) (tasks_after task c.op) rest
+call_written firsts base start all old out task c rest left =
+    let back = orderly_back firsts start task left.moment (base + c.at) c.op (calls_at firsts base start (tasks_after task c.op) rest) left.ordered in
+    record {
+      done = append_assoc out (at_moment (base + c.at) (code_call firsts start task c.op)) (calls_at firsts base start (tasks_after task c.op) rest) ∙ left.done;
+      tasks = left.tasks;
+      moment = back.0;
+      ordered = back.1;
+      room = omega (arith, left.room, tasks_after-le task c.op);
+    }
 
-pub call_tasks : (task count : ℕ) (cs : List Call) (i : ℕ) (c : Call) → i < length cs → c ≡ get_or cs i c
-    → tasks_after_calls task (drop i cs) ≡ count → tasks_after_calls (tasks_after task c.op) (drop (i + 1) cs) ≡ count
-call_tasks task count cs i c h is tasks = sym (ap (tasks_after_calls task) (next_call cs i c h is)) ∙ tasks
+-- ---- the iterations of a block
 
-pub call_left : (all : PlanTree) (at task : ℕ) (cs : List Call) (i : ℕ) (c : Call) (moment : ℕ) → i < length cs → c ≡ get_or cs i c
-    → IsOrderlyFrom task moment (calls_of_block all at task (drop i cs))
-    → (m : ℕ) × IsOrderlyFrom (tasks_after task c.op) m (calls_of_block all at (tasks_after task c.op) (drop (i + 1) cs))
-call_left all at task cs i c moment h is left =
-    back all at task moment (c ∷ []) (calls_of_block all at (tasks_after task c.op) (drop (i + 1) cs)) (subst (IsOrderlyFrom task moment) (call_turn all at task cs i c h is) left)
+-- an iteration of a block with calls begins within the limit
+base_short : (earlier : PlanTree) (h : Header) (cs : List Call) (r : ℕ) → IsBlockAfter earlier (record { header = h; calls = cs }) → r < h.times → 1 ≤ length cs → h.at + r * h.every ≤ longest
+base_short earlier h [] r block within some = absurd (omega (arith, some))
+base_short earlier h (c ∷ cs) r block within some = omega (arith, base_reach h r within, block.calls.0.last)
 
-pub call_room : (task : ℕ) (cs : List Call) (i : ℕ) (c : Call) → i < length cs → c ≡ get_or cs i c
-    → task + length (drop i cs) ≤ 65536 → tasks_after task c.op + length (drop (i + 1) cs) ≤ 65536
-call_room task cs i c h is room =
-    omega (arith, room, ap length (next_call cs i c h is), at_most_one task c.op)
+-- each iteration of a block can be written out
+pub can_write : (earlier : PlanTree) (firsts : List ℕ) (first : ℕ) (b : BlockTree) → IsBlockAfter earlier b → AreFirsts earlier firsts first
+    → 1 ≤ length b.calls → (r : ℕ) → r < b.header.times → CanWrite firsts first b r
+can_write earlier firsts first b block a some r within = record {
+  base = base_short earlier b.header b.calls r block within some;
+  moment = b.header.at + r * b.header.every;
+  ordered = runs_orderly (first + r * tasks_of b) (b.header.at + r * b.header.every) (iteration firsts first b r) (first + suc r * tasks_of b) _ (iteration_runs earlier firsts first b r block a within);
+}
+
+no_calls_in : (firsts : List ℕ) (first : ℕ) (h : Header) (cs : List Call) (n : ℕ) → length cs ≡ 0 → iterations firsts first (record { header = h; calls = cs }) n ≡ []
+no_calls_in firsts first h [] n none = no_iterations firsts first h n
+no_calls_in firsts first h (c ∷ cs) n none = absurd (omega arith)
+
+-- a block without calls makes none
+pub no_calls : (firsts : List ℕ) (first : ℕ) (b : BlockTree) (n : ℕ) → length b.calls ≡ 0 → iterations firsts first b n ≡ []
+no_calls firsts first b n none = no_calls_in firsts first b.header b.calls n none
+
+-- ---- the blocks of a plan
+
+-- where `rest` of a plan's blocks is still to be written, behind `out`
+pub record BlocksLeft (all earlier rest : PlanTree) (firsts : List ℕ) (task : ℕ) (out : List (ℕ × CodeCall)) : Type 0 where
+  pub done : out ++ calls_from firsts task rest ≡ calls_of all
+  pub ordered : AreBlocksAfter earlier rest
+  pub known : AreFirsts earlier firsts task
+  pub few : task ≤ made_by earlier
+  pub made : made_by earlier ≤ 65536
+
+-- the blocks left at an index
+pub next_block : (bs : PlanTree) (i : ℕ) (b : BlockTree) → i < length bs → b ≡ get_or bs i b → drop i bs ≡ b ∷ drop (i + 1) bs
+next_block bs i b h is = drop_more bs i b h ∙ ap (λ (d : BlockTree). d ∷ drop (i + 1) bs) (sym is)
+
+-- the blocks before the next
+pub past_block : (bs : PlanTree) (i : ℕ) (b : BlockTree) → i < length bs → b ≡ get_or bs i b → take (i + 1) bs ≡ take i bs ++ b ∷ []
+past_block bs i b h is = take_more bs i b h ∙ ap (λ (d : BlockTree). take i bs ++ d ∷ []) (sym is)
+
+-- before the first block
+pub blocks_start : (all : PlanTree) → IsOrdered all → BlocksLeft all [] all [] 0 []
+blocks_start all ordered = record { done = refl; ordered = ordered.1; known = firsts_start; few = omega arith; made = omega arith }
+
+-- there is room for the next block
+pub block_room : (all earlier rest : PlanTree) (firsts : List ℕ) (task : ℕ) (out : List (ℕ × CodeCall)) (b : BlockTree) → BlocksLeft all earlier (b ∷ rest) firsts task out
+    → task + b.header.times * length b.calls ≤ 65536
+block_room all earlier rest firsts task out b left = omega (arith, left.few, left.ordered.0.total)
+
+-- after the next block
+pub block_written : (all earlier rest : PlanTree) (firsts : List ℕ) (task : ℕ) (out : List (ℕ × CodeCall)) (b : BlockTree) → BlocksLeft all earlier (b ∷ rest) firsts task out
+    → BlocksLeft all (earlier ++ b ∷ []) rest (firsts ++ task ∷ []) (task + b.header.times * tasks_of b) (out ++ iterations firsts task b b.header.times)
+block_written all earlier rest firsts task out b left =
+    let block = left.ordered.0 in
+    let more = made_from_one_more 0 earlier b in
+    let fewer : b.header.times * tasks_of b ≤ b.header.times * length b.calls = mul-le b.header.times (tasks_of b) b.header.times (length b.calls) (omega arith) (tasks_of-le b) in
+    record {
+      done = append_assoc out (iterations firsts task b b.header.times) (calls_from (firsts ++ task ∷ []) (task + b.header.times * tasks_of b) rest) ∙ left.done;
+      ordered = left.ordered.1;
+      known = firsts_next earlier firsts task b block.least left.known;
+      few = rw more (omega (arith, left.few, fewer));
+      made = rw more block.total;
+    }

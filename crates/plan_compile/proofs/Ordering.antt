@@ -1,53 +1,224 @@
--- The calls of a block are in order.
-use Rattle.std.proofs.Common.{◌≡◌, ℕ, ◌+◌, ◌≤◌, List, [], ◌∷◌, ◌++◌, length, Some, None, refl, sym, subst, arith, append-nil}
+-- The calls of a plan are in order.
+use Rattle.std.proofs.Common.{◌≡◌, ◌⊎◌, ℕ, zero, suc, ◌+◌, ◌-◌, ◌*◌, ◌^◌, ◌≤◌, ◌<◌, List, [], ◌∷◌, ◌++◌, length, Option, Some, None, is_some, true, false, refl, sym, ◌∙◌, ap, subst, inl, inr, arith, length-append}
+use Rattle.std.specs.Prelude.{slice_get, unwrap_or}
+use Rattle.std.proofs.lemmas.Bool.{cases_Bool}
+use Rattle.std.proofs.lemmas.Nat.{mul-le}
+use Rattle.std.proofs.lemmas.Option.{slice_get_within, slice_get_past}
+use Rattle.sched_time.specs.Times.{longest}
+use Rattle.queue_code.specs.Calls.{count_after, IsOrderly, IsOrderlyFrom}
 use Rattle.plan_read.specs.declared.plans.Call.{Call}
+use Rattle.plan_read.specs.declared.plans.Header.{Header}
 use Rattle.plan_read.specs.declared.plans.Op.{Op}
-use Rattle.plan_read.specs.declared.plans.Op.TheVariants.{Schedule, Rate, Fixed, Cancel}
+use Rattle.plan_read.specs.declared.plans.Op.TheVariants as ops
 use Rattle.plan_read.specs.declared.plans.Target.{Target}
-use Rattle.plan_read.specs.Plans.{BlockTree, PlanTree, IsBlock, AreBlocks, IsWithinLimits, IsAimed, AreCallsFrom, tasks_after}
-use Rattle.plan_compile.specs.PlanCalls.{number_of, code_call, calls_of_block, calls_of}
-use Rattle.queue_code.specs.Calls.{count_after, IsOrderlyCall, IsOrderlyFrom, IsOrderly}
+use Rattle.plan_read.specs.Plans.{BlockTree, PlanTree, is_submission, names_of, tasks_after, tasks_after_calls, last_offset, last_offset_from, last_moment, end_of, end_of_block, made_by, made_from, IsWithinLimits, StandsBefore, IsAimed, IsCallAfter, AreCallsAfter, IsBlockAfter, AreBlocksAfter, IsOrdered}
+use Rattle.plan_read.proofs.Accepted.{end_from_one_more, made_from_one_more}
+use Rattle.plan_read.proofs.Naming.{tasks_after-one_more}
+use Rattle.plan_compile.specs.PlanCalls.{number_of, code_call, at_moment, calls_at, tasks_of, iteration, iterations, calls_from, calls_of}
+use Rattle.plan_compile.proofs.Counting.{tasks_after_calls-from, length-names_of, length-calls_from, times-suc}
+use Rattle.plan_compile.proofs.Runs.{Runs, runs_orderly, runs_earlier, runs_later, runs_append}
 
-pub length-calls_of_block : (blocks : PlanTree) (at task : ℕ) (cs : List Call) → length (calls_of_block blocks at task cs) ≡ length cs
-length-calls_of_block blocks at task [] = refl
-length-calls_of_block blocks at task (c ∷ cs) = omega (arith, length-calls_of_block blocks at (tasks_after task c.op) cs)
+-- ---- the first numbers of blocks
 
--- a target in the plan's first block has there the number that it has among all
-in_first : (blocks : PlanTree) (target : Target) → target.block ≡ 0 → number_of blocks target ≡ target.sub
-in_first blocks target h = rw h (omega arith)
+-- the first numbers of some blocks, all of whose submissions have numbers below `first`
+pub record AreFirsts (earlier : PlanTree) (firsts : List ℕ) (first : ℕ) : Type 0 where
+  pub count : length firsts ≡ length earlier
+  pub each : (i : ℕ) (b : BlockTree) → slice_get earlier i ≡ Some b → (f : ℕ) × (slice_get firsts i ≡ Some f) × (f + tasks_of b ≤ first)
 
-is_orderly_call : (blocks : PlanTree) (task : ℕ) (op : Op) → IsWithinLimits op → IsAimed task op → IsOrderlyCall task (code_call blocks task op)
-is_orderly_call blocks task (Schedule name delay) h aimed = (refl, h, tt)
-is_orderly_call blocks task (Rate name first (Some period)) h aimed = (refl, h.0, h.1.1)
-is_orderly_call blocks task (Rate name first None) h aimed = refl
-is_orderly_call blocks task (Fixed name first (Some delay)) h aimed = (refl, h.0, h.1.1)
-is_orderly_call blocks task (Fixed name first None) h aimed = refl
-is_orderly_call blocks task (Cancel target) h aimed = rw (in_first blocks target aimed.0) aimed.1
+get_kept : {A : Type 0} (xs : List A) (y x : A) (i : ℕ) → slice_get xs i ≡ Some x → slice_get (xs ++ y ∷ []) i ≡ Some x
+get_kept [] y x i h = absurd (cc)
+get_kept (z ∷ xs) y x zero h = h
+get_kept (z ∷ xs) y x (suc i) h = get_kept xs y x i h
 
-pub counts_alike : (blocks : PlanTree) (task : ℕ) (op : Op) → count_after task (code_call blocks task op) ≡ tasks_after task op
-counts_alike blocks task (Schedule name delay) = refl
-counts_alike blocks task (Rate name first (Some period)) = refl
-counts_alike blocks task (Rate name first None) = refl
-counts_alike blocks task (Fixed name first (Some delay)) = refl
-counts_alike blocks task (Fixed name first None) = refl
-counts_alike blocks task (Cancel target) = refl
+length-snoc : {A : Type 0} (xs : List A) (y : A) → length (xs ++ y ∷ []) ≡ length xs + 1
+length-snoc xs y = length-append xs (y ∷ [])
 
-at_zero : (blocks : PlanTree) (task offset : ℕ) (cs : List Call) → AreCallsFrom offset task cs → IsOrderlyFrom task offset (calls_of_block blocks 0 task cs)
-at_zero blocks task offset [] h = tt
-at_zero blocks task offset (c ∷ cs) h =
-    let rest = at_zero blocks (tasks_after task c.op) c.at cs h.1 in
-    let zero_at : 0 + c.at ≡ c.at = omega arith in
-    (rw zero_at h.0.0, rw zero_at h.0.1, is_orderly_call blocks task c.op h.0.2 h.0.3, rw (counts_alike blocks task c.op, zero_at) rest)
+get_last : {A : Type 0} (xs : List A) (y : A) → slice_get (xs ++ y ∷ []) (length xs) ≡ Some y
+get_last [] y = refl
+get_last (x ∷ xs) y = get_last xs y
 
-one_block : (b : BlockTree) → IsBlock b → IsOrderly (calls_of (b ∷ []))
-one_block b h =
-    let blocks : PlanTree = b ∷ [] in
-    let calls = calls_of_block blocks 0 0 b.calls in
-    let here : IsOrderly calls = (omega (arith, h.1, length-calls_of_block blocks 0 0 b.calls), at_zero blocks 0 0 b.calls h.2) in
-    subst (λ at. IsOrderly (calls_of_block blocks at 0 b.calls ++ [])) (sym h.0) (subst IsOrderly (sym (append-nil calls)) here)
+get_either : {A : Type 0} (xs : List A) (y x : A) (i : ℕ) → slice_get (xs ++ y ∷ []) i ≡ Some x → (slice_get xs i ≡ Some x) ⊎ ((i ≡ length xs) × (y ≡ x))
+get_either [] y x zero h = inr (refl, cc)
+get_either [] y x (suc i) h = absurd (cc)
+get_either (z ∷ xs) y x zero h = inl h
+get_either (z ∷ xs) y x (suc i) h = elim (get_either xs y x i h) [ inl k ↦ inl k | inr k ↦ inr (omega (arith, k.0), k.1) ]
+
+-- more submissions may come
+firsts_more : (earlier : PlanTree) (firsts : List ℕ) (first more : ℕ) → first ≤ more → AreFirsts earlier firsts first → AreFirsts earlier firsts more
+firsts_more earlier firsts first more le a = record {
+  count = a.count;
+  each = λ i b at. (let r = a.each i b at in (r.0, r.1, omega (arith, le, r.2)));
+}
+
+-- before any block
+pub firsts_start : AreFirsts [] [] 0
+firsts_start = record { count = refl; each = λ i b at. absurd (cc) }
+
+-- one more block
+pub firsts_next : (earlier : PlanTree) (firsts : List ℕ) (first : ℕ) (b : BlockTree) → 1 ≤ b.header.times → AreFirsts earlier firsts first
+    → AreFirsts (earlier ++ b ∷ []) (firsts ++ first ∷ []) (first + b.header.times * tasks_of b)
+firsts_next earlier firsts first b least a =
+    let grows : tasks_of b ≤ b.header.times * tasks_of b = omega (arith, mul-le 1 (tasks_of b) b.header.times (tasks_of b) least (omega arith)) in
+    record {
+      count = rw (length-snoc firsts first, length-snoc earlier b, a.count) refl;
+      each = λ i d at. elim (get_either earlier b d i at) [
+        | inl k ↦ (let r = a.each i d k in (r.0, get_kept firsts first r.0 i r.1, omega (arith, r.2)))
+        | inr k ↦ (
+            let here : slice_get (firsts ++ first ∷ []) i ≡ Some first = rw (k.0, ← a.count) (get_last firsts first) in
+            (first, here, rw (← k.1) (omega (arith, grows))))
+      ];
+    }
+
+-- ---- one call
+
+-- the number of a cancel's target is below those that come
+abbrev IsBelow : List ℕ → ℕ → ℕ → Op → Type 0
+IsBelow firsts start task (ops.Schedule name delay) = Unit {0}
+IsBelow firsts start task (ops.Rate name first period) = Unit {0}
+IsBelow firsts start task (ops.Fixed name first delay) = Unit {0}
+IsBelow firsts start task (ops.Cancel target) = number_of firsts start target < task
+IsBelow firsts start task (ops.Policy which value) = Unit {0}
+IsBelow firsts start task ops.Shutdown = Unit {0}
+IsBelow firsts start task ops.Ask = Unit {0}
+
+target_below : (earlier : PlanTree) (firsts : List ℕ) (start : ℕ) (before : List Call) (name : List ℕ) (target : Target) → AreFirsts earlier firsts start
+    → StandsBefore earlier before name target → number_of firsts start target < start + tasks_after_calls 0 before
+target_below earlier firsts start before name target a (inl here) =
+    let none : slice_get firsts target.block ≡ None = slice_get_past firsts target.block (omega (arith, a.count, here.0)) in
+    let within = slice_get_within (names_of before) target.sub name here.1 in
+    rw none (omega (arith, within, length-names_of 0 before))
+target_below earlier firsts start before name target a (inr there) =
+    let r = a.each target.block there.0 there.1 in
+    let within = slice_get_within (names_of there.0.calls) target.sub name there.3 in
+    rw r.1 (omega (arith, r.2, within, length-names_of 0 there.0.calls))
+
+op_below : (earlier : PlanTree) (firsts : List ℕ) (start task : ℕ) (before : List Call) (op : Op) → AreFirsts earlier firsts start → task ≡ start + tasks_after_calls 0 before
+    → IsAimed earlier before op → IsBelow firsts start task op
+op_below earlier firsts start task before (ops.Schedule name delay) a is aimed = tt
+op_below earlier firsts start task before (ops.Rate name first period) a is aimed = tt
+op_below earlier firsts start task before (ops.Fixed name first delay) a is aimed = tt
+op_below earlier firsts start task before (ops.Cancel target) a is aimed = rw is (target_below earlier firsts start before aimed.0 target a aimed.1)
+op_below earlier firsts start task before (ops.Policy which value) a is aimed = tt
+op_below earlier firsts start task before ops.Shutdown a is aimed = tt
+op_below earlier firsts start task before ops.Ask a is aimed = tt
+
+op_runs : (firsts : List ℕ) (start task moment at : ℕ) (op : Op) → moment ≤ at → at ≤ 2 ^ 62 → IsWithinLimits op → IsBelow firsts start task op
+    → Runs task moment (at_moment at (code_call firsts start task op)) (tasks_after task op) at
+op_runs firsts start task moment at (ops.Schedule name delay) le short limits below = (le, short, (refl, limits, tt), (refl, omega arith))
+op_runs firsts start task moment at (ops.Rate name first (Some period)) le short limits below = (le, short, (refl, limits.0, limits.1.1), (refl, omega arith))
+op_runs firsts start task moment at (ops.Rate name first None) le short limits below = (le, short, refl, (refl, omega arith))
+op_runs firsts start task moment at (ops.Fixed name first (Some delay)) le short limits below = (le, short, (refl, limits.0, limits.1.1), (refl, omega arith))
+op_runs firsts start task moment at (ops.Fixed name first None) le short limits below = (le, short, refl, (refl, omega arith))
+op_runs firsts start task moment at (ops.Cancel target) le short limits below = (le, short, below, (refl, omega arith))
+op_runs firsts start task moment at (ops.Policy which value) le short limits below = (refl, le)
+op_runs firsts start task moment at ops.Shutdown le short limits below = (refl, le)
+op_runs firsts start task moment at ops.Ask le short limits below = (refl, le)
+
+-- ---- one iteration
+
+last_offset-one_more : (offset : ℕ) (cs : List Call) (c : Call) → last_offset_from offset (cs ++ c ∷ []) ≡ c.at
+last_offset-one_more offset [] c = refl
+last_offset-one_more offset (d ∷ cs) c = last_offset-one_more d.at cs c
+
+tasks_after-shifted : (start n : ℕ) (op : Op) → tasks_after (start + n) op ≡ start + tasks_after n op
+tasks_after-shifted start n op = elim (cases_Bool (is_submission op)) [ inl t ↦ rw t (omega arith) | inr f ↦ rw f refl ]
+
+calls_run : (earlier : PlanTree) (h : Header) (firsts : List ℕ) (base start : ℕ) (before cs : List Call) (task offset : ℕ)
+    → AreCallsAfter earlier h before cs → AreFirsts earlier firsts start → base ≤ h.at + (h.times - 1) * h.every
+    → task ≡ start + tasks_after_calls 0 before → offset ≡ last_offset before
+    → Runs task (base + offset) (calls_at firsts base start task cs) (tasks_after_calls task cs) (base + last_offset_from offset cs)
+calls_run earlier h firsts base start before [] task offset ordered a reach is last = (refl, omega arith)
+calls_run earlier h firsts base start before (c ∷ cs) task offset ordered a reach is last =
+    let one = ordered.0 in
+    let short : base + c.at ≤ 2 ^ 62 = omega (arith, reach, one.last) in
+    let forward : base + offset ≤ base + c.at = omega (arith, last, one.order) in
+    let below = op_below earlier firsts start task before c.op a is one.aimed in
+    let here = op_runs firsts start task (base + offset) (base + c.at) c.op forward short one.limits below in
+    let count : tasks_after task c.op ≡ start + tasks_after_calls 0 (before ++ c ∷ []) =
+    rw (is, tasks_after-one_more 0 before c) (tasks_after-shifted start (tasks_after_calls 0 before) c.op) in
+    let rest = calls_run earlier h firsts base start (before ++ c ∷ []) cs (tasks_after task c.op) c.at ordered.1 a reach count (sym (last_offset-one_more 0 before c)) in
+    runs_append task (base + offset) (at_moment (base + c.at) (code_call firsts start task c.op)) (calls_at firsts base start (tasks_after task c.op) cs)
+    (tasks_after task c.op) (base + c.at) (tasks_after_calls task (c ∷ cs)) (base + last_offset_from c.at cs) here rest
+
+offset_within : (h : Header) (offset : ℕ) → 1 < h.times → (h.times ≤ 1) ⊎ (offset ≤ h.every) → offset ≤ h.every
+offset_within h offset many (inl once) = absurd (omega (arith, many, once))
+offset_within h offset many (inr within) = within
+
+-- in a block that is repeated no call comes after the next iteration begins
+last_within : (earlier : PlanTree) (h : Header) (before cs : List Call) (offset : ℕ) → AreCallsAfter earlier h before cs → 1 < h.times → offset ≤ h.every → last_offset_from offset cs ≤ h.every
+last_within earlier h before [] offset ordered many le = le
+last_within earlier h before (c ∷ cs) offset ordered many le = last_within earlier h (before ++ c ∷ []) cs c.at ordered.1 many (offset_within h c.at many ordered.0.within)
+
+-- an iteration begins no later than the last
+pub base_reach : (h : Header) (r : ℕ) → r < h.times → h.at + r * h.every ≤ h.at + (h.times - 1) * h.every
+base_reach h r within = omega (arith, mul-le r h.every (h.times - 1) h.every (omega arith) (omega arith))
+
+pub iteration_runs : (earlier : PlanTree) (firsts : List ℕ) (first : ℕ) (b : BlockTree) (r : ℕ) → IsBlockAfter earlier b → AreFirsts earlier firsts first → r < b.header.times
+    → Runs (first + r * tasks_of b) (b.header.at + r * b.header.every) (iteration firsts first b r) (first + suc r * tasks_of b) (b.header.at + r * b.header.every + last_offset b.calls)
+iteration_runs earlier firsts first b r block a within =
+    let start = first + r * tasks_of b in
+    let base = b.header.at + r * b.header.every in
+    let all = calls_run earlier b.header firsts base start [] b.calls start 0 block.calls (firsts_more earlier firsts first start (omega arith) a) (base_reach b.header r within) (omega arith) refl in
+    let count : tasks_after_calls start b.calls ≡ first + suc r * tasks_of b = omega (arith, tasks_after_calls-from start b.calls, times-suc r (tasks_of b)) in
+    let zero_at : base + 0 ≡ base = omega arith in
+    rw (count, zero_at) at all
+
+-- ---- one block
+
+iterations_run : (earlier : PlanTree) (firsts : List ℕ) (first : ℕ) (b : BlockTree) (n : ℕ) → IsBlockAfter earlier b → AreFirsts earlier firsts first → n < b.header.times
+    → Runs first b.header.at (iterations firsts first b n) (first + n * tasks_of b) (b.header.at + n * b.header.every)
+iterations_run earlier firsts first b zero block a within = (omega arith, omega arith)
+iterations_run earlier firsts first b (suc n) block a within =
+    let before = iterations_run earlier firsts first b n block a (omega arith) in
+    let one = iteration_runs earlier firsts first b n block a (omega arith) in
+    let last = last_within earlier b.header [] b.calls 0 block.calls (omega arith) (omega arith) in
+    let end : b.header.at + n * b.header.every + last_offset b.calls ≤ b.header.at + suc n * b.header.every = omega (arith, last, times-suc n b.header.every) in
+    runs_append first b.header.at (iterations firsts first b n) (iteration firsts first b n) (first + n * tasks_of b) (b.header.at + n * b.header.every)
+    (first + suc n * tasks_of b) (b.header.at + suc n * b.header.every) before
+    (runs_later (first + n * tasks_of b) (b.header.at + n * b.header.every) (iteration firsts first b n) (first + suc n * tasks_of b) _ _ end one)
+
+all_run : (earlier : PlanTree) (firsts : List ℕ) (first : ℕ) (b : BlockTree) (k : ℕ) → IsBlockAfter earlier b → AreFirsts earlier firsts first → b.header.times ≡ suc k
+    → Runs first b.header.at (iterations firsts first b (suc k)) (first + suc k * tasks_of b) (b.header.at + k * b.header.every + last_offset b.calls)
+all_run earlier firsts first b k block a is =
+    runs_append first b.header.at (iterations firsts first b k) (iteration firsts first b k) (first + k * tasks_of b) (b.header.at + k * b.header.every)
+    (first + suc k * tasks_of b) (b.header.at + k * b.header.every + last_offset b.calls)
+    (iterations_run earlier firsts first b k block a (omega (arith, is))) (iteration_runs earlier firsts first b k block a (omega (arith, is)))
+
+-- a block without calls makes none
+pub no_iterations : (firsts : List ℕ) (first : ℕ) (h : Header) (n : ℕ) → iterations firsts first (record { header = h; calls = [] }) n ≡ []
+no_iterations firsts first h zero = refl
+no_iterations firsts first h (suc n) = rw (no_iterations firsts first h n) refl
+
+block_runs : (earlier : PlanTree) (firsts : List ℕ) (first : ℕ) (h : Header) (calls : List Call) → IsBlockAfter earlier (record { header = h; calls = calls }) → AreFirsts earlier firsts first
+    → Runs first (end_of earlier) (iterations firsts first (record { header = h; calls = calls }) h.times) (first + h.times * tasks_after_calls 0 calls) (end_of_block (end_of earlier) h calls)
+block_runs earlier firsts first h [] block a = rw (no_iterations firsts first h h.times) (omega arith, omega arith)
+block_runs earlier firsts first h (c ∷ cs) block a =
+    let b : BlockTree = record { header = h; calls = c ∷ cs } in
+    let k = h.times - 1 in
+    let times : h.times ≡ suc k = omega (arith, block.least) in
+    let all = all_run earlier firsts first b k block a times in
+    let early = runs_earlier first (end_of earlier) h.at (iterations firsts first b (suc k)) (first + suc k * tasks_of b) (h.at + k * h.every + last_offset (c ∷ cs)) block.order all in
+    subst (λ (n : ℕ). Runs first (end_of earlier) (iterations firsts first b n) (first + n * tasks_of b) (h.at + k * h.every + last_offset (c ∷ cs))) (sym times) early
+
+-- ---- the whole plan
+
+blocks_run : (earlier bs : PlanTree) (firsts : List ℕ) (first : ℕ) → AreBlocksAfter earlier bs → AreFirsts earlier firsts first
+    → (after : ℕ) × (end : ℕ) × Runs first (end_of earlier) (calls_from firsts first bs) after end
+blocks_run earlier [] firsts first ordered a = (first, end_of earlier, (refl, omega arith))
+blocks_run earlier (b ∷ bs) firsts first ordered a =
+    let one = block_runs earlier firsts first b.header b.calls ordered.0 a in
+    let more = first + b.header.times * tasks_of b in
+    let rest = blocks_run (earlier ++ b ∷ []) bs (firsts ++ first ∷ []) more ordered.1 (firsts_next earlier firsts first b ordered.0.least a) in
+    let next : Runs more (end_of_block (end_of earlier) b.header b.calls) (calls_from (firsts ++ first ∷ []) more bs) rest.0 rest.1 = rw (end_from_one_more 0 earlier b) at rest.2 in
+    (rest.0, rest.1, runs_append first (end_of earlier) (iterations firsts first b b.header.times) (calls_from (firsts ++ first ∷ []) more bs) more (end_of_block (end_of earlier) b.header b.calls) rest.0 rest.1 one next)
+
+made_within : (earlier bs : PlanTree) → AreBlocksAfter earlier bs → made_by earlier ≤ 65536 → made_from (made_by earlier) bs ≤ 65536
+made_within earlier [] ordered few = few
+made_within earlier (b ∷ bs) ordered few =
+    rw (made_from_one_more 0 earlier b) at (made_within (earlier ++ b ∷ []) bs ordered.1 (rw (made_from_one_more 0 earlier b) ordered.0.total))
 
 -- the calls of a plan are in order
-pub plan_orderly : (bs : PlanTree) → AreBlocks bs → IsOrderly (calls_of bs)
-plan_orderly [] h = (omega arith, tt)
-plan_orderly (b ∷ []) h = one_block b h
-plan_orderly (b ∷ c ∷ bs) h = absurd h
+pub plan_orderly : (blocks : PlanTree) → IsOrdered blocks → IsOrderly (calls_of blocks)
+plan_orderly blocks ordered =
+    let all = blocks_run [] blocks [] 0 ordered.1 firsts_start in
+    (omega (arith, length-calls_from [] 0 0 blocks, made_within [] blocks ordered.1 (omega arith)), runs_orderly 0 0 (calls_of blocks) all.0 all.1 all.2)

@@ -1,39 +1,75 @@
--- The calls that a plan makes.
+-- The calls that a plan makes, with their moments.
 -- All of it is this project's rule.
-use Rattle.std.specs.Prelude.{ℕ, ◌+◌, List, [], ◌∷◌, ◌++◌, Some, None, take}
+use Rattle.std.specs.Prelude.{ℕ, zero, suc, ◌≤◌, ◌+◌, ◌*◌, List, [], ◌∷◌, ◌++◌, Option, Some, None, unwrap_or, slice_get}
 use Rattle.sched_time.specs.declared.timing.Timing.TheVariants as t
+use Rattle.sched_time.specs.Times.{longest}
+use Rattle.queue_code.specs.Calls.{IsOrderlyFrom}
 use Rattle.queue_code.specs.declared.call.CodeCall.{CodeCall}
 use Rattle.queue_code.specs.declared.call.CodeCall.TheVariants as made
 use Rattle.plan_read.specs.declared.plans.Call.{Call}
 use Rattle.plan_read.specs.declared.plans.Op.{Op}
-use Rattle.plan_read.specs.declared.plans.Op.TheVariants.{Schedule, Rate, Fixed, Cancel}
+use Rattle.plan_read.specs.declared.plans.Op.TheVariants as ops
 use Rattle.plan_read.specs.declared.plans.Target.{Target}
-use Rattle.plan_read.specs.Plans.{PlanTree, tasks_after, tasks_after_calls, tasks_after_blocks}
+use Rattle.plan_read.specs.Plans.{BlockTree, PlanTree, tasks_after, tasks_after_calls}
 
--- the number of a submission among all of the plan: those of the blocks before its own come first
-abbrev pub number_of : PlanTree → Target → ℕ
-number_of blocks target = tasks_after_blocks 0 (take target.block blocks) + target.sub
+-- the number of a cancel's target: submissions are numbered 0, 1, .. in the order of their calls. `firsts` has the first number of
+-- each block before the cancel's own, and `start` is the first one of its own iteration
+abbrev pub number_of : List ℕ → ℕ → Target → ℕ
+number_of firsts start target = unwrap_or (slice_get firsts target.block) start + target.sub
 
--- the call that an operation of a plan asks for, where `task` submissions stand before it
--- (that a submission with no legal period or fixed delay is a call too, and has a number, is this project's rule)
-abbrev pub code_call : PlanTree → ℕ → Op → CodeCall
-code_call blocks task (Schedule name delay) = made.Submit task t.Once delay
-code_call blocks task (Rate name first (Some period)) = made.Submit task (t.Rate period) first
-code_call blocks task (Rate name first None) = made.Illegal task
-code_call blocks task (Fixed name first (Some delay)) = made.Submit task (t.Fixed delay) first
-code_call blocks task (Fixed name first None) = made.Illegal task
-code_call blocks task (Cancel target) = made.Cancel (number_of blocks target)
+-- the call that an operation asks for, where `task` submissions stand before it
+-- (a submission with no legal period or fixed delay is a call too, and has a number; calls that the executor does not know yet are
+-- left out, and no plan text has them yet)
+abbrev pub code_call : List ℕ → ℕ → ℕ → Op → Option CodeCall
+code_call firsts start task (ops.Schedule name delay) = Some (made.Submit task t.Once delay)
+code_call firsts start task (ops.Rate name first (Some period)) = Some (made.Submit task (t.Rate period) first)
+code_call firsts start task (ops.Rate name first None) = Some (made.Illegal task)
+code_call firsts start task (ops.Fixed name first (Some delay)) = Some (made.Submit task (t.Fixed delay) first)
+code_call firsts start task (ops.Fixed name first None) = Some (made.Illegal task)
+code_call firsts start task (ops.Cancel target) = Some (made.Cancel (number_of firsts start target))
+code_call firsts start task (ops.Policy which value) = None
+code_call firsts start task ops.Shutdown = None
+code_call firsts start task ops.Ask = None
 
--- the calls of a block that is at the moment `at`: the one with offset o is made at `at + o` (this project's rule)
-abbrev pub calls_of_block : PlanTree → ℕ → ℕ → List Call → List (ℕ × CodeCall)
-calls_of_block blocks at task [] = []
-calls_of_block blocks at task (c ∷ cs) = (at + c.at, code_call blocks task c.op) ∷ calls_of_block blocks at (tasks_after task c.op) cs
+-- a call at a moment, if there is one
+abbrev pub at_moment : ℕ → Option CodeCall → List (ℕ × CodeCall)
+at_moment moment None = []
+at_moment moment (Some call) = (moment, call) ∷ []
 
--- the calls of some blocks of a plan, where `task` submissions stand before them
-abbrev pub calls_from : PlanTree → ℕ → PlanTree → List (ℕ × CodeCall)
-calls_from blocks task [] = []
-calls_from blocks task (b ∷ bs) = calls_of_block blocks b.at task b.calls ++ calls_from blocks (tasks_after_calls task b.calls) bs
+-- some calls of an iteration that begins at the moment `base` and after `start` submissions, where `task` stand before these: the
+-- call with offset o is made at `base + o`
+abbrev pub calls_at : List ℕ → ℕ → ℕ → ℕ → List Call → List (ℕ × CodeCall)
+calls_at firsts base start task [] = []
+calls_at firsts base start task (c ∷ cs) =
+    at_moment (base + c.at) (code_call firsts start task c.op) ++ calls_at firsts base start (tasks_after task c.op) cs
 
--- the calls of a plan with their moments: block by block, call by call, with submissions numbered 0, 1, ..
+-- how many submissions each iteration of a block makes
+abbrev pub tasks_of : BlockTree → ℕ
+tasks_of b = tasks_after_calls 0 b.calls
+
+-- the calls of iteration r of a block, counted from 0, where `first` submissions stand before the block: it begins at
+-- `at + r * every`
+abbrev pub iteration : List ℕ → ℕ → BlockTree → ℕ → List (ℕ × CodeCall)
+iteration firsts first b r =
+    calls_at firsts (b.header.at + r * b.header.every) (first + r * tasks_of b) (first + r * tasks_of b) b.calls
+
+-- the calls of the first n iterations of a block
+abbrev pub iterations : List ℕ → ℕ → BlockTree → ℕ → List (ℕ × CodeCall)
+iterations firsts first b zero = []
+iterations firsts first b (suc r) = iterations firsts first b r ++ iteration firsts first b r
+
+-- the calls of some blocks, where `first` submissions stand before them, and `firsts` has the first number of each block before
+abbrev pub calls_from : List ℕ → ℕ → PlanTree → List (ℕ × CodeCall)
+calls_from firsts first [] = []
+calls_from firsts first (b ∷ bs) =
+    iterations firsts first b b.header.times ++ calls_from (firsts ++ first ∷ []) (first + b.header.times * tasks_of b) bs
+
+-- the calls of a plan with their moments: block by block, iteration by iteration, call by call
 abbrev pub calls_of : PlanTree → List (ℕ × CodeCall)
-calls_of blocks = calls_from blocks 0 blocks
+calls_of blocks = calls_from [] 0 blocks
+
+-- the calls of an iteration can be written out: it begins within the limit, and its calls are in order
+pub record CanWrite (firsts : List ℕ) (first : ℕ) (b : BlockTree) (r : ℕ) : Type 0 where
+  pub base : b.header.at + r * b.header.every ≤ longest
+  pub moment : ℕ
+  pub ordered : IsOrderlyFrom (first + r * tasks_of b) moment (iteration firsts first b r)

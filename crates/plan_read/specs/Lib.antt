@@ -1,4 +1,10 @@
 pub use Rattle.sched_time.specs.Times
 pub mod Names
+pub mod Keys
 pub mod Plans
-pub mod PlanReading
+pub mod Values
+pub mod Checks
+pub mod Writes
+pub mod Texts
+pub mod Reads
+pub mod Laws

@@ -1,7 +1,7 @@
 //! Why a text is no plan.
 
 ghost use Rattle.std.specs.Prelude.{◌≡◌};
-ghost use Rattle.plan_read.specs.declared.faults.Stop.TheVariants as stops;
+ghost use Rattle.plan_read.specs.declared.faults.Refusal.TheVariants as refusals;
 
 use std::alloc::{AllocError, AllocFailed};
 use thiserror::Error;
@@ -24,12 +24,18 @@ pub enum PlanFaultKind {
     /// A key is missing.
     #[error("Missing")]
     Missing,
-    /// A value is not what its key wants: of another type, or an `op` that is none.
+    /// A value is not what its key wants: of another type, or an `op` or a `which` that is none.
     #[error("WrongType")]
     WrongType,
-    /// There are more blocks or calls than a plan may have.
-    #[error("TooMany")]
-    TooMany,
+    /// A `unit` is none of "ns", "us", "ms" and "s".
+    #[error("BadUnit")]
+    BadUnit,
+    /// A `times` is not 1 to 65,536.
+    #[error("BadTimes")]
+    BadTimes,
+    /// A moment, an offset or an `every` is below 0.
+    #[error("Negative")]
+    Negative,
     /// A name is not 1 to 32 ASCII letters, digits, `-` and `_`.
     #[error("BadName")]
     BadName,
@@ -39,15 +45,19 @@ pub enum PlanFaultKind {
     /// A cancel names no submission that stands before it.
     #[error("UnknownName")]
     UnknownName,
-    /// An offset is below 0.
-    #[error("Negative")]
-    Negative,
-    /// An offset, a delay or a period is above 2^62 nanoseconds.
-    #[error("TooLarge")]
-    TooLarge,
-    /// An offset is below that of the call before it.
+    /// A cancel names a submission of an earlier block that is repeated.
+    #[error("Ambiguous")]
+    Ambiguous,
+    /// A block begins before the last call of those before it, an offset is below that of the call
+    /// before it, or a call of a repeated block comes after the next iteration begins.
     #[error("OutOfOrder")]
     OutOfOrder,
+    /// A moment, an offset, a delay, a period or an `every` is above 2^62 nanoseconds.
+    #[error("TooLarge")]
+    TooLarge,
+    /// There are more blocks or calls than a plan may have.
+    #[error("TooMany")]
+    TooMany,
     /// Memory ran out. It says nothing of the text.
     #[error("Memory")]
     Memory,
@@ -65,7 +75,7 @@ pub struct PlanFault {
 }
 
 /// Where a fault is looked for: 0 stands for no block and for no call.
-#[derive(Clone, Copy, Debug, PartialEq, Eq)]
+#[derive(Clone, Copy)]
 pub struct Place {
     pub block: u32,
     pub call: u32,
@@ -79,18 +89,11 @@ impl Place {
         Place { block: 0, call: 0 }
     }
 
-    /// The header of a block.
-    pub fn header(block: u32) -> Place
-        ensures { result ≡ record { block = block; call = 0 } }
+    /// A fault of this kind at this place.
+    pub fn fault(self, kind: PlanFaultKind) -> Refusal
+        ensures { result ≡ refusals.Fault (record { kind = kind; block = self.block; call = self.call }) }
     {
-        Place { block, call: 0 }
-    }
-
-    /// Why the reading stops here.
-    pub fn stop(self, kind: PlanFaultKind) -> Stop
-        ensures { result ≡ stops.Fault (record { kind = kind; block = self.block; call = self.call }) }
-    {
-        Stop::Fault(PlanFault {
+        Refusal::Fault(PlanFault {
             kind,
             block: self.block,
             call: self.call,
@@ -98,25 +101,27 @@ impl Place {
     }
 }
 
-/// Why the reading of a plan stops.
-#[derive(Clone, Copy, Debug)]
-pub enum Stop {
+/// Why the reading of a plan ends without one.
+#[derive(Clone, Copy)]
+pub enum Refusal {
+    /// Memory ran out.
     Memory,
+    /// The text has a fault.
     Fault(PlanFault),
 }
 
-impl From<AllocError> for Stop {
-    ghost from_gives = { λ _ e. e ≡ stops.Memory };
+impl From<AllocError> for Refusal {
+    ghost from_gives = { λ _ e. e ≡ refusals.Memory };
 
-    fn from(_error: AllocError) -> Stop {
-        Stop::Memory
+    fn from(_error: AllocError) -> Refusal {
+        Refusal::Memory
     }
 }
 
-impl<T: Drop> From<AllocFailed<T>> for Stop {
-    ghost from_gives = { λ _ e. e ≡ stops.Memory };
+impl<T: Drop> From<AllocFailed<T>> for Refusal {
+    ghost from_gives = { λ _ e. e ≡ refusals.Memory };
 
-    fn from(_error: AllocFailed<T>) -> Stop {
-        Stop::Memory
+    fn from(_error: AllocFailed<T>) -> Refusal {
+        Refusal::Memory
     }
 }

@@ -1,15 +1,98 @@
 //! Plan texts, and the plans that they write.
+//!
+//! # Usage
+//!
+//! A plan text is a TOML document. It says which calls are made on an executor, and when.
+//!
+//! ```toml
+//! version = 1
+//!
+//! [[block]]           # every night for a week
+//! unit = "s"
+//! times = 7
+//! every = 86400
+//!
+//! [[block.call]]
+//! op = "schedule"
+//! name = "backup"
+//! delay = 3600
+//! ```
+//!
+//! ```rust
+//! match read_plan(alloc, text) {
+//!     Ok(plan) => plan.blocks(),         // one block, made seven times
+//!     Err(fault) => return Err(fault),   // prints as `Missing block 1 call 0`
+//! }
+//! ```
+//!
+//! # The text
+//!
+//! At the top stand `version`, which is 1, and `block`, an array of tables, at most 256. A block has
+//!
+//! | Key | Value | Default |
+//! |---|---|---|
+//! | `at` | its moment | 0 |
+//! | `unit` | "ns", "us", "ms" or "s": that of all times of the block | "ns" |
+//! | `times` | how often its calls are made, 1 to 65,536 | 1 |
+//! | `every` | from one iteration to the next; it has to be there where `times` exceeds 1 | 0 |
+//! | `call` | an array of tables, at most 256 | no calls |
+//!
+//! A call has an `op`, its offset `at` in the block (0 if it is left out), and the keys of its `op`:
+//!
+//! | `op` | Keys | Asks for |
+//! |---|---|---|
+//! | `schedule` | `name`, `delay` | a task that runs once, `delay` after the call |
+//! | `rate` | `name`, `first`, `period` | a task that runs `first` after the call, and then every `period` |
+//! | `fixed` | `name`, `first`, `delay` | a task that runs `first` after the call, and then `delay` after the end of each run |
+//! | `cancel` | `name` | the cancel of a task |
+//!
+//! The call with offset `o` is made at `at + r * every + o` in iteration `r`, counted from 0. Moments,
+//! offsets and spans are at most 2^62 nanoseconds, and so is the moment of each call in the last iteration.
+//! Moments do not fall: a block begins no earlier than the last call before it, offsets do not fall, and no
+//! offset of a repeated block is above `every`. A plan makes at most 65,536 calls, repetitions counted. A
+//! `delay` of a `schedule`, or a `first`, below 0 counts as 0. A `period`, or a `delay` of a `fixed`, that
+//! is zero or negative is illegal: the plan keeps that there is none.
+//!
+//! A name has 1 to 32 ASCII letters, digits, `-` and `_`. No two submissions have one name. A `cancel`
+//! names a submission that stands before it: one of its own block, and then it means the task of the same
+//! iteration, or one of an earlier block that is made once.
+//!
+//! # Faults
+//!
+//! A text that writes no plan has one [`PlanFault`]: what is wrong, and the block and the call, numbered
+//! from 1; 0 stands for none. The places are searched in order: the text, the top, then block by block, in
+//! each its header and then its calls. At each place the first of these checks that fails is the answer:
+//!
+//! | Place | Checks |
+//! |---|---|
+//! | text | `TooLong`: over 1,048,576 bytes. `Toml`: no UTF-8, or no TOML document |
+//! | top | `Version`, `UnknownKey`, `WrongType`, `TooMany` blocks |
+//! | header | `UnknownKey`, `WrongType`, `BadUnit`, `BadTimes`, `Missing` (`every`), `Negative`, `TooLarge`, `OutOfOrder`, `TooMany` calls |
+//! | call | `Missing` (`op`), `WrongType` (`op`), `UnknownKey`, `Missing`, `WrongType`, `BadName`, `DuplicateName` or `UnknownName`, `Ambiguous`, `Negative`, `TooLarge`, `OutOfOrder` |
+//!
+//! `Memory`, with block 0 and call 0, may come in place of any other answer, and says nothing of the text.
+//!
+//! # Memory and cost
+//!
+//! A plan owns its blocks, calls and names. While a text is read, its TOML tree and a map from names to
+//! submissions take memory too. A text of n bytes is read in the time of n log n: each name is looked up in
+//! the map once, and each table is read once. What a call needs of those before it is handed on.
 #![tactic(auto)]
 
-mod asked;
+mod calls;
 mod faults;
-mod fields;
+mod headers;
+mod keys;
+mod laws;
+mod limits;
 mod names;
 mod plans;
 mod reading;
+mod sites;
 mod tables;
 #[cfg(test)]
 mod tests;
+mod units;
 mod verbs;
 
 pub use faults::{PlanFault, PlanFaultKind};

@@ -1,17 +1,17 @@
 //! Plans, as they were read.
 
 ghost use Rattle.std.specs.Prelude.{◌≡◌};
-ghost use Rattle.plan_read.specs.PlanReading.{IsPlan};
-ghost use Rattle.plan_read.specs.Plans.{is_submission, AreCallsFrom, AreBlocks};
+ghost use Rattle.plan_read.specs.Plans.{tasks_after, is_submission, IsOrdered};
+ghost use Rattle.plan_read.specs.Writes.{IsPlan};
 
 use crate::names::Name;
-use sched_time::Span;
+use sched_time::{Span, Unit, Which};
 use std::marker::Model;
 
 /// A submission of a plan.
 #[derive(Clone, Copy, Debug, PartialEq, Eq)]
 pub struct Target {
-    /// Its block, numbered from 0; a plan has one block at most.
+    /// Its block, numbered from 0.
     pub block: usize,
     /// Which of the block's submissions it is, numbered from 0, illegal ones among them.
     pub sub: usize,
@@ -45,8 +45,20 @@ pub enum Op {
         /// At least 1 nanosecond; none where the plan writes one that is zero or negative.
         delay: Option<Span>,
     },
-    /// A task is cancelled, that of a submission which stands before the call.
+    /// A task is cancelled: that of a submission which stands before the call, of the same iteration
+    /// in its own block, or in an earlier block that is made once.
     Cancel(Target),
+    /// A policy is set.
+    Policy {
+        /// The policy.
+        which: Which,
+        /// Its new value.
+        value: bool,
+    },
+    /// The executor is shut down.
+    Shutdown,
+    /// The executor is asked how it stands.
+    Ask,
 }
 
 impl Op {
@@ -56,7 +68,7 @@ impl Op {
     {
         match self {
             Op::Schedule { .. } | Op::Rate { .. } | Op::Fixed { .. } => true,
-            Op::Cancel(_) => false,
+            Op::Cancel(_) | Op::Policy { .. } | Op::Shutdown | Op::Ask => false,
         }
     }
 }
@@ -66,49 +78,80 @@ impl Op {
 pub struct Call {
     /// Its offset in the block, 0 to 2^62 nanoseconds.
     pub at: u64,
+    /// What it asks for.
     pub op: Op,
+}
+
+/// When the calls of a block are made.
+#[derive(Clone, Copy, Debug)]
+pub struct Header {
+    pub at: u64,
+    pub unit: Unit,
+    pub times: u32,
+    pub every: u64,
 }
 
 /// A block of calls.
 #[derive(Debug, Drop)]
 pub struct Block {
-    at: u64,
+    header: Header,
     calls: Vec<Call>,
 }
 
 impl Model for Block {
-    ghost use Rattle.plan_read.specs.Plans.{BlockTree, AreCallsFrom};
+    ghost use Rattle.plan_read.specs.Plans.{BlockTree};
 
     ghost Value = { BlockTree };
 
-    ghost view = { λ b. record { at = b.at; calls = b.calls.items } };
-
-    ghost invariant = { λ b. AreCallsFrom 0 0 b.calls.items };
+    ghost view = { λ b. record { header = b.header; calls = b.calls.items } };
 }
 
 impl Block {
-    /// A block at a moment.
-    pub(crate) fn new(at: u64, calls: Vec<Call>) -> Block
-        requires { AreCallsFrom 0 0 calls.items }
-        ensures { result ≡ record { at = at; calls = calls.items } }
+    /// A block of these calls.
+    pub(crate) fn new(header: Header, calls: Vec<Call>) -> Block
+        ensures { result ≡ record { header = header; calls = calls.items } }
     {
-        Block { at, calls }
+        Block { header, calls }
     }
 
-    /// The moment from which its calls are counted, in nanoseconds.
+    /// When its calls are made.
+    pub(crate) fn header(&self) -> Header
+        ensures { result ≡ self.now.header }
+    {
+        self.header
+    }
+
+    /// The moment of its first iteration, from which its calls are counted: 0 to 2^62 nanoseconds.
     pub fn at(&self) -> u64
-        ensures { result ≡ self.now.at }
+        ensures { result ≡ self.now.header.at }
     {
-        self.at
+        self.header.at
     }
 
-    /// Its calls in the order of the text.
-    ///
-    /// Their offsets do not fall. Offsets and spans are at most 2^62 nanoseconds, and a period or a
-    /// fixed delay is at least 1. The target of a cancel stands before it.
+    /// The unit in which its text gives times. All times of a plan are in nanoseconds.
+    pub fn unit(&self) -> Unit
+        ensures { result ≡ self.now.header.unit }
+    {
+        self.header.unit
+    }
+
+    /// How often its calls are made, 1 to 65,536 times.
+    pub fn times(&self) -> u32
+        ensures { result ≡ self.now.header.times }
+    {
+        self.header.times
+    }
+
+    /// From the moment of an iteration to that of the next, 0 to 2^62 nanoseconds.
+    pub fn every(&self) -> u64
+        ensures { result ≡ self.now.header.every }
+    {
+        self.header.every
+    }
+
+    /// Its calls in the order of the text, at most 256.
     pub fn calls(&self) -> &[Call]
-        ensures calls { result.now ≡ self.now.calls }
-        ensures ordered { AreCallsFrom 0 0 self.now.calls }
+        ensures { result.now ≡ self.now.calls }
     {
         self.calls.as_slice()
     }
@@ -121,31 +164,34 @@ pub struct Plan {
 }
 
 impl Model for Plan {
-    ghost use Rattle.plan_read.specs.Plans.{PlanTree, AreBlocks};
-    ghost use Rattle.plan_read.specs.PlanReading.{IsPlan};
+    ghost use Rattle.plan_read.specs.Plans.{PlanTree};
+    ghost use Rattle.plan_read.specs.Writes.{IsPlan};
 
     ghost Value = { PlanTree };
 
     ghost view = { λ p. p.blocks.items };
 
-    ghost invariant = { λ p. IsPlan p.blocks.items × AreBlocks p.blocks.items };
+    ghost invariant = { λ p. IsPlan p.blocks.items };
 }
 
 impl Plan {
     /// A plan of these blocks.
     pub(crate) fn new(blocks: Vec<Block>) -> Plan
-        requires written { IsPlan blocks.items }
-        requires bounded { AreBlocks blocks.items }
+        requires { IsPlan blocks.items }
         ensures { result ≡ blocks.items }
     {
         Plan { blocks }
     }
 
-    /// Its blocks in the order of the text.
+    /// Its blocks in the order of the text, at most 256.
+    ///
+    /// The calls of the blocks, iteration by iteration, are at most 65,536, and their moments do not
+    /// fall. Moments, offsets and spans are at most 2^62 nanoseconds, and a period or a fixed delay is
+    /// at least 1. The target of a cancel stands before it.
     pub fn blocks(&self) -> &[Block]
         ensures blocks { result.now ≡ self.now }
         ensures written { IsPlan self.now }
-        ensures bounded { AreBlocks self.now }
+        ensures ordered { IsOrdered self.now }
     {
         self.blocks.as_slice()
     }

@@ -1,104 +1,211 @@
 //! Plans from their texts.
 
-ghost use Rattle.std.specs.Prelude.{◌≡◌, ◌≢◌, ℕ, ◌≤◌, ◌⊎◌, true, length, [], ◌∷◌, option_map, IfOk, IfErr, Ok, Err};
-ghost use Rattle.toml.specs.View.{view, table_view, items_view};
-ghost use Rattle.sched_time.specs.Times.{longest};
-ghost use Rattle.plan_read.specs.Plans.{IsLegal, IsWithinLimits, IsAimed, IsCallFrom, AreCallsFrom, IsBlock, AreBlocks, tasks_after_calls};
-ghost use Rattle.plan_read.specs.Names.{is_name};
-ghost use Rattle.plan_read.specs.PlanReading.{expect, top, tree_of, Gives, plan_of_text, top_of, blocks_of, block_of, header_of, calls_after, call_of, op_of, submission_of, IsKnown, nanos_at, period_at, tables_of, last_offset};
-ghost use Rattle.plan_read.specs.declared.faults.PlanFaultKind.TheVariants as kinds;
+ghost use Rattle.std.specs.Prelude.{◌≡◌, ◌≢◌, ◌⊎◌, ℕ, ◌+◌, ◌*◌, ◌≤◌, ◌<◌, true, length, [], ◌∷◌, ◌++◌, IfOk, IfErr, MatchResult, Some};
+ghost use Rattle.toml.specs.View.{table_view, items_view};
+ghost use Rattle.plan_read.specs.Checks.{first_failing, top, call_fault, calls_fault, block_fault, blocks_fault, fault_of};
+ghost use Rattle.plan_read.specs.Keys.{are_tables};
+ghost use Rattle.plan_read.specs.Plans.{PlanTree, tasks_after, tasks_after_calls, submissions_from, submissions_before, last_offset, end_of_block, end_of, made_by};
+ghost use Rattle.plan_read.specs.Reads.{Reads, Knows, out_of_memory};
+ghost use Rattle.plan_read.specs.Texts.{toml_checks, tree_at, fault_of_text, plan_of_text, TextWrites};
+ghost use Rattle.plan_read.specs.Values.{tables_in, next_call, calls_after, block_of, blocks_after, plan_of};
 
-use crate::asked::{Asked, read_asked};
-use crate::faults::{Place, PlanFault, PlanFaultKind, Stop};
-use crate::fields::{WrittenSpans, read_fields, read_verb};
-use crate::names::{Name, is_name};
-use crate::plans::{Block, Call, Op, Plan};
-use crate::tables::{are_tables, has_block_keys, has_plan_keys, member};
-use sched_time::{Span, Unit, period, span};
+use crate::calls::read_call;
+use crate::faults::{Place, PlanFault, PlanFaultKind, Refusal};
+use crate::headers::{last_moment, read_header, read_top};
+use crate::limits::LONGEST_TEXT;
+use crate::plans::{Block, Call, Header, Op, Plan, Target};
+use crate::sites::{Site, add_name};
+use crate::tables::{tables_at, text_or};
 use std::alloc::Global;
-use toml::value::Array;
+use std::collections::BTreeMap;
 use toml::{Table, Value};
 
-/// The nanoseconds of a number of units.
-fn read_nanos(place: Place, value: i64, unit: Unit) -> Result<Span, Stop>
-    ensures span { Gives (λ s. s) result (nanos_at place value unit) }
-    ensures short { IfOk result (λ s. s ≤ longest) }
+/// The plan that a text writes, or the first fault of the text.
+///
+/// The page of this crate says what a plan text is, and in which order faults are looked for. A fault of
+/// the kind [`PlanFaultKind::Memory`] may come in place of any other answer, and says nothing of the text;
+/// it has block 0 and call 0.
+pub fn read_plan(alloc: Global, text: &[u8]) -> Result<Plan, PlanFault>
+    ensures plan { IfOk result (λ p. TextWrites text.now p) }
+    ensures only { (plan : PlanTree) → TextWrites text.now plan → MatchResult result (λ p. p ≡ plan) (λ e. e ≡ out_of_memory) }
+    ensures fault { IfErr result (λ e. (fault_of_text text.now ≡ Some e) ⊎ (e ≡ out_of_memory)) }
 {
-    match span(value, unit) {
-        Ok(span) => Ok(span),
-        Err(_) => Err(place.stop(PlanFaultKind::TooLarge)),
+    match read_text(alloc, text) {
+        Ok(plan) => Ok(plan),
+        Err(Refusal::Fault(fault)) => Err(fault),
+        Err(Refusal::Memory) => Err(PlanFault {
+            kind: PlanFaultKind::Memory,
+            block: 0,
+            call: 0,
+        }),
     }
 }
 
-/// The nanoseconds of a period or a fixed delay, and none where it is zero or negative.
-#[tactic(auto, using(crate::proofs::Periods::is_legal))]
-fn read_period(place: Place, value: i64, unit: Unit) -> Result<Option<Span>, Stop>
-    ensures period { Gives (λ p. p) result (period_at place value unit) }
-    ensures legal { IfOk result IsLegal }
+/// The plan that a text writes, or its fault.
+fn read_text(alloc: Global, text: &[u8]) -> Result<Plan, Refusal>
+    ensures { Reads (λ p. p) result (fault_of_text text.now) (plan_of_text text.now) }
 {
-    match period(value, unit) {
-        Ok(period) => Ok(period),
-        Err(_) => Err(place.stop(PlanFaultKind::TooLarge)),
+    if text.len() > LONGEST_TEXT {
+        return Err(Place::top().fault(PlanFaultKind::TooLong));
     }
+    let tree = parse(alloc, text)?;
+    read_tree(alloc, &tree)
 }
 
-/// The operation of a submission of this name, with these spans.
-#[tactic(auto, unfolding(crate::specs::PlanReading::submission_of))]
-fn read_submission(place: Place, name: Name, spans: WrittenSpans) -> Result<Op, Stop>
-    ensures op { Gives (λ op. op) result (submission_of place name spans) }
-    ensures limits { IfOk result IsWithinLimits }
-    ensures aimed { IfOk result (λ op. (count : ℕ) → IsAimed count op) }
+/// The tree of a text.
+fn parse(alloc: Global, text: &[u8]) -> Result<Table, Refusal>
+    ensures { Reads (λ t. table_view t) result (first_failing top (toml_checks text.now)) (tree_at text.now) }
 {
-    match spans {
-        WrittenSpans::Schedule { delay } => {
-            let delay = read_nanos(place, delay, Unit::Ns)?;
-            Ok(Op::Schedule { name, delay })
-        }
-        WrittenSpans::Rate { first, period } => {
-            let first = read_nanos(place, first, Unit::Ns)?;
-            let period = read_period(place, period, Unit::Ns)?;
-            Ok(Op::Rate {
-                name,
-                first,
-                period,
-            })
-        }
-        WrittenSpans::Fixed { first, delay } => {
-            let first = read_nanos(place, first, Unit::Ns)?;
-            let delay = read_period(place, delay, Unit::Ns)?;
-            Ok(Op::Fixed { name, first, delay })
+    match toml::table_from_slice(alloc, text) {
+        Ok(table) => Ok(table),
+        Err(error) => {
+            if error.is_memory() {
+                return Err(Refusal::Memory);
+            }
+            Err(Place::top().fault(PlanFaultKind::Toml))
         }
     }
 }
 
-/// The operation that a call of this name asks for.
-fn read_op(alloc: Global, place: Place, name: &str, asked: Asked) -> Result<Op, Stop>
-    requires { is_name name.now ≡ true }
-    ensures op { Gives (λ op. op) result (op_of place name.now asked) }
-    ensures limits { IfOk result IsWithinLimits }
-    ensures aimed { IfOk result (λ op. (count : ℕ) → IsKnown count asked → IsAimed count op) }
+/// The plan that a tree writes, or its fault.
+fn read_tree(alloc: Global, table: &Table) -> Result<Plan, Refusal>
+    ensures { Reads (λ p. p) result (fault_of (table_view table.now)) (plan_of (table_view table.now)) }
 {
-    match asked {
-        Asked::Submission(spans) => {
-            let name = Name::new(alloc, name)?;
-            read_submission(place, name, spans)
-        }
-        Asked::Cancel(target) => Ok(Op::Cancel(target)),
-    }
+    let tables = read_top(table)?;
+    let blocks = read_blocks(alloc, tables)?;
+    Ok(Plan::new(blocks))
 }
 
-/// The tables of an array, where the value is one; no tables where there is no value.
-#[tactic(auto, unfolding(crate::specs::PlanReading::tables_of))]
-fn read_tables<'a>(place: Place, value: Option<&'a Value>) -> Result<&'a [Value], Stop>
-    ensures { Gives (λ vs. items_view vs.now) result (tables_of place (option_map (λ v. view v.now) value.entry)) }
+/// The blocks that the tables of a plan write.
+#[tactic(auto, using(crate::proofs::Accepted::end_from_one_more, crate::proofs::Accepted::made_from_one_more))]
+fn read_blocks(alloc: Global, tables: &[Value]) -> Result<Vec<Block>, Refusal>
+    requires tables { are_tables (items_view tables.now) ≡ true }
+    requires few { length tables.now ≤ 256 }
+    ensures { Reads (λ v. v.items) result (blocks_fault [] (tables_in (items_view tables.now))) (blocks_after [] (tables_in (items_view tables.now))) }
 {
-    let Some(value) = value else {
-        return Ok(&[]);
+    let mut blocks = Vec::new(alloc);
+    let mut names = BTreeMap::new(alloc);
+    let mut end = 0;
+    let mut made = 0;
+    for value in tables {
+        let Some(table) = value.as_table() else {
+            unreachable!()
+        };
+        let block = read_block(alloc, blocks.as_slice(), end, made, &mut names, table)?;
+        end = end_of_block(end, &block);
+        made += u64::from(block.times()) * block.calls().len() as u64;
+        blocks.push(block)?;
+    }
+    Ok(blocks)
+}
+
+/// The block that the next table of a plan writes, where the last call before it is at the moment `end`
+/// and `made` calls are made before it.
+fn read_block<'a>(
+    alloc: Global,
+    earlier: &[Block],
+    end: u128,
+    made: u64,
+    names: &mut BTreeMap<&'a str, Site>,
+    table: &'a Table,
+) -> Result<Block, Refusal>
+    requires blocks { length earlier.now < 256 }
+    requires end { end ≡ end_of earlier.now }
+    requires made { made ≡ made_by earlier.now }
+    requires few { made ≤ 65536 }
+    requires names { Knows names.old (submissions_from 0 earlier.now) }
+    ensures block { Reads (λ b. b) result (block_fault earlier.now (table_view table.now)) (block_of earlier.now (table_view table.now)) }
+    ensures names { IfOk result (λ b. Knows names.new (submissions_from 0 (earlier.now ++ b ∷ []))) }
+    ensures times { IfOk result (λ b. 1 ≤ b.header.times) }
+    ensures few { IfOk result (λ b. made + b.header.times * length b.calls ≤ 65536) }
+{
+    let place = Place {
+        block: earlier.len() as u32 + 1,
+        call: 0,
     };
-    match value.as_array() {
-        Some(array) if are_tables(array) => Ok(array.as_slice()),
-        _ => Err(place.stop(PlanFaultKind::WrongType)),
+    let header = read_header(place, end, made, table)?;
+    let tables = tables_at("call", table);
+    let calls = read_calls(alloc, earlier, header, tables, names)?;
+    Ok(Block::new(header, calls))
+}
+
+/// The moment of the last call of a block, and `end` where it has none.
+fn end_of_block(end: u128, block: &Block) -> u128
+    requires { 1 ≤ block.now.header.times }
+    ensures { result ≡ end_of_block end block.now.header block.now.calls }
+{
+    match block.calls() {
+        [] => end,
+        calls => last_moment(block.header(), last_offset(calls)),
     }
+}
+
+/// The calls that the tables of a block write.
+fn read_calls<'a>(
+    alloc: Global,
+    earlier: &[Block],
+    header: Header,
+    tables: &'a [Value],
+    names: &mut BTreeMap<&'a str, Site>,
+) -> Result<Vec<Call>, Refusal>
+    requires times { 1 ≤ header.times }
+    requires blocks { length earlier.now < 256 }
+    requires tables { are_tables (items_view tables.now) ≡ true }
+    requires few { length tables.now ≤ 256 }
+    requires names { Knows names.old (submissions_from 0 earlier.now) }
+    ensures calls { Reads (λ v. v.items) result (calls_fault earlier.now header [] (tables_in (items_view tables.now))) (calls_after earlier.now header [] (tables_in (items_view tables.now))) }
+    ensures names { IfOk result (λ v. Knows names.new (submissions_before earlier.now header v.items)) }
+    ensures count { IfOk result (λ v. length v.items ≡ length tables.now) }
+{
+    let mut calls = Vec::new(alloc);
+    let mut sub = 0;
+    for value in tables {
+        let Some(table) = value.as_table() else {
+            unreachable!()
+        };
+        let call = read_next(alloc, earlier, header, calls.as_slice(), sub, names, table)?;
+        if call.op.is_submission() {
+            sub += 1;
+        }
+        calls.push(call)?;
+    }
+    Ok(calls)
+}
+
+/// The call that the next table of a block writes, after the calls before it, `sub` of which are
+/// submissions.
+fn read_next<'a>(
+    alloc: Global,
+    earlier: &[Block],
+    header: Header,
+    before: &[Call],
+    sub: usize,
+    names: &mut BTreeMap<&'a str, Site>,
+    table: &'a Table,
+) -> Result<Call, Refusal>
+    requires times { 1 ≤ header.times }
+    requires blocks { length earlier.now < 256 }
+    requires few { length before.now < 256 }
+    requires sub { sub ≡ tasks_after_calls 0 before.now }
+    requires names { Knows names.old (submissions_before earlier.now header before.now) }
+    ensures call { Reads (λ c. c) result (call_fault earlier.now header before.now (table_view table.now)) (next_call earlier.now header before.now (table_view table.now)) }
+    ensures names { IfOk result (λ c. Knows names.new (submissions_before earlier.now header (before.now ++ c ∷ []))) }
+{
+    let block = earlier.len();
+    let place = Place {
+        block: block as u32 + 1,
+        call: before.len() as u32 + 1,
+    };
+    let name = text_or("", "name", table);
+    let found = names.get(name).copied();
+    let last = last_offset(before);
+    let call = read_call(alloc, place, found, block, header, last, table)?;
+    if call.op.is_submission() {
+        let target = Target { block, sub };
+        let repeated = header.times > 1;
+        add_name(names, name, Site { target, repeated })?;
+    }
+    Ok(call)
 }
 
 /// The offset of the last call, 0 where there is none.
@@ -108,182 +215,5 @@ fn last_offset(calls: &[Call]) -> u64
     match calls {
         [] => 0,
         [.., last] => last.at,
-    }
-}
-
-/// The call that a table writes, after the calls before it in its block.
-#[tactic(auto, unfolding(crate::specs::PlanReading::call_of))]
-fn read_call(alloc: Global, place: Place, before: &[Call], table: &Table) -> Result<Call, Stop>
-    ensures call { Gives (λ c. c) result (call_of place before.now (table_view table.now)) }
-    ensures after { IfOk result (λ c. IsCallFrom (last_offset before.now) (tasks_after_calls 0 before.now) c) }
-{
-    let verb = read_verb(place, table)?;
-    let fields = read_fields(place, verb, table)?;
-    if !is_name(fields.name) {
-        return Err(place.stop(PlanFaultKind::BadName));
-    }
-    let asked = read_asked(place, before, fields.name, fields.spans)?;
-    if fields.at < 0 {
-        return Err(place.stop(PlanFaultKind::Negative));
-    }
-    let at = read_nanos(place, fields.at, Unit::Ns)?.nanos();
-    let op = read_op(alloc, place, fields.name, asked)?;
-    if at < last_offset(before) {
-        return Err(place.stop(PlanFaultKind::OutOfOrder));
-    }
-    Ok(Call { at, op })
-}
-
-/// The tables of a block's calls.
-#[tactic(auto, using(crate::proofs::TomlTables::count_is_length), unfolding(crate::specs::PlanReading::header_of))]
-fn read_header<'a>(block: u32, table: &'a Table) -> Result<&'a [Value], Stop>
-    ensures tables { Gives (λ vs. items_view vs.now) result (header_of block (table_view table.now)) }
-    ensures few { IfOk result (λ vs. length vs.now ≤ 256) }
-{
-    let place = Place::header(block);
-    if !has_block_keys(table) {
-        return Err(place.stop(PlanFaultKind::UnknownKey));
-    }
-    let calls = read_tables(place, member(table, "call"))?;
-    if calls.len() > 256 {
-        return Err(place.stop(PlanFaultKind::TooMany));
-    }
-    Ok(calls)
-}
-
-/// The calls that the tables of a block write.
-fn read_calls(alloc: Global, block: u32, tables: &[Value]) -> Result<Vec<Call>, Stop>
-    requires { length tables.now ≤ 256 }
-    ensures calls { Gives (λ v. v.items) result (calls_after block [] (items_view tables.now)) }
-    ensures few { IfOk result (λ v. length v.items ≤ 256) }
-    ensures ordered { IfOk result (λ v. AreCallsFrom 0 0 v.items) }
-{
-    let mut calls = Vec::new(alloc);
-    for (index, value) in tables.iter().enumerate() {
-        let Some(table) = value.as_table() else {
-            return Err(Place::header(block).stop(PlanFaultKind::WrongType));
-        };
-        let place = Place {
-            block,
-            call: index as u32 + 1,
-        };
-        let call = read_call(alloc, place, calls.as_slice(), table)?;
-        calls.push(call)?;
-    }
-    Ok(calls)
-}
-
-/// The block that a table writes.
-#[tactic(auto, unfolding(crate::specs::PlanReading::block_of))]
-fn read_block(alloc: Global, block: u32, value: &Value) -> Result<Block, Stop>
-    ensures block { Gives (λ b. b) result (block_of block (view value.now)) }
-    ensures bounded { IfOk result IsBlock }
-{
-    let Some(table) = value.as_table() else {
-        return Err(Place::top().stop(PlanFaultKind::WrongType));
-    };
-    let tables = read_header(block, table)?;
-    let calls = read_calls(alloc, block, tables)?;
-    Ok(Block::new(0, calls))
-}
-
-/// The blocks that the tables write.
-#[tactic(auto, unfolding(crate::specs::PlanReading::blocks_of))]
-fn read_blocks(alloc: Global, tables: &[Value]) -> Result<Vec<Block>, Stop>
-    requires { length tables.now ≤ 1 }
-    ensures plan { Gives (λ v. v.items) result (blocks_of (items_view tables.now)) }
-    ensures bounded { IfOk result (λ v. AreBlocks v.items) }
-{
-    let mut blocks = Vec::new(alloc);
-    if let [value, ..] = tables {
-        let block = read_block(alloc, 1, value)?;
-        blocks.push(block)?;
-    }
-    Ok(blocks)
-}
-
-/// The tables of the blocks.
-#[tactic(auto, using(crate::proofs::TomlTables::count_is_length), unfolding(crate::specs::PlanReading::top_of))]
-fn read_top(table: &Table) -> Result<&[Value], Stop>
-    ensures tables { Gives (λ vs. items_view vs.now) result (top_of (table_view table.now)) }
-    ensures few { IfOk result (λ vs. length vs.now ≤ 1) }
-{
-    let place = Place::top();
-    let Some(version) = member(table, "version") else {
-        return Err(place.stop(PlanFaultKind::Version));
-    };
-    match version.as_integer() {
-        Some(number) if number == 1 => {}
-        _ => return Err(place.stop(PlanFaultKind::Version)),
-    }
-    if !has_plan_keys(table) {
-        return Err(place.stop(PlanFaultKind::UnknownKey));
-    }
-    let blocks = read_tables(place, member(table, "block"))?;
-    if blocks.len() > 1 {
-        return Err(place.stop(PlanFaultKind::TooMany));
-    }
-    Ok(blocks)
-}
-
-/// The tree of a text.
-fn read_tree(alloc: Global, text: &[u8]) -> Result<Table, Stop>
-    ensures { Gives (λ t. table_view t) result (expect top (tree_of text.now) kinds.Toml) }
-{
-    match toml::table_from_slice(alloc, text) {
-        Ok(table) => Ok(table),
-        Err(error) => {
-            if error.is_memory() {
-                return Err(Stop::Memory);
-            }
-            Err(Place::top().stop(PlanFaultKind::Toml))
-        }
-    }
-}
-
-/// The plan that a text writes.
-#[tactic(auto, unfolding(crate::specs::PlanReading::plan_of_text, crate::specs::PlanReading::plan_of_tree))]
-fn read_text(alloc: Global, text: &[u8]) -> Result<Plan, Stop>
-    ensures { Gives (λ p. p) result (plan_of_text text.now) }
-{
-    if text.len() > 1_048_576 {
-        return Err(Place::top().stop(PlanFaultKind::TooLong));
-    }
-    let tree = read_tree(alloc, text)?;
-    let tables = read_top(&tree)?;
-    let blocks = read_blocks(alloc, tables)?;
-    Ok(Plan::new(blocks))
-}
-
-/// The plan that a text writes, or the first fault of the text.
-///
-/// A plan is a TOML document in UTF-8 of at most 1,048,576 bytes with the key
-/// `version`, which is 1, and an array `block` of at most one table. Its `call`
-/// is an array of at most 256 tables, each with an `op`, a `name` and an offset
-/// `at` (0 if it is left out). Submissions have a name that none before them has:
-/// a `schedule` with a `delay`, a `rate` with a `first` and a `period`, and a
-/// `fixed` with a `first` and a `delay`. A `cancel` has the name of a submission
-/// that stands before it, and no other key. All are in nanoseconds and at most
-/// 2^62. An offset is not negative, and not below the one before it. A negative
-/// `delay` of a `schedule`, or a negative `first`, counts as 0. A `period`, or a
-/// `delay` of a `fixed`, that is zero or negative is illegal: the plan keeps that
-/// there is none.
-///
-/// The fault is the first one that is met, text, top, header, then call by call.
-/// [`PlanFaultKind::Memory`] may come in place of any other answer, and says
-/// nothing of the text; it has block 0 and call 0.
-pub fn read_plan(alloc: Global, text: &[u8]) -> Result<Plan, PlanFault>
-    ensures plan { IfOk result (λ p. plan_of_text text.now ≡ Ok p) }
-    ensures fault { IfErr result (λ e. e.kind ≢ kinds.Memory → plan_of_text text.now ≡ Err e) }
-    ensures memory { IfErr result (λ e. (plan_of_text text.now ≡ Err e) ⊎ (e ≡ record { kind = kinds.Memory; block = 0; call = 0 })) }
-{
-    match read_text(alloc, text) {
-        Ok(plan) => Ok(plan),
-        Err(Stop::Fault(fault)) => Err(fault),
-        Err(Stop::Memory) => Err(PlanFault {
-            kind: PlanFaultKind::Memory,
-            block: 0,
-            call: 0,
-        }),
     }
 }

@@ -1,96 +1,145 @@
-//! What a TOML table holds.
+//! What a TOML table holds at its keys.
 
 ghost use Rattle.std.specs.List.{list_all};
-ghost use Rattle.std.specs.BTreeMap.{keys};
-ghost use Rattle.std.specs.Prelude.{◌≡◌, string_bytes, option_map, is_some};
+ghost use Rattle.std.specs.Prelude.{◌≡◌, true, length, option_map, is_some};
 ghost use Rattle.toml.specs.Data.{get_member, as_table};
-ghost use Rattle.toml.specs.View.{view, table_view, array_view};
-ghost use Rattle.plan_read.specs.PlanReading.{has_only, is_plan_key, is_block_key, is_shared_key, is_call_key, are_tables};
+ghost use Rattle.toml.specs.View.{view, table_view, items_view};
+ghost use Rattle.plan_read.specs.Keys.{fits, Text, Integer, Truth, Policy, Tables, are_tables};
+ghost use Rattle.plan_read.specs.Values.{integer_or, text_or, truth_at, tables_in, tables_at};
 
-use crate::verbs::Verb;
-use toml::value::Array;
+use crate::units::which_of_word;
 use toml::{Table, Value};
 
 /// The value at a key.
-pub fn member<'a>(table: &'a Table, key: &str) -> Option<&'a Value>
+fn member<'a>(table: &'a Table, key: &str) -> Option<&'a Value>
     ensures { option_map (λ v. view v.now) result ≡ get_member key.now (table_view table.now) }
 {
     table.get(key)
 }
 
-/// Whether a plan's top has no other keys than its own.
-pub fn has_plan_keys(table: &Table) -> bool
-    ensures { result ≡ has_only is_plan_key (table_view table.now) }
+/// Whether a key is there.
+pub fn has(table: &Table, key: &str) -> bool
+    ensures { result ≡ is_some (get_member key.now (table_view table.now)) }
 {
-    each_is_plan_key(table)
+    member(table, key).is_some()
 }
 
-fn each_is_plan_key(table: &Table) -> bool
-    ensures { result ≡ list_all (λ key. is_plan_key (string_bytes key)) (keys table.now) }
+/// The integer at a key, and a default where there is none.
+pub fn integer_or(default: i64, key: &str, table: &Table) -> i64
+    ensures { result ≡ integer_or default key.now (table_view table.now) }
 {
-    table.keys().all(|key| is_plan_key(key.as_str()))
-}
-
-/// Whether a block's header has no other keys than its own.
-pub fn has_block_keys(table: &Table) -> bool
-    ensures { result ≡ has_only is_block_key (table_view table.now) }
-{
-    each_is_block_key(table)
-}
-
-fn each_is_block_key(table: &Table) -> bool
-    ensures { result ≡ list_all (λ key. is_block_key (string_bytes key)) (keys table.now) }
-{
-    table.keys().all(|key| is_block_key(key.as_str()))
-}
-
-/// Whether a call has no other keys than those of its operation.
-pub fn has_call_keys(verb: Verb, table: &Table) -> bool
-    ensures { result ≡ has_only (is_call_key verb) (table_view table.now) }
-{
-    each_is_call_key(verb, table)
-}
-
-fn each_is_call_key(verb: Verb, table: &Table) -> bool
-    ensures { result ≡ list_all (λ key. is_call_key verb (string_bytes key)) (keys table.now) }
-{
-    table.keys().all(|key| is_call_key(verb, key.as_str()))
-}
-
-fn is_plan_key(key: &str) -> bool
-    ensures { result ≡ is_plan_key key.now }
-{
-    key == "version" || key == "block"
-}
-
-fn is_block_key(key: &str) -> bool
-    ensures { result ≡ is_block_key key.now }
-{
-    key == "call"
-}
-
-fn is_call_key(verb: Verb, key: &str) -> bool
-    ensures { result ≡ is_call_key verb key.now }
-{
-    match verb {
-        Verb::Schedule => is_shared_key(key) || key == "delay",
-        Verb::Rate => is_shared_key(key) || key == "first" || key == "period",
-        Verb::Fixed => is_shared_key(key) || key == "first" || key == "delay",
-        Verb::Cancel => is_shared_key(key),
+    match member(table, key) {
+        Some(value) => match value.as_integer() {
+            Some(number) => number,
+            None => default,
+        },
+        None => default,
     }
 }
 
-fn is_shared_key(key: &str) -> bool
-    ensures { result ≡ is_shared_key key.now }
+/// The text at a key, and a default where there is none.
+pub fn text_or<'a>(default: &'a str, key: &str, table: &'a Table) -> &'a str
+    ensures { result.now ≡ text_or default.now key.now (table_view table.now) }
 {
-    key == "op" || key == "at" || key == "name"
+    match member(table, key) {
+        Some(value) => match value.as_str() {
+            Some(text) => text,
+            None => default,
+        },
+        None => default,
+    }
 }
 
-/// Whether each item of an array is a table.
-pub fn are_tables(array: &Array) -> bool
-    ensures { result ≡ are_tables (array_view array.now) }
+/// The truth value at a key, and false where there is none.
+pub fn truth_at(key: &str, table: &Table) -> bool
+    ensures { result ≡ truth_at key.now (table_view table.now) }
 {
-    each_is_table(array.as_slice())
+    match member(table, key) {
+        Some(value) => match value.as_bool() {
+            Some(truth) => truth,
+            None => false,
+        },
+        None => false,
+    }
+}
+
+/// The tables of the array at a key, none where there is no array.
+#[tactic(auto, using(crate::proofs::TableTests::count_of_tables))]
+pub fn tables_at<'a>(key: &str, table: &'a Table) -> &'a [Value]
+    ensures tables { tables_in (items_view result.now) ≡ tables_at key.now (table_view table.now) }
+    ensures count { length result.now ≡ length (tables_at key.now (table_view table.now)) }
+    ensures each { fits Tables (get_member key.now (table_view table.now)) ≡ true → are_tables (items_view result.now) ≡ true }
+{
+    match member(table, key) {
+        Some(value) => match value.as_array() {
+            Some(array) => array.as_slice(),
+            None => &[],
+        },
+        None => &[],
+    }
+}
+
+/// Whether there is no value at a key, or a text.
+pub fn fits_text(key: &str, table: &Table) -> bool
+    ensures { result ≡ fits Text (get_member key.now (table_view table.now)) }
+{
+    match member(table, key) {
+        Some(value) => value.as_str().is_some(),
+        None => true,
+    }
+}
+
+/// Whether there is no value at a key, or an integer.
+pub fn fits_integer(key: &str, table: &Table) -> bool
+    ensures { result ≡ fits Integer (get_member key.now (table_view table.now)) }
+{
+    match member(table, key) {
+        Some(value) => value.as_integer().is_some(),
+        None => true,
+    }
+}
+
+/// Whether there is no value at a key, or a truth value.
+pub fn fits_truth(key: &str, table: &Table) -> bool
+    ensures { result ≡ fits Truth (get_member key.now (table_view table.now)) }
+{
+    match member(table, key) {
+        Some(value) => value.as_bool().is_some(),
+        None => true,
+    }
+}
+
+/// Whether there is no value at a key, or the word of a policy.
+pub fn fits_policy(key: &str, table: &Table) -> bool
+    ensures { result ≡ fits Policy (get_member key.now (table_view table.now)) }
+{
+    match member(table, key) {
+        Some(value) => match value.as_str() {
+            Some(word) => which_of_word(word).is_some(),
+            None => false,
+        },
+        None => true,
+    }
+}
+
+/// Whether there is no value at a key, or an array of tables.
+pub fn fits_tables(key: &str, table: &Table) -> bool
+    ensures { result ≡ fits Tables (get_member key.now (table_view table.now)) }
+{
+    match member(table, key) {
+        Some(value) => match value.as_array() {
+            Some(array) => are_tables(array.as_slice()),
+            None => false,
+        },
+        None => true,
+    }
+}
+
+/// Whether each value is a table.
+fn are_tables(values: &[Value]) -> bool
+    ensures { result ≡ are_tables (items_view values.now) }
+{
+    each_is_table(values)
 }
 
 fn each_is_table(values: &[Value]) -> bool

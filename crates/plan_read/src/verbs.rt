@@ -1,10 +1,10 @@
 //! The operations of a call, by their words.
 
 ghost use Rattle.std.specs.Prelude.{◌≡◌};
-ghost use Rattle.plan_read.specs.PlanReading.{verb_of_word};
+ghost use Rattle.plan_read.specs.Keys.{verb_of_word};
 
 /// What a call asks for, as the word of its `op` says.
-#[derive(Clone, Copy, Debug, PartialEq, Eq)]
+#[derive(Clone, Copy)]
 pub enum Verb {
     /// A task runs once, after a delay.
     Schedule,
@@ -14,10 +14,19 @@ pub enum Verb {
     Fixed,
     /// A task is cancelled.
     Cancel,
+    /// A policy is set.
+    Policy,
+    /// The executor is shut down.
+    Shutdown,
+    /// The executor is asked how it stands.
+    Ask,
 }
 
 impl Verb {
-    /// The operation of a word, and none where the word names none.
+    /// The operation that a word names, if it names one.
+    ///
+    /// The words `policy`, `shutdown` and `ask` name none yet, since the executor does not know these
+    /// calls.
     pub fn of_word(word: &str) -> Option<Verb>
         ensures { result ≡ verb_of_word word.now }
     {

@@ -3,7 +3,8 @@ pub use Rattle.executor_core.specs.Histories
 pub use Rattle.executor_core.specs.Flows
 pub use Rattle.executor_core.specs.Machine
 pub use Rattle.plan_read.specs.Plans
-pub use Rattle.plan_read.specs.PlanReading
+pub use Rattle.plan_read.specs.Reads
+pub use Rattle.plan_read.specs.Texts
 pub use Rattle.plan_compile.specs.PlanCalls
 pub use Rattle.trace_text.specs.Spelling
 pub use Rattle.trace_text.specs.Reading

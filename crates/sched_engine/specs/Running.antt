@@ -10,14 +10,14 @@ use Rattle.executor_core.specs.Flows.{flow, lines_of}
 use Rattle.sched_engine.specs.declared.report.Report.{Report}
 use Rattle.sched_engine.specs.declared.report.RunError.{RunError}
 use Rattle.sched_engine.specs.declared.report.RunError.TheVariants as x
-use Rattle.plan_read.specs.declared.faults.PlanFaultKind.TheVariants as kinds
 use Rattle.sched_engine.specs.declared.held.TheConstants.{PIECE}
 use Rattle.sched_engine.specs.Ends.{IsOneFault, NoneMore}
 use Rattle.sched_engine.specs.Inputs.{input_of, AreEvents, IsRefused, BeginsWithEvent}
 use Rattle.trace_text.specs.Spelling.{IsLine, lines_text}
 use Rattle.trace_text.specs.declared.front.TheConstants.{MOST_EVENT_BYTES}
 use Rattle.plan_read.specs.Plans.{PlanTree}
-use Rattle.plan_read.specs.PlanReading.{plan_of_text}
+use Rattle.plan_read.specs.Reads.{out_of_memory}
+use Rattle.plan_read.specs.Texts.{TextWrites, fault_of_text}
 use Rattle.plan_compile.specs.PlanCalls.{calls_of}
 
 -- ---- traces
@@ -56,7 +56,7 @@ pub record Taken (calls : List Planned) (workers limit : ℕ) (input left : Opti
 -- the plan text writes a plan that makes these calls, and the numbers are in range
 pub record IsAccepted (text : List ℕ) (calls : List Planned) (workers limit : ℕ) : Type 0 where
   pub plan : PlanTree
-  pub reads : plan_of_text text ≡ Ok plan
+  pub reads : TextWrites text plan
   pub makes : calls ≡ calls_of plan
   pub counted : IsWorkerCount workers
   pub positive : 0 < limit
@@ -85,10 +85,10 @@ Runs (Err x.Limit) calls workers limit input left old new = ⊥
 
 -- why there is no core for a text and these numbers, the plan first, then the workers, then the limit
 abbrev pub Refuses : RunError → List ℕ → ℕ → ℕ → Type 0
-Refuses (x.Plan fault) text workers limit = (plan_of_text text ≡ Err fault) ⊎ (fault ≡ record { kind = kinds.Memory; block = 0; call = 0 })
-Refuses x.Workers text workers limit = (plan : PlanTree) × (plan_of_text text ≡ Ok plan) × (IsWorkerCount workers → ⊥)
-Refuses x.Limit text workers limit = (plan : PlanTree) × (plan_of_text text ≡ Ok plan) × IsWorkerCount workers × (limit ≡ 0)
-Refuses x.Memory text workers limit = (plan : PlanTree) × (plan_of_text text ≡ Ok plan)
+Refuses (x.Plan fault) text workers limit = (fault_of_text text ≡ Some fault) ⊎ (fault ≡ out_of_memory)
+Refuses x.Workers text workers limit = (plan : PlanTree) × TextWrites text plan × (IsWorkerCount workers → ⊥)
+Refuses x.Limit text workers limit = (plan : PlanTree) × TextWrites text plan × IsWorkerCount workers × (limit ≡ 0)
+Refuses x.Memory text workers limit = (plan : PlanTree) × TextWrites text plan
 Refuses _ text workers limit = ⊥
 
 -- what a run did: it refused, with nothing read or written, or it ran over the calls of the plan that the text writes

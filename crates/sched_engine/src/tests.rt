@@ -245,8 +245,8 @@ fn refuses_plans(rt: HostRuntime) {
     for plan in [
         "version = 1\n[[block]]\n[[block.call]]\nop = \"ask\"\n",
         "version = 1\n[[block]]\n[[block.call]]\nop = \"run\"\nname = \"a\"\ndelay = 5\n",
-        "version = 1\n[[block]]\nat = 0\n[[block.call]]\nop = \"schedule\"\nname = \"a\"\ndelay = 5\n",
-        "version = 1\n[[block]]\n[[block]]\n",
+        "version = 1\n[[block]]\nat = -1\n[[block.call]]\nop = \"schedule\"\nname = \"a\"\ndelay = 5\n",
+        "version = 1\n[[block]]\n[[block]]\ntimes = 2\n",
     ] {
         let (answer, trace) = ran(rt.alloc(), plan, 1, 1, EVENTS, 65_536);
         assert!(rt;

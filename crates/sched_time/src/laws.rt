@@ -4,6 +4,7 @@ ghost use Rattle.sched_time.specs.Times.{longest};
 
 use crate::error::TimeError;
 use crate::limits::LONGEST;
+use crate::policies::Which;
 use crate::spans::Span;
 use crate::timing::{Ending, Timing};
 use crate::unit::Unit;
@@ -31,6 +32,11 @@ pub fn timing_equality_tells()
 /// Two endings that `==` calls equal are one ending.
 pub fn ending_equality_tells()
     ensures { (a b : Ending) → ⟦<Ending as PartialEq>⟧.eq a b ≡ true → a ≡ b }
+{}
+
+/// Two policies that `==` calls equal are one policy.
+pub fn which_equality_tells()
+    ensures { (a b : Which) → ⟦<Which as PartialEq>⟧.eq a b ≡ true → a ≡ b }
 {}
 
 /// Two errors that `==` calls equal are one error.

@@ -41,6 +41,7 @@ mod conversions;
 mod error;
 pub mod laws;
 mod limits;
+mod policies;
 mod spans;
 #[cfg(test)]
 mod tests;
@@ -50,6 +51,7 @@ mod unit;
 pub use conversions::{moment, period, span};
 pub use error::TimeError;
 pub use limits::LONGEST;
+pub use policies::Which;
 pub use spans::Span;
 pub use timing::{Ending, Timing, next_due};
 pub use unit::Unit;

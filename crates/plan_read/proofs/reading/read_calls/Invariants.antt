@@ -1,12 +1,17 @@
-use Rattle.std.proofs.Common.{◌≡◌, [], drop, length}
+use Rattle.std.proofs.Common.{◌≡◌, ◌≤◌, [], drop, length}
 use Rattle.toml.specs.View.{items_view}
-use Rattle.plan_read.specs.Plans.{AreCallsFrom}
-use Rattle.plan_read.specs.PlanReading.{calls_after}
+use Rattle.plan_read.specs.Checks.{calls_fault}
+use Rattle.plan_read.specs.Plans.{tasks_after_calls, submissions_before}
+use Rattle.plan_read.specs.Reads.{Knows}
+use Rattle.plan_read.specs.Values.{tables_in, calls_after}
 use Rattle.plan_read.proofs.reading.read_calls.Given as goal
 
-abbrev pub invariant-loop-index : goal.invariant-loop-index
-invariant-loop-index l = record {
-  count : length l.calls.items ≡ l.index;
-  so_far : calls_after l.block l.calls.items (items_view (drop l.index l.tables)) ≡ calls_after l.block [] (items_view l.tables);
-  ordered : AreCallsFrom 0 0 l.calls.items;
+abbrev pub invariant-loop-value : goal.invariant-loop-value
+invariant-loop-value l = record {
+  count : length l.calls.items ≡ l.value-index;
+  small : l.sub ≤ l.value-index;
+  sub : l.sub ≡ tasks_after_calls 0 l.calls.items;
+  names : Knows l.names (submissions_before l.earlier l.header l.calls.items);
+  fault : calls_fault l.earlier l.header l.calls.items (tables_in (items_view (drop l.value-index l.tables))) ≡ calls_fault l.earlier l.header [] (tables_in (items_view l.tables));
+  calls : calls_after l.earlier l.header l.calls.items (tables_in (items_view (drop l.value-index l.tables))) ≡ calls_after l.earlier l.header [] (tables_in (items_view l.tables));
 }

@@ -1,10 +1,23 @@
-use Rattle.std.proofs.Common.{◌≡◌, true}
-use Rattle.plan_read.proofs.Trees.{is_tree, is_no_tree}
+use Rattle.toml.specs.View.{table_view}
+use Rattle.std.proofs.Common.{◌≡◌, None, sym, subst}
+use Rattle.plan_read.specs.Checks.{top, fault_of}
+use Rattle.plan_read.specs.Plans.{PlanTree}
+use Rattle.plan_read.specs.Values.{plan_of}
+use Rattle.plan_read.specs.Writes.{Writes}
+use Rattle.plan_read.proofs.TreeLaw.{tree_written}
+use Rattle.plan_read.proofs.Accepted.{top_passed}
 use Rattle.plan_read.proofs.reading.read_tree.Goals as goal
 
-pub returns-in-Ok : goal.returns-in-Ok
-returns-in-Ok c = is_tree c.args.text.now _ c.in-Ok.ensures.ok.0 c.in-Ok.ensures.ok.1
+pub read_blocks-requires-clause-tables : goal.read_blocks-requires-clause-tables
+read_blocks-requires-clause-tables c = c.in_ok-tables.ensures.each (top_passed top (table_view c.args.table.now) c.in_ok-tables.ensures.top.0).tables
 
-pub returns-else-is_memory : goal.returns-else-is_memory
-returns-else-is_memory c =
-    rw (c.stop.ensures, c.top.ensures) (is_no_tree c.args.text.now (c.in-Err.ensures.refused (λ memory. let told : c.is_memory.result ≡ true = c.is_memory.ensures.1 memory in cc)))
+pub read_blocks-requires-clause-few : goal.read_blocks-requires-clause-few
+read_blocks-requires-clause-few c = rw c.in_ok-tables.ensures.count (top_passed top (table_view c.args.table.now) c.in_ok-tables.ensures.top.0).few
+
+pub new-requires : goal.new-requires
+new-requires c =
+    let ms = table_view c.args.table.now in
+    let tables = c.in_ok-tables.ensures.top.1 in
+    let none : fault_of ms ≡ None = rw c.in_ok-tables.ensures.top.0 (rw tables at c.in_ok-blocks.ensures.0) in
+    let is : plan_of ms ≡ c.in_ok-blocks.blocks.items = rw (← tables) (sym c.in_ok-blocks.ensures.1) in
+    (ms, subst (λ (bs : PlanTree). Writes ms bs) is (tree_written ms none))

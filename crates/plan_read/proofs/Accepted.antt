@@ -1,0 +1,58 @@
+-- What an accepted header keeps, and one block more.
+use Rattle.std.proofs.Common.{◌≡◌, ℕ, ◌+◌, ◌*◌, ◌≤◌, Bool, true, ◌&&◌, nat_le, List, [], ◌∷◌, ◌++◌, length, None, codes, refl, arith}
+use Rattle.std.proofs.lemmas.Bool.{and_parts}
+use Rattle.std.proofs.lemmas.Bool.Decides.{nat_tests}
+use Rattle.std.specs.List.{AllByRecursion, list_all}
+use Rattle.toml.specs.Data.{Members, get_member}
+use Rattle.plan_read.specs.declared.faults.Place.{Place}
+use Rattle.plan_read.specs.Checks.{first_failing, header_checks, top_checks}
+use Rattle.plan_read.specs.Keys.{fits, Tables, header_keys, top_keys}
+use Rattle.plan_read.specs.Plans.{BlockTree, PlanTree, end_from, end_of_block, made_from}
+use Rattle.plan_read.specs.Values.{tables_at, header_of}
+use Rattle.plan_read.proofs.Failing.{all_pass}
+
+pub list_all_true : {A : Type 0} (test : A → Bool) (xs : List A) → list_all test xs ≡ true → AllByRecursion (λ x. test x ≡ true) xs
+list_all_true test [] h = tt
+list_all_true test (x ∷ xs) h = let p = and_parts (test x) (list_all test xs) h in (p.0, list_all_true test xs p.1)
+
+pub le_from_test : (a b : ℕ) → nat_le a b ≡ true → a ≤ b
+le_from_test a b h = grind (arith, nat_tests)
+
+pub record Passed (made : ℕ) (ms : Members) : Type 0 where
+  pub times : 1 ≤ (header_of ms).times
+  pub tables : fits Tables (get_member (codes "call") ms) ≡ true
+  pub few : length (tables_at (codes "call") ms) ≤ 256
+  pub fits_plan : made + (header_of ms).times * length (tables_at (codes "call") ms) ≤ 65536
+
+pub passed : (p : Place) (end made : ℕ) (ms : Members) → first_failing p (header_checks end made ms) ≡ None → Passed made ms
+unfolding header_checks
+passed p end made ms none =
+    let a = all_pass p (header_checks end made ms) none in
+    let typed = list_all_true (λ k. fits k.shape (get_member k.name ms)) header_keys a.1.0 in
+    let times : (nat_le 1 (header_of ms).times && nat_le (header_of ms).times 65536) ≡ true = a.1.1.1.0 in
+    let many : (nat_le (length (tables_at (codes "call") ms)) 256 && nat_le (made + (header_of ms).times * length (tables_at (codes "call") ms)) 65536) ≡ true = a.1.1.1.1.1.1.1.1.0 in
+    record {
+      times = le_from_test 1 (header_of ms).times (and_parts (nat_le 1 (header_of ms).times) (nat_le (header_of ms).times 65536) times).0;
+      tables = typed.1.1.1.1.0;
+      few = le_from_test (length (tables_at (codes "call") ms)) 256 (and_parts (nat_le (length (tables_at (codes "call") ms)) 256) (nat_le (made + (header_of ms).times * length (tables_at (codes "call") ms)) 65536) many).0;
+      fits_plan = le_from_test (made + (header_of ms).times * length (tables_at (codes "call") ms)) 65536 (and_parts (nat_le (length (tables_at (codes "call") ms)) 256) (nat_le (made + (header_of ms).times * length (tables_at (codes "call") ms)) 65536) many).1;
+    }
+
+pub end_from_one_more : (m : ℕ) (bs : PlanTree) (b : BlockTree) → end_from m (bs ++ b ∷ []) ≡ end_of_block (end_from m bs) b.header b.calls
+end_from_one_more m [] b = refl
+end_from_one_more m (d ∷ bs) b = end_from_one_more (end_of_block m d.header d.calls) bs b
+
+pub made_from_one_more : (n : ℕ) (bs : PlanTree) (b : BlockTree) → made_from n (bs ++ b ∷ []) ≡ made_from n bs + b.header.times * length b.calls
+made_from_one_more n [] b = refl
+made_from_one_more n (d ∷ bs) b = made_from_one_more (n + d.header.times * length d.calls) bs b
+
+pub record TopPassed (ms : Members) : Type 0 where
+  pub tables : fits Tables (get_member (codes "block") ms) ≡ true
+  pub few : length (tables_at (codes "block") ms) ≤ 256
+
+pub top_passed : (p : Place) (ms : Members) → first_failing p (top_checks ms) ≡ None → TopPassed ms
+unfolding top_checks
+top_passed p ms none =
+    let a = all_pass p (top_checks ms) none in
+    let typed = list_all_true (λ k. fits k.shape (get_member k.name ms)) top_keys a.1.1.0 in
+    record { tables = typed.1.0; few = le_from_test (length (tables_at (codes "block") ms)) 256 a.1.1.1.0 }

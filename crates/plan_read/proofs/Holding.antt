@@ -1,0 +1,102 @@
+-- What stands at a key, by the tests and by the facts.
+use Rattle.std.proofs.Common.{◌≡◌, ◌⊎◌, ◌≤◌, ℕ, ℤ, pos, negsuc, true, not, List, [], ◌∷◌, Option, None, Some, refl, sym, inl, inr, arith}
+use Rattle.std.proofs.lemmas.Bool.Decides.{nat_tests}
+use Rattle.std.specs.Prelude.{unwrap_or, option_and_then, int_lt}
+use Rattle.toml.specs.Data.{Data, string, integer, float, boolean, datetime, array, table, Items, no_items, item, Members, get_member, as_integer, as_str, as_array}
+use Rattle.sched_time.specs.Times.{longest, delay_units}
+use Rattle.sched_time.specs.declared.unit.Unit.{Unit as TimeUnit}
+use Rattle.plan_read.specs.Keys.{fits, Text, Integer, Tables, are_tables}
+use Rattle.plan_read.specs.Values.{integer_or, text_or, tables_in, tables_at, span_at, is_negative}
+use Rattle.plan_read.specs.Writes.{IntegerAt, TextAt, AreTables, TablesAt, SpanAt}
+
+-- ---- integers and texts
+
+pub integer_fits : (o : Option Data) (z : ℤ) → fits Integer o ≡ true → (o ≡ Some (integer (unwrap_or (option_and_then as_integer o) z))) ⊎ ((o ≡ None) × (unwrap_or (option_and_then as_integer o) z ≡ z))
+integer_fits None z h = inr (refl, refl)
+integer_fits (Some (integer n)) z h = inl refl
+integer_fits (Some (string s)) z h = absurd (cc)
+integer_fits (Some (float x)) z h = absurd (cc)
+integer_fits (Some (boolean b)) z h = absurd (cc)
+integer_fits (Some (datetime t)) z h = absurd (cc)
+integer_fits (Some (array ds)) z h = absurd (cc)
+integer_fits (Some (table ms)) z h = absurd (cc)
+
+pub text_fits : (o : Option Data) (t : List ℕ) → fits Text o ≡ true → (o ≡ Some (string (unwrap_or (option_and_then as_str o) t))) ⊎ ((o ≡ None) × (unwrap_or (option_and_then as_str o) t ≡ t))
+text_fits None z h = inr (refl, refl)
+text_fits (Some (string n)) z h = inl refl
+text_fits (Some (integer s)) z h = absurd (cc)
+text_fits (Some (float x)) z h = absurd (cc)
+text_fits (Some (boolean b)) z h = absurd (cc)
+text_fits (Some (datetime t)) z h = absurd (cc)
+text_fits (Some (array ds)) z h = absurd (cc)
+text_fits (Some (table ms)) z h = absurd (cc)
+
+pub integer_is : (d : ℤ) (key : List ℕ) (ms : Members) (z : ℤ) → IntegerAt d key ms z → (fits Integer (get_member key ms) ≡ true) × (integer_or d key ms ≡ z)
+integer_is d key ms z (inl h) = (rw h refl, rw h refl)
+integer_is d key ms z (inr h) = (rw h.0 refl, rw h.0 (sym h.1))
+
+pub text_is : (d : List ℕ) (key : List ℕ) (ms : Members) (t : List ℕ) → TextAt d key ms t → (fits Text (get_member key ms) ≡ true) × (text_or d key ms ≡ t)
+text_is d key ms t (inl h) = (rw h refl, rw h refl)
+text_is d key ms t (inr h) = (rw h.0 refl, rw h.0 (sym h.1))
+
+-- ---- spans
+
+units_of : (z : ℤ) → not (int_lt z (pos 0)) ≡ true → z ≡ pos (delay_units z)
+units_of (pos n) h = refl
+units_of (negsuc n) h = absurd (cc)
+
+pub span_fits : (unit : TimeUnit) (key : List ℕ) (ms : Members) → fits Integer (get_member key ms) ≡ true → not (is_negative key ms) ≡ true → span_at unit key ms ≤ longest → SpanAt unit key ms (span_at unit key ms)
+span_fits unit key ms typed forward short =
+    let z = integer_or (pos 0) key ms in
+    let e : z ≡ pos (delay_units z) = units_of z forward in
+    (delay_units z, rw (← e) (integer_fits (get_member key ms) (pos 0) typed), refl, short)
+
+not_negative : (n : ℕ) → not (int_lt (pos n) (pos 0)) ≡ true
+not_negative n = grind (arith, nat_tests)
+
+pub span_is : (unit : TimeUnit) (key : List ℕ) (ms : Members) (n : ℕ) → SpanAt unit key ms n → (fits Integer (get_member key ms) ≡ true) × (not (is_negative key ms) ≡ true) × (span_at unit key ms ≡ n)
+span_is unit key ms n s =
+    let i = integer_is (pos 0) key ms (pos s.0) s.1 in
+    (i.0, rw i.1 (not_negative s.0), rw i.1 (sym s.2))
+
+-- ---- tables
+
+items_fit : (ds : Items) → are_tables ds ≡ true → AreTables ds (tables_in ds)
+items_fit no_items h = tt
+items_fit (item (table ms) ds) h = (refl, items_fit ds h)
+items_fit (item (integer n) ds) h = absurd (cc)
+items_fit (item (string s) ds) h = absurd (cc)
+items_fit (item (float x) ds) h = absurd (cc)
+items_fit (item (boolean b) ds) h = absurd (cc)
+items_fit (item (datetime t) ds) h = absurd (cc)
+items_fit (item (array es) ds) h = absurd (cc)
+
+items_are : (ds : Items) (ts : List Members) → AreTables ds ts → (are_tables ds ≡ true) × (tables_in ds ≡ ts)
+items_are no_items [] h = (refl, refl)
+items_are no_items (t ∷ ts) h = absurd h
+items_are (item (table ms) ds) (t ∷ ts) h = let r = items_are ds ts h.1 in (r.0, rw (h.0, r.1) refl)
+items_are (item (table ms) ds) [] h = absurd h
+items_are (item (integer n) ds) ts h = absurd h
+items_are (item (string s) ds) ts h = absurd h
+items_are (item (float x) ds) ts h = absurd h
+items_are (item (boolean b) ds) ts h = absurd h
+items_are (item (datetime t) ds) ts h = absurd h
+items_are (item (array es) ds) ts h = absurd h
+
+data_fits : (o : Option Data) → fits Tables o ≡ true
+    → ((items : Items) × (o ≡ Some (array items)) × AreTables items (tables_in (unwrap_or (option_and_then as_array o) no_items))) ⊎ ((o ≡ None) × (tables_in (unwrap_or (option_and_then as_array o) no_items) ≡ []))
+data_fits None h = inr (refl, refl)
+data_fits (Some (array ds)) h = inl (ds, refl, items_fit ds h)
+data_fits (Some (integer n)) h = absurd (cc)
+data_fits (Some (string s)) h = absurd (cc)
+data_fits (Some (float x)) h = absurd (cc)
+data_fits (Some (boolean b)) h = absurd (cc)
+data_fits (Some (datetime t)) h = absurd (cc)
+data_fits (Some (table ms)) h = absurd (cc)
+
+pub tables_fit : (key : List ℕ) (ms : Members) → fits Tables (get_member key ms) ≡ true → TablesAt key ms (tables_at key ms)
+tables_fit key ms h = data_fits (get_member key ms) h
+
+pub tables_are : (key : List ℕ) (ms : Members) (ts : List Members) → TablesAt key ms ts → (fits Tables (get_member key ms) ≡ true) × (tables_at key ms ≡ ts)
+tables_are key ms ts (inl h) = let r = items_are h.0 ts h.2 in (rw h.1 r.0, rw h.1 r.1)
+tables_are key ms ts (inr h) = (rw h.0 refl, rw h.0 (sym h.1))

@@ -1,0 +1,53 @@
+-- The names of a written plan are distinct.
+use Rattle.std.proofs.Common.{◌≡◌, ℕ, ◌+◌, List, [], ◌∷◌, ◌++◌, length, None, bytes_eq, append_assoc, refl, inl, inr, arith}
+use Rattle.std.proofs.lemmas.Bool.{cases_Bool}
+use Rattle.std.proofs.lemmas.List.{append-nil}
+use Rattle.toml.specs.Data.{Members}
+use Rattle.sched_time.specs.declared.unit.Unit.{Unit as TimeUnit}
+use Rattle.plan_read.specs.declared.plans.Call.{Call}
+use Rattle.plan_read.specs.declared.plans.Header.{Header}
+use Rattle.plan_read.specs.declared.plans.Op.{Op}
+use Rattle.plan_read.specs.declared.plans.Op.TheVariants as ops
+use Rattle.plan_read.specs.declared.sites.Site.{Site}
+use Rattle.plan_read.specs.Plans.{PlanTree, name_of, named, submissions_from, submissions_before, find, AreDistinct}
+use Rattle.plan_read.specs.Writes.{Writes, WritesOp, WritesCalls, WritesBlocks}
+use Rattle.plan_read.proofs.Naming.{find-append, bytes_eq-symmetric, before-one_more, submissions_from-one_more}
+
+distinct-added : (subs : List (List ℕ × Site)) (name : List ℕ) (s : Site) → AreDistinct subs → find name subs ≡ None → AreDistinct (subs ++ (name, s) ∷ [])
+distinct-added [] name s d none = (refl, tt)
+distinct-added (x ∷ subs) name s d none =
+    elim (cases_Bool (bytes_eq name x.0)) [
+      | inl t ↦ absurd (let e = rw t at none in cc)
+      | inr f ↦ (rw (find-append x.0 subs ((name, s) ∷ []) d.0, bytes_eq-symmetric x.0 name, f) refl, distinct-added subs name s d.1 (rw f at none))
+    ]
+
+distinct-named : (subs : List (List ℕ × Site)) (block : ℕ) (unit : TimeUnit) (ms : Members) (op : Op) (s : Site) → WritesOp block unit subs ms op → AreDistinct subs → AreDistinct (subs ++ named s (name_of op))
+distinct-named subs block unit ms (ops.Schedule name delay) s w d = distinct-added subs name s d w.1.2
+distinct-named subs block unit ms (ops.Rate name first period) s w d = distinct-added subs name s d w.1.2
+distinct-named subs block unit ms (ops.Fixed name first delay) s w d = distinct-added subs name s d w.1.2
+distinct-named subs block unit ms (ops.Cancel target) s w d = rw (append-nil subs) d
+distinct-named subs block unit ms (ops.Policy which value) s w d = rw (append-nil subs) d
+distinct-named subs block unit ms ops.Shutdown s w d = rw (append-nil subs) d
+distinct-named subs block unit ms ops.Ask s w d = rw (append-nil subs) d
+
+distinct-calls : (earlier : PlanTree) (h : Header) (before : List Call) (tables : List Members) (cs : List Call) → WritesCalls earlier h before tables cs
+    → AreDistinct (submissions_before earlier h before) → AreDistinct (submissions_before earlier h (before ++ cs))
+distinct-calls earlier h before [] [] w d = rw (append-nil before) d
+distinct-calls earlier h before [] (c ∷ cs) w d = absurd w
+distinct-calls earlier h before (ms ∷ tables) [] w d = absurd w
+distinct-calls earlier h before (ms ∷ tables) (c ∷ cs) w d =
+    let one = distinct-named (submissions_before earlier h before) (length earlier) h.unit ms c.op _ w.0.op d in
+    rw (← append_assoc before (c ∷ []) cs) (distinct-calls earlier h (before ++ c ∷ []) tables cs w.1 (rw (before-one_more earlier h before c) one))
+
+distinct-blocks : (earlier : PlanTree) (tables : List Members) (bs : PlanTree) → WritesBlocks earlier tables bs → AreDistinct (submissions_from 0 earlier) → AreDistinct (submissions_from 0 (earlier ++ bs))
+distinct-blocks earlier [] [] w d = rw (append-nil earlier) d
+distinct-blocks earlier [] (b ∷ bs) w d = absurd w
+distinct-blocks earlier (ms ∷ tables) [] w d = absurd w
+distinct-blocks earlier (ms ∷ tables) (b ∷ bs) w d =
+    let start : AreDistinct (submissions_before earlier b.header []) = rw (append-nil (submissions_from 0 earlier)) d in
+    let calls = distinct-calls earlier b.header [] w.0.tables b.calls w.0.calls start in
+    let e : 0 + length earlier ≡ length earlier = omega arith in
+    rw (← append_assoc earlier (b ∷ []) bs) (distinct-blocks (earlier ++ b ∷ []) tables bs w.1 (rw (submissions_from-one_more 0 earlier b, e) calls))
+
+pub names_distinct : (ms : Members) (plan : PlanTree) → Writes ms plan → AreDistinct (submissions_from 0 plan)
+names_distinct ms plan w = distinct-blocks [] w.tables plan w.blocks tt

@@ -1,0 +1,57 @@
+-- One turn of a reading over an array of tables.
+use Rattle.std.proofs.Common.{◌≡◌, ℕ, zero, suc, ◌+◌, ◌<◌, true, List, [], ◌∷◌, ◌++◌, length, get_or, drop, Some, None, is_some, refl, sym, arith}
+use Rattle.std.proofs.lemmas.Bool.{and_parts}
+use Rattle.toml.proofs.Views.{items_view-drop}
+use Rattle.toml.specs.Data.{Data, string, integer, float, boolean, datetime, array, table, Members, as_table}
+use Rattle.toml.specs.View.{view, items_view}
+use Rattle.toml.specs.declared.value.Value.{Value}
+use Rattle.plan_read.specs.declared.faults.Refusal.{Refusal}
+use Rattle.plan_read.specs.declared.plans.Call.{Call}
+use Rattle.plan_read.specs.declared.plans.Header.{Header}
+use Rattle.plan_read.specs.Checks.{calls_fault, call_fault, blocks_fault, block_fault}
+use Rattle.plan_read.specs.Keys.{are_tables}
+use Rattle.plan_read.specs.Plans.{BlockTree, PlanTree}
+use Rattle.plan_read.specs.Reads.{Refuses}
+use Rattle.plan_read.specs.Values.{tables_in, members_in, calls_after, next_call, blocks_after, block_of}
+use Rattle.plan_read.proofs.Failing.{next_decides, first_decides}
+
+members_in-table : (d : Data) (ms : Members) → as_table d ≡ Some ms → members_in d ≡ ms
+members_in-table (table m) ms h = cc
+members_in-table (string s) ms h = absurd (cc)
+members_in-table (integer z) ms h = absurd (cc)
+members_in-table (float x) ms h = absurd (cc)
+members_in-table (boolean b) ms h = absurd (cc)
+members_in-table (datetime t) ms h = absurd (cc)
+members_in-table (array ds) ms h = absurd (cc)
+
+-- the table at an index is read next
+pub turn : (vs : List Value) (i : ℕ) (v : Value) (ms : Members) → i < length vs → v ≡ get_or vs i v → as_table (view v) ≡ Some ms
+    → tables_in (items_view (drop i vs)) ≡ ms ∷ tables_in (items_view (drop (i + 1) vs))
+turn vs i v ms h is e = rw (items_view-drop vs i v h, ← is, members_in-table (view v) ms e) refl
+
+pub is_table : (vs : List Value) (i : ℕ) (d : Value) → i < length vs → are_tables (items_view vs) ≡ true → is_some (as_table (view (get_or vs i d))) ≡ true
+is_table [] i d h all = absurd (omega arith)
+is_table (v ∷ vs) zero d h all = (and_parts (is_some (as_table (view v))) (are_tables (items_view vs)) all).0
+is_table (v ∷ vs) (suc i) d h all = is_table vs i d (omega arith) (and_parts (is_some (as_table (view v))) (are_tables (items_view vs)) all).1
+
+-- ---- the calls of a block
+
+pub call_turn : (earlier : PlanTree) (h : Header) (before : List Call) (tables rest : List Members) (ms : Members) (c : Call) → tables ≡ ms ∷ rest
+    → call_fault earlier h before ms ≡ None → c ≡ next_call earlier h before ms
+    → (calls_fault earlier h (before ++ c ∷ []) rest ≡ calls_fault earlier h before tables) × (calls_after earlier h (before ++ c ∷ []) rest ≡ calls_after earlier h before tables)
+call_turn earlier h before tables rest ms c e none is = rw (e, is) (sym (next_decides (call_fault earlier h before ms) _ none), refl)
+
+pub call_halts : (e : Refusal) (earlier : PlanTree) (h : Header) (before : List Call) (tables rest : List Members) (ms : Members) → tables ≡ ms ∷ rest
+    → Refuses e (call_fault earlier h before ms) → Refuses e (calls_fault earlier h before tables)
+call_halts e earlier h before tables rest ms is s = rw is (first_decides e (call_fault earlier h before ms) _ s)
+
+-- ---- the blocks of a plan
+
+pub block_turn : (earlier : PlanTree) (tables rest : List Members) (ms : Members) (b : BlockTree) → tables ≡ ms ∷ rest
+    → block_fault earlier ms ≡ None → b ≡ block_of earlier ms
+    → (blocks_fault (earlier ++ b ∷ []) rest ≡ blocks_fault earlier tables) × (blocks_after (earlier ++ b ∷ []) rest ≡ blocks_after earlier tables)
+block_turn earlier tables rest ms b e none is = rw (e, is) (sym (next_decides (block_fault earlier ms) _ none), refl)
+
+pub block_halts : (e : Refusal) (earlier : PlanTree) (tables rest : List Members) (ms : Members) → tables ≡ ms ∷ rest
+    → Refuses e (block_fault earlier ms) → Refuses e (blocks_fault earlier tables)
+block_halts e earlier tables rest ms is s = rw is (first_decides e (block_fault earlier ms) _ s)

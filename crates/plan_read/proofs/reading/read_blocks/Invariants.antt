@@ -1,0 +1,18 @@
+use Rattle.std.proofs.Common.{◌≡◌, ◌≤◌, [], drop, length}
+use Rattle.toml.specs.View.{items_view}
+use Rattle.plan_read.specs.Checks.{blocks_fault}
+use Rattle.plan_read.specs.Plans.{submissions_from, end_of, made_by}
+use Rattle.plan_read.specs.Reads.{Knows}
+use Rattle.plan_read.specs.Values.{tables_in, blocks_after}
+use Rattle.plan_read.proofs.reading.read_blocks.Given as goal
+
+abbrev pub invariant-loop-value : goal.invariant-loop-value
+invariant-loop-value l = record {
+  count : length l.blocks.items ≡ l.value-index;
+  end : l.end ≡ end_of l.blocks.items;
+  made : l.made ≡ made_by l.blocks.items;
+  few : l.made ≤ 65536;
+  names : Knows l.names (submissions_from 0 l.blocks.items);
+  fault : blocks_fault l.blocks.items (tables_in (items_view (drop l.value-index l.tables))) ≡ blocks_fault [] (tables_in (items_view l.tables));
+  blocks : blocks_after l.blocks.items (tables_in (items_view (drop l.value-index l.tables))) ≡ blocks_after [] (tables_in (items_view l.tables));
+}

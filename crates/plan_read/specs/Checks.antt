@@ -1,0 +1,190 @@
+-- The fault of a tree: for each place the list of its checks in order, and the first place whose list has one that fails.
+-- All of it is this project's rule.
+use Rattle.std.specs.Prelude.{ℕ, ◌+◌, ◌*◌, ℤ, pos, negsuc, Bool, true, false, not, ◌&&◌, ◌||◌, nat_le, ◌==◌, if◌then◌else◌, List, [], ◌∷◌, ◌++◌, length, Option, Some, None, is_some, is_none, option_and_then, codes}
+use Rattle.toml.specs.Data.{Members, get_member, as_integer}
+use Rattle.sched_time.specs.Times.{longest, span_of}
+use Rattle.sched_time.specs.declared.unit.Unit.{Unit as TimeUnit}
+use Rattle.plan_read.specs.declared.faults.Place.{Place}
+use Rattle.plan_read.specs.declared.faults.PlanFault.{PlanFault}
+use Rattle.plan_read.specs.declared.faults.PlanFaultKind.{PlanFaultKind}
+use Rattle.plan_read.specs.declared.faults.PlanFaultKind.TheVariants.{Version, UnknownKey, Missing, WrongType, BadUnit, BadTimes, Negative, BadName, DuplicateName, UnknownName, Ambiguous, OutOfOrder, TooLarge, TooMany}
+use Rattle.plan_read.specs.declared.plans.Call.{Call}
+use Rattle.plan_read.specs.declared.plans.Header.{Header}
+use Rattle.plan_read.specs.declared.sites.Site.{Site}
+use Rattle.plan_read.specs.declared.verbs.Verb.{Verb}
+use Rattle.plan_read.specs.declared.verbs.Verb.TheVariants as verbs
+use Rattle.plan_read.specs.Keys.{top_keys, header_keys, call_keys, verb_of_word, unit_of_word, has_only, has_required, are_typed}
+use Rattle.plan_read.specs.Names.{is_name}
+use Rattle.plan_read.specs.Plans.{PlanTree, most_blocks, most_block_calls, most_calls, last_moment, last_offset, end_of, made_by}
+use Rattle.plan_read.specs.Values.{text_or, tables_at, is_negative, span_at, header_of, verb_at, name_at, found_at, next_call, block_of}
+
+-- ---- lists of checks
+
+-- a check: what is wrong where it fails
+pub record Check : Type 0 where
+  pub kind : PlanFaultKind
+  pub passes : Bool
+
+infixr 8 ◌unless◌
+-- this is wrong unless a test holds
+abbrev pub ◌unless◌ : PlanFaultKind → Bool → Check
+kind unless passes = record { kind = kind; passes = passes }
+
+-- the first of a place's checks that fails
+abbrev pub first_failing : Place → List Check → Option PlanFault
+first_failing place [] = None
+first_failing place (c ∷ cs) = if c.passes then first_failing place cs else Some (record { kind = c.kind; block = place.block; call = place.call })
+
+infixr 7 ◌or_else◌
+-- the fault of one place, and where it has none, that of those after it
+abbrev pub ◌or_else◌ : Option PlanFault → Option PlanFault → Option PlanFault
+None or_else next = next
+(Some fault) or_else next = Some fault
+
+-- ---- the top
+
+-- the text as a whole and its top are in no block and no call
+abbrev pub top : Place
+top = record { block = 0; call = 0 }
+
+-- the value is the integer 1
+abbrev pub is_one : Option ℤ → Bool
+is_one None = false
+is_one (Some (pos n)) = n == 1
+is_one (Some (negsuc n)) = false
+
+unfoldable pub top_checks : Members → List Check
+top_checks ms =
+    (Version unless is_one (option_and_then as_integer (get_member (codes "version") ms)))
+    ∷ (UnknownKey unless has_only top_keys ms)
+    ∷ (WrongType unless are_typed top_keys ms)
+    ∷ (TooMany unless nat_le (length (tables_at (codes "block") ms)) most_blocks)
+    ∷ []
+
+-- ---- the header of a block
+
+-- blocks and calls are numbered from 1, so `block` others stand before this block
+abbrev pub header_place : ℕ → Place
+header_place block = record { block = block + 1; call = 0 }
+
+-- the checks on a header, where the last call before it is at the moment `end`, and `made` calls are made before it
+unfoldable pub header_checks : ℕ → ℕ → Members → List Check
+header_checks end made ms =
+    let h = header_of ms in
+    let calls = length (tables_at (codes "call") ms) in
+    (UnknownKey unless has_only header_keys ms)
+    ∷ (WrongType unless are_typed header_keys ms)
+    ∷ (BadUnit unless is_some (unit_of_word (text_or (codes "ns") (codes "unit") ms)))
+    ∷ (BadTimes unless nat_le 1 h.times && nat_le h.times most_calls)
+    ∷ (Missing unless nat_le h.times 1 || is_some (get_member (codes "every") ms))
+    ∷ (Negative unless not (is_negative (codes "at") ms) && not (is_negative (codes "every") ms))
+    ∷ (TooLarge unless nat_le h.at longest && nat_le h.every longest)
+    ∷ (OutOfOrder unless nat_le end h.at)
+    ∷ (TooMany unless nat_le calls most_block_calls && nat_le (made + h.times * calls) most_calls)
+    ∷ []
+
+-- ---- a call
+
+-- `call` others stand before this call in its block
+abbrev pub call_place : ℕ → ℕ → Place
+call_place block call = record { block = block + 1; call = call + 1 }
+
+-- the word of the operation is one
+abbrev pub is_verb : Members → Bool
+is_verb ms = is_some (verb_of_word (text_or [] (codes "op") ms))
+
+-- a cancel means a submission of its own block, or one of a block with one iteration
+abbrev pub is_clear : ℕ → Option Site → Bool
+is_clear block None = false
+is_clear block (Some s) = (s.target.block == block) || not s.repeated
+
+-- the spans of an operation are within the limit
+abbrev pub are_spans_short : Verb → TimeUnit → Members → Bool
+are_spans_short verbs.Schedule unit ms = nat_le (span_at unit (codes "delay") ms) longest
+are_spans_short verbs.Rate unit ms = nat_le (span_at unit (codes "first") ms) longest && nat_le (span_at unit (codes "period") ms) longest
+are_spans_short verbs.Fixed unit ms = nat_le (span_at unit (codes "first") ms) longest && nat_le (span_at unit (codes "delay") ms) longest
+are_spans_short verbs.Cancel unit ms = true
+are_spans_short verbs.Policy unit ms = true
+are_spans_short verbs.Shutdown unit ms = true
+are_spans_short verbs.Ask unit ms = true
+
+-- on the operation
+unfoldable pub verb_checks : Members → List Check
+verb_checks ms =
+    (Missing unless is_some (get_member (codes "op") ms))
+    ∷ (WrongType unless is_verb ms)
+    ∷ []
+
+-- on the other keys
+unfoldable pub key_checks : Verb → Members → List Check
+key_checks verb ms =
+    (UnknownKey unless has_only (call_keys verb) ms)
+    ∷ (Missing unless has_required (call_keys verb) ms)
+    ∷ (WrongType unless are_typed (call_keys verb) ms)
+    ∷ []
+
+-- on the name of a submission
+abbrev pub new_name_checks : Option Site → Members → List Check
+new_name_checks found ms =
+    (BadName unless is_name (name_at ms))
+    ∷ (DuplicateName unless is_none found)
+    ∷ []
+
+-- on the name of a cancel
+abbrev pub known_name_checks : Option Site → ℕ → Members → List Check
+known_name_checks found block ms =
+    (BadName unless is_name (name_at ms))
+    ∷ (UnknownName unless is_some found)
+    ∷ (Ambiguous unless is_clear block found)
+    ∷ []
+
+-- on the name
+unfoldable pub name_checks : Verb → Option Site → ℕ → Members → List Check
+name_checks verbs.Schedule found block ms = new_name_checks found ms
+name_checks verbs.Rate found block ms = new_name_checks found ms
+name_checks verbs.Fixed found block ms = new_name_checks found ms
+name_checks verbs.Cancel found block ms = known_name_checks found block ms
+name_checks verbs.Policy found block ms = []
+name_checks verbs.Shutdown found block ms = []
+name_checks verbs.Ask found block ms = []
+
+-- on the times
+unfoldable pub time_checks : Verb → Header → ℕ → Members → List Check
+time_checks verb h last ms =
+    (Negative unless not (is_negative (codes "at") ms))
+    ∷ (TooLarge unless nat_le (span_at h.unit (codes "at") ms) longest && are_spans_short verb h.unit ms && nat_le (last_moment h (span_at h.unit (codes "at") ms)) longest)
+    ∷ (OutOfOrder unless nat_le last (span_at h.unit (codes "at") ms) && (nat_le h.times 1 || nat_le (span_at h.unit (codes "at") ms) h.every))
+    ∷ []
+
+-- on a call of the block `block`, where `found` is the submission of its name that stands before it, and `last` the offset of the
+-- call before it
+abbrev pub call_checks : Option Site → ℕ → Header → ℕ → Members → List Check
+call_checks found block h last ms =
+    verb_checks ms ++ key_checks (verb_at ms) ms ++ name_checks (verb_at ms) found block ms ++ time_checks (verb_at ms) h last ms
+
+-- ---- the whole tree, block by block, and in each block its header and then its calls
+
+-- the fault of a call's table
+abbrev pub call_fault : PlanTree → Header → List Call → Members → Option PlanFault
+call_fault earlier h before ms =
+    first_failing (call_place (length earlier) (length before)) (call_checks (found_at earlier h before ms) (length earlier) h (last_offset before) ms)
+
+-- the first fault of some calls' tables
+abbrev pub calls_fault : PlanTree → Header → List Call → List Members → Option PlanFault
+calls_fault earlier h before [] = None
+calls_fault earlier h before (ms ∷ tables) = call_fault earlier h before ms or_else calls_fault earlier h (before ++ next_call earlier h before ms ∷ []) tables
+
+-- the first fault of a block's table
+abbrev pub block_fault : PlanTree → Members → Option PlanFault
+block_fault earlier ms =
+    first_failing (header_place (length earlier)) (header_checks (end_of earlier) (made_by earlier) ms)
+    or_else calls_fault earlier (header_of ms) [] (tables_at (codes "call") ms)
+
+-- the first fault of some blocks' tables
+abbrev pub blocks_fault : PlanTree → List Members → Option PlanFault
+blocks_fault earlier [] = None
+blocks_fault earlier (ms ∷ tables) = block_fault earlier ms or_else blocks_fault (earlier ++ block_of earlier ms ∷ []) tables
+
+-- the fault of a tree
+abbrev pub fault_of : Members → Option PlanFault
+fault_of ms = first_failing top (top_checks ms) or_else blocks_fault [] (tables_at (codes "block") ms)

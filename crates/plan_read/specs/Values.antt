@@ -1,0 +1,142 @@
+-- What stands at the keys of a plan's tables, with a default where there is none; a later check refuses what has no other value.
+-- All of it is this project's rule.
+use Rattle.std.specs.Prelude.{ℕ, ℤ, pos, Bool, false, List, [], ◌∷◌, ◌++◌, length, Option, Some, None, option_and_then, unwrap_or, codes, int_lt}
+use Rattle.toml.specs.Data.{Data, table, Items, no_items, item, Members, no_members, get_member, as_integer, as_bool, as_str, as_array}
+use Rattle.sched_time.specs.Times.{span_of, period_of, delay_units}
+use Rattle.sched_time.specs.declared.policies.Which.{Which}
+use Rattle.sched_time.specs.declared.policies.Which.TheVariants.{Continue}
+use Rattle.sched_time.specs.declared.unit.Unit.{Unit as TimeUnit}
+use Rattle.sched_time.specs.declared.unit.Unit.TheVariants.{Ns}
+use Rattle.plan_read.specs.declared.plans.Call.{Call}
+use Rattle.plan_read.specs.declared.plans.Header.{Header}
+use Rattle.plan_read.specs.declared.plans.Op.{Op}
+use Rattle.plan_read.specs.declared.plans.Op.TheVariants as ops
+use Rattle.plan_read.specs.declared.plans.Target.{Target}
+use Rattle.plan_read.specs.declared.sites.Site.{Site}
+use Rattle.plan_read.specs.declared.verbs.Verb.{Verb}
+use Rattle.plan_read.specs.declared.verbs.Verb.TheVariants as verbs
+use Rattle.plan_read.specs.Keys.{verb_of_word, unit_of_word, which_of_word}
+use Rattle.plan_read.specs.Plans.{BlockTree, PlanTree, submissions_before, find}
+
+-- ---- at one key
+
+-- the integer at a key, and a default where there is none
+abbrev pub integer_or : ℤ → List ℕ → Members → ℤ
+integer_or z key ms = unwrap_or (option_and_then as_integer (get_member key ms)) z
+
+-- the text at a key, and a default where there is none
+abbrev pub text_or : List ℕ → List ℕ → Members → List ℕ
+text_or text key ms = unwrap_or (option_and_then as_str (get_member key ms)) text
+
+-- the truth value at a key, and false where there is none
+abbrev pub truth_at : List ℕ → Members → Bool
+truth_at key ms = unwrap_or (option_and_then as_bool (get_member key ms)) false
+
+-- the members of a table
+abbrev pub members_in : Data → Members
+members_in (table ms) = ms
+members_in d = no_members
+
+-- the tables among some items
+abbrev pub tables_in : Items → List Members
+tables_in no_items = []
+tables_in (item d ds) = members_in d ∷ tables_in ds
+
+-- the tables of the array at a key, none where there is no value
+abbrev pub tables_at : List ℕ → Members → List Members
+tables_at key ms = tables_in (unwrap_or (option_and_then as_array (get_member key ms)) no_items)
+
+-- the integer at a key is below 0
+abbrev pub is_negative : List ℕ → Members → Bool
+is_negative key ms = int_lt (integer_or (pos 0) key ms) (pos 0)
+
+-- the nanoseconds at a key, in a unit; a negative number counts as 0
+abbrev pub span_at : TimeUnit → List ℕ → Members → ℕ
+span_at unit key ms = span_of (integer_or (pos 0) key ms) unit
+
+-- the nanoseconds of the period, or the fixed delay, at a key, and none where it is zero or negative
+abbrev pub period_at : TimeUnit → List ℕ → Members → Option ℕ
+period_at unit key ms = period_of (integer_or (pos 0) key ms) unit
+
+-- ---- of a header
+
+-- its unit
+abbrev pub unit_at : Members → TimeUnit
+unit_at ms = unwrap_or (unit_of_word (text_or (codes "ns") (codes "unit") ms)) Ns
+
+-- how often its calls are made
+abbrev pub times_at : Members → ℤ
+times_at ms = integer_or (pos 1) (codes "times") ms
+
+unfoldable pub header_of : Members → Header
+header_of ms = record {
+  at = span_at (unit_at ms) (codes "at") ms;
+  unit = unit_at ms;
+  times = delay_units (times_at ms);
+  every = span_at (unit_at ms) (codes "every") ms;
+}
+
+-- ---- of a call
+
+-- its operation
+unfoldable pub verb_at : Members → Verb
+verb_at ms = unwrap_or (verb_of_word (text_or [] (codes "op") ms)) verbs.Ask
+
+-- its name
+abbrev pub name_at : Members → List ℕ
+name_at ms = text_or [] (codes "name") ms
+
+-- its policy
+abbrev pub which_at : Members → Which
+which_at ms = unwrap_or (which_of_word (text_or [] (codes "which") ms)) Continue
+
+-- what a cancel of the submission `found` means
+abbrev pub target_of : Option Site → Target
+target_of None = record { block = 0; sub = 0 }
+target_of (Some s) = s.target
+
+-- the operation, where `found` is the submission of its name that stands before it
+unfoldable pub op_of : Verb → Option Site → TimeUnit → Members → Op
+op_of verbs.Schedule found unit ms = ops.Schedule (name_at ms) (span_at unit (codes "delay") ms)
+op_of verbs.Rate found unit ms = ops.Rate (name_at ms) (span_at unit (codes "first") ms) (period_at unit (codes "period") ms)
+op_of verbs.Fixed found unit ms = ops.Fixed (name_at ms) (span_at unit (codes "first") ms) (period_at unit (codes "delay") ms)
+op_of verbs.Cancel found unit ms = ops.Cancel (target_of found)
+op_of verbs.Policy found unit ms = ops.Policy (which_at ms) (truth_at (codes "value") ms)
+op_of verbs.Shutdown found unit ms = ops.Shutdown
+op_of verbs.Ask found unit ms = ops.Ask
+
+-- the call of an operation
+abbrev pub timed_call : Verb → Option Site → Header → Members → Call
+timed_call verb found h ms = record { at = span_at h.unit (codes "at") ms; op = op_of verb found h.unit ms }
+
+-- the call
+abbrev pub call_of : Option Site → Header → Members → Call
+call_of found h ms = timed_call (verb_at ms) found h ms
+
+-- ---- of the whole tree
+
+-- the submission of a table's name that stands before its call
+abbrev pub found_at : PlanTree → Header → List Call → Members → Option Site
+found_at earlier h before ms = find (name_at ms) (submissions_before earlier h before)
+
+-- the call that a table writes after the calls `before`
+abbrev pub next_call : PlanTree → Header → List Call → Members → Call
+next_call earlier h before ms = call_of (found_at earlier h before ms) h ms
+
+-- the calls before some tables, and theirs
+abbrev pub calls_after : PlanTree → Header → List Call → List Members → List Call
+calls_after earlier h before [] = before
+calls_after earlier h before (ms ∷ tables) = calls_after earlier h (before ++ next_call earlier h before ms ∷ []) tables
+
+-- the block that a table writes after the blocks `earlier`
+abbrev pub block_of : PlanTree → Members → BlockTree
+block_of earlier ms = record { header = header_of ms; calls = calls_after earlier (header_of ms) [] (tables_at (codes "call") ms) }
+
+-- the blocks before some tables, and theirs
+abbrev pub blocks_after : PlanTree → List Members → PlanTree
+blocks_after earlier [] = earlier
+blocks_after earlier (ms ∷ tables) = blocks_after (earlier ++ block_of earlier ms ∷ []) tables
+
+-- the plan that a tree writes where it has no fault
+abbrev pub plan_of : Members → PlanTree
+plan_of ms = blocks_after [] (tables_at (codes "block") ms)

@@ -1,0 +1,223 @@
+//! The calls of a block.
+
+ghost use Rattle.std.specs.Prelude.{◌≡◌, ◌≤◌, nat_le, None, [], ◌∷◌};
+ghost use Rattle.toml.specs.View.{table_view};
+ghost use Rattle.sched_time.specs.Times.{longest, span_of, period_of};
+ghost use Rattle.plan_read.specs.Checks.{◌unless◌, first_failing, verb_checks, key_checks, new_name_checks, known_name_checks, name_checks, time_checks, call_checks, are_spans_short};
+ghost use Rattle.plan_read.specs.Reads.{Reads};
+ghost use Rattle.plan_read.specs.Values.{verb_at, op_of, timed_call, call_of, which_at};
+ghost use Rattle.plan_read.specs.declared.faults.PlanFaultKind.TheVariants as kinds;
+
+use crate::faults::{Place, PlanFaultKind, Refusal};
+use crate::headers::{last_moment, read_span};
+use crate::keys::{has_only_call_keys, has_required_keys, is_typed_call};
+use crate::names::{Name, is_name};
+use crate::plans::{Call, Header, Op};
+use crate::sites::Site;
+use crate::tables::{has, integer_or, text_or, truth_at};
+use crate::units::which_of_word;
+use crate::verbs::Verb;
+use sched_time::{LONGEST, Span, Unit, Which, period};
+use std::alloc::Global;
+use toml::Table;
+
+/// The call that a table writes, where `found` is the submission of its name that stands before it, and
+/// the call before it in its block has the offset `last`.
+pub fn read_call(
+    alloc: Global,
+    place: Place,
+    found: Option<Site>,
+    block: usize,
+    header: Header,
+    last: u64,
+    table: &Table,
+) -> Result<Call, Refusal>
+    requires { 1 ≤ header.times }
+    ensures { Reads (λ c. c) result (first_failing place (call_checks found block header last (table_view table.now))) (call_of found header (table_view table.now)) }
+{
+    let verb = read_verb(place, table)?;
+    check_keys(place, verb, table)?;
+    check_name(place, verb, found, block, table)?;
+    read_timed(alloc, place, verb, found, block, header, last, table)
+}
+
+/// The operation of a call.
+#[tactic(auto, unfolding(crate::specs::Checks::verb_checks, crate::specs::Values::verb_at))]
+fn read_verb(place: Place, table: &Table) -> Result<Verb, Refusal>
+    ensures { Reads (λ v. v) result (first_failing place (verb_checks (table_view table.now))) (verb_at (table_view table.now)) }
+{
+    if !has(table, "op") {
+        return Err(place.fault(PlanFaultKind::Missing));
+    }
+    match Verb::of_word(text_or("", "op", table)) {
+        Some(verb) => Ok(verb),
+        None => Err(place.fault(PlanFaultKind::WrongType)),
+    }
+}
+
+/// That the keys of a call are those of its operation.
+#[tactic(auto, unfolding(crate::specs::Checks::key_checks))]
+fn check_keys(place: Place, verb: Verb, table: &Table) -> Result<(), Refusal>
+    ensures { Reads (λ u. u) result (first_failing place (key_checks verb (table_view table.now))) tt }
+{
+    if !has_only_call_keys(verb, table) {
+        return Err(place.fault(PlanFaultKind::UnknownKey));
+    }
+    if !has_required_keys(verb, table) {
+        return Err(place.fault(PlanFaultKind::Missing));
+    }
+    if !is_typed_call(verb, table) {
+        return Err(place.fault(PlanFaultKind::WrongType));
+    }
+    Ok(())
+}
+
+/// That the name of a call is one that its operation can have, where `found` is the submission of
+/// this name that stands before it.
+#[tactic(auto, unfolding(crate::specs::Checks::name_checks))]
+fn check_name(
+    place: Place,
+    verb: Verb,
+    found: Option<Site>,
+    block: usize,
+    table: &Table,
+) -> Result<(), Refusal>
+    ensures { Reads (λ u. u) result (first_failing place (name_checks verb found block (table_view table.now))) tt }
+{
+    match verb {
+        Verb::Schedule | Verb::Rate | Verb::Fixed => check_new_name(place, found, table),
+        Verb::Cancel => check_known_name(place, found, block, table),
+        Verb::Policy | Verb::Shutdown | Verb::Ask => Ok(()),
+    }
+}
+
+/// That the name is one that a submission can have.
+fn check_new_name(place: Place, found: Option<Site>, table: &Table) -> Result<(), Refusal>
+    ensures { Reads (λ u. u) result (first_failing place (new_name_checks found (table_view table.now))) tt }
+{
+    if !is_name(text_or("", "name", table)) {
+        return Err(place.fault(PlanFaultKind::BadName));
+    }
+    match found {
+        Some(_) => Err(place.fault(PlanFaultKind::DuplicateName)),
+        None => Ok(()),
+    }
+}
+
+/// That the name is one that a cancel can have.
+fn check_known_name(
+    place: Place,
+    found: Option<Site>,
+    block: usize,
+    table: &Table,
+) -> Result<(), Refusal>
+    ensures { Reads (λ u. u) result (first_failing place (known_name_checks found block (table_view table.now))) tt }
+{
+    if !is_name(text_or("", "name", table)) {
+        return Err(place.fault(PlanFaultKind::BadName));
+    }
+    match found {
+        None => Err(place.fault(PlanFaultKind::UnknownName)),
+        Some(site) if site.repeated && site.target.block != block => {
+            Err(place.fault(PlanFaultKind::Ambiguous))
+        }
+        Some(_) => Ok(()),
+    }
+}
+
+/// The call of a table whose keys and name are checked, where the call before it has the offset `last`.
+#[tactic(auto, unfolding(crate::specs::Checks::time_checks))]
+fn read_timed(
+    alloc: Global,
+    place: Place,
+    verb: Verb,
+    found: Option<Site>,
+    block: usize,
+    header: Header,
+    last: u64,
+    table: &Table,
+) -> Result<Call, Refusal>
+    requires times { 1 ≤ header.times }
+    requires name { first_failing place (name_checks verb found block (table_view table.now)) ≡ None }
+    ensures { Reads (λ c. c) result (first_failing place (time_checks verb header last (table_view table.now))) (timed_call verb found header (table_view table.now)) }
+{
+    let at = integer_or(0, "at", table);
+    if at < 0 {
+        return Err(place.fault(PlanFaultKind::Negative));
+    }
+    let at = read_span(place, at, header.unit)?.nanos();
+    let op = read_op(alloc, place, verb, found, block, header.unit, table)?;
+    if last_moment(header, at) > u128::from(LONGEST) {
+        return Err(place.fault(PlanFaultKind::TooLarge));
+    }
+    if at < last || (header.times > 1 && at > header.every) {
+        return Err(place.fault(PlanFaultKind::OutOfOrder));
+    }
+    Ok(Call { at, op })
+}
+
+/// The operation of a call whose name is checked.
+#[tactic(auto, unfolding(crate::specs::Checks::name_checks, crate::specs::Values::op_of))]
+fn read_op(
+    alloc: Global,
+    place: Place,
+    verb: Verb,
+    found: Option<Site>,
+    block: usize,
+    unit: Unit,
+    table: &Table,
+) -> Result<Op, Refusal>
+    requires { first_failing place (name_checks verb found block (table_view table.now)) ≡ None }
+    ensures { Reads (λ o. o) result (first_failing place ((kinds.TooLarge unless are_spans_short verb unit (table_view table.now)) ∷ [])) (op_of verb found unit (table_view table.now)) }
+{
+    match verb {
+        Verb::Schedule => {
+            let name = Name::new(alloc, text_or("", "name", table))?;
+            let delay = read_span(place, integer_or(0, "delay", table), unit)?;
+            Ok(Op::Schedule { name, delay })
+        }
+        Verb::Rate => {
+            let name = Name::new(alloc, text_or("", "name", table))?;
+            let first = read_span(place, integer_or(0, "first", table), unit)?;
+            let period = read_period(place, integer_or(0, "period", table), unit)?;
+            Ok(Op::Rate {
+                name,
+                first,
+                period,
+            })
+        }
+        Verb::Fixed => {
+            let name = Name::new(alloc, text_or("", "name", table))?;
+            let first = read_span(place, integer_or(0, "first", table), unit)?;
+            let delay = read_period(place, integer_or(0, "delay", table), unit)?;
+            Ok(Op::Fixed { name, first, delay })
+        }
+        Verb::Cancel => match found {
+            Some(site) => Ok(Op::Cancel(site.target)),
+            None => unreachable!(),
+        },
+        Verb::Policy => Ok(Op::Policy {
+            which: which_at(table),
+            value: truth_at("value", table),
+        }),
+        Verb::Shutdown => Ok(Op::Shutdown),
+        Verb::Ask => Ok(Op::Ask),
+    }
+}
+
+/// The nanoseconds of a period or a fixed delay, and none where it is zero or negative.
+fn read_period(place: Place, value: i64, unit: Unit) -> Result<Option<Span>, Refusal>
+    ensures { Reads (λ p. p) result (first_failing place ((kinds.TooLarge unless nat_le (span_of value unit) longest) ∷ [])) (period_of value unit) }
+{
+    match period(value, unit) {
+        Ok(period) => Ok(period),
+        Err(_) => Err(place.fault(PlanFaultKind::TooLarge)),
+    }
+}
+
+/// The policy that a table names, `continue` where it names none.
+fn which_at(table: &Table) -> Which
+    ensures { result ≡ which_at (table_view table.now) }
+{
+    which_of_word(text_or("", "which", table)).unwrap_or(Which::Continue)
+}

@@ -1,0 +1,112 @@
+//! The top of a plan, and the headers of its blocks.
+
+ghost use Rattle.std.specs.Prelude.{◌≡◌, ◌≤◌, nat_le, true, length, [], ◌∷◌, IfOk, codes};
+ghost use Rattle.toml.specs.View.{table_view, items_view};
+ghost use Rattle.toml.specs.Data.{get_member};
+ghost use Rattle.sched_time.specs.Times.{longest, span_of};
+ghost use Rattle.plan_read.specs.Checks.{◌unless◌, first_failing, top, top_checks, header_checks};
+ghost use Rattle.plan_read.specs.Keys.{are_tables, fits, Tables};
+ghost use Rattle.plan_read.specs.Plans.{last_moment};
+ghost use Rattle.plan_read.specs.Reads.{Reads};
+ghost use Rattle.plan_read.specs.Values.{tables_in, tables_at, header_of};
+ghost use Rattle.plan_read.specs.declared.faults.PlanFaultKind.TheVariants as kinds;
+
+use crate::faults::{Place, PlanFaultKind, Refusal};
+use crate::keys::{has_only_header_keys, has_only_top_keys, is_typed_header, is_typed_top};
+use crate::limits::{MOST_BLOCK_CALLS, MOST_BLOCKS, MOST_CALLS};
+use crate::plans::Header;
+use crate::tables::{has, integer_or, tables_at, text_or};
+use crate::units::unit_of_word;
+use sched_time::{Span, Unit, span};
+use toml::{Table, Value};
+
+/// The tables of the blocks.
+#[tactic(auto, unfolding(crate::specs::Checks::top_checks))]
+pub fn read_top(table: &Table) -> Result<&[Value], Refusal>
+    ensures each { IfOk result (λ vs. fits Tables (get_member (codes "block") (table_view table.now)) ≡ true → are_tables (items_view vs.now) ≡ true) }
+    ensures count { IfOk result (λ vs. length vs.now ≡ length (tables_at (codes "block") (table_view table.now))) }
+    ensures top { Reads (λ vs. tables_in (items_view vs.now)) result (first_failing top (top_checks (table_view table.now))) (tables_at (codes "block") (table_view table.now)) }
+{
+    let place = Place::top();
+    if !has(table, "version") || integer_or(0, "version", table) != 1 {
+        return Err(place.fault(PlanFaultKind::Version));
+    }
+    if !has_only_top_keys(table) {
+        return Err(place.fault(PlanFaultKind::UnknownKey));
+    }
+    if !is_typed_top(table) {
+        return Err(place.fault(PlanFaultKind::WrongType));
+    }
+    let blocks = tables_at("block", table);
+    if blocks.len() > MOST_BLOCKS {
+        return Err(place.fault(PlanFaultKind::TooMany));
+    }
+    Ok(blocks)
+}
+
+/// A header, where the last call before the block is at the moment `end`, and `made` calls are made
+/// before it.
+#[tactic(auto, unfolding(crate::specs::Checks::header_checks, crate::specs::Values::header_of))]
+pub fn read_header(place: Place, end: u128, made: u64, table: &Table) -> Result<Header, Refusal>
+    requires { made ≤ 65536 }
+    ensures { Reads (λ h. h) result (first_failing place (header_checks end made (table_view table.now))) (header_of (table_view table.now)) }
+{
+    if !has_only_header_keys(table) {
+        return Err(place.fault(PlanFaultKind::UnknownKey));
+    }
+    if !is_typed_header(table) {
+        return Err(place.fault(PlanFaultKind::WrongType));
+    }
+    let Some(unit) = unit_of_word(text_or("ns", "unit", table)) else {
+        return Err(place.fault(PlanFaultKind::BadUnit));
+    };
+    let times = integer_or(1, "times", table);
+    if times < 1 || times > 65_536 {
+        return Err(place.fault(PlanFaultKind::BadTimes));
+    }
+    if times > 1 && !has(table, "every") {
+        return Err(place.fault(PlanFaultKind::Missing));
+    }
+    let at = integer_or(0, "at", table);
+    let every = integer_or(0, "every", table);
+    if at < 0 || every < 0 {
+        return Err(place.fault(PlanFaultKind::Negative));
+    }
+    let at = read_span(place, at, unit)?.nanos();
+    let every = read_span(place, every, unit)?.nanos();
+    if u128::from(at) < end {
+        return Err(place.fault(PlanFaultKind::OutOfOrder));
+    }
+    let calls = tables_at("call", table).len();
+    if calls > MOST_BLOCK_CALLS || made + times as u64 * calls as u64 > MOST_CALLS {
+        return Err(place.fault(PlanFaultKind::TooMany));
+    }
+    Ok(Header {
+        at,
+        unit,
+        times: times as u32,
+        every,
+    })
+}
+
+/// The nanoseconds of a number of units; a negative number counts as 0.
+pub fn read_span(place: Place, value: i64, unit: Unit) -> Result<Span, Refusal>
+    ensures { Reads (λ s. s) result (first_failing place ((kinds.TooLarge unless nat_le (span_of value unit) longest) ∷ [])) (span_of value unit) }
+{
+    match span(value, unit) {
+        Ok(span) => Ok(span),
+        Err(_) => Err(place.fault(PlanFaultKind::TooLarge)),
+    }
+}
+
+/// The moment of the call with this offset in the last iteration.
+///
+/// It may be past the range of a moment, and of `u64`.
+pub fn last_moment(header: Header, offset: u64) -> u128
+    requires { 1 ≤ header.times }
+    ensures { result ≡ last_moment header offset }
+{
+    u128::from(header.at)
+        + u128::from(header.times - 1) * u128::from(header.every)
+        + u128::from(offset)
+}

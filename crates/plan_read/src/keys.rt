@@ -1,0 +1,135 @@
+//! Tests of a table against the keys that belong there.
+
+ghost use Rattle.std.specs.List.{list_all};
+ghost use Rattle.std.specs.BTreeMap.{keys};
+ghost use Rattle.std.specs.Prelude.{◌≡◌, string_bytes};
+ghost use Rattle.toml.specs.View.{table_view};
+ghost use Rattle.plan_read.specs.Keys.{top_keys, header_keys, call_keys, own_keys, is_key, has_only, has_required, are_typed};
+
+use crate::tables::{fits_integer, fits_policy, fits_tables, fits_text, fits_truth, has};
+use crate::verbs::Verb;
+use toml::Table;
+
+/// Whether the top has no other keys than its own.
+pub fn has_only_top_keys(table: &Table) -> bool
+    ensures { result ≡ has_only top_keys (table_view table.now) }
+{
+    each_is_top_key(table)
+}
+
+fn each_is_top_key(table: &Table) -> bool
+    ensures { result ≡ list_all (λ key. is_key top_keys (string_bytes key)) (keys table.now) }
+{
+    table.keys().all(|key| is_top_key(key.as_str()))
+}
+
+fn is_top_key(key: &str) -> bool
+    ensures { result ≡ is_key top_keys key.now }
+{
+    matches!(key, "version" | "block")
+}
+
+/// Whether the values of the top are of their types.
+pub fn is_typed_top(table: &Table) -> bool
+    ensures { result ≡ are_typed top_keys (table_view table.now) }
+{
+    fits_integer("version", table) && fits_tables("block", table)
+}
+
+/// Whether a header has no other keys than its own.
+pub fn has_only_header_keys(table: &Table) -> bool
+    ensures { result ≡ has_only header_keys (table_view table.now) }
+{
+    each_is_header_key(table)
+}
+
+fn each_is_header_key(table: &Table) -> bool
+    ensures { result ≡ list_all (λ key. is_key header_keys (string_bytes key)) (keys table.now) }
+{
+    table.keys().all(|key| is_header_key(key.as_str()))
+}
+
+fn is_header_key(key: &str) -> bool
+    ensures { result ≡ is_key header_keys key.now }
+{
+    matches!(key, "at" | "unit" | "times" | "every" | "call")
+}
+
+/// Whether the values of a header are of their types.
+pub fn is_typed_header(table: &Table) -> bool
+    ensures { result ≡ are_typed header_keys (table_view table.now) }
+{
+    fits_integer("at", table)
+        && fits_text("unit", table)
+        && fits_integer("times", table)
+        && fits_integer("every", table)
+        && fits_tables("call", table)
+}
+
+/// Whether a call has no other keys than those of its operation.
+pub fn has_only_call_keys(verb: Verb, table: &Table) -> bool
+    ensures { result ≡ has_only (call_keys verb) (table_view table.now) }
+{
+    each_is_call_key(verb, table)
+}
+
+fn each_is_call_key(verb: Verb, table: &Table) -> bool
+    ensures { result ≡ list_all (λ key. is_key (call_keys verb) (string_bytes key)) (keys table.now) }
+{
+    table.keys().all(|key| is_call_key(verb, key.as_str()))
+}
+
+fn is_call_key(verb: Verb, key: &str) -> bool
+    ensures { result ≡ is_key (call_keys verb) key.now }
+{
+    match verb {
+        Verb::Schedule => matches!(key, "op" | "at" | "name" | "delay"),
+        Verb::Rate => matches!(key, "op" | "at" | "name" | "first" | "period"),
+        Verb::Fixed => matches!(key, "op" | "at" | "name" | "first" | "delay"),
+        Verb::Cancel => matches!(key, "op" | "at" | "name"),
+        Verb::Policy => matches!(key, "op" | "at" | "which" | "value"),
+        Verb::Shutdown | Verb::Ask => matches!(key, "op" | "at"),
+    }
+}
+
+/// Whether a call has the keys that its operation needs.
+pub fn has_required_keys(verb: Verb, table: &Table) -> bool
+    ensures { result ≡ has_required (call_keys verb) (table_view table.now) }
+{
+    has(table, "op")
+        && match verb {
+            Verb::Schedule => has(table, "name") && has(table, "delay"),
+            Verb::Rate => has(table, "name") && has(table, "first") && has(table, "period"),
+            Verb::Fixed => has(table, "name") && has(table, "first") && has(table, "delay"),
+            Verb::Cancel => has(table, "name"),
+            Verb::Policy => has(table, "which") && has(table, "value"),
+            Verb::Shutdown | Verb::Ask => true,
+        }
+}
+
+/// Whether the values of a call are of the types that its operation needs.
+pub fn is_typed_call(verb: Verb, table: &Table) -> bool
+    ensures { result ≡ are_typed (call_keys verb) (table_view table.now) }
+{
+    fits_text("op", table) && fits_integer("at", table) && has_typed_values(verb, table)
+}
+
+/// Whether the values of an operation's own keys are of the types that it needs.
+fn has_typed_values(verb: Verb, table: &Table) -> bool
+    ensures { result ≡ are_typed (own_keys verb) (table_view table.now) }
+{
+    match verb {
+        Verb::Schedule => fits_text("name", table) && fits_integer("delay", table),
+        Verb::Rate => {
+            fits_text("name", table)
+                && fits_integer("first", table)
+                && fits_integer("period", table)
+        }
+        Verb::Fixed => {
+            fits_text("name", table) && fits_integer("first", table) && fits_integer("delay", table)
+        }
+        Verb::Cancel => fits_text("name", table),
+        Verb::Policy => fits_policy("which", table) && fits_truth("value", table),
+        Verb::Shutdown | Verb::Ask => true,
+    }
+}

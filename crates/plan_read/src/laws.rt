@@ -1,0 +1,37 @@
+//! Laws on the definitions, and on the comparisons of what is public.
+
+ghost use Rattle.std.specs.Prelude.{◌≡◌, true};
+ghost use Rattle.plan_read.specs.Laws.{WritesOrFails, NeverBoth, WritesOne, NamesDiffer, TargetsStandBefore, PlansAreOrdered};
+
+use crate::faults::{PlanFault, PlanFaultKind};
+use crate::plans::Target;
+
+/// A tree writes a plan or has a fault, and never both; and it writes at most one plan.
+pub fn trees_write_or_fail()
+    ensures either { WritesOrFails }
+    ensures never_both { NeverBoth }
+    ensures one { WritesOne }
+{}
+
+/// Two submissions of a plan have different names.
+pub fn names_differ()
+    ensures { NamesDiffer }
+{}
+
+/// The target of a cancel stands before it, has the name that the call gives, and is of the same
+/// iteration or of a block that is not repeated.
+pub fn targets_stand_before()
+    ensures { TargetsStandBefore }
+{}
+
+/// The calls of a plan are in order and within the limits.
+pub fn plans_are_ordered()
+    ensures { PlansAreOrdered }
+{}
+
+/// What compares as equal is equal: no field of a kind of fault, a fault or a target is left out.
+pub fn comparisons_leave_nothing_out()
+    ensures kinds { (a b : PlanFaultKind) → ⟦<PlanFaultKind as PartialEq>⟧.eq a b ≡ true → a ≡ b }
+    ensures faults { (a b : PlanFault) → ⟦<PlanFault as PartialEq>⟧.eq a b ≡ true → a ≡ b }
+    ensures targets { (a b : Target) → ⟦<Target as PartialEq>⟧.eq a b ≡ true → a ≡ b }
+{}
