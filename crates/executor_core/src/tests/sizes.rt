@@ -1,7 +1,8 @@
 //! Cores and lines of several sizes, with ample memory.
-use super::{core_of, submission};
+use super::core_of;
 use crate::{Answer, Core, CoreError, Event, Line};
 use queue_code::{CodeCall, MOST_CALLS};
+use sched_time::Timing;
 use std::alloc::Global;
 use std::test::Fail;
 
@@ -9,7 +10,12 @@ use std::test::Fail;
 fn submissions(alloc: Global, count: u32) -> Result<Vec<(u64, CodeCall)>, Fail> {
     let mut calls = Vec::new(alloc);
     for task in 0..count {
-        calls.push(submission(0, task, 0))?;
+        let call = CodeCall::Submit {
+            task,
+            timing: Timing::Once,
+            delay: 0,
+        };
+        calls.push((0, call))?;
     }
     Ok(calls)
 }
