@@ -2,6 +2,7 @@ use Rattle.std.proofs.Common.{ap, sym, ℕ, List, [], Option, Some, None, take, 
 use Rattle.std.specs.Prelude.{IfSome, OnOk, Result, Ok, Err, is_ok, true, option_map}
 use Rattle.std.specs.Io.Take.{take_inner, take_limit, take_remaining}
 use Rattle.std.specs.declared.io.Take.{Take}
+use Rattle.sched.specs.PlanFiles.{most_read}
 use Rattle.sched.proofs.plan_file.front_of.Goals as goal
 
 -- what was read up to a limit is the front of what there is
@@ -22,5 +23,5 @@ of_success (Err x) P h e = cc
 
 pub returns-clause-text : goal.returns-clause-text
 returns-clause-text g c =
-    front g.R.Read.remaining c.take.result c.args.reader _ _ _ c.take.ensures.limit c.take.ensures.inner c.new-text.ensures.items
+    front g.R.Read.remaining c.take.result c.args.reader most_read _ _ c.take.ensures.limit c.take.ensures.inner c.new-text.ensures.items
     (of_success c.read_to_end.result _ c.read_to_end.ensures.bytes (sym c.in_ok-map_err.ensures.variant))
