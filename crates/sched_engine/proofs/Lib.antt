@@ -3,3 +3,4 @@ pub mod Runs
 pub mod Inputs
 pub mod Turns
 pub mod OneText
+pub mod InMemory
