@@ -20,8 +20,14 @@ Exit status:
 /// the exit statuses.
 const FORMS: &str = "\
 The plan is a TOML file of at most 1,048,576 bytes: 'version = 1', and at most
-one [[block]] with a [[block.call]] for each call that is made, at most 256.
-A call has
+256 [[block]], each with a [[block.call]] for each call that is made, at most
+256. A block may have
+  at      the moment from which its calls are counted, 0 where it is left out
+  unit    of all its times: \"ns\", \"us\", \"ms\" or \"s\", and \"ns\" where it is left
+          out
+  times   how often its calls are made, 1 to 65,536, and 1 where it is left out
+  every   from one time to the next; it is needed where times is more than 1
+All blocks together make at most 65,536 calls. A call has
   op      what it does:
             \"schedule\"  submits a task that runs once
             \"rate\"      submits a task that runs at a fixed rate
@@ -29,10 +35,11 @@ A call has
                         runs
             \"cancel\"    cancels the task of a call that stands before it
   name    the task's name: 1 to 32 ASCII letters, digits, '-' and '_';
-          no other task has it, and a cancel has that of its task
-  at      when the call is made, in nanoseconds, 0 where it is left out;
+          no other task of the plan has it, and a cancel has that of its task,
+          which is the one of the same time, or of a block that is made once
+  at      when the call is made after the block begins, 0 where it is left out;
           no call has a smaller one than the call before it
-and, in nanoseconds,
+and, as all times in the block's unit,
   delay   of schedule: when the task is due after the call
   first   of rate and fixed: when the first run is due after the call
   period  of rate: from one due moment to the next
