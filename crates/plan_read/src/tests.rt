@@ -860,7 +860,9 @@ fn reads_as_many_names_as_fit(rt: HostRuntime) -> Result<(), Fail> {
         text.len()
     );
     let plan = read_plan(rt.alloc(), text.as_bytes())?;
-    assert_eq!(rt; sizes(&rt, &plan)?.iter().sum::<usize>(), 26_368);
+    let sizes = sizes(&rt, &plan)?;
+    assert_eq!(rt; sizes.len(), 103);
+    assert!(rt; sizes.iter().all(|size| *size == 256));
     Ok(())
 }
 
