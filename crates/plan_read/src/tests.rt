@@ -853,7 +853,7 @@ fn takes_65536_calls_of_a_plan(rt: HostRuntime) -> Result<(), Fail> {
 
 #[test]
 fn reads_as_many_names_as_fit(rt: HostRuntime) -> Result<(), Fail> {
-    let text = with_calls(&rt, 103, 256)?;
+    let text = with_calls(&rt, 108, 256)?;
     assert!(rt;
         1_000_000 < text.len() && text.len() <= 1_048_576,
         "{}",
@@ -861,7 +861,7 @@ fn reads_as_many_names_as_fit(rt: HostRuntime) -> Result<(), Fail> {
     );
     let plan = read_plan(rt.alloc(), text.as_bytes())?;
     let sizes = sizes(&rt, &plan)?;
-    assert_eq!(rt; sizes.len(), 103);
+    assert_eq!(rt; sizes.len(), 108);
     assert!(rt; sizes.iter().all(|size| *size == 256));
     Ok(())
 }
