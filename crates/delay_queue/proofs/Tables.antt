@@ -41,7 +41,7 @@ pub table_empty : (places : List ℕ) → table [] places ≡ replicate (length 
 table_empty places =
     table_is [] places (replicate (length places) None) (length-replicate (length places) None) (λ task short. get_or-replicate (length places) task None None short)
 
--- an empty heap beside so many places
+-- an empty heap beside the places of this number of tasks
 pub table_none : (heap : List Entry) (places : List ℕ) (tasks : ℕ) → heap ≡ [] → length places ≡ tasks → table heap places ≡ replicate tasks None
 table_none heap places tasks none size =
     subst (λ (l : List Entry). table l places ≡ replicate tasks None) (sym none) (table_empty places ∙ ap (λ (n : ℕ). replicate {A = Option ℕ} n None) size)

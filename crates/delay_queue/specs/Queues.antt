@@ -45,7 +45,7 @@ entry_count entries = count_by is_some entries
 unfoldable pub binary_digits : ℕ → ℕ
 binary_digits n = length (digits_of 2 n)
 
--- How often a call touches a queue of so many entries, at most. (This project's rule.)
+-- How often a call touches a queue with this number of entries, at most. (This project's rule.)
 abbrev pub most_touches : ℕ → ℕ
 most_touches count = 4 * binary_digits count + 2
 
@@ -53,7 +53,7 @@ most_touches count = 4 * binary_digits count + 2
 abbrev pub greatest_count : ℕ
 greatest_count = 2 ^ 64 - 1
 
--- A call touched the queue at least and at most so often, and each time counts, up to the greatest count.
+-- A call touched the queue at least `least` and at most `most` times, and each time counts, up to the greatest count.
 -- (This project's rule.)
 pub record Touches (before after least most : ℕ) : Type 0 where
   pub times : ℕ

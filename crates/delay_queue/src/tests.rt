@@ -149,7 +149,7 @@ fn as_many_entries_as_tasks_are_removed(rt: HostRuntime) -> Result<(), Fail> {
     Ok(())
 }
 
-/// How often a call may touch a queue of so many entries.
+/// How often a call may touch a queue with this number of entries.
 fn most_touches(count: usize) -> u64 {
     4 * u64::from(usize::BITS - count.leading_zeros()) + 2
 }

@@ -29,7 +29,7 @@ use Rattle.executor_core.proofs.WorkerSteps.{by_reply}
 use Rattle.executor_core.proofs.Submits.{state_at, reply_to, state_to}
 use Rattle.executor_core.proofs.RunSteps.{unqueued, timing_stays, fresh_stays, with_tasks}
 
--- what a cancel does, by the phase of a task
+-- ---- what a cancel does, by the phase of a task
 
 next_eqb : (n : ℕ) → (1 + n == n) ≡ false
 next_eqb n = grind (arith, nat_tests)
@@ -108,7 +108,7 @@ pub live_is_uncancelled : (terms : Terms) (t : Task) → f.Yes ≡ effect_on (se
 live_is_uncancelled terms t live =
     false_from_ne_true t.cancelled (λ is. let clash : f.Yes ≡ f.No = live ∙ sym (of_cancelled terms t (live_is_used terms t live) is) in absurd cc)
 
--- the tasks after a cancel
+-- ---- the tasks after a cancel
 
 -- a task once it is cancelled
 abbrev pub cancelled : Task → Task

@@ -29,17 +29,17 @@ counts old mid counted before lines hs is steps =
     subst (λ m. Steps old m before lines hs) (sym is) (record { calls = steps.calls; limit = steps.limit; workers = steps.workers; state = steps.state; lines = steps.lines })
 
 -- the calls before an event, and then the event
-pub event_steps : (old mid counted answered view_of_state : Machine) (a start b c : List Line) (event : Event) (answer : Answer) (n : ℕ) → start ≡ a → Steps old mid start b (replicate n h.Call) → Counts mid counted →
-    Takes counted answered (happening_of event) answer → view_of_state ≡ answered → c ≡ b ++ record { moment = view_of_state.moment; answer = answer } ∷ [] → Steps old view_of_state a c (happening_of event ∷ replicate n h.Call)
-event_steps old mid counted answered view_of_state a start b c event answer n same calls one takes is put =
-    let last : Takes counted view_of_state (happening_of event) answer = subst (λ m. Takes counted m (happening_of event) answer) (sym is) takes in
-    let whole = steps_then old counted view_of_state start b c (replicate n h.Call) (happening_of event ∷ []) (counts old mid counted start b (replicate n h.Call) one calls) (one_step counted view_of_state b c (happening_of event) answer last put) in
-    subst (λ l. Steps old view_of_state l c (happening_of event ∷ replicate n h.Call)) same whole
+pub event_steps : (old mid counted answered seen : Machine) (a start b c : List Line) (event : Event) (answer : Answer) (n : ℕ) → start ≡ a → Steps old mid start b (replicate n h.Call) → Counts mid counted →
+    Takes counted answered (happening_of event) answer → seen ≡ answered → c ≡ b ++ record { moment = seen.moment; answer = answer } ∷ [] → Steps old seen a c (happening_of event ∷ replicate n h.Call)
+event_steps old mid counted answered seen a start b c event answer n same calls one takes is put =
+    let last : Takes counted seen (happening_of event) answer = subst (λ m. Takes counted m (happening_of event) answer) (sym is) takes in
+    let whole = steps_then old counted seen start b c (replicate n h.Call) (happening_of event ∷ []) (counts old mid counted start b (replicate n h.Call) one calls) (one_step counted seen b c (happening_of event) answer last put) in
+    subst (λ l. Steps old seen l c (happening_of event ∷ replicate n h.Call)) same whole
 
 -- and it counts
-pub event_taken : (old mid counted answered view_of_state : Machine) (happening : Happening) (answer : Answer) → mid.taken ≡ old.taken → Counts mid counted → Takes counted answered happening answer → view_of_state ≡ answered →
-    view_of_state.taken ≡ old.taken + 1
-event_taken old mid counted answered view_of_state happening answer same one takes is =
+pub event_taken : (old mid counted answered seen : Machine) (happening : Happening) (answer : Answer) → mid.taken ≡ old.taken → Counts mid counted → Takes counted answered happening answer → seen ≡ answered →
+    seen.taken ≡ old.taken + 1
+event_taken old mid counted answered seen happening answer same one takes is =
     ap (λ (m : Machine). m.taken) is ∙ (takes.taken ∙ (ap (λ (m : Machine). m.taken) one ∙ ap (λ n. n + 1) same))
 
 -- the steps of an event are those of each history in which the core stood

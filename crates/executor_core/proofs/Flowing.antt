@@ -17,7 +17,7 @@ use Rattle.executor_core.specs.Flows.{reached, part_of, flow, history_from, hist
 use Rattle.executor_core.specs.Machine.{Machine, workers_of, state_of, Stands, Steps, Continues}
 use Rattle.executor_core.proofs.Agree.{Agrees, after_agrees, next_agrees}
 
--- one list of happenings after another
+-- ---- one list of happenings after another
 
 -- the happenings of a longer history are those that were added and those before
 pub happenings_from : (calls : List Planned) (workers : ℕ) (past : List HistoryEntry) (hs : List Happening) → happenings (history_from calls workers past hs) ≡ hs ++ happenings past
@@ -71,11 +71,11 @@ made_calls : (n : ℕ) → made (replicate n h.Call) ≡ n
 made_calls zero = refl
 made_calls (suc n) = omega (arith, made_calls n)
 
--- so many calls in front make as many more
+-- n calls in front add n to the number of calls made
 pub made-calls : (n : ℕ) (hs : List Happening) → made (replicate n h.Call ++ hs) ≡ n + made hs
 made-calls n hs = how_many-append is_call (replicate n h.Call) hs ∙ ap (λ m. m + made hs) (made_calls n)
 
--- calls in their order
+-- ---- calls in their order
 
 abbrev is_reached : ℕ → Planned → Bool
 is_reached t p = nat_le p.0 t
@@ -106,7 +106,7 @@ all_reached count moment t (x ∷ calls) (suc a) (suc n) p o q l = omega (arith,
 pub reached_within : (calls : List Planned) (a t : ℕ) → a ≤ length calls → reached calls a t + a ≤ length calls
 reached_within calls a t l = omega (arith, how_many-le (is_reached t) (drop a calls), length-drop a calls)
 
--- the part of a flow that an event makes may come
+-- ---- the part of a flow that an event makes may come
 
 -- a history makes no more calls than there are
 pub made_past : (calls : List Planned) (workers : ℕ) (past : List HistoryEntry) → IsHistoryOf calls workers past → made (happenings past) ≤ length calls
@@ -185,7 +185,7 @@ one_answer calls workers (e ∷ past) (f ∷ other) m n q =
     let ends : e.ends ≡ f.ends = m.3 ∙ (ap (λ r. r.ends) same ∙ sym n.3) in
     λ i. record { happening = head i; answer = answers i; ends = ends i } ∷ tail i
 
--- happenings of which each may come where it stands
+-- ---- happenings of which each may come where it stands
 
 -- happenings of which each may come have a history
 pub may_mean : (calls : List Planned) (workers : ℕ) (hs : List Happening) → ((later past : List Happening) (y : Happening) → hs ≡ later ++ y ∷ past → MayCome calls past y) →
@@ -195,7 +195,7 @@ may_mean calls workers (y ∷ before) may =
     let same : before ≡ happenings (history_from calls workers [] before) = sym (append-nil before) ∙ sym (happenings_from calls workers [] before) in
     (may_mean calls workers before (λ later past z e. may (y ∷ later) past z (ap (λ l. y ∷ l) e)), subst (λ past. MayCome calls past y) same (may [] before y refl), refl, refl)
 
--- steps of a state give the lines of the history
+-- ---- steps of a state give the lines of the history
 
 from_agrees : (calls : List Planned) (workers : ℕ) (s : State) (past : List HistoryEntry) (hs : List Happening) → Agrees calls s past → Agrees calls (after_from calls workers s hs) (history_from calls workers past hs)
 from_agrees calls workers s past [] a = a
@@ -217,7 +217,7 @@ lines_follow calls workers s past (x ∷ hs) a =
     ap (λ l. lines_of calls before ++ l) (lines_alike calls workers mid before x (from_agrees calls workers s past hs a))
     ∙ (ap (λ l. l ++ last) (lines_follow calls workers s past hs a) ∙ append_assoc (lines_of calls past) (lines_from calls workers s hs) last)
 
--- what the core's steps are, given a history in which it stands
+-- ---- what the core's steps are, given a history in which it stands
 
 -- a core agrees with the history in which it stands
 pub stands_agrees : (m : Machine) (past : List HistoryEntry) → IsHistoryOf m.calls (workers_of m) past → Stands m past → Agrees m.calls (state_of m) past

@@ -64,7 +64,7 @@ opening_kept calls count workers limit tasks timings work entries orderly counte
       };
     }
 
--- calls that a moment reaches
+-- ---- calls that a moment reaches
 
 none_reached : (count moment t : ℕ) (calls : List Planned) → IsOrderlyFrom count moment calls → t < moment → how_many (λ p. nat_le p.0 t) calls ≡ 0
 none_reached count moment t [] o l = refl
@@ -95,7 +95,7 @@ end_reached [] (suc n) t l = refl
 end_reached (x ∷ calls) zero t l = absurd (omega arith)
 end_reached (x ∷ calls) (suc n) t l = end_reached calls n t (omega arith)
 
--- the test of the next call's moment tells whether some call is reached
+-- ---- the test of the next call's moment tells whether some call is reached
 
 -- a next call whose moment is at most that of a clock is reached
 pub tells_next : (calls : List Planned) (n moment : ℕ) (p : Planned) → IsOrderly calls → n < length calls → p ≡ slice_index_or calls n p → IsTrue (nat_le p.0 moment) → ReachesNext calls n moment

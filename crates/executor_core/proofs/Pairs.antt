@@ -77,7 +77,7 @@ cancel_sets ws ds tasks k x y e view low at is =
     let task = task_read ws ds tasks k x blank e view low at in
     word_set ws ds k y blank e ∙ (λ i. set (view i) k (task_of (is i) (get_or ds k blank))) ∙ ap (λ (t : Task). set tasks k (record t { cancelled = true })) (sym task)
 
--- the phase of the word, by that of the task
+-- ---- the phase of the word, by that of the task
 
 is_vacant : (p : WordPhase) (over : Bool) → phase_in p over ≡ ph.Vacant → p ≡ w.Vacant
 is_vacant w.Vacant over q = refl
@@ -102,7 +102,7 @@ is_running w.Running over q = refl
 is_running w.Done over q = absurd cc
 is_running w.Failed over q = absurd cc
 
--- what the word says of the task at its place
+-- ---- what the word says of the task at its place
 
 -- the word of a vacant task is vacant
 pub word_vacant : (ws : List Parts) (ds : List Detail) (tasks : List Task) (k : ℕ) (x : Parts) → length ws ≡ length ds → tasks_of ws ds ≡ tasks → k < length tasks → x ≡ get_or ws k x → (slice_index_or tasks k vacant).phase ≡ ph.Vacant → x.phase ≡ w.Vacant
@@ -152,7 +152,7 @@ finish_sets ws ds tasks k due x y over outcome e view low at ends =
     let d = get_or ds k blank in
     both_set ws ds k y c e ∙ (λ i. set (view i) k (ends d i)) ∙ ap (λ t. set tasks k (end_task outcome due t)) (sym (task_read ws ds tasks k x blank e view low at))
 
--- so many vacant tasks
+-- n vacant words, with nothing kept beside them, are n vacant tasks
 vacant_tasks : (n : ℕ) (x : Parts) → x ≡ words.vacant → tasks_of (replicate n x) (replicate n blank) ≡ replicate n vacant
 vacant_tasks zero x is = refl
 vacant_tasks (suc n) x is = λ i. task_of (is i) blank ∷ vacant_tasks n x is i
@@ -161,7 +161,7 @@ vacant_tasks (suc n) x is = λ i. task_of (is i) blank ∷ vacant_tasks n x is i
 pub vacant_tables : (n : ℕ) (x : Parts) (ws : List Parts) (ds : List Detail) → x ≡ words.vacant → ws ≡ replicate n x → ds ≡ replicate n blank → tasks_of ws ds ≡ replicate n vacant
 vacant_tables n x ws ds is all none = (λ i. tasks_of (all i) (none i)) ∙ vacant_tasks n x is
 
--- the task once its run has ended, by the outcome
+-- ---- the task once its run has ended, by the outcome
 
 -- a task whose word and detail were written since it is done
 pub ended_done : (due : ℕ) (x y : Parts) (over : Bool) (outcome : Outcome) {value : ℕ} (d : Detail) → outcome ≡ o.Done value → y ≡ words.ended_well x → task_of y (record { due = due; over = over }) ≡ end_task outcome due (task_of x d)

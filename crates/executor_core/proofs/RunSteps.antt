@@ -34,7 +34,7 @@ leaves m happening answer is there =
     let step = by_reply m.calls (workers_of m) (state_of m) (state_of m) happening answer is there in
     record { calls = refl; limit = refl; taken = refl; workers = refl; state = step.0; said = step.1 }
 
--- what a start finds
+-- ---- what a start finds
 
 -- a core takes the step of a start that gets no task
 pub start_idles : (m : Machine) (entries : List (Option ℕ)) (timings : List Timing) (w : ℕ) → IsWellFormedCore m entries timings → w < workers_of m → slice_index_or m.work w None ≡ None →
@@ -117,7 +117,7 @@ start_kept m entries timings w k d task kept l free least due is counted =
       runs = runs_set m.taken m.tasks k (running task) low kept.runs (omega (arith, run, counted k)) (λ q. omega (arith, run, counted k));
     }
 
--- what a finish finds
+-- ---- what a finish finds
 
 -- a core once a worker has finished a task
 abbrev pub finished : Machine → ℕ → ℕ → Task → Machine
@@ -205,7 +205,7 @@ pub finish_keeps : (m : Machine) (entries left : List (Option ℕ)) (timings : L
 finish_keeps m entries left timings w k ending timing outcome task new kept l busy is timed out moved counted put =
     subst (λ q. IsWellFormedCore (finished m w k new) q timings) (sym put) (finish_kept m entries timings w k ending timing outcome task new kept l busy is timed out moved counted)
 
--- the same, with the entries as a call leaves them, and the core as it was
+-- ---- the same, with the entries as a call leaves them, and the core as it was
 
 -- a core stays well formed where a worker starts a task
 pub start_keeps : (m : Machine) (entries left : List (Option ℕ)) (timings : List Timing) (w k d : ℕ) (task : Task) → IsWellFormedCore m entries timings → w < workers_of m → slice_index_or m.work w None ≡ None →
@@ -226,7 +226,7 @@ pub least_waits : (m : Machine) (entries : List (Option ℕ)) (timings : List Ti
     ((slice_index_or m.tasks k vacant).phase ≡ ph.Waiting) × ((slice_index_or m.tasks k vacant).due ≡ d) × ((slice_index_or m.tasks k vacant).cancelled ≡ false)
 least_waits m entries timings k d kept least = in_queue m.tasks k d (subst (λ q. queues.IsLeast q d k) kept.queue least).there
 
--- the same, with the tables as the calls leave them
+-- ---- the same, with the tables as the calls leave them
 
 -- a core with another table of tasks
 abbrev pub with_tasks : Machine → List Task → Machine

@@ -36,7 +36,7 @@ Finds calls s (a.Start w j n due) = (s.workers w ≡ None) × ((s.tasks j).phase
 Finds calls s (a.Finish w j n outcome) = (s.workers w ≡ Some j) × (outcome ≡ o.Dropped → (s.tasks j).cancelled ≡ true)
 Finds calls s _ = Unit {0}
 
--- of the first enabled task
+-- ---- of the first enabled task
 
 from_earlier : (v : View) (i k : ℕ) (q : Option ℕ) → earlier v i q ≡ k → (k ≡ i) ⊎ (q ≡ Some k)
 from_earlier v i k None e = inl (sym e)
@@ -89,7 +89,7 @@ is_seen_waiting terms run due = ap (λ b. not (not b) && true) (same_eqb run)
 pub waits_in : (calls : List Planned) (s : State) (k : ℕ) → IsSound s → is_waiting ((view_of_state calls s).fate k) ≡ true → ((s.tasks k).phase ≡ ph.Waiting) × ((s.tasks k).cancelled ≡ false)
 waits_in calls s k sound q = waits (terms_of calls k) (s.tasks k).phase (s.tasks k).run (s.tasks k).due (s.tasks k).cancelled (sound.over k) q
 
--- what each reply finds
+-- ---- what each reply finds
 
 call_finds : (calls : List Planned) (s : State) (moment : ℕ) (call : CodeCall) → Finds calls s (called calls (record (view_of_state calls s) { moment = moment }) call).answer
 call_finds calls s moment (c.Submit task timing delay) = refl
@@ -152,7 +152,7 @@ fits_all calls s (a.Start w j n due) sound f k = λ q. subst (λ k. (s.tasks k).
 fits_all calls s (a.Finish w j n outcome) sound f k = λ q. subst (λ k. (s.tasks k).phase ≡ ph.Running) (eqb-true j k q) (sound.at_work w j f.0)
 fits_all calls s _ sound f k = tt
 
--- a sound state stays sound
+-- ---- a sound state stays sound
 
 -- the phase after a move, where the test of the number is a variable
 running_stays : (b : Bool) (due : ℕ) (task : Task) → task.phase ≡ ph.Running → (cond b (submit_phase due task.phase task) task).phase ≡ ph.Running

@@ -146,7 +146,7 @@ refuse_kept m entries timings at task kept is =
       runs = kept.runs;
     }
 
--- the same, with the moment as a call gives it, and the core as it was
+-- ---- the same, with the moment as a call gives it, and the core as it was
 
 -- a core stays well formed where its next call is refused
 pub refuse_keeps : (m : Machine) (entries : List (Option ℕ)) (timings : List Timing) (moment at task : ℕ) → IsWellFormedCore m entries timings → slice_get m.calls m.made ≡ Some (at, c.Illegal task) →
@@ -230,7 +230,7 @@ submit_steps m old entries timings moment at task delay timing kind kept is how 
     (subst (λ n. Takes m (record m { made = m.made + 1; moment = n; tasks = set m.tasks task (waiting (at + delay)) }) h.Call (a.Submit task kind (at + delay))) (sym greatest)
     (submit_takes m entries timings at task delay timing kind kept is how))
 
--- the same, with the tasks as a call leaves them
+-- ---- the same, with the tasks as a call leaves them
 
 -- a core whose table the code has written at a submission stays well formed
 pub submit_keeps_in : (m : Machine) (entries entries' : List (Option ℕ)) (timings : List Timing) (moment at task delay : ℕ) (timing : Timing) (tasks : List Task) → IsWellFormedCore m entries timings → slice_get m.calls m.made ≡ Some (at, c.Submit task timing delay) →

@@ -31,12 +31,12 @@ at_replicate zero j x = refl
 at_replicate (suc n) zero x = refl
 at_replicate (suc n) (suc j) x = at_replicate n j x
 
--- submissions have their numbers
+-- ---- submissions have their numbers
 
 submit_same : {at at' j j' d d' : ℕ} {how how' : Timing} → (let x : Planned = (at, c.Submit j how d) in let y : Planned = (at', c.Submit j' how' d') in x ≡ y) → (at ≡ at') × (j ≡ j') × (how ≡ how') × (d ≡ d')
 submit_same e = let call = ap (λ (p : Planned). p.1) e in (ap (λ (p : Planned). p.0) e, cc, cc, cc)
 
--- what a submission says, where so many submissions stand before the calls
+-- what a submission says, where `count` is the number of submissions before the calls
 pub record Submission (calls : List Planned) (count n at task : ℕ) (timing : Timing) (delay : ℕ) : Type 0 where
   pub terms : terms_of calls task ≡ record { timing = timing; first = at + delay }
   pub number : task ≡ count + task_count (take n calls)

@@ -24,7 +24,7 @@ use Rattle.executor_core.proofs.Views.{due_moves}
 use Rattle.executor_core.proofs.Sound.{first_is_enabled}
 use Rattle.executor_core.proofs.Starting.{start_says}
 
--- the terms of a task
+-- ---- the terms of a task
 
 call_due : (count k moment : ℕ) (call : CodeCall) (rest : Terms) → IsOrderlyCall count call → moment ≤ 2 ^ 62 → rest.first ≤ 2 ^ 63 → (terms_in k moment call rest).first ≤ 2 ^ 63
 call_due count k moment (c.Submit task timing delay) rest o l m =
@@ -50,7 +50,7 @@ pub timed_within : (count moment : ℕ) (calls : List Planned) (k : ℕ) → IsO
 timed_within count moment [] k o = tt
 timed_within count moment (x ∷ calls) k o = call_timed count k x.0 x.1 (terms_of calls k) o.2 (timed_within (count_after count x.1) x.0 calls k o.3)
 
--- now
+-- ---- now
 
 moment_within : (calls : List Planned) (n now : ℕ) (y : Happening) → IsOrderly calls → now ≤ 2 ^ 62 → moment_after now (slice_get calls n) y ≤ 2 ^ 62
 moment_within calls n now h.Call o l =
@@ -87,7 +87,7 @@ start_was_due calls workers v y k (a.Idle w) is q = absurd (false≢true q)
 start_was_due calls workers v y k (a.Finish w j n outcome) is q = absurd (false≢true q)
 start_was_due calls workers v y k (a.Error x) is q = absurd (false≢true q)
 
--- the due moments
+-- ---- the due moments
 
 ahead_within : (timing : Timing) (due now : ℕ) → IsTimed timing → due ≤ now → now ≤ 2 ^ 62 → due_ahead timing due ≤ 2 ^ 63
 ahead_within t.Once due now o l m = omega arith

@@ -35,7 +35,7 @@ pub by_reply : (calls : List Planned) (workers : ℕ) (s new : State) (happening
     new ≡ state_after calls s happening (plain answer) → (new ≡ next calls workers s happening) × (answer ≡ (reply_of calls workers s happening).answer)
 by_reply calls workers s new happening answer is there = (there ∙ ap (state_after calls s happening) (sym is), ap (λ r. r.answer) (sym is))
 
--- entries of the queue are waiting tasks
+-- ---- entries of the queue are waiting tasks
 
 queued_is : (p : Phase) (due d : ℕ) → queued_phase p due ≡ Some d → (p ≡ ph.Waiting) × (due ≡ d)
 queued_is ph.Vacant due d q = absurd (none-some d q)
@@ -112,7 +112,7 @@ none_is_first calls made moment tasks work sound none =
     first_is_none (view_of_state calls (state_at made moment tasks work)) (numbers calls)
     (λ j member e. let other = enabled_queued calls made moment tasks work j sound e in absurd (omega (arith, none j (slice_index_or tasks j vacant).due other.0, other.1)))
 
--- the replies to a start
+-- ---- the replies to a start
 
 -- the reply to a start of a worker that there is not
 pub no_worker_starts : (calls : List Planned) (workers w : ℕ) (s : State) → workers ≤ w → reply_of calls workers s (h.Start w) ≡ plain (a.Error x.NoWorker)
@@ -162,7 +162,7 @@ start_state calls made moment w k n d tasks work l low = λ i. record {
     moved true j same = ap (λ e. running (slice_index_or tasks e vacant)) (eqb-true k j same)
     moved false j same = refl
 
--- the replies to a finish
+-- ---- the replies to a finish
 
 -- the reply to a finish of a worker that there is not
 pub no_worker_finishes : (calls : List Planned) (workers w : ℕ) (ending : Ending) (s : State) → workers ≤ w → reply_of calls workers s (h.Finish w ending) ≡ plain (a.Error x.NoWorker)

@@ -29,7 +29,7 @@ entry_of happening r = record { happening = happening; answer = r.answer; ends =
 abbrev pub happenings : List HistoryEntry → List Happening
 happenings past = map (λ e. e.happening) past
 
--- what is told by the happenings alone
+-- ---- what is told by the happenings alone
 
 -- a happening is a call of the plan, and no event
 abbrev pub is_call : Happening → Bool
@@ -45,7 +45,7 @@ abbrev pub now_of : List Planned → List Happening → ℕ
 now_of calls [] = 0
 now_of calls (happening ∷ past) = moment_after (now_of calls past) (slice_get calls (made past)) happening
 
--- what is told by an answer
+-- ---- what is told by an answer
 
 -- an answer says that task k was submitted
 abbrev pub is_submit : ℕ → Answer → Bool
@@ -94,7 +94,7 @@ work_after w (a.Start worker task run due) before = if worker == w then Some tas
 work_after w (a.Finish worker task run outcome) before = if worker == w then None else before
 work_after w _ before = before
 
--- what is told by counting in a history
+-- ---- what is told by counting in a history
 
 -- how often task k was started
 abbrev pub starts : ℕ → List HistoryEntry → ℕ

@@ -102,7 +102,7 @@ pub record Continues (old new : Machine) (before after_lines : List Line) (event
   pub given : after_lines ≡ before ++ added
   pub spoken : lines_of old.calls (history_from old.calls (workers_of old) past (part_of old.calls old.made old.moment event)) ≡ lines_of old.calls past ++ added
 
--- what stays true of each core
+-- ---- what stays true of each core
 
 -- the due moment of a task that waits for a run
 abbrev pub queued_phase : Phase → ℕ → Option ℕ

@@ -33,7 +33,7 @@ vacant = record { phase = ph.Vacant; run = 0; due = 0; cancelled = false }
 abbrev pub opening : State
 opening = record { made = 0; moment = 0; tasks = λ _. vacant; workers = λ _. None }
 
--- what is seen of a task
+-- ---- what is seen of a task
 
 -- a task in this phase was submitted
 abbrev pub was_submitted : Phase → Bool
@@ -106,7 +106,7 @@ view_of_state calls s = record {
   work = s.workers;
 }
 
--- what a happening does to a state
+-- ---- what a happening does to a state
 
 -- the due moment that a finish at this moment leaves: that of the next run, where the task may have one
 abbrev pub due_past : Timing → ℕ → ℕ → ℕ

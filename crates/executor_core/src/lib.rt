@@ -49,7 +49,7 @@
 //!
 //! # Memory and cost
 //!
-//! `Core::new` takes all memory that the core needs for itself: for each task some 56 bytes beside its call, and
+//! `Core::new` takes all memory that the core needs for itself: for each task some 60 bytes beside its call, and
 //! 8 for each worker. `event` takes memory for lines alone, and none where the list has room for one line, one for
 //! each call that is left and one for each task that is not cancelled. A clock costs what the calls that it reaches
 //! cost; a submission, a start, a finish and a cancel cost what the queue of waiting tasks does

@@ -33,7 +33,7 @@ on_of calls past k q =
     let f = (view_of_history calls past).fate k in
     (and_parts (not (is_running f)) (not (is_over f)) (and_parts f.accepted (not (is_running f) && not (is_over f)) q).1).1
 
--- done
+-- ---- done
 
 done_stays : (k : ℕ) (between past : List HistoryEntry) → was_done k past ≡ true → was_done k (between ++ past) ≡ true
 done_stays k [] past q = q
@@ -52,7 +52,7 @@ nothing_starts_once_done calls workers past between finish start v w k m n d val
     in
     pick _ _ _ on (done_stays k between (finish ∷ past) done)
 
--- the finish of a one-shot task ends it, or it was cancelled before
+-- ---- the finish of a one-shot task ends it, or it was cancelled before
 
 ends_once : (timing : Timing) (due : ℕ) (ending : Ending) → timing ≡ t.Once → (is_failed (outcome_of timing due ending) || is_done (outcome_of timing due ending)) ≡ true
 ends_once t.Once due (e.Value value) q = refl
@@ -170,7 +170,7 @@ one_shots_start_once calls workers past between first second v w k m n d f place
     let one : starts k (first ∷ past) ≡ 1 + starts k past = ap (λ b. cond b (1 + starts k past) (starts k past)) (ap (is_start k) start ∙ eq-eqb k k refl) in
     absurd (omega (arith, none, run, one, starts_grow k between (first ∷ past)))
 
--- illegal submissions
+-- ---- illegal submissions
 
 -- a call is the submission of task k, and legal
 abbrev IsLegalSubmissionOf : ℕ → CodeCall → Type 0

@@ -21,7 +21,7 @@ use Rattle.executor_laws.specs.Positions.{starts_by, finishes_by, StartedLast, W
 use Rattle.executor_core.proofs.Sound.{first_is_enabled}
 use Rattle.executor_core.proofs.First.{first_is, first_is_in, first_is_least, first_is_none, none_enabled, in_range, range_below}
 
--- the first enabled task
+-- ---- the first enabled task
 
 -- the law that the first enabled task is the least one
 pub first_is_the_least : FirstIsTheLeast
@@ -46,7 +46,7 @@ none_is_enabled calls v = (
   λ none. first_is_none v (numbers calls) (λ j m e. false≢true (sym (none j (omega (arith, range_below 0 (task_count calls) j m))) ∙ e)),
 )
 
--- what an answer tells of the worker's work before it
+-- ---- what an answer tells of the worker's work before it
 
 no_call_moves : (calls : List Planned) (v : View) (call : CodeCall) (w k n d : ℕ) → (called calls v call).answer ≡ a.Start w k n d → ⊥
 no_call_moves calls v (c.Submit task timing delay) w k n d q = cc
@@ -223,7 +223,7 @@ starts_exceed_finishes calls workers (e ∷ past) w m =
     one_more w e.answer (work_of w past) (how_many (λ f. starts_by w f.answer) past) (how_many (λ f. finishes_by w f.answer) past) (entry_tells calls workers past e w m)
     (starts_exceed_finishes calls workers past w m.0)
 
--- the moment
+-- ---- the moment
 
 -- an accepted clock is answered so, and no other one
 clock_accepted : (now t : ℕ) → cond (nat_lt t now) (a.Error x.Backward) (cond (nat_lt (2 ^ 62) t) (a.Error x.TooFar) a.Clock) ≡ a.Clock → is_accepted now t ≡ true

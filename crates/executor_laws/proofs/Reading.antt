@@ -20,7 +20,7 @@ use Rattle.executor_core.proofs.Flowing.{all_reached, reached_within, made_past}
 use Rattle.executor_laws.proofs.Flows.{one_history}
 use Rattle.executor_core.proofs.Tables.{submission}
 
--- the calls that a clock reaches
+-- ---- the calls that a clock reaches
 
 abbrev is_reached : ℕ → Planned → Bool
 is_reached t p = nat_le p.0 t
@@ -69,10 +69,9 @@ reached_is_a_front calls first t o = (
   λ l. omega (arith, reached_within calls first t l),
 )
 
--- the submissions
+-- ---- the submissions
 
--- of one call: how many submissions there are after it, and the number that it has as a submission
-
+-- the number of submissions that a call makes, one or none
 abbrev submitted : CodeCall → ℕ
 submitted call = cond (is_submission call) 1 0
 
@@ -175,7 +174,7 @@ tasks_are_submitted calls k o = (
 pub terms_are_its_own : TermsAreItsOwn
 terms_are_its_own calls n moment k timing delay o q = (submission calls 0 0 n moment k timing delay o.1 q).terms
 
--- the flow of events
+-- ---- the flow of events
 
 no_calls_kept : (n : ℕ) (past : List Happening) → filter is_event (replicate n h.Call ++ past) ≡ filter is_event past
 no_calls_kept zero past = refl

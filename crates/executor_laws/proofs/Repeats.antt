@@ -28,8 +28,6 @@ use Rattle.executor_core.proofs.Sound.{first_is_enabled}
 use Rattle.executor_laws.proofs.StartLaws.{start_is_first, starts_are_in_order, means_front}
 use Rattle.executor_laws.proofs.Waiting.{finish_found}
 
--- what a start says of its task: it waited, its run has the number of the starts before, and it was due
-
 -- what a start says of its task: it waited, its run has the number of the starts before it, and it was due
 pub record Started (calls : List Planned) (past : List HistoryEntry) (k n d : ℕ) : Type 0 where
   pub waiting : is_waiting ((view_of_history calls past).fate k) ≡ true
@@ -73,7 +71,7 @@ waits_on calls past k q =
     let pick : (a b d : Bool) → not (a || (b || d)) ≡ true → b ≡ false = elim [ true ↦ λ b d q. absurd (false≢true q) | false ↦ elim [ true ↦ λ d q. absurd (false≢true q) | false ↦ λ d q. refl ] ] in
     pick f.cancelled f.failed f.done on
 
--- ties
+-- ---- ties
 
 -- the law on tasks that are due at the same moment
 pub ties_go_by_submission : TiesGoBySubmission
@@ -87,7 +85,7 @@ ties_go_by_submission calls workers past e w k n d j s below enabled same =
     tie : (x y : ℕ) → x ≡ y → (nat_lt x y || ((x == y) && nat_lt k j)) ≡ true → k ≤ j
     tie x y q p = grind (arith, nat_tests)
 
--- due moments
+-- ---- due moments
 
 -- the due moment of a task by its terms
 pub due_by : (calls : List Planned) (past : List HistoryEntry) (k : ℕ) (terms : Terms) → terms_of calls k ≡ terms → due_of calls past k ≡ due_at terms (starts k past) (last_finish calls k past)
@@ -130,7 +128,7 @@ fixed_runs_are_due calls workers past e w k n d place moment initial delay o is 
           (found.0, finish_found calls k past found.0 found.1, due ∙ ap (λ last. due_at (record { timing = t.Fixed delay; first = moment + initial }) (starts k past) last) found.1),
     )
 
--- a finish that makes a task wait again tells the due moment of its next run
+-- ---- a finish that makes a task wait again tells the due moment of its next run
 
 again_landed : (timing : Timing) (due d : ℕ) (ending : Ending) → outcome_of timing due ending ≡ o.Again d → d ≡ due
 again_landed timing due d (e.Fault code) q = absurd cc
@@ -184,7 +182,7 @@ again_is_due calls workers past e w k n d m is =
     again_says calls workers v e.happening w k n d (sym m.2 ∙ is)
     ∙ (λ i. due_at (terms_of calls k) (cond (sym start i) (1 + starts k past) (starts k past)) (cond (sym finish i) (Some v.moment) (last_finish calls k past)))
 
--- overlaps
+-- ---- overlaps
 
 -- a longer history has as many starts of a task at least
 pub starts_grow : (k : ℕ) (between past : List HistoryEntry) → starts k past ≤ starts k (between ++ past)
@@ -217,7 +215,7 @@ runs_do_not_overlap calls workers past between first second v w k m n d f s is =
     in
     pick any refl
 
--- failures
+-- ---- failures
 
 failed_stays : (k : ℕ) (between past : List HistoryEntry) → was_failed k past ≡ true → was_failed k (between ++ past) ≡ true
 failed_stays k [] past q = q
@@ -233,7 +231,7 @@ nothing_starts_after_a_failure calls workers past between finish start v w k m n
     let failed : was_failed k (finish ∷ past) ≡ true = ap (λ b. b || was_failed k past) (ap (is_finish_with is_failed k) is ∙ ap (λ b. b && true) (eq-eqb k k refl)) in
     false≢true (sym waits ∙ failed_stays k between (finish ∷ past) failed)
 
--- cancels
+-- ---- cancels
 
 cancelled_stays : (k : ℕ) (between past : List HistoryEntry) → was_cancelled k past ≡ true → was_cancelled k (between ++ past) ≡ true
 cancelled_stays k [] past q = q

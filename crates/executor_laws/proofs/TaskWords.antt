@@ -34,7 +34,7 @@ use Rattle.executor_core.proofs.Counting.{end_keeps}
 use Rattle.executor_core.proofs.Cancels.{of_vacant, of_done, of_failed}
 use Rattle.executor_laws.specs.TaskWords.{starts_of_word, WordsTellTheHistory, RanksDoNotFall, CancelledWordsStay}
 
--- what an answer finds of task k
+-- ---- what an answer finds of task k
 
 abbrev Meets : ℕ → Task → Answer → Type 0
 Meets k task (a.Cancel j effect) = (j == k) ≡ true → effect ≡ f.Yes → is_live (word_phase task.phase) ≡ true
@@ -168,7 +168,7 @@ lived_after calls workers (e ∷ past) k m =
     let s = after calls workers (happenings past) in
     lived_stays (terms_of calls k).timing s.moment k (s.tasks k) (reply_of calls workers s e.happening).answer (meets calls workers s e.happening (after_agrees calls workers past m.0).sound k) (lived_after calls workers past k m.0)
 
--- ranks
+-- ---- ranks
 
 submit_rank : (due : ℕ) (p : Phase) (run old : ℕ) (cancelled : Bool) → rank (word_of (whole p run old cancelled)) ≤ rank (word_of (submit_phase due p (whole p run old cancelled)))
 submit_rank due ph.Vacant run old cancelled = omega arith
@@ -214,7 +214,7 @@ ranks_do_not_fall calls workers past e k m =
     let s = after calls workers (happenings past) in
     rank_rises (terms_of calls k).timing s.moment k (s.tasks k) (reply_of calls workers s e.happening).answer (meets calls workers s e.happening (after_agrees calls workers past m.0).sound k)
 
--- cancelled words
+-- ---- cancelled words
 
 -- a cancelled word has the bit, and its phase is live
 cancelled_parts : (task : Task) → is_cancelled (word_of task) ≡ true → (is_live (word_phase task.phase) ≡ true) × (task.cancelled ≡ true)
@@ -267,7 +267,7 @@ cancelled_words_stay calls workers past e k m =
     let s = after calls workers (happenings past) in
     word_stays (terms_of calls k).timing s.moment k (s.tasks k) (reply_of calls workers s e.happening).answer (meets calls workers s e.happening (after_agrees calls workers past m.0).sound k)
 
--- what a word says, phase by phase
+-- ---- what a word says, phase by phase
 
 vacant_told : (p : Phase) → (word_phase p ≡ w.Vacant) ↔ (was_submitted p ≡ false)
 vacant_told ph.Vacant = (λ q. refl, λ q. refl)

@@ -19,7 +19,7 @@ use Rattle.executor_laws.specs.Positions.{IsSubmissionOf, WasSubmitted, WaitingI
 use Rattle.executor_laws.proofs.Reading.{tasks_are_submitted}
 use Rattle.executor_core.proofs.Within.{dues_within}
 
--- what an answer that submits a task says of what happened
+-- ---- what an answer that submits a task says of what happened
 
 -- what an answer that submits a task says of the next call
 pub record Submits (calls : List Planned) (v : View) (happening : Happening) (k : ℕ) : Type 0 where
@@ -61,7 +61,7 @@ submit_says calls workers v (h.Cancel j) k q =
     let other : (b : Bool) → is_submit k (cond b (a.Outside j (effect_on (v.fate j))) (a.Error x.NoTask)) ≡ true → ⊥ = elim [ true ↦ λ q. false≢true q | false ↦ λ q. false≢true q ] in
     absurd (other _ q)
 
--- a task whose submission was accepted was submitted by a call that was made
+-- ---- a task whose submission was accepted was submitted by a call that was made
 
 made_more : (y : Happening) (past : List Happening) → made past ≤ made (y ∷ past)
 made_more h.Call past = omega arith
@@ -96,13 +96,13 @@ waiting_is_a_task calls workers past k o m q =
     let s = was_submitted calls workers past k m (and_parts fate.accepted (not (is_running fate) && not (is_over fate)) q).0 in
     ((tasks_are_submitted calls k o).1 s.place s.call s.there s.submits, s)
 
--- when a task is due
+-- ---- when a task is due
 
 -- the law that a task that waits is due within 2^63
 pub waiting_is_due_in_time : WaitingIsDueInTime
 waiting_is_due_in_time calls workers past k o m q = dues_within calls workers past o m k
 
--- the last finish of a task
+-- ---- the last finish of a task
 
 -- a finish that stands behind one entry more
 finished_behind : (calls : List Planned) (past : List HistoryEntry) (f : HistoryEntry) (k t : ℕ) → is_finish k f.answer ≡ false → FinishedLast calls past k t → FinishedLast calls (f ∷ past) k t
@@ -162,7 +162,7 @@ last_finish_is_the_last calls past k = (
   (none_finished calls k past, no_last_finish calls k past),
 )
 
--- a finish does not move now
+-- ---- a finish does not move now
 
 no_call_finishes : (calls : List Planned) (v : View) (call : CodeCall) (k : ℕ) → is_finish k (called calls v call).answer ≡ true → ⊥
 no_call_finishes calls v (c.Submit task timing delay) k q = false≢true q

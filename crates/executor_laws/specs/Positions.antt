@@ -18,7 +18,7 @@ use Rattle.executor_core.specs.Histories.{HistoryEntry, IsHistoryOf, MayCome, ha
 use Rattle.executor_core.specs.Within.{latest_due}
 use Rattle.executor_core.specs.Flows.{reached, flow, happening_of}
 
--- the work of a worker
+-- ---- the work of a worker
 
 -- an answer says that worker w was given a task to run
 abbrev pub starts_by : ℕ → Answer → Bool
@@ -56,7 +56,7 @@ abbrev pub StartsExceedFinishes : Type 0
 StartsExceedFinishes = (calls : List Planned) (workers : ℕ) (past : List HistoryEntry) (w : ℕ) → IsHistoryOf calls workers past
     → how_many (λ e. starts_by w e.answer) past ≡ busy (work_of w past) + how_many (λ e. finishes_by w e.answer) past
 
--- the moment
+-- ---- the moment
 
 -- an entry is a call that was made, or an accepted clock, and this is its moment
 abbrev pub HasMoment : List Planned → HistoryEntry → List HistoryEntry → ℕ → Type 0
@@ -78,7 +78,7 @@ NowIsTheGreatest = (calls : List Planned) (workers : ℕ) (past : List HistoryEn
     → ((t : ℕ) → Shows calls past t → t ≤ now_of calls (happenings past))
     × ((now_of calls (happenings past) ≡ 0) ⊎ Shows calls past (now_of calls (happenings past)))
 
--- the first enabled task
+-- ---- the first enabled task
 
 -- a task of the plan is enabled, and each other enabled one comes after it
 pub record IsFirstEnabled (calls : List Planned) (v : View) (k : ℕ) : Type 0 where
@@ -97,7 +97,7 @@ NoneIsEnabled = (calls : List Planned) (v : View)
     → (first_enabled v (numbers calls) ≡ None → (j : ℕ) → j < task_count calls → is_enabled v j ≡ false)
     × (((j : ℕ) → j < task_count calls → is_enabled v j ≡ false) → first_enabled v (numbers calls) ≡ None)
 
--- the calls that a clock reaches
+-- ---- the calls that a clock reaches
 
 -- of the calls from `first` on, a clock of moment t reaches just those whose moment is at most t, and they
 -- are a front of those calls
@@ -106,7 +106,7 @@ ReachedIsAFront = (calls : List Planned) (first t : ℕ) → IsOrderly calls
     → ((n : ℕ) (p : Planned) → first ≤ n → slice_get calls n ≡ Some p → ((n < first + reached calls first t) ↔ (p.0 ≤ t)))
     × (first ≤ length calls → first + reached calls first t ≤ length calls)
 
--- the submissions
+-- ---- the submissions
 
 -- a call is the submission of this number
 abbrev pub IsSubmissionOf : ℕ → CodeCall → Type 0
@@ -134,7 +134,7 @@ abbrev pub TermsAreItsOwn : Type 0
 TermsAreItsOwn = (calls : List Planned) (n moment k : ℕ) (timing : Timing) (delay : ℕ) → IsOrderly calls
     → slice_get calls n ≡ Some (moment, c.Submit k timing delay) → terms_of calls k ≡ record { timing = timing; first = moment + delay }
 
--- the flow of events
+-- ---- the flow of events
 
 -- a happening is an event
 abbrev pub is_event : Happening → Bool
@@ -167,7 +167,7 @@ abbrev pub FlowMayCome : Type 0
 FlowMayCome = (calls : List Planned) (events : List Event) (later past : List Happening) (happening : Happening) → IsOrderly calls
     → flow calls events ≡ later ++ happening ∷ past → MayCome calls past happening
 
--- the tasks that wait
+-- ---- the tasks that wait
 
 -- a call that was made is the submission of task k
 pub record WasSubmitted (calls : List Planned) (past : List Happening) (k : ℕ) : Type 0 where
@@ -187,7 +187,7 @@ abbrev pub WaitingIsDueInTime : Type 0
 WaitingIsDueInTime = (calls : List Planned) (workers : ℕ) (past : List HistoryEntry) (k : ℕ) → IsOrderly calls → IsHistoryOf calls workers past
     → is_waiting ((view_of_history calls past).fate k) ≡ true → ((view_of_history calls past).fate k).due ≤ latest_due
 
--- the last finish of a task
+-- ---- the last finish of a task
 
 -- a finish of task k stands in the history, and no finish of it after; the moment before it is t
 pub record FinishedLast (calls : List Planned) (past : List HistoryEntry) (k t : ℕ) : Type 0 where

@@ -6,12 +6,21 @@
 //! it for every plan, number of workers and history. [`no_start_is_early`] says that no task starts before its due
 //! moment, for one. A proof that needs a law calls its function.
 //!
-//! # Contents
+//! # Behaviour
 //!
 //! The first group says what a client of the executor may rely on: due moments, order, ties, overlap, failures, cancels.
 //! The second one says what the definitions, which count and recur over a history, say of the positions in it. The
 //! third one is on states: what the words of the tasks say of the history, that no answer lowers the rank of a word or
 //! changes a cancelled one, and that an error changes nothing.
+//!
+//! # Order and ties
+//!
+//! [`starts_are_in_order`] says which task starts, and [`ties_go_by_submission`] which one of those that are due at the
+//! same moment. [`one_history`] says that the order in which all happens is the only one.
+//!
+//! # Errors, memory and cost
+//!
+//! No function fails, takes memory, or does anything when it runs.
 #![tactic(auto)]
 
 mod laws;

@@ -17,7 +17,7 @@ use Rattle.executor_core.specs.Flows.{history_from, history_of, part_of, calls_b
 use Rattle.executor_plain.specs.Plain.{history, entry}
 use Rattle.executor_core.proofs.Flowing.{how_many-le, history_more}
 
--- what is counted is at most as long as the history
+-- ---- what is counted is at most as long as the history
 
 -- no more calls were made than there are entries
 pub made_le : (past : List Past) → made (happenings (history past)) ≤ length past
@@ -65,10 +65,10 @@ one_event calls workers i events d past new l is next =
     ∙ (sym (history_more calls workers (reverse (take i events)) (get_or events i d)) ∙ ap (history_of calls workers) (sym turned)))
 
 -- how many calls come before an event of a history
-pub count_before : (calls : List Planned) (count n now : ℕ) (event : Event) (past view_of_state other : List Past) →
-    count ≡ calls_before calls n now event → n ≡ made (happenings (history view_of_state)) → now ≡ now_of calls (happenings (history other)) → view_of_state ≡ past → other ≡ past →
+pub count_before : (calls : List Planned) (count n now : ℕ) (event : Event) (past seen other : List Past) →
+    count ≡ calls_before calls n now event → n ≡ made (happenings (history seen)) → now ≡ now_of calls (happenings (history other)) → seen ≡ past → other ≡ past →
     count ≡ calls_before calls (made (happenings (history past))) (now_of calls (happenings (history past))) event
-count_before calls count n now event past view_of_state other is n_is now_is s o =
+count_before calls count n now event past seen other is n_is now_is s o =
     let n_there = n_is ∙ ap (λ (p : List Past). made (happenings (history p))) s in
     let now_there = now_is ∙ ap (λ (p : List Past). now_of calls (happenings (history p))) o in
     is ∙ (λ i. calls_before calls (n_there i) (now_there i) event)

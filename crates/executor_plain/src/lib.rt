@@ -10,17 +10,25 @@
 //! [`trace`] gives the lines of some events, as a core of the same calls does. [`answer_after`] gives the answer to
 //! one happening after a history.
 //!
-//! # Behaviour, order and ties
+//! # Behaviour
 //!
 //! It keeps no state. Each answer counts again in the whole history before it, and each function is one
 //! definition. So it is easy to read, and what the core answers can be compared with it. It answers as the core
-//! does, in the same order and with the same ties.
+//! does, but takes any number of events: a core stops at its limit.
 //!
-//! # Memory, errors and cost
+//! # Order and ties
 //!
-//! `trace` takes memory for the history and for the lines, and fails where there is none. `answer_after` takes none.
-//! An answer to a start goes over the whole history once and more for each task, and each other one a few times: it
-//! is slow, and for tests.
+//! Those of the core: by due moment, and at the same one by submission. A history is a slice of [`Past`], the newest
+//! first; events and lines stand the oldest first.
+//!
+//! # Errors
+//!
+//! `trace` fails only where there is no memory, and `answer_after` does not fail.
+//!
+//! # Memory and cost
+//!
+//! `trace` takes memory for the history and for the lines, and `answer_after` takes none. An answer to a start goes
+//! over the whole history once and more for each task, and each other one a few times: it is slow, and for tests.
 #![tactic(auto)]
 
 mod equality;

@@ -9,17 +9,18 @@ use Rattle.plan_read.specs.declared.plans.Op.{Op}
 use Rattle.plan_read.specs.Plans.{BlockTree, PlanTree, is_submission, name_of, names_of, tasks_after, tasks_after_calls, made_from}
 use Rattle.plan_compile.specs.PlanCalls.{code_call, at_moment, calls_at, tasks_of, iteration, iterations, calls_from}
 
+-- a value that may be missing is missing or there
 pub none_or_some : {A : Type 0} (o : Option A) → (o ≡ None) ⊎ ((x : A) × (o ≡ Some x))
 none_or_some None = inl refl
 none_or_some (Some x) = inr (x, refl)
 
 -- ---- submissions
 
--- counting may begin anywhere
+-- an operation counts the same from any number on
 tasks_after-shift : (n k : ℕ) (op : Op) → tasks_after (n + k) op ≡ n + tasks_after k op
 tasks_after-shift n k op = elim (cases_Bool (is_submission op)) [ inl t ↦ rw t (omega arith) | inr f ↦ rw f refl ]
 
--- counting may begin anywhere
+-- calls count the same from any number on
 pub tasks_after_calls-shift : (n k : ℕ) (cs : List Call) → tasks_after_calls (n + k) cs ≡ n + tasks_after_calls k cs
 tasks_after_calls-shift n k [] = refl
 tasks_after_calls-shift n k (c ∷ cs) = rw (tasks_after-shift n k c.op) (tasks_after_calls-shift n (tasks_after k c.op) cs)

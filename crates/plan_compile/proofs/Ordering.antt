@@ -153,6 +153,7 @@ last_within earlier h before (c ∷ cs) offset ordered many le = last_within ear
 pub base_reach : (h : Header) (r : ℕ) → r < h.times → h.at + r * h.every ≤ h.at + (h.times - 1) * h.every
 base_reach h r within = omega (arith, mul-le r h.every (h.times - 1) h.every (omega arith) (omega arith))
 
+-- the calls of an iteration lead from its first number and its beginning to the numbers and the moment of its last call
 pub iteration_runs : (earlier : PlanTree) (firsts : List ℕ) (first : ℕ) (b : BlockTree) (r : ℕ) → IsBlockAfter earlier b → AreFirsts earlier firsts first → r < b.header.times
     → Runs (first + r * tasks_of b) (b.header.at + r * b.header.every) (iteration firsts first b r) (first + suc r * tasks_of b) (b.header.at + r * b.header.every + last_offset b.calls)
 iteration_runs earlier firsts first b r block a within =

@@ -11,19 +11,23 @@ use Rattle.plan_read.specs.Plans.{BlockTree, PlanTree, end_from, end_of_block, m
 use Rattle.plan_read.specs.Values.{tables_at, header_of}
 use Rattle.plan_read.proofs.Failing.{all_pass}
 
+-- where a test holds of a whole list it holds of each item
 pub list_all_true : {A : Type 0} (test : A → Bool) (xs : List A) → list_all test xs ≡ true → AllByRecursion (λ x. test x ≡ true) xs
 list_all_true test [] h = tt
 list_all_true test (x ∷ xs) h = let p = and_parts (test x) (list_all test xs) h in (p.0, list_all_true test xs p.1)
 
+-- the test of two numbers tells that the first is at most the second
 pub le_from_test : (a b : ℕ) → nat_le a b ≡ true → a ≤ b
 le_from_test a b h = grind (arith, nat_tests)
 
+-- what an accepted header says: its number of iterations, and its array of calls, which fits the plan
 pub record Passed (made : ℕ) (ms : Members) : Type 0 where
   pub times : 1 ≤ (header_of ms).times
   pub tables : fits Tables (get_member (codes "call") ms) ≡ true
   pub few : length (tables_at (codes "call") ms) ≤ 256
   pub fits_plan : made + (header_of ms).times * length (tables_at (codes "call") ms) ≤ 65536
 
+-- a header none of whose checks fails says so
 pub passed : (p : Place) (end made : ℕ) (ms : Members) → first_failing p (header_checks end made ms) ≡ None → Passed made ms
 unfolding header_checks
 passed p end made ms none =
@@ -38,18 +42,22 @@ passed p end made ms none =
       fits_plan = le_from_test (made + (header_of ms).times * length (tables_at (codes "call") ms)) 65536 (and_parts (nat_le (length (tables_at (codes "call") ms)) 256) (nat_le (made + (header_of ms).times * length (tables_at (codes "call") ms)) 65536) many).1;
     }
 
+-- the moment of the last call, with one block more
 pub end_from_one_more : (m : ℕ) (bs : PlanTree) (b : BlockTree) → end_from m (bs ++ b ∷ []) ≡ end_of_block (end_from m bs) b.header b.calls
 end_from_one_more m [] b = refl
 end_from_one_more m (d ∷ bs) b = end_from_one_more (end_of_block m d.header d.calls) bs b
 
+-- the number of calls made, with one block more
 pub made_from_one_more : (n : ℕ) (bs : PlanTree) (b : BlockTree) → made_from n (bs ++ b ∷ []) ≡ made_from n bs + b.header.times * length b.calls
 made_from_one_more n [] b = refl
 made_from_one_more n (d ∷ bs) b = made_from_one_more (n + d.header.times * length d.calls) bs b
 
+-- what an accepted top says: its blocks are an array of tables, at most 256
 pub record TopPassed (ms : Members) : Type 0 where
   pub tables : fits Tables (get_member (codes "block") ms) ≡ true
   pub few : length (tables_at (codes "block") ms) ≤ 256
 
+-- a top none of whose checks fails says so
 pub top_passed : (p : Place) (ms : Members) → first_failing p (top_checks ms) ≡ None → TopPassed ms
 unfolding top_checks
 top_passed p ms none =

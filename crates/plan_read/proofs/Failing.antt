@@ -9,6 +9,7 @@ use Rattle.plan_read.specs.declared.faults.Refusal.TheVariants as refusals
 use Rattle.plan_read.specs.Checks.{Check, first_failing, ◌or_else◌}
 use Rattle.plan_read.specs.Reads.{Refuses}
 
+-- the first failing check of two lists is that of the first list, and where it has none that of the second
 pub first_failing-append : (p : Place) (xs ys : List Check) → first_failing p (xs ++ ys) ≡ (first_failing p xs or_else first_failing p ys)
 first_failing-append p [] ys = refl
 first_failing-append p (x ∷ xs) ys = elim (cases_Bool x.passes) [ inl t ↦ rw t (first_failing-append p xs ys) | inr f ↦ rw f refl ]
@@ -32,21 +33,24 @@ pub none_fails : (p : Place) (cs : List Check) → AllByRecursion (λ c. c.passe
 none_fails p [] h = refl
 none_fails p (c ∷ cs) h = rw h.0 (none_fails p cs h.1)
 
--- places in order
+-- the fault of the first place is that of both
 pub first_decides : (e : Refusal) (here after : Option PlanFault) → Refuses e here → Refuses e (here or_else after)
 first_decides refusals.Memory here after h = tt
 first_decides (refusals.Fault e) here after h = rw h refl
 
+-- where the first place has no fault the next one decides
 pub next_decides : (here after : Option PlanFault) → here ≡ None → (here or_else after) ≡ after
 next_decides here after h = rw h refl
 
--- four lists of checks, one after the other
+-- of four lists of checks, one after the other, the second decides where the first passes
 pub second : (e : Refusal) (p : Place) (a b c d : List Check) → first_failing p a ≡ None → Refuses e (first_failing p b) → Refuses e (first_failing p (a ++ b ++ c ++ d))
 second e p a b c d x h = stops_here e p (a ++ b ++ c) d (stops_here e p (a ++ b) c (rw (goes_on p a b x) h))
 
+-- the third list decides where the first two pass
 pub third : (e : Refusal) (p : Place) (a b c d : List Check) → first_failing p a ≡ None → first_failing p b ≡ None → Refuses e (first_failing p c) → Refuses e (first_failing p (a ++ b ++ c ++ d))
 third e p a b c d x y h = stops_here e p (a ++ b ++ c) d (rw (goes_on p (a ++ b) c (goes_on p a b x ∙ y)) h)
 
+-- the last list decides where the first three pass
 pub last : (p : Place) (a b c d : List Check) → first_failing p a ≡ None → first_failing p b ≡ None → first_failing p c ≡ None → first_failing p (a ++ b ++ c ++ d) ≡ first_failing p d
 last p a b c d x y z = goes_on p (a ++ b ++ c) d (goes_on p (a ++ b) c (goes_on p a b x ∙ y) ∙ z)
 
@@ -55,5 +59,6 @@ pub parts : (p : Place) (a b : List Check) → first_failing p (a ++ b) ≡ None
 parts p [] b h = (refl, h)
 parts p (c ∷ a) b h = elim (cases_Bool c.passes) [ inl t ↦ (let r = parts p a b (rw t at h) in (rw t r.0, r.1)) | inr f ↦ absurd (let e = rw f at h in cc) ]
 
+-- the first list decides where a check of it fails
 pub first : (e : Refusal) (p : Place) (a b c d : List Check) → Refuses e (first_failing p a) → Refuses e (first_failing p (a ++ b ++ c ++ d))
 first e p a b c d h = stops_here e p (a ++ b ++ c) d (stops_here e p (a ++ b) c (stops_here e p a b h))

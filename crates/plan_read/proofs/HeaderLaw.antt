@@ -16,13 +16,16 @@ use Rattle.plan_read.proofs.Failing.{all_pass, none_fails}
 use Rattle.plan_read.proofs.Accepted.{list_all_true, le_from_test}
 use Rattle.plan_read.proofs.Holding.{integer_fits, integer_is, text_fits, text_is, span_fits, span_is, tables_are}
 
+-- the test holds of two numbers of which the first is at most the second
 pub test_from_le : (a b : ℕ) → a ≤ b → nat_le a b ≡ true
 test_from_le a b h = grind (arith, nat_tests)
 
+-- where one of two tests holds, a number is at most another or a value is there
 pub or_test : (a b : ℕ) (o : Option Data) → (nat_le a b || is_some o) ≡ true → (a ≤ b) ⊎ IsSome o
 or_test a b None h = inl (elim (cases_Bool (nat_le a b)) [ inl t ↦ le_from_test a b t | inr f ↦ absurd (let e = rw f at h in cc) ])
 or_test a b (Some d) h = inr refl
 
+-- where a number is at most another or a value is there, one of the two tests holds
 pub or_true : (a b : ℕ) (o : Option Data) → (a ≤ b) ⊎ IsSome o → (nat_le a b || is_some o) ≡ true
 or_true a b o (inl h) = rw (test_from_le a b h) refl
 or_true a b None (inr h) = absurd (cc)
@@ -36,6 +39,7 @@ unit_of_some : {A : Type 0} (o : Option A) (d : A) → is_some o ≡ true → o 
 unit_of_some None d h = absurd (cc)
 unit_of_some (Some x) d h = refl
 
+-- a header none of whose checks fails is the one that its table writes
 pub header_written : (p : Place) (end made : ℕ) (ms : Members) → first_failing p (header_checks end made ms) ≡ None
     → WritesHeader end made (length (tables_at (codes "call") ms)) ms (header_of ms)
 unfolding header_checks header_of
@@ -72,6 +76,7 @@ header_is end made count ms h w =
     let every = span_is h.unit (codes "every") ms h.every w.every in
     rw (unit, times.1, at.2, every.2) refl
 
+-- none of the checks fails on a table that writes a header
 pub header_passes : (p : Place) (end made : ℕ) (ms : Members) (tables : List Members) (h : Header) → TablesAt (codes "call") ms tables → WritesHeader end made (length tables) ms h
     → first_failing p (header_checks end made ms) ≡ None
 unfolding header_checks

@@ -11,6 +11,7 @@ use Rattle.plan_read.specs.Writes.{IntegerAt, TextAt, AreTables, TablesAt, SpanA
 
 -- ---- integers and texts
 
+-- a value of the type integer, or none, is an integer or the default
 pub integer_fits : (o : Option Data) (z : ℤ) → fits Integer o ≡ true → (o ≡ Some (integer (unwrap_or (option_and_then as_integer o) z))) ⊎ ((o ≡ None) × (unwrap_or (option_and_then as_integer o) z ≡ z))
 integer_fits None z h = inr (refl, refl)
 integer_fits (Some (integer n)) z h = inl refl
@@ -21,6 +22,7 @@ integer_fits (Some (datetime t)) z h = absurd (cc)
 integer_fits (Some (array ds)) z h = absurd (cc)
 integer_fits (Some (table ms)) z h = absurd (cc)
 
+-- a value of the type text, or none, is a text or the default
 pub text_fits : (o : Option Data) (t : List ℕ) → fits Text o ≡ true → (o ≡ Some (string (unwrap_or (option_and_then as_str o) t))) ⊎ ((o ≡ None) × (unwrap_or (option_and_then as_str o) t ≡ t))
 text_fits None z h = inr (refl, refl)
 text_fits (Some (string n)) z h = inl refl
@@ -31,10 +33,12 @@ text_fits (Some (datetime t)) z h = absurd (cc)
 text_fits (Some (array ds)) z h = absurd (cc)
 text_fits (Some (table ms)) z h = absurd (cc)
 
+-- an integer that stands at a key has the type, and is what is read there
 pub integer_is : (d : ℤ) (key : List ℕ) (ms : Members) (z : ℤ) → IntegerAt d key ms z → (fits Integer (get_member key ms) ≡ true) × (integer_or d key ms ≡ z)
 integer_is d key ms z (inl h) = (rw h refl, rw h refl)
 integer_is d key ms z (inr h) = (rw h.0 refl, rw h.0 (sym h.1))
 
+-- a text that stands at a key has the type, and is what is read there
 pub text_is : (d : List ℕ) (key : List ℕ) (ms : Members) (t : List ℕ) → TextAt d key ms t → (fits Text (get_member key ms) ≡ true) × (text_or d key ms ≡ t)
 text_is d key ms t (inl h) = (rw h refl, rw h refl)
 text_is d key ms t (inr h) = (rw h.0 refl, rw h.0 (sym h.1))
@@ -45,6 +49,7 @@ units_of : (z : ℤ) → not (int_lt z (pos 0)) ≡ true → z ≡ pos (delay_un
 units_of (pos n) h = refl
 units_of (negsuc n) h = absurd (cc)
 
+-- an integer that is not negative and within the limit is a span
 pub span_fits : (unit : TimeUnit) (key : List ℕ) (ms : Members) → fits Integer (get_member key ms) ≡ true → not (is_negative key ms) ≡ true → span_at unit key ms ≤ longest → SpanAt unit key ms (span_at unit key ms)
 span_fits unit key ms typed forward short =
     let z = integer_or (pos 0) key ms in
@@ -54,6 +59,7 @@ span_fits unit key ms typed forward short =
 not_negative : (n : ℕ) → not (int_lt (pos n) (pos 0)) ≡ true
 not_negative n = grind (arith, nat_tests)
 
+-- a span that stands at a key passes the tests, and is what is read there
 pub span_is : (unit : TimeUnit) (key : List ℕ) (ms : Members) (n : ℕ) → SpanAt unit key ms n → (fits Integer (get_member key ms) ≡ true) × (not (is_negative key ms) ≡ true) × (span_at unit key ms ≡ n)
 span_is unit key ms n s =
     let i = integer_is (pos 0) key ms (pos s.0) s.1 in
@@ -94,9 +100,11 @@ data_fits (Some (boolean b)) h = absurd (cc)
 data_fits (Some (datetime t)) h = absurd (cc)
 data_fits (Some (table ms)) h = absurd (cc)
 
+-- where an array of tables stands at a key, or nothing, what is read there stands there
 pub tables_fit : (key : List ℕ) (ms : Members) → fits Tables (get_member key ms) ≡ true → TablesAt key ms (tables_at key ms)
 tables_fit key ms h = data_fits (get_member key ms) h
 
+-- the tables that stand at a key have the type, and are what is read there
 pub tables_are : (key : List ℕ) (ms : Members) (ts : List Members) → TablesAt key ms ts → (fits Tables (get_member key ms) ≡ true) × (tables_at key ms ≡ ts)
 tables_are key ms ts (inl h) = let r = items_are h.0 ts h.2 in (rw h.1 r.0, rw h.1 r.1)
 tables_are key ms ts (inr h) = (rw h.0 refl, rw h.0 (sym h.1))

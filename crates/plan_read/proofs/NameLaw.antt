@@ -49,5 +49,6 @@ distinct-blocks earlier (ms ∷ tables) (b ∷ bs) w d =
     let e : 0 + length earlier ≡ length earlier = omega arith in
     rw (← append_assoc earlier (b ∷ []) bs) (distinct-blocks (earlier ++ b ∷ []) tables bs w.1 (rw (submissions_from-one_more 0 earlier b, e) calls))
 
+-- the law that two submissions of a plan have different names
 pub names_distinct : (ms : Members) (plan : PlanTree) → Writes ms plan → AreDistinct (submissions_from 0 plan)
 names_distinct ms plan w = distinct-blocks [] w.tables plan w.blocks tt

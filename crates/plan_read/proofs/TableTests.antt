@@ -9,14 +9,17 @@ use Rattle.toml.specs.declared.value.Value.{Value}
 use Rattle.plan_read.specs.Keys.{Key, is_key, has_only, are_tables}
 use Rattle.plan_read.specs.Values.{tables_in}
 
+-- to test the keys of a table one by one is to test the table
 pub has_only-keys : (known : List Key) (es : List (String Global × Value)) → list_all (λ k. is_key known (string_bytes k)) (keys_of es) ≡ has_only known (members_view es)
 has_only-keys known [] = refl
 has_only-keys known (e ∷ es) = ap (λ b. is_key known (string_bytes e.0) && b) (has_only-keys known es)
 
+-- to test the items of an array one by one is to test the array
 pub are_tables-items : (vs : List Value) → list_all (λ v. is_some (as_table (view v))) vs ≡ are_tables (items_view vs)
 are_tables-items [] = refl
 are_tables-items (v ∷ vs) = ap (λ b. is_some (as_table (view v)) && b) (are_tables-items vs)
 
+-- there are as many tables as items
 pub count_of_tables : (vs : List Value) → length (tables_in (items_view vs)) ≡ length vs
 count_of_tables [] = refl
 count_of_tables (v ∷ vs) = omega (arith, count_of_tables vs)

@@ -14,9 +14,11 @@ use Rattle.plan_read.proofs.Accepted.{le_from_test}
 use Rattle.plan_read.proofs.HeaderLaw.{test_from_le}
 use Rattle.plan_read.proofs.TreeLaw.{none_both, tree_written, tree_only}
 
+-- the tree of a text that is UTF-8 and a document
 pub is_tree : (text : List ℕ) (ms : Members) → IsUtf8 text → parse_document text ≡ Some ms → tree_of text ≡ Some ms
 is_tree text ms utf8 parsed = rw (is_utf8-from_IsUtf8 text utf8, parsed) refl
 
+-- a text that is no UTF-8, or no document, has no tree
 pub is_no_tree : (text : List ℕ) → (IsUtf8 text → parse_document text ≡ None) → tree_of text ≡ None
 is_no_tree text refused =
     elim (cases_Bool (is_utf8 text)) [
@@ -28,6 +30,7 @@ some_tree : (o : Option Members) → is_some o ≡ true → o ≡ Some (unwrap_o
 some_tree None h = absurd (cc)
 some_tree (Some ms) h = refl
 
+-- a text without a fault writes the plan that is read of it
 pub text_written : (text : List ℕ) → fault_of_text text ≡ None → TextWrites text (plan_of_text text)
 text_written text none =
     let n = none_both (first_failing top (length_checks text)) _ none in
@@ -39,6 +42,7 @@ text_written text none =
       writes = tree_written (tree_at text) m.1;
     }
 
+-- a text that writes a plan has no fault, and that plan is what is read of it
 pub text_only : (text : List ℕ) (plan : PlanTree) → TextWrites text plan → (fault_of_text text ≡ None) × (plan_of_text text ≡ plan)
 text_only text plan w =
     let r = tree_only w.tree plan w.writes in

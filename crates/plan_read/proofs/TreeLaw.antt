@@ -17,6 +17,7 @@ use Rattle.plan_read.proofs.HeaderLaw.{header_written, header_is, header_passes,
 use Rattle.plan_read.proofs.CallLaw.{call_written, call_only}
 use Rattle.plan_read.proofs.Holding.{tables_fit, tables_are}
 
+-- where two places have no fault, neither has one
 pub none_both : (x y : Option PlanFault) → (x or_else y) ≡ None → (x ≡ None) × (y ≡ None)
 none_both None y h = (refl, h)
 none_both (Some f) y h = absurd (cc)
@@ -95,6 +96,7 @@ version_one (Some (datetime t)) h = absurd (cc)
 version_one (Some (array ds)) h = absurd (cc)
 version_one (Some (table ms)) h = absurd (cc)
 
+-- a tree without a fault writes the plan that is read of it
 pub tree_written : (ms : Members) → fault_of ms ≡ None → Writes ms (plan_of ms)
 unfolding top_checks
 tree_written ms none =
@@ -111,6 +113,7 @@ tree_written ms none =
       blocks = subst (λ (bs : PlanTree). WritesBlocks [] (tables_at (codes "block") ms) bs) (sym r.1) r.2;
     }
 
+-- a tree that writes a plan has no fault, and that plan is what is read of it
 pub tree_only : (ms : Members) (plan : PlanTree) → Writes ms plan → (fault_of ms ≡ None) × (plan_of ms ≡ plan)
 unfolding top_checks
 tree_only ms plan w =

@@ -29,6 +29,7 @@ pub turn : (vs : List Value) (i : ℕ) (v : Value) (ms : Members) → i < length
     → tables_in (items_view (drop i vs)) ≡ ms ∷ tables_in (items_view (drop (i + 1) vs))
 turn vs i v ms h is e = rw (items_view-drop vs i v h, ← is, members_in-table (view v) ms e) refl
 
+-- each item of an array of tables is a table
 pub is_table : (vs : List Value) (i : ℕ) (d : Value) → i < length vs → are_tables (items_view vs) ≡ true → is_some (as_table (view (get_or vs i d))) ≡ true
 is_table [] i d h all = absurd (omega arith)
 is_table (v ∷ vs) zero d h all = (and_parts (is_some (as_table (view v))) (are_tables (items_view vs)) all).0
@@ -36,22 +37,26 @@ is_table (v ∷ vs) (suc i) d h all = is_table vs i d (omega arith) (and_parts (
 
 -- ---- the calls of a block
 
+-- a call without a fault is added, and the fault and the calls of the whole block are those from the next table on
 pub call_turn : (earlier : PlanTree) (h : Header) (before : List Call) (tables rest : List Members) (ms : Members) (c : Call) → tables ≡ ms ∷ rest
     → call_fault earlier h before ms ≡ None → c ≡ next_call earlier h before ms
     → (calls_fault earlier h (before ++ c ∷ []) rest ≡ calls_fault earlier h before tables) × (calls_after earlier h (before ++ c ∷ []) rest ≡ calls_after earlier h before tables)
 call_turn earlier h before tables rest ms c e none is = rw (e, is) (sym (next_decides (call_fault earlier h before ms) _ none), refl)
 
+-- the fault of a call is that of the calls from it on
 pub call_halts : (e : Refusal) (earlier : PlanTree) (h : Header) (before : List Call) (tables rest : List Members) (ms : Members) → tables ≡ ms ∷ rest
     → Refuses e (call_fault earlier h before ms) → Refuses e (calls_fault earlier h before tables)
 call_halts e earlier h before tables rest ms is s = rw is (first_decides e (call_fault earlier h before ms) _ s)
 
 -- ---- the blocks of a plan
 
+-- a block without a fault is added, and the fault and the blocks of the whole plan are those from the next table on
 pub block_turn : (earlier : PlanTree) (tables rest : List Members) (ms : Members) (b : BlockTree) → tables ≡ ms ∷ rest
     → block_fault earlier ms ≡ None → b ≡ block_of earlier ms
     → (blocks_fault (earlier ++ b ∷ []) rest ≡ blocks_fault earlier tables) × (blocks_after (earlier ++ b ∷ []) rest ≡ blocks_after earlier tables)
 block_turn earlier tables rest ms b e none is = rw (e, is) (sym (next_decides (block_fault earlier ms) _ none), refl)
 
+-- the fault of a block is that of the blocks from it on
 pub block_halts : (e : Refusal) (earlier : PlanTree) (tables rest : List Members) (ms : Members) → tables ≡ ms ∷ rest
     → Refuses e (block_fault earlier ms) → Refuses e (blocks_fault earlier tables)
 block_halts e earlier tables rest ms is s = rw is (first_decides e (block_fault earlier ms) _ s)

@@ -53,6 +53,7 @@ is_one None = false
 is_one (Some (pos n)) = n == 1
 is_one (Some (negsuc n)) = false
 
+-- the checks on the top
 unfoldable pub top_checks : Members → List Check
 top_checks ms =
     (Version unless is_one (option_and_then as_integer (get_member (codes "version") ms)))

@@ -68,6 +68,7 @@ unit_at ms = unwrap_or (unit_of_word (text_or (codes "ns") (codes "unit") ms)) N
 abbrev pub times_at : Members → ℤ
 times_at ms = integer_or (pos 1) (codes "times") ms
 
+-- the header that a table writes where it has no fault
 unfoldable pub header_of : Members → Header
 header_of ms = record {
   at = span_at (unit_at ms) (codes "at") ms;

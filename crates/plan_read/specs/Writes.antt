@@ -56,8 +56,9 @@ DelayAt unit key ms n = (z : ℤ) × Has ms key (integer z) × (n ≡ span_of z 
 abbrev pub PeriodAt : TimeUnit → List ℕ → Members → Option ℕ → Type 0
 PeriodAt unit key ms period = (z : ℤ) × Has ms key (integer z) × (period ≡ period_of z unit) × (span_of z unit ≤ longest)
 
--- ---- the header of a block of `count` calls, where the last call before it is at the moment `end` and `made` calls are made before it
+-- ---- the header of a block
 
+-- the header of a block of `count` calls, where the last call before it is at the moment `end` and `made` calls are made before it
 pub record WritesHeader (end made count : ℕ) (ms : Members) (h : Header) : Type 0 where
   pub keys : HasOnly header_keys ms
   pub unit : (word : List ℕ) × TextAt (codes "ns") (codes "unit") ms word × (unit_of_word word ≡ Some h.unit)

@@ -25,7 +25,7 @@
 //! }
 //! ```
 //!
-//! # The text
+//! # Behaviour
 //!
 //! At the top stand `version`, which is 1, and `block`, an array of tables, at most 256. A block has
 //!
@@ -48,16 +48,21 @@
 //!
 //! The call with offset `o` is made at `at + r * every + o` in iteration `r`, counted from 0. Moments,
 //! offsets and spans are at most 2^62 nanoseconds, and so is the moment of each call in the last iteration.
-//! Moments do not fall: a block begins no earlier than the last call before it, offsets do not fall, and no
-//! offset of a repeated block is above `every`. A plan makes at most 65,536 calls, repetitions counted. A
-//! `delay` of a `schedule`, or a `first`, below 0 counts as 0. A `period`, or a `delay` of a `fixed`, that
-//! is zero or negative is illegal: the plan keeps that there is none.
+//! A plan makes at most 65,536 calls, repetitions counted. A `delay` of a `schedule`, or a `first`, below 0
+//! counts as 0. A `period`, or a `delay` of a `fixed`, that is zero or negative is illegal: the plan keeps
+//! that there is none.
 //!
 //! A name has 1 to 32 ASCII letters, digits, `-` and `_`. No two submissions have one name. A `cancel`
 //! names a submission that stands before it: one of its own block, and then it means the task of the same
 //! iteration, or one of an earlier block that is made once.
 //!
-//! # Faults
+//! # Order and ties
+//!
+//! Moments do not fall: a block, also one without calls, begins no earlier than the last call before it,
+//! offsets do not fall, and no offset of a repeated block is above `every`. Calls of one moment are made in
+//! the order of the text, and those of an iteration before those of the next.
+//!
+//! # Errors
 //!
 //! A text that writes no plan has one [`PlanFault`]: what is wrong, and the block and the call, numbered
 //! from 1; 0 stands for none. The places are searched in order: the text, the top, then block by block, in

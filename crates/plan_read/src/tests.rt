@@ -784,7 +784,7 @@ fn takes_names_of_32_bytes(rt: HostRuntime) -> Result<(), Fail> {
     Ok(())
 }
 
-/// A plan of so many calls in each of some blocks.
+/// A plan of this number of blocks, with this number of calls in each.
 fn with_calls(rt: &impl AllocGlobal, blocks: u32, calls: u32) -> Result<String, Fail> {
     let mut text = String::from_str(rt.alloc(), "version=1\n")?;
     for block in 0..blocks {

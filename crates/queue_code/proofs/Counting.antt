@@ -110,6 +110,7 @@ pub record Known (code : List Instr) (p : Progress) : Type 0 where
   pub few_calls : p.calls ≤ 65536
   pub few_tasks : p.tasks ≤ 65536
 
+-- instructions without a fault are a code, and what was met in them are its calls and its tasks
 pub known : (code : List Instr) (p : Progress) → fault_of code ≡ None → p ≡ walked opening code → AreTimed code → Known code p
 known code p none is timed =
     let k = counted None 0 0 0 code none in

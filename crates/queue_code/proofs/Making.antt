@@ -12,7 +12,7 @@ use Rattle.queue_code.specs.Cursors.{Enclosing, loop_behind, loop_around, IsWell
 use Rattle.queue_code.proofs.Enclosing.{drop_at, loop_next}
 use Rattle.queue_code.proofs.Moves.{left_is, fits_is, fits_so, form_is, head_at}
 
--- the cursor behind an instruction that makes so many tasks
+-- the cursor behind an instruction that makes `tasks` tasks
 abbrev pub behind : Cursor → ℕ → ℕ → Cursor
 behind c tasks steps = record { index = c.index + 1; base = c.base; iteration = c.iteration; tasks = c.tasks + tasks; start = c.start; steps = steps }
 
@@ -72,6 +72,7 @@ pub record Makes (code : List Instr) (c d : Cursor) (made : Option Planned) : Ty
   pub cursor : IsCursorAt code d
   pub left : calls_left code c ≡ in_front made (calls_left code d)
 
+-- a cursor at a call or at the halt makes what that instruction makes
 pub makes : (code : List Instr) (c : Cursor) (i : Instr) (steps : ℕ) → IsCode code → IsCursorAt code c → slice_get code c.index ≡ Some i → IsPlain (Some i)
     → Makes code c (behind c (tasks_by i) steps) (call_of c.base c.start c.tasks i)
 makes code c i steps sound h at plain =
@@ -116,11 +117,12 @@ in_range code c d (Some p) h left =
     let order = subst (IsOrderlyFrom c.tasks h.order.0) left h.order.1 in
     (order.1, order.2, omega (arith, ap length left, h.room))
 
--- what is made is the first of the calls that were left, and the others are left
+-- what is made is the first of the calls that were left
 pub made_first : (code : List Instr) (c d : Cursor) (made : Option Planned) → Makes code c d made → (made ≡ None → calls_left code c ≡ []) → made ≡ slice_get (calls_left code c) 0
 made_first code c d None makes none = ap (λ (ps : List Planned). slice_get ps 0) (sym (none refl))
 made_first code c d (Some p) makes none = ap (λ (ps : List Planned). slice_get ps 0) (sym makes.left)
 
+-- the calls that are left are those behind the first
 pub others_left : (code : List Instr) (c d : Cursor) (made : Option Planned) → Makes code c d made → (made ≡ None → calls_left code c ≡ []) → calls_left code d ≡ drop 1 (calls_left code c)
 others_left code c d None makes none = sym makes.left ∙ none refl ∙ ap (drop 1) (sym (none refl))
 others_left code c d (Some p) makes none = ap (drop 1) (sym makes.left)

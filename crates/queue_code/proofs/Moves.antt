@@ -16,16 +16,19 @@ pub record Moves (code : List Instr) (c d : Cursor) : Type 0 where
   pub cursor : IsCursorAt code d
   pub left : calls_left code d ≡ calls_left code c
 
--- what is known of an index is known of the loop around it and of the instructions from it on
+-- the calls that are left are those of the loop and of the instructions that are known to be there
 pub left_is : (code : List Instr) (c : Cursor) (around : Option Enclosing) (is : List Instr) → loop_around code c.index ≡ around → drop c.index code ≡ is → calls_left code c ≡ left_within around is c
 left_is code c around is o d = ap (λ (a : Option Enclosing). left_within a (drop c.index code) c) o ∙ ap (λ (js : List Instr). left_within around js c) d
 
+-- registers that fit the loop at an index fit the loop that is known to be there
 pub fits_is : (code : List Instr) (c : Cursor) (around : Option Enclosing) (is : List Instr) → loop_around code c.index ≡ around → drop c.index code ≡ is → FitsLoop (loop_around code c.index) (drop c.index code) c → FitsLoop around is c
 fits_is code c around is o d fits = subst (λ (js : List Instr). FitsLoop around js c) d (subst (λ (a : Option Enclosing). FitsLoop a (drop c.index code) c) o fits)
 
+-- registers that fit the loop that is known to be there fit the loop at the index
 pub fits_so : (code : List Instr) (c : Cursor) (around : Option Enclosing) (is : List Instr) → loop_around code c.index ≡ around → drop c.index code ≡ is → FitsLoop around is c → FitsLoop (loop_around code c.index) (drop c.index code) c
 fits_so code c around is o d fits = subst (λ (a : Option Enclosing). FitsLoop a (drop c.index code) c) (sym o) (subst (λ (js : List Instr). FitsLoop around js c) (sym d) fits)
 
+-- the instructions from an index on are well formed within the loop that is known to be around it
 pub form_is : (code : List Instr) (n : ℕ) (around : Option Enclosing) (is : List Instr) → loop_around code n ≡ around → drop n code ≡ is → IsWellFormed false code → IsWellFormed (is_some around) is
 form_is code n around is o d form = subst (IsWellFormed (is_some around)) d (subst (λ (a : Option Enclosing). IsWellFormed (is_some a) (drop n code)) o (form_at code n form))
 
@@ -55,6 +58,7 @@ plain_head (Loop times every ∷ is) begins = absurd begins
 plain_head (EndLoop ∷ is) begins = absurd begins
 plain_head (i ∷ is) begins = tt
 
+-- the first of the instructions from an index on is the one at the index
 pub head_at : (code : List Instr) (n : ℕ) → slice_get (drop n code) 0 ≡ slice_get code n
 head_at code zero = refl
 head_at [] (suc n) = refl
@@ -191,6 +195,7 @@ pub record Back (code : List Instr) (c d : Cursor) : Type 0 where
   pub index : d.index ≤ length code
   pub past : EndsNoLoop (slice_get code d.index)
 
+-- the end of a loop with an iteration more to make goes back to the first instruction of the loop
 pub goes_back : (code : List Instr) (c : Cursor) (steps : ℕ) (loop : Enclosing) → IsCode code → IsCursorAt code c → loop_around code c.index ≡ Some loop → slice_get code c.index ≡ Some EndLoop → c.iteration + 1 < loop.times
     → Back code c (record { index = loop.place + 1; base = c.base + loop.every; iteration = c.iteration + 1; tasks = c.tasks; start = c.tasks; steps = steps })
 goes_back code c steps loop sound h o at more =

@@ -54,6 +54,7 @@ pub record Called (i : Instr) (base start count : ℕ) : Type 0 where
   pub next : count_after count what ≡ count + tasks_by i
   pub orderly : IsOrderlyCall count what
 
+-- an instruction that passes its checks makes a call that is in order
 pub called : (p : Progress) (i : Instr) (base start count : ℕ) → is_call i ≡ true → IsTimedInstr i → is_bad_task p i ≡ false → is_too_large p i ≡ false → p.tasks ≤ count
     → ((nth : ℕ) → lacks_task p p.open_loop nth ≡ false → start + nth < count) → Called i base start count
 called p (Loop times every) base start count call timed task large low here = cc

@@ -13,10 +13,11 @@ use Rattle.queue_code.specs.Checks.{offset_of, is_call, last_shift, overlaps, fi
 use Rattle.queue_code.specs.Cursors.{BeginsWithCall, IsWellFormed, IsCode}
 use Rattle.queue_code.proofs.Passing.{Passes, passes_all, passes_first, Called, called, moment_low, not_before, length_call, in_front_append, last_halt}
 
--- what was met in a loop, and outside one
+-- what was met in a loop
 abbrev pub met_in : OpenLoop → ℕ → ℕ → ℕ → Progress
 met_in r calls tasks last = record { open_loop = Some r; calls = calls; tasks = tasks; last = last }
 
+-- what was met outside a loop
 abbrev pub met_out : ℕ → ℕ → ℕ → Progress
 met_out calls tasks last = record { open_loop = None; calls = calls; tasks = tasks; last = last }
 
@@ -32,7 +33,8 @@ call_first i base start count m rest known low high order =
     subst (λ (o : Option Planned). IsOrderlyFrom count m (in_front o rest)) (sym known.is)
     (low, high, known.orderly, subst (λ (n : ℕ). IsOrderlyFrom n (base + offset_of i) rest) (sym known.next) order)
 
--- the calls of some instructions after so many calls and tasks and a moment: they are in order and few enough
+-- the calls of some instructions, where `calls` and `tasks` are the numbers of calls and tasks before them, and `last` is the
+-- moment of the last call: they are in order and few enough
 pub record Follows (inside : Bool) (calls tasks last : ℕ) (is : List Instr) : Type 0 where
   pub form : IsWellFormed inside is
   pub order : IsOrderlyFrom tasks last (calls_from inside tasks is)
@@ -53,7 +55,7 @@ record FollowsInside (r : OpenLoop) (calls tasks last : ℕ) (is : List Instr) :
   first_is : r.calls ≡ 0 → first ≡ head
   begun : 1 ≤ r.calls → first ≡ r.first
   fits : 1 < r.times → final ≤ first + r.every
-  -- in an iteration at each base, with so many tasks more: what is in order behind it makes it and that in order
+  -- in an iteration at each base, with `more` tasks more: what is in order behind it makes it and that in order
   passes : (base more m : ℕ) (ys : List Planned) → base ≤ last_shift (Some r) → m ≤ base + head → IsOrderlyFrom (ends + more) (base + final) ys
       → IsOrderlyFrom (tasks + more) m (pass base (r.start + more) (tasks + more) (body_of is) ++ ys)
   behind : Follows true (calls + r.times * size) (r.start + r.times * (ends - r.start)) ((r.times - 1) * r.every + final) is

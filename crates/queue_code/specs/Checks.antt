@@ -94,7 +94,7 @@ abbrev pub is_empty_loop : Progress → Instr → Bool
 is_empty_loop p EndLoop = has_no_call p.open_loop
 is_empty_loop p i = false
 
--- outside a loop, or no task of this iteration has so many before it
+-- outside a loop, or no task of this iteration has `nth` others of it before it
 abbrev pub lacks_task : Progress → Option OpenLoop → ℕ → Bool
 lacks_task p None nth = true
 lacks_task p (Some inner) nth = nat_le (p.tasks - inner.start) nth

@@ -36,7 +36,7 @@ abbrev pub pass : ℕ → ℕ → ℕ → List Instr → List Planned
 pass base start count [] = []
 pass base start count (i ∷ is) = in_front (call_of base start count i) (pass base start (count + tasks_by i) is)
 
--- the calls of so many iterations of a loop, from iteration r on: its base is r times the loop's step
+-- the calls of `n` iterations of a loop, from iteration r on: its base is r times the loop's step
 abbrev pub iterations : ℕ → ℕ → ℕ → List Instr → ℕ → List Planned
 iterations zero r every body count = []
 iterations (suc n) r every body count = pass (r * every) count count body ++ iterations n (r + 1) every body (count + tasks_in body)

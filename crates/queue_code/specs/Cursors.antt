@@ -113,7 +113,8 @@ abbrev pub steps_at_end : Option Instr → ℕ
 steps_at_end None = 3
 steps_at_end (Some i) = 0
 
--- a cursor is one of a code, and has executed at most 3 instructions for each call that was made, and 3 for the end
+-- a cursor is one of a code. Of the 65,536 calls that a code may make, it has executed at most 3 instructions for each that
+-- is not left, and 3 for the end
 pub record IsCursorOf (code : List Instr) (c : Cursor) : Type 0 where
   pub at : IsCursorAt code c
   pub counted : steps_of c + 3 * length (calls_left code c) ≤ 3 * 65536 + steps_at_end (slice_get code c.index)

@@ -45,7 +45,7 @@ fn makes(cursor: &mut Cursor, code: &Code<Global>, calls: &[(u64, CodeCall)]) ->
     true
 }
 
-/// Whether a code makes so many illegal submissions, one each so many nanoseconds, and then none.
+/// Whether a code makes `times` illegal submissions, `every` nanoseconds apart, and then none.
 fn submits_each(code: &Code<Global>, times: u32, every: u32) -> bool {
     let mut cursor = Cursor::new(code);
     for task in 0..times {

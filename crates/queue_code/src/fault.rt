@@ -22,7 +22,7 @@ pub enum CodeFault {
     /// A moment, a delay or a loop's step is more than 2^62 nanoseconds.
     #[error("more than 2^62 nanoseconds")]
     TooLarge,
-    /// A call is made before the one in front of it.
+    /// A call is made before the one in front of it, or an iteration begins before the one in front of it ends.
     #[error("a call before the one in front of it")]
     Order,
     /// A loop has no iteration or more than 65,536, or there are more than 65,536 calls.

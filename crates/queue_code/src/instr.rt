@@ -7,8 +7,8 @@ use std::fmt;
 
 /// An instruction of queue code.
 ///
-/// The first number of an instruction that makes a call is its offset, in nanoseconds: the call is made so long
-/// after the base, which is 0 outside a loop and in a loop's first iteration.
+/// The first number of an instruction that makes a call is its offset, in nanoseconds: the call is made that
+/// long after the base, which is 0 outside a loop and in a loop's first iteration.
 #[derive(Clone, Copy, Debug, PartialEq, Eq)]
 pub enum Instr {
     /// Submits a task, which gets the next number. Behind the offset stand how often the task runs, and the
@@ -18,10 +18,10 @@ pub enum Instr {
     Illegal(u64),
     /// Cancels the task with this number.
     CancelFixed(u64, u32),
-    /// Cancels a task of this iteration: the one that so many tasks of the iteration come before.
+    /// Cancels a task of this iteration: the one before which this number of tasks of the iteration come.
     CancelHere(u64, u32),
-    /// Begins a loop: the instructions up to the next [`EndLoop`](Instr::EndLoop) are executed so often, and
-    /// each iteration's base is so many nanoseconds above that of the one before.
+    /// Begins a loop: the instructions up to the next [`EndLoop`](Instr::EndLoop) are executed this number of
+    /// times, and each iteration's base is this number of nanoseconds above that of the one before.
     Loop(u32, u64),
     /// Ends a loop.
     EndLoop,

@@ -1,25 +1,18 @@
-//! The calls that a plan makes, as the executor takes them: each with the moment at which it is made.
+//! The calls that a plan makes, as the executor takes them: each with the moment at which it is made. And codes: lists
+//! of instructions with loops that make such calls.
 //!
 //! # Usage
+//!
+//! [`orderly`] tells whether the executor takes a list of calls.
 //!
 //! ```text
 //! let calls = [(0, CodeCall::Submit { task: 0, timing: Timing::Once, delay: 5 }), (2, CodeCall::Cancel { task: 0 })];
 //! orderly(&calls) // true: moments do not fall, and the cancel names a submission before it
 //! ```
 //!
-//! # Order
-//!
-//! Submissions are numbered 0, 1, .. in the order of their calls, those of an illegal period or fixed delay
-//! among them. Calls are *in order* where their moments do not fall, where moments and delays are at most 2^62
-//! nanoseconds, where a cancel names an earlier submission, and where there are at most 65,536 of them.
-//! [`orderly`] tells, and the executor takes no other calls.
-//!
-//! [`orderly`] goes over the calls once, takes no memory, and does not fail.
-//!
-//! # Code
-//!
 //! A [`Code`] is a list of instructions that makes such calls, in which a block that is repeated stands once, as a
-//! loop. A [`Cursor`] fetches its calls one after the other, and [`listing`] is its text.
+//! loop. A [`Cursor`] fetches its calls one after the other, and [`listing`] is its text. The executor takes no codes
+//! yet.
 //!
 //! ```rust
 //! let instrs = vec![in alloc;
@@ -36,21 +29,33 @@
 //! listing(alloc, &code)?; // "0 loop 3 every 10\n1 submit 100 schedule 50\n2 cancel 104 here 0\n3 endloop\n4 halt\n"
 //! ```
 //!
-//! ## Instructions
+//! # Behaviour
 //!
 //! An [`Instr`] makes a call at its offset from the base. `Loop(times, every)` and the next `EndLoop` stand around
 //! instructions that are made `times` times, at a base of 0, `every`, 2 * `every` and so on nanoseconds; outside a
-//! loop the base is 0. No loop stands in a loop. Tasks are numbered as the calls come. `CancelFixed` names a task by its number, and
-//! `CancelHere` by how many tasks of the same iteration come before it. A `Halt` ends the code. Policies, a shutdown
-//! and questions get their instructions together with their calls.
+//! loop the base is 0. No loop stands in a loop. Tasks are numbered as the calls come. `CancelFixed` names a task by
+//! its number, and `CancelHere` by how many tasks of the same iteration come before it. A `Halt` ends the code.
+//! Policies, a shutdown and questions get their instructions together with their calls.
 //!
 //! Contracts see a code as the list of its instructions, and by `calls_of` (`specs/Codes.antt`) as the list of its
 //! calls with their moments, in which each loop is written out.
 //!
-//! ## Checks
+//! [`Cursor::fetch`] answers each call once, in order, with its moment in nanoseconds, and then `None`.
+//! [`Cursor::next_moment`] looks at the next one. Each takes the code that the cursor was made for.
+//! [`Cursor::steps`] counts the instructions that fetches executed: 3 at most in a fetch, one at least up to the first
+//! `None`, and none after it.
 //!
-//! [`Code::check`] refuses a list with the fault of the least index, and at one index with the first of these
-//! ([`CodeFault`], the table `checks` of `specs/Checks.antt`):
+//! # Order and ties
+//!
+//! Submissions are numbered 0, 1, .. in the order of their calls, those of an illegal period or fixed delay
+//! among them. Calls are *in order* where their moments do not fall, where moments, delays and periods are at most
+//! 2^62 nanoseconds, where a cancel names an earlier submission, and where there are at most 65,536 of them. Calls of
+//! one moment are made in the order of the list. The calls of a code are in order, as [`orderly`] would tell.
+//!
+//! # Errors
+//!
+//! [`orderly`] does not fail. [`CodeFault`] is the only error. [`Code::check`] refuses a list with the fault of the
+//! least index, and at one index with the first of these (the table `checks` of `specs/Checks.antt`):
 //!
 //! | Fault | What is wrong |
 //! |---|---|
@@ -63,24 +68,15 @@
 //! | `Order` | a call whose moment in the first iteration is before that of the call in front of it; an `EndLoop` of more than one iteration, the last of whose offsets is more than the first and the step |
 //! | `TooMany` | a loop that is not made 1 to 65,536 times; at a call outside a loop, or at an `EndLoop`, more than 65,536 calls so far |
 //!
-//! So the calls of a code are in order, as [`orderly`] would tell.
+//! `Memory` says nothing of the instructions but that they have no other fault. A list that is refused is dropped, and
+//! so is a text that could not be made whole.
 //!
-//! ## Cursors
+//! # Memory and cost
 //!
-//! [`Cursor::fetch`] answers each call once, in order, with its moment in nanoseconds, and then `None`.
-//! [`Cursor::next_moment`] looks at the next one. Each takes the code that the cursor was made for.
-//! [`Cursor::steps`] counts the instructions that fetches executed: 3 at most in a fetch, one at least up to the first
-//! `None`, and none after it.
-//!
-//! ## Errors, memory and cost of codes
-//!
-//! [`CodeFault`] is the only error. `Memory` says nothing of the instructions but that they have no other fault. A
-//! list that is refused is dropped, and so is a text that could not be made whole.
-//!
-//! [`Code::check`] goes over the list once. It keeps the list, and takes a table with a number for each
-//! instruction, by which an `EndLoop` finds its loop. [`listing`] takes its text. No other call takes memory, and
-//! each costs the same whatever the code: a cursor is six numbers, and no list of calls is ever made, however often
-//! a loop is repeated.
+//! [`orderly`] goes over the calls once, and takes no memory. [`Code::check`] goes over the list once. It keeps the
+//! list, and takes a table with a number for each instruction, by which an `EndLoop` finds its loop. [`listing`]
+//! takes its text. No other call takes memory, and each costs the same whatever the code: a cursor is six numbers,
+//! and no list of calls is ever made, however often a loop is repeated.
 #![tactic(auto)]
 
 mod call;

@@ -19,7 +19,7 @@
 //! cell.read(&mut cell.note()); // Some(done)
 //! ```
 //!
-//! # Notes
+//! # Behaviour
 //!
 //! A note is what a proof knows of one cell: which cell it is of, and the verdict, once that was put or read with this
 //! note. From then on each `read` with the note answers that verdict, and a `put` with it is refused. Two notes of one
@@ -30,6 +30,11 @@
 //! the note at each place is of the cell at that place, and with `known_at` what it knows (`specs/Cells.antt`).
 //!
 //! A note goes to another thread, and is not shared by two.
+//!
+//! # Order and ties
+//!
+//! The first verdict that reaches a cell stays. Of several `put`s at once one is accepted, and nothing here says which; a
+//! `read` beside them answers that verdict, or `None` where it comes before.
 //!
 //! # Errors
 //!

@@ -10,11 +10,11 @@ use Rattle.sched.specs.declared.arguments.RunArguments.{RunArguments}
 abbrev pub rows_of_run : List Text → List Row
 rows_of_run arguments = unwrap_or (option_map (λ p. p.1) (subcommand_of sched_app arguments)) []
 
--- a text writes a number of so many bits, in decimal digits
+-- a text writes, in decimal digits, a number that fits `bits` bits
 abbrev pub WritesNumber : ℕ → Text → Type 0
 WritesNumber bits text = IsNumeral 10 (without_leading_plus text) × (digits_value 10 (without_leading_plus text) < 2 ^ bits)
 
--- the number that the text of an argument writes; 0 where it has none, or none that is a number of so many bits
+-- the number that the text of an argument writes; 0 where it has none, or none that fits `bits` bits
 abbrev pub IsNumberOf : ℕ → Option Text → ℕ → Type 0
 IsNumberOf bits None n = n ≡ 0
 IsNumberOf bits (Some text) n =

@@ -25,7 +25,7 @@ pub input_of-append : (more before : List Event) → input_of (more ++ before) �
 input_of-append [] before = sym (append-nil (input_of before))
 input_of-append (e ∷ more) before = ap (λ l. l ++ event_line e) (input_of-append more before) ∙ append_assoc (input_of before) (input_of more) (event_line e)
 
--- lines are counted
+-- ---- lines are counted
 
 lines_are : (calls : List Planned) (past : List HistoryEntry) → length (lines_of calls past) ≡ length past
 lines_are calls [] = refl

@@ -1,5 +1,7 @@
 //! Runs a plan over event lines and writes its trace: from bytes in to bytes out.
 //!
+//! # Usage
+//!
 //! ```text
 //! let (answer, trace) = run_in_memory(rt.alloc(), plan, 1, 1_000, b"clock 5\nstart 0\n");
 //!
@@ -17,8 +19,12 @@
 //! A run goes in turns. A turn reads once, at most 64 KiB; then it answers each event line that
 //! has come whole, and writes the answers. So between two reads every event that was read has its
 //! answer written, and at most a part of one line is held. An event line has at most 63 bytes with
-//! its newline. The lines of the trace stand in the order of the events; the calls that a clock
-//! reaches stand before it, by their moments.
+//! its newline.
+//!
+//! # Order and ties
+//!
+//! The lines of the trace stand in the order of the events; the calls that a clock reaches stand
+//! before it, by their moments. Which task starts is as `executor_core` has it.
 //!
 //! # Errors
 //!
@@ -37,8 +43,9 @@
 //! # Memory and cost
 //!
 //! A run takes two buffers of 64 KiB, what the plan's core takes, and room for the answers to one
-//! piece. Once these have grown, an event takes no memory, and a run's memory does not grow with
-//! its input. Each byte of input is looked at a fixed number of times.
+//! piece; what the reading of the plan took is given back before the first event is read. Once
+//! these have grown, an event takes no memory, and a run's memory does not grow with its input. A
+//! byte of input is looked at once or twice, and again at each read while its line is not whole.
 #![tactic(auto)]
 
 mod answering;

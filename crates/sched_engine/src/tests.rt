@@ -74,7 +74,7 @@ fn answers(rt: &(impl AllocGlobal + Abort), row: &Row<'_>) {
     answers_with(rt, row, 1)
 }
 
-/// Checks a row by so many workers.
+/// Checks a row by this number of workers.
 fn answers_with(rt: &(impl AllocGlobal + Abort), row: &Row<'_>, workers: u8) {
     for most in [65_536usize, 1, 2, 7] {
         let (answer, trace) = ran(rt.alloc(), row.plan, workers, row.limit, row.events, most);
@@ -343,7 +343,7 @@ fn tells_each_fault_in_words(rt: HostRuntime) -> Result<(), Fail> {
     Ok(())
 }
 
-/// The lines of the README on embedding.
+/// A run over memory, as the page of this crate shows it.
 #[test]
 fn embeds(rt: HostRuntime) -> Result<(), Fail> {
     let plan = b"version = 1

@@ -16,13 +16,14 @@
 //! next_due(Timing::Fixed(delay), at, at + 3);        // Some(10,000,010): a delay after its end
 //! ```
 //!
-//! # Moments
+//! # Behaviour
 //!
 //! A moment is a number of nanoseconds since a beginning that the caller chooses. Nothing here reads a clock: each moment
 //! is handed in. A moment and a span are 0 to [`LONGEST`] nanoseconds, 2^62, some 146 years; so the sum of two is exact,
-//! and a run is due at most at 2^63. No value is rounded or cut.
+//! and a run is due at most at 2^63. No value is rounded or cut. [`Which`] names the policies of an executor; nothing sets
+//! one yet.
 //!
-//! # Order
+//! # Order and ties
 //!
 //! No type here has an order: moments are numbers, and two of them are compared as such. `==` is true of two values of a
 //! type if and only if they are one value ([`laws`]).

@@ -20,7 +20,7 @@
 //! let last = words.close(alloc, core)?;               // [9223372036854775810, 9223372036854775808]
 //! ```
 //!
-//! # Words
+//! # Behaviour
 //!
 //! A [`Word`] is a phase, the number of a run and the bit of a cancel. It is cancelled if and only if the bit is set and
 //! its task waits or is run; on another phase the bit means nothing, and a submission clears it. These are the writes:
@@ -36,7 +36,7 @@
 //! [`CoreSeat::look`] and [`HandleSeat::state`] are loads, and write nothing. The words that an exchange expects and
 //! writes have no bit: where it meets the bit it answers [`Moved::Cancelled`] and writes nothing.
 //!
-//! # Order
+//! # Order and ties
 //!
 //! Each call on a table makes one atomic access to the word of one task, sequentially consistent, and has no loop. No
 //! write lowers a word's [`rank`](Word::rank), none changes a cancelled word, and none leads out of an end. Of the cancels

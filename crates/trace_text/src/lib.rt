@@ -7,6 +7,17 @@
 //! - [`write_line`] and [`write_lines`] append to a `Vec<u8>`. A [`TextBuffer`] does the same in a buffer that keeps its bytes,
 //!   so that none is cleared before it is written: the faster of the two. [`put_line`] writes at a place of any slice.
 //!
+//! ```rust
+//! read_event(b"finish 0 ok 7\n");    // Some(Event::Finish(0, Ending::Value(7)))
+//! front_event(b"clock 5\nstart");    // Front::Event(Event::Clock(5), 8): the first 8 bytes
+//! front_event(b"start");             // Front::Part
+//! front_event(b"clock 05\n");        // Front::Refused
+//!
+//! let mut text = TextBuffer::new(alloc, 10 * LINE_ROOM)?;
+//! text.write_line(&Line { moment: 5, answer: Answer::Clock })?;
+//! text.as_slice();                   // b"5 clock\n"
+//! ```
+//!
 //! # Behaviour
 //!
 //! All text is ASCII. A line ends with one newline (byte 10), one space stands between two words, and none elsewhere. Numbers
@@ -33,8 +44,12 @@
 //! | `Finish` | `M finish W task K run N`, and one of `done V`, `failed C`, `again due D`, `dropped` |
 //! | `Error` | `M error`, and one of `backward`, `too far`, `no worker`, `busy`, `not running`, `no task` |
 //!
-//! One line spells one event, and no event's line is the front of another's ([`event_lines_are_one`]). A reader answers an event
-//! exactly when the bytes spell it.
+//! A reader answers an event exactly when the bytes spell it.
+//!
+//! # Order and ties
+//!
+//! Lines are written in the order in which they are given. One line spells one event, and no event's line is the front of
+//! another's ([`event_lines_are_one`]): so bytes are read in one way.
 //!
 //! # Errors
 //!

@@ -27,7 +27,7 @@ impl<A: Allocator> Model for TextBuffer<A> {
 }
 
 impl<A: Allocator> TextBuffer<A> {
-    /// No text, and room for so many bytes.
+    /// No text, and room for this number of bytes.
     pub fn new(alloc: A, room: usize) -> Result<TextBuffer<A>, TextError>
         ensures text { IfOk result (λ t. t.text ≡ []) }
         ensures room { IfOk result (λ t. t.room ≡ room) }

@@ -58,7 +58,7 @@ returns-clause-inserted g c =
     (ap entries_of c.self.view_is) c.self.invariant.placed c.requires.known c.push_reserved.ensures.items c.deref_mut.ensures.value c.deref_mut-2.ensures.value
     (omega (arith, c.len-place.ensures, q.heap.ok.0)) v.ok.0 q.places.ok.0 r.ensures.heap_length r.ensures.places_length r.ensures.dues
 
--- an entry that rises from the end of so many touches some of them, and at most so often
+-- an entry that rises from behind `count` others makes a touch where there is another one, and no more than a call may
 rise_within : (times count stop : ℕ) (b : Bool) → eqb stop 0 ≡ b → times + 2 * binary_digits (stop + 1) ≡ 2 * binary_digits (count + 1) + cond b 0 1
     → (min 1 count ≤ times) × (times ≤ most_touches count)
 rise_within times count stop true top h =
