@@ -1,12 +1,11 @@
 -- Cancels: what a cancel does to a task, and what stays true of a core.
-use Rattle.std.proofs.Common.{zero, suc, take, ◌≡◌, ◌≢◌, ℕ, ◌+◌, ◌<◌, ◌≤◌, ◌==◌, ◌&&◌, ◌||◌, Bool, true, false, cond, List, length, Option, Some, None, refl, sym, ap, ◌∙◌, arith, subst, add-one, [], ◌∷◌}
+use Rattle.std.proofs.Common.{zero, suc, ◌≡◌, ◌≢◌, ℕ, ◌+◌, ◌<◌, ◌≤◌, ◌==◌, ◌&&◌, ◌||◌, Bool, true, false, cond, List, length, map, Option, Some, None, refl, sym, ap, ◌∙◌, arith, subst, [], ◌∷◌}
 use Rattle.std.specs.Prelude.{slice_get, slice_index_or, not, max}
-use Rattle.std.proofs.lemmas.Option.{none-some, same_Some, slice_get_within}
+use Rattle.std.proofs.lemmas.Option.{none-some, same_Some}
 use Rattle.std.proofs.Math.ListN.{set}
-use Rattle.std.proofs.lemmas.Bool.{eqb-true, eq-eqb, lt-ltb, le-ltb, false_from_ne_true}
-use Rattle.std.proofs.lemmas.Bool.Decides.{nat_tests}
-use Rattle.std.proofs.lemmas.List.{length-set}
-use Rattle.sched_time.specs.declared.timing.Timing.{Timing}
+use Rattle.std.proofs.lemmas.Bool.{false≢true, eqb-true, lt-ltb, le-ltb, false_from_ne_true}
+use Rattle.std.proofs.lemmas.List.{length-set, map-set, set-set, get_or-set_same}
+use Rattle.std.proofs.Math.Seq.{map-set_same}
 use Rattle.queue_code.specs.declared.call.CodeCall.{CodeCall}
 use Rattle.queue_code.specs.declared.call.CodeCall.TheVariants as c
 use Rattle.executor_core.specs.declared.types.CancelEffect.{CancelEffect}
@@ -18,44 +17,39 @@ use Rattle.executor_core.specs.declared.task.Phase.{Phase}
 use Rattle.executor_core.specs.declared.task.Phase.TheVariants as ph
 use Rattle.executor_core.specs.declared.task.Task.{Task}
 use Rattle.queue_code.specs.Calls.{Planned, Terms, terms_of, task_count, count_after, is_submission, IsOrderlyCall, IsOrderlyFrom}
-use Rattle.executor_core.specs.View.{is_live, is_running}
+use Rattle.executor_core.specs.View.{is_live, is_running, is_waiting}
 use Rattle.executor_core.specs.Answers.{plain, effect_on}
+use Rattle.executor_core.specs.Histories.{is_yes}
 use Rattle.executor_core.specs.State.{State, vacant, view_of_state, seen_task, seen_phase, reply_of, state_after}
-use Rattle.executor_core.specs.Machine.{Machine, workers_of, state_of, Takes, IsWellFormedCore, IsSound, IsDue}
-use Rattle.executor_core.proofs.Agree.{next_sound, next_due_is}
+use Rattle.executor_core.specs.Tasks.{cancelled_task, is_waiting_phase, uncancelled_in}
+use Rattle.executor_core.specs.Machine.{Machine, workers_of, state_of, Takes, IsWellFormedCore, IsSound, queued, held}
+use Rattle.executor_core.proofs.Agree.{still_true}
 use Rattle.executor_core.proofs.Sound.{is_seen_waiting}
-use Rattle.executor_core.proofs.Tables.{at_set, runs_set, call_moment, count_grows}
-use Rattle.executor_core.proofs.WorkerSteps.{by_reply}
-use Rattle.executor_core.proofs.Submits.{state_at, reply_to, state_to}
-use Rattle.executor_core.proofs.RunSteps.{unqueued, timing_stays, fresh_stays, with_tasks}
+use Rattle.executor_core.proofs.Asking.{next_eqb, same_eqb, seen_waits}
+use Rattle.executor_core.proofs.Tables.{at_set, runs_set, vacant_stays, uncancelled_set, held_at}
+use Rattle.executor_core.proofs.Calling.{kept_so, called_state, call_reply, call_state, passed}
 
--- ---- what a cancel does, by the phase of a task
-
-next_eqb : (n : ℕ) → (1 + n == n) ≡ false
-next_eqb n = grind (arith, nat_tests)
-
-same_eqb : (n : ℕ) → (n == n) ≡ true
-same_eqb n = eq-eqb n n refl
+-- what a cancel does, by the phase of a task
 
 abbrev effect_of : Bool → Bool → CancelEffect
 effect_of accepted live = cond accepted (cond live f.Yes f.No) f.Absent
 
 -- what a cancel does to a vacant task
 pub of_vacant : (terms : Terms) (t : Task) → t.phase ≡ ph.Vacant → f.Absent ≡ effect_on (seen_task terms t)
-of_vacant terms t q = ap (λ p. effect_on (seen_phase terms p t.run t.due t.cancelled)) (sym q)
+of_vacant terms t q = ap (λ p. effect_on (seen_phase terms p t.run t.due t.cancelled t.kept)) (sym q)
 
 -- what a cancel does to a task that waits
 pub of_waiting : (terms : Terms) (t : Task) → t.phase ≡ ph.Waiting → t.cancelled ≡ false → f.Yes ≡ effect_on (seen_task terms t)
 of_waiting terms t q live =
-    let here : is_live (seen_phase terms ph.Waiting t.run t.due false) ≡ true = ap (λ b. b || (is_running (seen_phase terms ph.Waiting t.run t.due false) && true)) (is_seen_waiting terms t.run t.due) in
-    sym (ap (effect_of true) here) ∙ (λ i. effect_on (seen_phase terms (sym q i) t.run t.due (sym live i)))
+    let here : is_live (seen_phase terms ph.Waiting t.run t.due false t.kept) ≡ true = ap (λ b. b || (is_running (seen_phase terms ph.Waiting t.run t.due false t.kept) && true)) (is_seen_waiting terms t.run t.due t.kept) in
+    sym (ap (effect_of true) here) ∙ (λ i. effect_on (seen_phase terms (sym q i) t.run t.due (sym live i) t.kept))
 
 -- what a cancel does to a task whose run is under way
 pub of_running : (terms : Terms) (t : Task) → t.phase ≡ ph.Running → t.cancelled ≡ false → f.Yes ≡ effect_on (seen_task terms t)
 of_running terms t q live =
     let apart = next_eqb t.run in
-    let here : is_live (seen_phase terms ph.Running t.run t.due false) ≡ true = ap (λ b. (not (not b) && true) || (not b && true)) apart in
-    sym (ap (effect_of true) here) ∙ (λ i. effect_on (seen_phase terms (sym q i) t.run t.due (sym live i)))
+    let here : is_live (seen_phase terms ph.Running t.run t.due false t.kept) ≡ true = ap (λ b. (not (not b) && true) || (not b && true)) apart in
+    sym (ap (effect_of true) here) ∙ (λ i. effect_on (seen_phase terms (sym q i) t.run t.due (sym live i) t.kept))
 
 -- a cancelled task is not live
 not_live : (accepted running : Bool) → ((accepted && (not running && false)) || (running && false)) ≡ false
@@ -64,20 +58,20 @@ not_live true false = refl
 not_live false true = refl
 not_live false false = refl
 
-abbrev running_of : Terms → Phase → ℕ → ℕ → Bool
-running_of terms p run due = is_running (seen_phase terms p run due true)
+abbrev running_of : Terms → Phase → ℕ → ℕ → Bool → Bool
+running_of terms p run due kept = is_running (seen_phase terms p run due true kept)
 
 -- what a cancel does to a cancelled task
 pub of_cancelled : (terms : Terms) (t : Task) → t.phase ≢ ph.Vacant → t.cancelled ≡ true → f.No ≡ effect_on (seen_task terms t)
-of_cancelled terms t used is = sym (by t.phase refl) ∙ ap (λ b. effect_on (seen_phase terms t.phase t.run t.due b)) (sym is)
+of_cancelled terms t used is = sym (by t.phase refl) ∙ ap (λ b. effect_on (seen_phase terms t.phase t.run t.due b t.kept)) (sym is)
   where
-    by : (p : Phase) → t.phase ≡ p → effect_on (seen_phase terms p t.run t.due true) ≡ f.No
+    by : (p : Phase) → t.phase ≡ p → effect_on (seen_phase terms p t.run t.due true t.kept) ≡ f.No
     by ph.Vacant q = absurd (used q)
-    by ph.Waiting q = ap (effect_of true) (not_live true (running_of terms ph.Waiting t.run t.due))
-    by ph.Running q = ap (effect_of true) (not_live true (running_of terms ph.Running t.run t.due))
-    by ph.Done q = ap (effect_of true) (not_live true (running_of terms ph.Done t.run t.due))
-    by ph.Failed q = ap (effect_of true) (not_live true (running_of terms ph.Failed t.run t.due))
-    by ph.Dropped q = ap (effect_of true) (not_live true (running_of terms ph.Dropped t.run t.due))
+    by ph.Waiting q = ap (effect_of true) (not_live true (running_of terms ph.Waiting t.run t.due t.kept))
+    by ph.Running q = ap (effect_of true) (not_live true (running_of terms ph.Running t.run t.due t.kept))
+    by ph.Done q = ap (effect_of true) (not_live true (running_of terms ph.Done t.run t.due t.kept))
+    by ph.Failed q = ap (effect_of true) (not_live true (running_of terms ph.Failed t.run t.due t.kept))
+    by ph.Dropped q = ap (effect_of true) (not_live true (running_of terms ph.Dropped t.run t.due t.kept))
 
 -- a task that is done, or has failed, is not live
 ended_eqb : (n : ℕ) (rest : Bool) → ((not (not (n == n)) && false) || (not (n == n) && rest)) ≡ false
@@ -85,17 +79,17 @@ ended_eqb n rest = ap (λ b. (not (not b) && false) || (not b && rest)) (same_eq
 
 -- what a cancel does to a task that is done
 pub of_done : (terms : Terms) (t : Task) → t.phase ≡ ph.Done → f.No ≡ effect_on (seen_task terms t)
-of_done terms t q = sym (by t.cancelled) ∙ ap (λ p. effect_on (seen_phase terms p t.run t.due t.cancelled)) (sym q)
+of_done terms t q = sym (by t.cancelled) ∙ ap (λ p. effect_on (seen_phase terms p t.run t.due t.cancelled t.kept)) (sym q)
   where
-    by : (b : Bool) → effect_on (seen_phase terms ph.Done t.run t.due b) ≡ f.No
+    by : (b : Bool) → effect_on (seen_phase terms ph.Done t.run t.due b t.kept) ≡ f.No
     by true = ap (effect_of true) (ended_eqb (1 + t.run) false)
     by false = ap (effect_of true) (ended_eqb (1 + t.run) true)
 
 -- what a cancel does to a task that has failed
 pub of_failed : (terms : Terms) (t : Task) → t.phase ≡ ph.Failed → f.No ≡ effect_on (seen_task terms t)
-of_failed terms t q = sym (by t.cancelled) ∙ ap (λ p. effect_on (seen_phase terms p t.run t.due t.cancelled)) (sym q)
+of_failed terms t q = sym (by t.cancelled) ∙ ap (λ p. effect_on (seen_phase terms p t.run t.due t.cancelled t.kept)) (sym q)
   where
-    by : (b : Bool) → effect_on (seen_phase terms ph.Failed t.run t.due b) ≡ f.No
+    by : (b : Bool) → effect_on (seen_phase terms ph.Failed t.run t.due b t.kept) ≡ f.No
     by true = ap (effect_of true) (ended_eqb (1 + t.run) false)
     by false = ap (effect_of true) (ended_eqb (1 + t.run) true)
 
@@ -110,41 +104,66 @@ live_is_uncancelled terms t live =
 
 -- ---- the tasks after a cancel
 
--- a task once it is cancelled
-abbrev pub cancelled : Task → Task
-cancelled t = record t { cancelled = true }
+-- a core with other tasks
+abbrev pub with_tasks : Machine → List Task → Machine
+with_tasks m tasks = record m { tasks = tasks }
 
 -- the tables after a cancel with an effect, or with none
-abbrev pub cancelled_tasks : List Task → ℕ → CancelEffect → List Task
-cancelled_tasks tasks k f.Yes = set tasks k (cancelled (slice_index_or tasks k vacant))
-cancelled_tasks tasks k f.No = tasks
-cancelled_tasks tasks k f.Absent = tasks
+abbrev pub cancelled_tasks : Bool → List Task → ℕ → CancelEffect → List Task
+cancelled_tasks removes tasks k f.Yes = set tasks k (cancelled_task removes (slice_index_or tasks k vacant))
+cancelled_tasks removes tasks k f.No = tasks
+cancelled_tasks removes tasks k f.Absent = tasks
 
-abbrev is_effective : CancelEffect → Bool
-is_effective f.Yes = true
-is_effective f.No = false
-is_effective f.Absent = false
+-- a task after a cancel, of it or not, where it is seen to wait or not
+abbrev after_cancel : Bool → Bool → Bool → CancelEffect → Task → Task
+after_cancel removes hit waits effect t = record t {
+  cancelled = ((hit && is_yes effect) || false) || t.cancelled;
+  kept = (t.kept && true) || ((hit && is_yes effect) && (waits && not removes));
+}
 
-no_effect : (b : Bool) (t : Task) → t ≡ record t { cancelled = (b && false) || t.cancelled }
-no_effect true t = refl
-no_effect false t = refl
+and_true : (b : Bool) → b ≡ (b && true)
+and_true true = refl
+and_true false = refl
 
-cancelled_at : (tasks : List Task) (k j : ℕ) (effect : CancelEffect) → k < length tasks →
-    slice_index_or (cancelled_tasks tasks k effect) j vacant ≡ record (slice_index_or tasks j vacant) { cancelled = ((k == j) && is_effective effect) || (slice_index_or tasks j vacant).cancelled }
-cancelled_at tasks k j f.Yes low = at_set tasks k j (cancelled (slice_index_or tasks k vacant)) vacant low ∙ moved (k == j) refl
+-- a cancel without an effect leaves each task
+no_effect : (removes hit waits : Bool) (t : Task) → t ≡ after_cancel removes hit waits f.No t
+no_effect removes true waits t = λ i. record t { kept = kept_so t.kept i }
+no_effect removes false waits t = λ i. record t { kept = kept_so t.kept i }
+
+-- each task after a cancel
+cancelled_at : (m : Machine) (k j : ℕ) (effect : CancelEffect) → IsSound (state_of m) → k < length m.tasks → effect ≡ effect_on (seen_task (terms_of m.calls k) (slice_index_or m.tasks k vacant)) →
+    slice_index_or (cancelled_tasks m.policies.removes m.tasks k effect) j vacant
+    ≡ after_cancel m.policies.removes (k == j) (is_waiting (seen_task (terms_of m.calls j) (slice_index_or m.tasks j vacant))) effect (slice_index_or m.tasks j vacant)
+cancelled_at m k j f.Yes sound low how = at_set m.tasks k j (cancelled_task m.policies.removes (slice_index_or m.tasks k vacant)) vacant low ∙ moved (k == j) refl
   where
-    moved : (b : Bool) → (k == j) ≡ b → cond b (cancelled (slice_index_or tasks k vacant)) (slice_index_or tasks j vacant)
-        ≡ record (slice_index_or tasks j vacant) { cancelled = (b && true) || (slice_index_or tasks j vacant).cancelled }
-    moved true same = ap (λ i. cancelled (slice_index_or tasks i vacant)) (eqb-true k j same)
-    moved false apart = refl
-cancelled_at tasks k j f.No low = no_effect (k == j) (slice_index_or tasks j vacant)
-cancelled_at tasks k j f.Absent low = no_effect (k == j) (slice_index_or tasks j vacant)
+    waits : slice_index_or m.tasks k vacant ≡ slice_index_or m.tasks j vacant →
+        is_waiting_phase (slice_index_or m.tasks j vacant).phase ≡ is_waiting (seen_task (terms_of m.calls j) (slice_index_or m.tasks j vacant))
+    waits same =
+        let live : (slice_index_or m.tasks j vacant).cancelled ≡ false = ap (λ (t : Task). t.cancelled) (sym same) ∙ live_is_uncancelled (terms_of m.calls k) (slice_index_or m.tasks k vacant) how in
+        and_true (is_waiting_phase (slice_index_or m.tasks j vacant).phase) ∙ (ap (λ b. is_waiting_phase (slice_index_or m.tasks j vacant).phase && not b) (sym live)
+        ∙ sym (seen_waits (terms_of m.calls j) (slice_index_or m.tasks j vacant) (sound.over j)))
 
-outside_state : (calls : List Planned) (made moment k : ℕ) (tasks : List Task) (work : List (Option ℕ)) (effect : CancelEffect) → k < length tasks →
-    state_at made moment (cancelled_tasks tasks k effect) work ≡ state_after calls (state_at made moment tasks work) (h.Cancel k) (plain (a.Outside k effect))
-outside_state calls made moment k tasks work f.Yes low = λ i. record { made = made; moment = moment; tasks = λ j. cancelled_at tasks k j f.Yes low i; workers = λ w. slice_index_or work w None }
-outside_state calls made moment k tasks work f.No low = λ i. record { made = made; moment = moment; tasks = λ j. cancelled_at tasks k j f.No low i; workers = λ w. slice_index_or work w None }
-outside_state calls made moment k tasks work f.Absent low = λ i. record { made = made; moment = moment; tasks = λ j. cancelled_at tasks k j f.Absent low i; workers = λ w. slice_index_or work w None }
+    moved : (b : Bool) → (k == j) ≡ b → cond b (cancelled_task m.policies.removes (slice_index_or m.tasks k vacant)) (slice_index_or m.tasks j vacant)
+        ≡ after_cancel m.policies.removes b (is_waiting (seen_task (terms_of m.calls j) (slice_index_or m.tasks j vacant))) f.Yes (slice_index_or m.tasks j vacant)
+    moved true same =
+        let here : slice_index_or m.tasks k vacant ≡ slice_index_or m.tasks j vacant = ap (λ i. slice_index_or m.tasks i vacant) (eqb-true k j same) in
+        ap (cancelled_task m.policies.removes) here
+        ∙ (λ i. record (slice_index_or m.tasks j vacant) { cancelled = true; kept = and_true (slice_index_or m.tasks j vacant).kept i || (waits here i && not m.policies.removes) })
+    moved false apart = λ i. record (slice_index_or m.tasks j vacant) { kept = kept_so (slice_index_or m.tasks j vacant).kept i }
+cancelled_at m k j f.No sound low how = no_effect m.policies.removes (k == j) (is_waiting (seen_task (terms_of m.calls j) (slice_index_or m.tasks j vacant))) (slice_index_or m.tasks j vacant)
+cancelled_at m k j f.Absent sound low how = no_effect m.policies.removes (k == j) (is_waiting (seen_task (terms_of m.calls j) (slice_index_or m.tasks j vacant))) (slice_index_or m.tasks j vacant)
+
+-- a cancel makes no more tasks that are not cancelled
+pub cancelled_fewer : (removes : Bool) (tasks : List Task) (k : ℕ) (effect : CancelEffect) → k < length tasks → uncancelled_in (cancelled_tasks removes tasks k effect) ≤ uncancelled_in tasks
+cancelled_fewer removes tasks k f.Yes low = uncancelled_set tasks k (cancelled_task removes (slice_index_or tasks k vacant)) low (λ q. absurd (false≢true (sym q)))
+cancelled_fewer removes tasks k f.No low = omega arith
+cancelled_fewer removes tasks k f.Absent low = omega arith
+
+-- a cancel from outside
+
+outside_state : (m : Machine) (k : ℕ) (effect : CancelEffect) → IsSound (state_of m) → k < length m.tasks → effect ≡ effect_on (seen_task (terms_of m.calls k) (slice_index_or m.tasks k vacant)) →
+    state_of (with_tasks m (cancelled_tasks m.policies.removes m.tasks k effect)) ≡ state_after m.calls (state_of m) (h.Cancel k) (plain (a.Outside k effect))
+outside_state m k effect sound low how = λ i. record (state_of m) { tasks = λ j. cancelled_at m k j effect sound low how i }
 
 outside_reply : (calls : List Planned) (workers k : ℕ) (s : State) → k < task_count calls → reply_of calls workers s (h.Cancel k) ≡ plain (a.Outside k (effect_on ((view_of_state calls s).fate k)))
 outside_reply calls workers k s l = ap (λ b. plain (cond b (a.Outside k (effect_on ((view_of_state calls s).fate k))) (a.Error x.NoTask))) (lt-ltb k (task_count calls) l)
@@ -154,23 +173,29 @@ pub no_task_reply : (calls : List Planned) (workers k : ℕ) (s : State) → tas
 no_task_reply calls workers k s l = ap (λ b. plain (cond b (a.Outside k (effect_on ((view_of_state calls s).fate k))) (a.Error x.NoTask))) (le-ltb k (task_count calls) l)
 
 -- the step of a cancel from outside
-pub outside_takes : (m : Machine) (k : ℕ) (effect : CancelEffect) → k < length m.tasks → length m.tasks ≡ task_count m.calls → effect ≡ effect_on (seen_task (terms_of m.calls k) (slice_index_or m.tasks k vacant)) →
-    Takes m (with_tasks m (cancelled_tasks m.tasks k effect)) (h.Cancel k) (a.Outside k effect)
-outside_takes m k effect low count is =
-    let step = by_reply m.calls (workers_of m) (state_of m) (state_of (with_tasks m (cancelled_tasks m.tasks k effect))) (h.Cancel k) (a.Outside k effect)
-    (outside_reply m.calls (workers_of m) k (state_of m) (omega (arith, low, count)) ∙ ap (λ x. plain (a.Outside k x)) (sym is))
-    (outside_state m.calls m.made m.moment k m.tasks m.work effect low)
-    in
-    record { calls = refl; limit = refl; taken = refl; workers = refl; state = step.0; said = step.1 }
+pub outside_takes : (m : Machine) (k : ℕ) (effect : CancelEffect) → IsSound (state_of m) → k < length m.tasks → length m.tasks ≡ task_count m.calls →
+    effect ≡ effect_on (seen_task (terms_of m.calls k) (slice_index_or m.tasks k vacant)) → Takes m (with_tasks m (cancelled_tasks m.policies.removes m.tasks k effect)) (h.Cancel k) (a.Outside k effect)
+outside_takes m k effect sound low count how =
+    let said = outside_reply m.calls (workers_of m) k (state_of m) (omega (arith, low, count)) ∙ ap (λ x. plain (a.Outside k x)) (sym how) in
+    record {
+      calls = refl;
+      limit = refl;
+      taken = refl;
+      workers = refl;
+      state = outside_state m k effect sound low how ∙ ap (state_after m.calls (state_of m) (h.Cancel k)) (sym said);
+      said = said;
+    }
 
 -- what stays true after a cancel with an effect
-pub cancel_kept : (m : Machine) (entries left : List (Option ℕ)) (timings : List Timing) (k : ℕ) → IsWellFormedCore m entries timings → k < length m.tasks →
+pub cancel_kept : (m : Machine) (entries left keeps held_so : List (Option ℕ)) (searched : Bool) (k : ℕ) → IsWellFormedCore m entries keeps searched → k < length m.tasks →
     f.Yes ≡ effect_on (seen_task (terms_of m.calls k) (slice_index_or m.tasks k vacant)) → left ≡ set entries k None →
-    IsWellFormedCore (with_tasks m (set m.tasks k (cancelled (slice_index_or m.tasks k vacant)))) left timings
-cancel_kept m entries left timings k kept low live gone =
+    held_so ≡ map held (set m.tasks k (cancelled_task m.policies.removes (slice_index_or m.tasks k vacant))) →
+    IsWellFormedCore (with_tasks m (set m.tasks k (cancelled_task m.policies.removes (slice_index_or m.tasks k vacant)))) left held_so searched
+cancel_kept m entries left keeps held_so searched k kept low live gone put =
     let t = slice_index_or m.tasks k vacant in
-    let takes = outside_takes m k f.Yes low kept.count live in
-    let used = live_is_used (terms_of m.calls k) t live in
+    let over = cancelled_task m.policies.removes t in
+    let takes = outside_takes m k f.Yes kept.sound low kept.count live in
+    let still = still_true m (with_tasks m (set m.tasks k over)) entries keeps searched (h.Cancel k) kept refl takes.state in
     record {
       orderly = kept.orderly;
       made = kept.made;
@@ -178,81 +203,108 @@ cancel_kept m entries left timings k kept low live gone =
       few = kept.few;
       taken = kept.taken;
       moment = kept.moment;
-      count = length-set m.tasks k (cancelled t) ∙ kept.count;
-      queue = gone ∙ unqueued entries m.tasks k (cancelled t) kept.queue refl;
-      timed = kept.timed;
-      timing = timing_stays m entries timings k (cancelled t) kept low used;
-      fresh = fresh_stays m entries timings k (cancelled t) kept low used;
-      sound = subst IsSound (sym takes.state) (next_sound m.calls (workers_of m) (state_of m) (h.Cancel k) kept.sound);
-      due = subst (λ s. IsDue m.calls (view_of_state m.calls s)) (sym takes.state) (next_due_is m.calls (workers_of m) (state_of m) (h.Cancel k) kept.sound kept.due);
-      runs = runs_set m.taken m.tasks k (cancelled t) low kept.runs (kept.runs.all k) (kept.runs.begun k);
+      count = length-set m.tasks k over ∙ kept.count;
+      queue = gone ∙ (ap (λ l. set l k None) kept.queue ∙ sym (map-set queued m.tasks k over));
+      keeping = put;
+      timing = still.timing;
+      delayed = still.delayed;
+      fresh = vacant_stays m.tasks k _ over low (live_is_used (terms_of m.calls k) t live) kept.fresh;
+      sound = still.sound;
+      due = still.due;
+      runs = runs_set m.taken m.tasks k over low kept.runs (kept.runs.all k) (kept.runs.begun k);
     }
 
--- the same, with the tasks as a call leaves them
-pub cancelled_in : (m : Machine) (entries left : List (Option ℕ)) (timings : List Timing) (k : ℕ) (tasks : List Task) → IsWellFormedCore m entries timings → k < length m.tasks →
-    f.Yes ≡ effect_on (seen_task (terms_of m.calls k) (slice_index_or m.tasks k vacant)) → left ≡ set entries k None → tasks ≡ set m.tasks k (cancelled (slice_index_or m.tasks k vacant)) →
-    IsWellFormedCore (with_tasks m tasks) left timings
-cancelled_in m entries left timings k tasks kept low live gone written = subst (λ l. IsWellFormedCore (with_tasks m l) left timings) (sym written) (cancel_kept m entries left timings k kept low live gone)
+-- what the code writes is the cancelled task
 
--- a call of the plan was made that submits nothing
-abbrev pub called_at : Machine → ℕ → Machine
-called_at m moment = record m { made = m.made + 1; moment = moment }
+or_none : (b : Bool) → b ≡ (b || false)
+or_none true = refl
+or_none false = refl
 
--- a core stays well formed where its next call is a cancel that was carried out
-pub call_kept : (m : Machine) (entries : List (Option ℕ)) (timings : List Timing) (moment at task : ℕ) → IsWellFormedCore m entries timings → slice_get m.calls m.made ≡ Some (at, c.Cancel task) → moment ≡ max m.moment at →
-    IsWellFormedCore (called_at m moment) entries timings
-call_kept m entries timings moment at task kept is greatest =
-    let near = call_moment m.calls 0 0 m.made at (c.Cancel task) kept.orderly.1 is in
-    record {
-      orderly = kept.orderly;
-      made = omega (arith, slice_get_within m.calls m.made (at, c.Cancel task) is);
-      some = kept.some;
-      few = kept.few;
-      taken = kept.taken;
-      moment = grind (arith, kept.moment, near, greatest);
-      count = kept.count;
-      queue = kept.queue;
-      timed = kept.timed;
-      timing = kept.timing;
-      fresh = λ k above.
-          let more : task_count (take (m.made + 1) m.calls) ≡ task_count (take (suc m.made) m.calls) = ap (λ n. task_count (take n m.calls)) (add-one m.made) in
-          kept.fresh k (omega (arith, above, more, count_grows m.calls m.made));
-      sound = record { at_work = kept.sound.at_work; apart = kept.sound.apart; reached = λ k q. grind (arith, kept.sound.reached k q, greatest); over = kept.sound.over };
-      due = kept.due;
-      runs = kept.runs;
-    }
+or_one : (b : Bool) → true ≡ (b || true)
+or_one true = refl
+or_one false = refl
 
--- the step of a call that cancels
-plan_state : (calls : List Planned) (workers made moment at k : ℕ) (tasks : List Task) (work : List (Option ℕ)) (effect : CancelEffect) → slice_get calls made ≡ Some (at, c.Cancel k) → k < length tasks →
-    effect ≡ effect_on (seen_task (terms_of calls k) (slice_index_or tasks k vacant)) →
-    state_at (made + 1) (max moment at) (cancelled_tasks tasks k effect) work ≡ state_to calls (state_at made moment tasks work) (slice_get calls made)
-plan_state calls workers made moment at k tasks work effect is low how =
-    let s = state_at made moment tasks work in
-    let one : made + 1 ≡ 1 + made = omega arith in
-    let after : (x : CancelEffect) → state_at (1 + made) (max moment at) (cancelled_tasks tasks k x) work ≡ record (state_after calls s h.Call (plain (a.Cancel k x))) { moment = max moment at } =
-    elim [
-      | f.Yes ↦ λ i. record { made = 1 + made; moment = max moment at; tasks = λ j. cancelled_at tasks k j f.Yes low i; workers = λ w. slice_index_or work w None }
-      | f.No ↦ λ i. record { made = 1 + made; moment = max moment at; tasks = λ j. cancelled_at tasks k j f.No low i; workers = λ w. slice_index_or work w None }
-      | f.Absent ↦ λ i. record { made = 1 + made; moment = max moment at; tasks = λ j. cancelled_at tasks k j f.Absent low i; workers = λ w. slice_index_or work w None }
-    ]
-    in
-    ap (λ n. state_at n (max moment at) (cancelled_tasks tasks k effect) work) one
-    ∙ (after effect
-    ∙ (ap (λ x. record (state_after calls s h.Call (plain (a.Cancel k x))) { moment = max moment at }) how
-    ∙ ap (state_to calls s) (sym is)))
+-- a task that does not wait, or leaves the queue once it is cancelled
+pub leaving_is : (removes : Bool) (t : Task) → (t.phase ≡ ph.Waiting → removes ≡ true) → record t { cancelled = true } ≡ cancelled_task removes t
+leaving_is removes t leaves = λ i. record t { cancelled = true; kept = by t.phase refl i }
+  where
+    by : (p : Phase) → t.phase ≡ p → t.kept ≡ (t.kept || (is_waiting_phase p && not removes))
+    by ph.Vacant q = or_none t.kept
+    by ph.Waiting q = or_none t.kept ∙ ap (λ b. t.kept || not b) (sym (leaves q))
+    by ph.Running q = or_none t.kept
+    by ph.Done q = or_none t.kept
+    by ph.Failed q = or_none t.kept
+    by ph.Dropped q = or_none t.kept
+
+-- a task that waits and is kept
+staying_is : (removes : Bool) (t : Task) → t.phase ≡ ph.Waiting → removes ≡ false → record t { cancelled = true; kept = true } ≡ cancelled_task removes t
+staying_is removes t waits stays = λ i. record t { cancelled = true; kept = (or_one t.kept ∙ (λ j. t.kept || (is_waiting_phase (sym waits j) && not (sym stays j)))) i }
+
+-- the table where a task is cancelled, and then kept
+pub staying_in : (removes : Bool) (tasks one two : List Task) (k : ℕ) → k < length tasks → (slice_index_or tasks k vacant).phase ≡ ph.Waiting → removes ≡ false →
+    one ≡ set tasks k (record (slice_index_or tasks k vacant) { cancelled = true }) → two ≡ set one k (record (slice_index_or one k vacant) { kept = true }) → two ≡ set tasks k (cancelled_task removes (slice_index_or tasks k vacant))
+staying_in removes tasks one two k low waits stays first then_so =
+    let t = slice_index_or tasks k vacant in
+    let gone : Task = record t { cancelled = true } in
+    then_so ∙ (ap (λ (l : List Task). set l k (record (slice_index_or l k vacant) { kept = true })) first
+    ∙ (ap (λ (x : Task). set (set tasks k gone) k (record x { kept = true })) (get_or-set_same tasks k gone vacant low)
+    ∙ (set-set tasks k gone (record gone { kept = true }) ∙ ap (set tasks k) (staying_is removes t waits stays))))
+
+-- a core whose table the code has written at a cancel, where the task is not kept, stays well formed
+pub leaving_kept : (m : Machine) (entries left keeps : List (Option ℕ)) (searched : Bool) (k : ℕ) (tasks : List Task) → IsWellFormedCore m entries keeps searched → k < length m.tasks →
+    f.Yes ≡ effect_on (seen_task (terms_of m.calls k) (slice_index_or m.tasks k vacant)) → left ≡ set entries k None → ((slice_index_or m.tasks k vacant).phase ≡ ph.Waiting → m.policies.removes ≡ true) →
+    tasks ≡ set m.tasks k (record (slice_index_or m.tasks k vacant) { cancelled = true }) → IsWellFormedCore (with_tasks m tasks) left keeps searched
+leaving_kept m entries left keeps searched k tasks kept low live gone leaves written =
+    let t = slice_index_or m.tasks k vacant in
+    let same = leaving_is m.policies.removes t leaves in
+    let stand : keeps ≡ map held (set m.tasks k (cancelled_task m.policies.removes t)) = kept.keeping ∙ sym (map-set_same held m.tasks k (cancelled_task m.policies.removes t) vacant (ap held (sym same))) in
+    subst (λ l. IsWellFormedCore (with_tasks m l) left keeps searched) (sym (written ∙ ap (set m.tasks k) same)) (cancel_kept m entries left keeps keeps searched k kept low live gone stand)
+
+-- and where the task is kept
+pub staying_kept : (m : Machine) (entries left keeps held_so : List (Option ℕ)) (searched : Bool) (k due : ℕ) (one tasks : List Task) → IsWellFormedCore m entries keeps searched → k < length m.tasks →
+    f.Yes ≡ effect_on (seen_task (terms_of m.calls k) (slice_index_or m.tasks k vacant)) → left ≡ set entries k None → (slice_index_or m.tasks k vacant).phase ≡ ph.Waiting → m.policies.removes ≡ false →
+    due ≡ (slice_index_or m.tasks k vacant).due → held_so ≡ set keeps k (Some due) →
+    one ≡ set m.tasks k (record (slice_index_or m.tasks k vacant) { cancelled = true }) → tasks ≡ set one k (record (slice_index_or one k vacant) { kept = true }) → IsWellFormedCore (with_tasks m tasks) left held_so searched
+staying_kept m entries left keeps held_so searched k due one tasks kept low live gone waits stays at put first then_so =
+    let t = slice_index_or m.tasks k vacant in
+    let over = cancelled_task m.policies.removes t in
+    let stand : held_so ≡ map held (set m.tasks k over) = put ∙ ((λ i. set (kept.keeping i) k (Some (at i))) ∙ (ap (λ x. set (map held m.tasks) k (held x)) (staying_is m.policies.removes t waits stays) ∙ sym (map-set held m.tasks k over))) in
+    subst (λ l. IsWellFormedCore (with_tasks m l) left held_so searched) (sym (staying_in m.policies.removes m.tasks one tasks k low waits stays first then_so)) (cancel_kept m entries left keeps held_so searched k kept low live gone stand)
+
+-- a task that is not cancelled has no entry among the kept ones
+pub unheld : (m : Machine) (entries keeps : List (Option ℕ)) (searched : Bool) (k : ℕ) → IsWellFormedCore m entries keeps searched → (slice_index_or m.tasks k vacant).cancelled ≡ false → slice_index_or keeps k None ≡ None
+unheld m entries keeps searched k kept live =
+    let t = slice_index_or m.tasks k vacant in
+    let loose : t.kept ≡ false = false_from_ne_true t.kept (λ q. absurd (false≢true (sym live ∙ (kept.sound.kept k q).1))) in
+    ap (λ l. slice_index_or l k None) kept.keeping ∙ (held_at m.tasks k ∙ ap (λ b. cond b (Some t.due) None) loose)
+
+-- the core after a cancel with an effect, where the core is given another way
+pub yes_is : (m old : Machine) (k : ℕ) (tasks : List Task) → m ≡ old → tasks ≡ set m.tasks k (cancelled_task m.policies.removes (slice_index_or m.tasks k vacant)) →
+    with_tasks m tasks ≡ with_tasks old (set old.tasks k (cancelled_task old.policies.removes (slice_index_or old.tasks k vacant)))
+yes_is m old k tasks same written = ap (with_tasks m) written ∙ ap (λ (x : Machine). with_tasks x (set x.tasks k (cancelled_task x.policies.removes (slice_index_or x.tasks k vacant)))) same
+
+-- a cancel of the plan
+
+plan_state : (m : Machine) (at k : ℕ) (effect : CancelEffect) → IsSound (state_of m) → k < length m.tasks → effect ≡ effect_on (seen_task (terms_of m.calls k) (slice_index_or m.tasks k vacant)) →
+    state_of (passed (with_tasks m (cancelled_tasks m.policies.removes m.tasks k effect)) (max m.moment at)) ≡ called_state m.calls (state_of m) at (a.Cancel k effect)
+plan_state m at k effect sound low how =
+    let one : m.made + 1 ≡ 1 + m.made = omega arith in
+    λ i. record (state_of m) { made = one i; moment = max m.moment at; tasks = λ j. cancelled_at m k j effect sound low how i }
 
 -- a core takes the step of its next call, which is a cancel
-pub plan_takes : (m : Machine) (moment at k : ℕ) (effect : CancelEffect) → slice_get m.calls m.made ≡ Some (at, c.Cancel k) → moment ≡ max m.moment at → k < length m.tasks →
+pub plan_takes : (m : Machine) (at k : ℕ) (effect : CancelEffect) → IsSound (state_of m) → slice_get m.calls m.made ≡ Some (at, c.Cancel k) → k < length m.tasks →
     effect ≡ effect_on (seen_task (terms_of m.calls k) (slice_index_or m.tasks k vacant)) →
-    Takes m (called_at (with_tasks m (cancelled_tasks m.tasks k effect)) moment) h.Call (a.Cancel k effect)
-plan_takes m moment at k effect is greatest low how = record {
-  calls = refl;
-  limit = refl;
-  taken = refl;
-  workers = refl;
-  state = ap (λ n. state_at (m.made + 1) n (cancelled_tasks m.tasks k effect) m.work) greatest ∙ plan_state m.calls (workers_of m) m.made m.moment at k m.tasks m.work effect is low how;
-  said = ap (a.Cancel k) how ∙ sym (ap (λ o. (reply_to m.calls (state_of m) o).answer) is);
-}
+    Takes m (passed (with_tasks m (cancelled_tasks m.policies.removes m.tasks k effect)) (max m.moment at)) h.Call (a.Cancel k effect)
+plan_takes m at k effect sound is low how =
+    let said = ap (λ x. plain (a.Cancel k x)) (sym how) in
+    record {
+      calls = refl;
+      limit = refl;
+      taken = refl;
+      workers = refl;
+      state = call_state m.calls (workers_of m) at (state_of m) _ (c.Cancel k) (a.Cancel k effect) is said (plan_state m at k effect sound low how);
+      said = call_reply m.calls (workers_of m) at (state_of m) (c.Cancel k) (a.Cancel k effect) is said;
+    }
 
 -- a cancel of the plan names a task that some call before it submits
 pub names_a_task : (calls : List Planned) (count moment n at k : ℕ) → IsOrderlyFrom count moment calls → slice_get calls n ≡ Some (at, c.Cancel k) → k < count + task_count calls
@@ -266,23 +318,27 @@ names_a_task (p ∷ calls) count moment (suc n) at k o is = counted p.1 (names_a
     counted (c.Submit task timing delay) l = omega (arith, l)
     counted (c.Illegal task) l = omega (arith, l)
     counted (c.Cancel task) l = l
+    counted (c.SetPolicy which value) l = l
+    counted c.Shutdown l = l
+    counted c.Ask l = l
 
--- the tasks after a cancel, by what it did
-pub is_cancelled_so : (m new : Machine) (k : ℕ) (effect : CancelEffect) → (effect ≡ f.Yes → new ≡ with_tasks m (set m.tasks k (cancelled (slice_index_or m.tasks k vacant)))) → (effect ≢ f.Yes → new ≡ m) →
-    new ≡ with_tasks m (cancelled_tasks m.tasks k effect)
+-- the core after a cancel, by what it did
+pub is_cancelled_so : (m new : Machine) (k : ℕ) (effect : CancelEffect) → (effect ≡ f.Yes → new ≡ with_tasks m (set m.tasks k (cancelled_task m.policies.removes (slice_index_or m.tasks k vacant)))) → (effect ≢ f.Yes → new ≡ m) →
+    new ≡ with_tasks m (cancelled_tasks m.policies.removes m.tasks k effect)
 is_cancelled_so m new k f.Yes live other = live refl
 is_cancelled_so m new k f.No live other = other (λ q. cc)
 is_cancelled_so m new k f.Absent live other = other (λ q. cc)
 
 -- the step of a call that cancels, by what the cancel left
-pub plan_steps : (m old new : Machine) (moment at k : ℕ) (effect : CancelEffect) → slice_get m.calls m.made ≡ Some (at, c.Cancel k) → moment ≡ max m.moment at → k < length m.tasks →
-    effect ≡ effect_on (seen_task (terms_of m.calls k) (slice_index_or m.tasks k vacant)) → new ≡ with_tasks m (cancelled_tasks m.tasks k effect) → m ≡ old →
-    Takes old (called_at new moment) h.Call (a.Cancel k effect)
-plan_steps m old new moment at k effect is greatest low how left same =
-    subst (λ x. Takes x (called_at new moment) h.Call (a.Cancel k effect)) same
-    (subst (λ x. Takes m (called_at x moment) h.Call (a.Cancel k effect)) (sym left) (plan_takes m moment at k effect is greatest low how))
+pub plan_steps : (m old new : Machine) (moment at k : ℕ) (effect : CancelEffect) → IsSound (state_of m) → slice_get m.calls m.made ≡ Some (at, c.Cancel k) → moment ≡ max m.moment at → k < length m.tasks →
+    effect ≡ effect_on (seen_task (terms_of m.calls k) (slice_index_or m.tasks k vacant)) → new ≡ with_tasks m (cancelled_tasks m.policies.removes m.tasks k effect) → m ≡ old →
+    Takes old (passed new moment) h.Call (a.Cancel k effect)
+plan_steps m old new moment at k effect sound is greatest low how left same =
+    subst (λ x. Takes x (passed new moment) h.Call (a.Cancel k effect)) same
+    (subst (λ n. Takes m (passed new n) h.Call (a.Cancel k effect)) (sym greatest)
+    (subst (λ x. Takes m (passed x (max m.moment at)) h.Call (a.Cancel k effect)) (sym left) (plan_takes m at k effect sound is low how)))
 
 -- the step of a cancel from outside, by what the cancel left
-pub outside_steps : (m new : Machine) (k : ℕ) (effect : CancelEffect) → k < length m.tasks → length m.tasks ≡ task_count m.calls →
-    effect ≡ effect_on (seen_task (terms_of m.calls k) (slice_index_or m.tasks k vacant)) → new ≡ with_tasks m (cancelled_tasks m.tasks k effect) → Takes m new (h.Cancel k) (a.Outside k effect)
-outside_steps m new k effect low count how left = subst (λ x. Takes m x (h.Cancel k) (a.Outside k effect)) (sym left) (outside_takes m k effect low count how)
+pub outside_steps : (m new : Machine) (k : ℕ) (effect : CancelEffect) → IsSound (state_of m) → k < length m.tasks → length m.tasks ≡ task_count m.calls →
+    effect ≡ effect_on (seen_task (terms_of m.calls k) (slice_index_or m.tasks k vacant)) → new ≡ with_tasks m (cancelled_tasks m.policies.removes m.tasks k effect) → Takes m new (h.Cancel k) (a.Outside k effect)
+outside_steps m new k effect sound low count how left = subst (λ x. Takes m x (h.Cancel k) (a.Outside k effect)) (sym left) (outside_takes m k effect sound low count how)

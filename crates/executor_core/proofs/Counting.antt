@@ -1,81 +1,107 @@
--- How many tasks are not cancelled, as the tables are written.
-use Rattle.std.proofs.Common.{◌≡◌, ℕ, ◌+◌, ◌-◌, ◌<◌, ◌≤◌, zero, suc, true, false, cond, List, [], ◌∷◌, length, replicate, ap, refl, sym, ◌∙◌, arith}
+-- How many tasks are of some sorts, as the tables are written.
+use Rattle.std.proofs.Common.{◌≡◌, ℕ, ◌+◌, ◌^◌, ◌<◌, ◌≤◌, zero, suc, Bool, true, false, cond, List, [], ◌∷◌, length, replicate, ap, subst, refl, sym, ◌∙◌, arith}
+use Rattle.std.proofs.lemmas.List.{length-replicate}
 use Rattle.std.specs.Prelude.{slice_index_or, not}
 use Rattle.std.proofs.Math.ListN.{set}
 use Rattle.task_word.specs.Words.{Parts}
 use Rattle.queue_code.specs.Calls.{how_many}
 use Rattle.executor_core.specs.declared.task.Task.{Task}
+use Rattle.executor_core.specs.declared.tallies.Tallies.{Tallies}
 use Rattle.executor_core.specs.declared.tasks.Detail.{Detail}
 use Rattle.executor_core.specs.declared.types.Outcome.{Outcome}
 use Rattle.executor_core.specs.declared.types.Outcome.TheVariants as o
 use Rattle.executor_core.specs.State.{vacant, end_task}
-use Rattle.executor_core.proofs.Flowing.{how_many-le}
-use Rattle.executor_core.specs.Tasks.{tasks_of, uncancelled_in, AreTables}
+use Rattle.executor_core.specs.Tasks.{tasks_of, uncancelled_in, running_in, periodic_in, is_running_phase, waits_again, one, Count, IsRecount, AreTallies, AreTables}
+use Rattle.executor_core.proofs.Pairs.{length_of}
 
--- one where a task is not cancelled
-abbrev one_uncancelled : Task → ℕ
-one_uncancelled t = how_many (λ (x : Task). not x.cancelled) (t ∷ [])
+-- the first task counts for itself
+counted_first : (test : Task → Bool) (t : Task) (tasks : List Task) → how_many test (t ∷ tasks) ≡ one (test t) + how_many test tasks
+counted_first test t tasks = elim (test t) as (λ b. cond b (1 + how_many test tasks) (how_many test tasks) ≡ one b + how_many test tasks) [ true ↦ omega arith | false ↦ omega arith ]
 
-counted_first : (t : Task) (tasks : List Task) → uncancelled_in (t ∷ tasks) ≡ one_uncancelled t + uncancelled_in tasks
-counted_first t tasks = elim (t.cancelled) as (λ b. (cond (not b) (1 + uncancelled_in tasks) (uncancelled_in tasks)) ≡ cond (not b) 1 0 + uncancelled_in tasks) [ true ↦ omega arith | false ↦ omega arith ]
+-- a task is not cancelled
+abbrev alive : Task → Bool
+alive t = not t.cancelled
+
+-- a run of a task is under way
+abbrev runs : Task → Bool
+runs t = is_running_phase t.phase
 
 -- of a table in which one task is written, by the task that stood there
-counted_set : (tasks : List Task) (k : ℕ) (t : Task) → k < length tasks →
-    uncancelled_in (set tasks k t) + one_uncancelled (slice_index_or tasks k vacant) ≡ uncancelled_in tasks + one_uncancelled t
-counted_set [] k t low = absurd (omega (arith, low))
-counted_set (x ∷ tasks) zero t low = omega (arith, counted_first x tasks, counted_first t tasks)
-counted_set (x ∷ tasks) (suc k) t low =
-    omega (arith, counted_first x (set tasks k t), counted_first x tasks, counted_set tasks k t (omega (arith, low)))
+counted_set : (test : Task → Bool) (tasks : List Task) (k : ℕ) (t : Task) → k < length tasks →
+    how_many test (set tasks k t) + one (test (slice_index_or tasks k vacant)) ≡ how_many test tasks + one (test t)
+counted_set test [] k t low = absurd (omega (arith, low))
+counted_set test (x ∷ tasks) zero t low = omega (arith, counted_first test x tasks, counted_first test t tasks)
+counted_set test (x ∷ tasks) (suc k) t low =
+    omega (arith, counted_first test x (set tasks k t), counted_first test x tasks, counted_set test tasks k t (omega (arith, low)))
 
--- a task that is written leaves the number, where it is cancelled as the one that stood there is
-counted_same : (tasks : List Task) (k n : ℕ) (t : Task) → k < length tasks → n ≡ uncancelled_in tasks → t.cancelled ≡ (slice_index_or tasks k vacant).cancelled → n ≡ uncancelled_in (set tasks k t)
-counted_same tasks k n t low is same =
-    let one : one_uncancelled t ≡ one_uncancelled (slice_index_or tasks k vacant) = ap (λ b. cond (not b) 1 0) same in
-    omega (arith, counted_set tasks k t low, one, is)
+-- a task of the table is counted
+counted_in : (test : Task → Bool) (tasks : List Task) (k : ℕ) → k < length tasks → one (test (slice_index_or tasks k vacant)) ≤ how_many test tasks
+counted_in test [] k low = absurd (omega (arith, low))
+counted_in test (x ∷ tasks) zero low = omega (arith, counted_first test x tasks)
+counted_in test (x ∷ tasks) (suc k) low = omega (arith, counted_first test x tasks, counted_in test tasks k (omega (arith, low)))
 
--- a task that is cancelled makes one fewer
-counted_fewer : (tasks : List Task) (k : ℕ) → k < length tasks → (slice_index_or tasks k vacant).cancelled ≡ false →
-    uncancelled_in tasks ≡ 1 + uncancelled_in (set tasks k (record (slice_index_or tasks k vacant) { cancelled = true }))
-counted_fewer tasks k low live =
-    let one : one_uncancelled (slice_index_or tasks k vacant) ≡ 1 = ap (λ b. cond (not b) 1 0) live in
-    omega (arith, counted_set tasks k (record (slice_index_or tasks k vacant) { cancelled = true }) low, one)
+one_le : (b : Bool) → one b ≤ 1
+one_le true = omega arith
+one_le false = omega arith
 
--- the number of vacant tasks
-counted_vacant : (n : ℕ) → uncancelled_in (replicate n vacant) ≡ n
-counted_vacant zero = refl
-counted_vacant (suc n) = omega (arith, counted_vacant n)
+-- no more tasks are counted than there are
+counted_le : (test : Task → Bool) (tasks : List Task) → how_many test tasks ≤ length tasks
+counted_le test [] = omega arith
+counted_le test (x ∷ tasks) = omega (arith, counted_first test x tasks, one_le (test x), counted_le test tasks)
+
+-- vacant tasks are not cancelled, have no run under way and do not wait
+vacant_tallies : (n : ℕ) → AreTallies (record { uncancelled = n; running = 0; periodic = 0 }) (replicate n vacant)
+vacant_tallies zero = (refl, refl, refl)
+vacant_tallies (suc n) =
+    let (uncancelled, running, periodic) = vacant_tallies n in
+    (omega (arith, uncancelled), running, periodic)
 
 -- the tables of vacant tasks are as they have to be
-pub vacant_counted : (n : ℕ) (ws : List Parts) (ds : List Detail) → length ws ≡ length ds → tasks_of ws ds ≡ replicate n vacant → AreTables ws ds n
-vacant_counted n ws ds paired is = record { paired = paired; counted = sym (ap uncancelled_in is ∙ counted_vacant n) }
-
--- the tables stay as they have to be where a task is written that is cancelled as the one that stood there is
-pub tables_same : (ws vs : List Parts) (ds es : List Detail) (tasks : List Task) (n k : ℕ) (t : Task) → AreTables ws ds n → tasks_of ws ds ≡ tasks → length vs ≡ length ws → length es ≡ length ds →
-    tasks_of vs es ≡ set tasks k t → k < length tasks → t.cancelled ≡ (slice_index_or tasks k vacant).cancelled → AreTables vs es n
-tables_same ws vs ds es tasks n k t are view long wide is low same = record {
-  paired = long ∙ (are.paired ∙ sym wide);
-  counted = counted_same tasks k n t low (are.counted ∙ ap uncancelled_in view) same ∙ sym (ap uncancelled_in is);
+pub vacant_counted : (n : ℕ) (ws : List Parts) (ds : List Detail) (tallies : Tallies) → length ws ≡ length ds → n ≤ 2 ^ 32 → tasks_of ws ds ≡ replicate n vacant → tallies ≡ record { uncancelled = n; running = 0; periodic = 0 } → AreTables ws ds tallies
+vacant_counted n ws ds tallies paired few is are = record {
+  paired = paired;
+  few = omega (arith, few, length_of ws ds paired, ap length is, length-replicate n vacant);
+  counted = subst (λ (q : Tallies). AreTallies q (tasks_of ws ds)) (sym are) (subst (AreTallies (record { uncancelled = n; running = 0; periodic = 0 })) (sym is) (vacant_tallies n));
 }
 
--- where a task that is not cancelled is, there is at least one
-pub some_uncancelled : (ws : List Parts) (ds : List Detail) (tasks : List Task) (n k : ℕ) → AreTables ws ds n → tasks_of ws ds ≡ tasks → k < length tasks → (slice_index_or tasks k vacant).cancelled ≡ false → 1 ≤ n
-some_uncancelled ws ds tasks n k are view low live = omega (arith, are.counted, ap uncancelled_in view, counted_fewer tasks k low live)
+-- the numbers of some tables count the task at a place
+pub tables_count : (ws : List Parts) (ds : List Detail) (tasks : List Task) (tallies : Tallies) (k : ℕ) (t : Task) → AreTables ws ds tallies → tasks_of ws ds ≡ tasks → k < length tasks → t ≡ slice_index_or tasks k vacant → Count tallies t
+tables_count ws ds tasks tallies k t are view low is =
+    let (uncancelled, running, periodic) = are.counted in
+    let room : length tasks < 2 ^ 63 = omega (arith, are.few, length_of ws ds are.paired, ap length view) in
+    subst (Count tallies) (sym is) (
+      omega (arith, uncancelled, ap uncancelled_in view, counted_in alive tasks k low),
+      omega (arith, running, ap running_in view, counted_in runs tasks k low),
+      omega (arith, periodic, ap periodic_in view, counted_in waits_again tasks k low),
+      omega (arith, uncancelled, ap uncancelled_in view, counted_le alive tasks, room),
+      omega (arith, running, ap running_in view, counted_le runs tasks, room),
+      omega (arith, periodic, ap periodic_in view, counted_le waits_again tasks, room),
+    )
 
--- the tables stay as they have to be where one that is not cancelled is cancelled
-pub tables_fewer : (ws vs : List Parts) (ds : List Detail) (tasks : List Task) (n k : ℕ) → AreTables ws ds n → tasks_of ws ds ≡ tasks → length vs ≡ length ws →
-    tasks_of vs ds ≡ set tasks k (record (slice_index_or tasks k vacant) { cancelled = true }) → k < length tasks → (slice_index_or tasks k vacant).cancelled ≡ false → AreTables vs ds (n - 1)
-tables_fewer ws vs ds tasks n k are view long is low live = record {
-  paired = long ∙ are.paired;
-  counted = omega (arith, are.counted, ap uncancelled_in view, ap uncancelled_in is, counted_fewer tasks k low live);
-}
+-- the tables stay as they have to be where one task stands for another, and the numbers are recounted
+pub tables_recounted : (ws vs : List Parts) (ds es : List Detail) (tasks : List Task) (old new : Tallies) (k : ℕ) (before after : Task) → AreTables ws ds old → tasks_of ws ds ≡ tasks → length vs ≡ length ws → length es ≡ length ds →
+    tasks_of vs es ≡ set tasks k after → k < length tasks → before ≡ slice_index_or tasks k vacant → IsRecount old new before after → AreTables vs es new
+tables_recounted ws vs ds es tasks old new k before after are view long wide is low at recount =
+    let (uncancelled, running, periodic) = are.counted in
+    let (uncancelled_more, running_more, periodic_more) = subst (λ b. IsRecount old new b after) at recount in
+    record {
+      paired = long ∙ (are.paired ∙ sym wide);
+      few = omega (arith, are.few, long);
+      counted = (
+        omega (arith, uncancelled, uncancelled_more, ap uncancelled_in view, ap uncancelled_in is, counted_set alive tasks k after low),
+        omega (arith, running, running_more, ap running_in view, ap running_in is, counted_set runs tasks k after low),
+        omega (arith, periodic, periodic_more, ap periodic_in view, ap periodic_in is, counted_set waits_again tasks k after low),
+      );
+    }
 
 -- the end of a run leaves a task cancelled or not
 pub end_keeps : (outcome : Outcome) (due : ℕ) (t : Task) → (end_task outcome due t).cancelled ≡ t.cancelled
 end_keeps (o.Done value) due t = refl
 end_keeps (o.Failed code) due t = refl
 end_keeps o.Dropped due t = refl
+end_keeps o.Ended due t = refl
 end_keeps (o.Again next) due t = refl
 
 -- no more tasks are not cancelled than there are
 pub uncancelled_le : (tasks : List Task) → uncancelled_in tasks ≤ length tasks
-uncancelled_le tasks = how_many-le (λ (t : Task). not t.cancelled) tasks
+uncancelled_le tasks = counted_le alive tasks

@@ -12,30 +12,45 @@ use Rattle.executor_core.specs.declared.types.EventError.TheVariants as x
 use Rattle.executor_core.specs.declared.types.Happening.{Happening}
 use Rattle.executor_core.specs.declared.types.Happening.TheVariants as h
 use Rattle.executor_core.specs.declared.types.Line.{Line}
+use Rattle.executor_core.specs.declared.types.Answer.{Answer}
 use Rattle.executor_core.specs.declared.types.Answer.TheVariants as a
-use Rattle.queue_code.specs.Calls.{Planned, terms_of}
+use Rattle.executor_core.specs.declared.types.Refusal.TheVariants as refusal
+use Rattle.queue_code.specs.Calls.{Planned, terms_of, due_at}
 use Rattle.executor_core.specs.View.{View}
-use Rattle.executor_core.specs.Answers.{Reply, plain, called, is_accepted, moment_after}
-use Rattle.executor_core.specs.Histories.{is_call, is_cancel, work_after}
+use Rattle.executor_core.specs.Answers.{plain, called, kind_of, swept, is_accepted, moment_after}
+use Rattle.executor_core.specs.Histories.{is_call, cancels, kept_after, policies_after, is_shutdown, work_after}
 use Rattle.executor_core.specs.State.{State, vacant, view_of_state, move_task, state_after, reply_of, next, after_from}
-use Rattle.executor_core.specs.Flows.{happening_of, reached, calls_before, part_of, lines_from}
+use Rattle.executor_core.specs.Flows.{happening_of, reached, calls_before, part_of, lines_at, lines_from}
 use Rattle.executor_core.specs.Machine.{Machine, workers_of, state_of, Steps, ErrorOnlyCounts}
+use Rattle.executor_core.proofs.Keeping.{kept_stays}
 
 -- a state after an error that is no call and does not move the clock
-unmoved : (calls : List Planned) (s : State) (x : Happening) (r : Reply) (error : EventError) → r.answer ≡ a.Error error → is_call x ≡ false → moment_after s.moment (slice_get calls s.made) x ≡ s.moment →
-    state_after calls s x r ≡ s
-unmoved calls s x r error q event still = λ i. record {
-  made = cond (event i) (1 + s.made) s.made;
-  moment = still i;
-  tasks = λ k. record (move_task (terms_of calls k).timing s.moment k (q i) (s.tasks k)) { cancelled = is_cancel k (q i) || (s.tasks k).cancelled };
-  workers = λ w. work_after w (q i) (s.workers w);
-}
+unmoved : (calls : List Planned) (s : State) (x : Happening) (answer : Answer) (error : EventError) → answer ≡ a.Error error → is_call x ≡ false → moment_after s.moment (slice_get calls s.made) x ≡ s.moment →
+    state_after calls s x (plain answer) ≡ s
+unmoved calls s x answer error q event still =
+    let answered : state_after calls s x (plain answer) ≡ record s { tasks = λ k. record (s.tasks k) { kept = kept_after (view_of_state calls s) k (a.Error error) } } = λ i. record {
+      made = cond (event i) (1 + s.made) s.made;
+      moment = still i;
+      tasks = λ k. record (move_task (terms_of calls k).timing s.moment k (q i) (s.tasks k)) { cancelled = cancels k (q i) [] || (s.tasks k).cancelled; kept = kept_after (view_of_state calls s) k (q i) };
+      workers = λ w. work_after w (q i) (s.workers w);
+      policies = policies_after (q i) s.policies;
+      shut = is_shutdown (q i) || s.shut;
+    }
+    in
+    answered ∙ (λ i. record s { tasks = λ k. record (s.tasks k) { kept = kept_stays (view_of_state calls s) k (a.Error error) refl refl refl i } })
 
 -- a call is not answered by an error
 no_error : (calls : List Planned) (v : View) (call : CodeCall) (error : EventError) → (called calls v call).answer ≡ a.Error error → ⊥
-no_error calls v (c.Submit task timing delay) error q = cc
+no_error calls v (c.Submit task timing delay) error q =
+    let pick : (b : Bool) → cond b (a.Refuse task refusal.Rejected) (a.Submit task (kind_of timing) (due_at (terms_of calls task) 0 None)) ≡ a.Error error → ⊥ = elim [ true ↦ λ q. cc | false ↦ λ q. cc ] in
+    pick v.shut q
 no_error calls v (c.Illegal task) error q = cc
 no_error calls v (c.Cancel task) error q = cc
+no_error calls v (c.SetPolicy which value) error q = cc
+no_error calls v c.Shutdown error q =
+    let pick : (b : Bool) → (cond b (plain a.ShutdownAgain) (record { answer = a.Shutdown; ends = swept calls v v.policies })).answer ≡ a.Error error → ⊥ = elim [ true ↦ λ q. cc | false ↦ λ q. cc ] in
+    pick v.shut q
+no_error calls v c.Ask error q = cc
 
 -- a clock that is answered by an error is not accepted
 pub refused_clock : (now t : ℕ) (error : EventError) → cond (nat_lt t now) (a.Error x.Backward) (cond (nat_lt (2 ^ 62) t) (a.Error x.TooFar) a.Clock) ≡ a.Error error → is_accepted now t ≡ false
@@ -63,10 +78,10 @@ errors_change_nothing calls workers s h.Call error q =
     in
     absurd (pick (slice_get calls s.made) q)
 errors_change_nothing calls workers s (h.Clock t) error q =
-    unmoved calls s (h.Clock t) (reply_of calls workers s (h.Clock t)) error q refl (ap (λ b. cond b t s.moment) (refused_clock s.moment t error q))
-errors_change_nothing calls workers s (h.Start w) error q = unmoved calls s (h.Start w) (reply_of calls workers s (h.Start w)) error q refl refl
-errors_change_nothing calls workers s (h.Finish w ending) error q = unmoved calls s (h.Finish w ending) (reply_of calls workers s (h.Finish w ending)) error q refl refl
-errors_change_nothing calls workers s (h.Cancel k) error q = unmoved calls s (h.Cancel k) (reply_of calls workers s (h.Cancel k)) error q refl refl
+    unmoved calls s (h.Clock t) (reply_of calls workers s (h.Clock t)).answer error q refl (ap (λ b. cond b t s.moment) (refused_clock s.moment t error q))
+errors_change_nothing calls workers s (h.Start w) error q = unmoved calls s (h.Start w) (reply_of calls workers s (h.Start w)).answer error q refl refl
+errors_change_nothing calls workers s (h.Finish w ending) error q = unmoved calls s (h.Finish w ending) (reply_of calls workers s (h.Finish w ending)).answer error q refl refl
+errors_change_nothing calls workers s (h.Cancel k) error q = unmoved calls s (h.Cancel k) (reply_of calls workers s (h.Cancel k)).answer error q refl refl
 
 -- no call is made before an event that is answered by an error
 none_before : (calls : List Planned) (workers : ℕ) (s : State) (event : Event) (error : EventError) → (reply_of calls workers s (happening_of event)).answer ≡ a.Error error → calls_before calls s.made s.moment event ≡ 0
@@ -74,6 +89,13 @@ none_before calls workers s (v.Clock t) error q = ap (λ b. cond b (reached call
 none_before calls workers s (v.Start w) error q = refl
 none_before calls workers s (v.Finish w ending) error q = refl
 none_before calls workers s (v.Cancel k) error q = refl
+
+-- an event ends no task by a line of its own
+pub no_ends : (calls : List Planned) (workers : ℕ) (s : State) (event : Event) → (reply_of calls workers s (happening_of event)).ends ≡ []
+no_ends calls workers s (v.Clock t) = refl
+no_ends calls workers s (v.Start w) = refl
+no_ends calls workers s (v.Finish w ending) = refl
+no_ends calls workers s (v.Cancel k) = refl
 
 -- tables of one length with the same items are one
 same_table : {X : Type 0} (d : X) (xs ys : List X) → length xs ≡ length ys → ((k : ℕ) → slice_index_or xs k d ≡ slice_index_or ys k d) → xs ≡ ys
@@ -95,6 +117,6 @@ error_only_counts old new before lines event steps taken count error q =
     let state : state_of new ≡ s = steps.state ∙ (ap (after_from calls workers s) part ∙ still) in
     let tasks = same_table vacant new.tasks old.tasks count (λ k. ap (λ (z : State). z.tasks k) state) in
     let work = same_table None new.work old.work steps.workers (λ w. ap (λ (z : State). z.workers w) state) in (
-      λ i. record { calls = steps.calls i; limit = steps.limit i; taken = taken i; made = (state i).made; moment = (state i).moment; tasks = tasks i; work = work i },
-      steps.lines ∙ (ap (λ hs. before ++ lines_from calls workers s hs) part ∙ λ i. before ++ record { moment = (still i).moment; answer = q i } ∷ []),
+      λ i. record { calls = steps.calls i; limit = steps.limit i; taken = taken i; made = (state i).made; moment = (state i).moment; tasks = tasks i; work = work i; policies = (state i).policies; shut = (state i).shut },
+      steps.lines ∙ (ap (λ hs. before ++ lines_from calls workers s hs) part ∙ λ i. before ++ lines_at (still i).moment (record { answer = q i; ends = no_ends calls workers s event i })),
     )

@@ -8,19 +8,19 @@ use Rattle.executor_core.specs.declared.types.Answer.{Answer}
 use Rattle.executor_core.specs.declared.types.Line.{Line}
 use Rattle.queue_code.specs.Calls.{IsOrderly}
 use Rattle.executor_core.specs.Histories.{HistoryEntry, IsHistoryOf}
-use Rattle.executor_core.specs.Flows.{happening_of, part_of, reached, ReachesNext}
+use Rattle.executor_core.specs.Flows.{happening_of, part_of, reached, ReachesNext, answer_line, lines_at}
 use Rattle.executor_core.specs.Machine.{Machine, workers_of, Takes, Counts, Steps, Stands, Continues}
 use Rattle.executor_core.proofs.Flowing.{steps_then, core_continues}
 
 -- one step with its line
-pub one_step : (old new : Machine) (before lines : List Line) (happening : Happening) (answer : Answer) → Takes old new happening answer → lines ≡ before ++ record { moment = new.moment; answer = answer } ∷ [] →
+pub one_step : (old new : Machine) (before lines : List Line) (happening : Happening) (answer : Answer) → Takes old new happening answer → lines ≡ before ++ answer_line new.moment answer ∷ [] →
     Steps old new before lines (happening ∷ [])
 one_step old new before lines happening answer takes put = record {
   calls = takes.calls;
   limit = takes.limit;
   workers = takes.workers;
   state = takes.state;
-  lines = put ∙ (λ i. before ++ record { moment = (takes.state i).moment; answer = takes.said i } ∷ []);
+  lines = put ∙ (λ i. before ++ lines_at (takes.state i).moment (sym takes.said i));
 }
 
 -- counting an event leaves the state
@@ -29,18 +29,15 @@ counts old mid counted before lines hs is steps =
     subst (λ m. Steps old m before lines hs) (sym is) (record { calls = steps.calls; limit = steps.limit; workers = steps.workers; state = steps.state; lines = steps.lines })
 
 -- the calls before an event, and then the event
-pub event_steps : (old mid counted answered seen : Machine) (a start b c : List Line) (event : Event) (answer : Answer) (n : ℕ) → start ≡ a → Steps old mid start b (replicate n h.Call) → Counts mid counted →
-    Takes counted answered (happening_of event) answer → seen ≡ answered → c ≡ b ++ record { moment = seen.moment; answer = answer } ∷ [] → Steps old seen a c (happening_of event ∷ replicate n h.Call)
-event_steps old mid counted answered seen a start b c event answer n same calls one takes is put =
-    let last : Takes counted seen (happening_of event) answer = subst (λ m. Takes counted m (happening_of event) answer) (sym is) takes in
-    let whole = steps_then old counted seen start b c (replicate n h.Call) (happening_of event ∷ []) (counts old mid counted start b (replicate n h.Call) one calls) (one_step counted seen b c (happening_of event) answer last put) in
-    subst (λ l. Steps old seen l c (happening_of event ∷ replicate n h.Call)) same whole
+pub event_steps : (old mid counted new : Machine) (a start b c : List Line) (event : Event) (n : ℕ) → start ≡ a → Steps old mid start b (replicate n h.Call) → Counts mid counted →
+    Steps counted new b c (happening_of event ∷ []) → Steps old new a c (happening_of event ∷ replicate n h.Call)
+event_steps old mid counted new a start b c event n same calls one last =
+    let whole = steps_then old counted new start b c (replicate n h.Call) (happening_of event ∷ []) (counts old mid counted start b (replicate n h.Call) one calls) last in
+    subst (λ l. Steps old new l c (happening_of event ∷ replicate n h.Call)) same whole
 
 -- and it counts
-pub event_taken : (old mid counted answered seen : Machine) (happening : Happening) (answer : Answer) → mid.taken ≡ old.taken → Counts mid counted → Takes counted answered happening answer → seen ≡ answered →
-    seen.taken ≡ old.taken + 1
-event_taken old mid counted answered seen happening answer same one takes is =
-    ap (λ (m : Machine). m.taken) is ∙ (takes.taken ∙ (ap (λ (m : Machine). m.taken) one ∙ ap (λ n. n + 1) same))
+pub event_taken : (old mid counted new : Machine) → mid.taken ≡ old.taken → Counts mid counted → new.taken ≡ counted.taken → new.taken ≡ old.taken + 1
+event_taken old mid counted new same one taken = taken ∙ (ap (λ (m : Machine). m.taken) one ∙ ap (λ n. n + 1) same)
 
 -- the steps of an event are those of each history in which the core stood
 pub event_continues : (old inside new : Machine) (before lines : List Line) (event : Event) → IsOrderly inside.calls → inside ≡ old → Steps old new before lines (part_of old.calls old.made old.moment event) →

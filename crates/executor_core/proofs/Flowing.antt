@@ -14,7 +14,7 @@ use Rattle.executor_core.specs.Answers.{reply, is_accepted, moment_after}
 use Rattle.executor_core.specs.Histories.{HistoryEntry, entry_of, happenings, made, now_of, is_call, answer, IsHistoryOf, MayCome}
 use Rattle.executor_core.specs.State.{State, next, reply_of, after, after_from}
 use Rattle.executor_core.specs.Flows.{reached, part_of, flow, history_from, history_of, lines_at, lines_of, lines_from, reply_in}
-use Rattle.executor_core.specs.Machine.{Machine, workers_of, state_of, Stands, Steps, Continues}
+use Rattle.executor_core.specs.Machine.{Machine, workers_of, state_of, Stands, Steps, Continues, ContinuesWith, ContinuesAny}
 use Rattle.executor_core.proofs.Agree.{Agrees, after_agrees, next_agrees}
 
 -- ---- one list of happenings after another
@@ -223,27 +223,39 @@ lines_follow calls workers s past (x ∷ hs) a =
 pub stands_agrees : (m : Machine) (past : List HistoryEntry) → IsHistoryOf m.calls (workers_of m) past → Stands m past → Agrees m.calls (state_of m) past
 stands_agrees m past means stands = subst (λ s. Agrees m.calls s past) (sym stands) (after_agrees m.calls (workers_of m) past means)
 
--- steps of a core, for each history in which it stood
+-- steps of a core, for a history in which it stood and after which they may come
+pub steps_continue : (old new : Machine) (before lines : List Line) (hs : List Happening) → Steps old new before lines hs →
+    (past : List HistoryEntry) → IsHistoryOf old.calls (workers_of old) past → Stands old past → IsHistoryOf old.calls (workers_of old) (history_from old.calls (workers_of old) past hs) → ContinuesWith old new before lines hs past
+steps_continue old new before lines hs steps past means stands longer_means =
+    let calls = old.calls in
+    let workers = workers_of old in
+    let longer = history_from calls workers past hs in
+    let there : state_of new ≡ after calls workers (happenings longer) =
+    steps.state ∙ (ap (λ s. after_from calls workers s hs) stands
+    ∙ (sym (after_from-append calls workers _ hs (happenings past)) ∙ ap (after calls workers) (sym (happenings_from calls workers past hs))))
+    in
+    record {
+      means = longer_means;
+      stands = there ∙ (ap (λ cs. after cs workers (happenings longer)) (sym steps.calls) ∙ ap (λ n. after new.calls n (happenings longer)) (sym steps.workers));
+      added = lines_from calls workers (state_of old) hs;
+      given = steps.lines;
+      spoken = lines_follow calls workers (state_of old) past hs (stands_agrees old past means stands);
+    }
+
+-- the steps of an event, for each history in which the core stood
 pub core_continues : (old new : Machine) (before lines : List Line) (event : Event) → IsOrderly old.calls → Steps old new before lines (part_of old.calls old.made old.moment event) →
     (past : List HistoryEntry) → IsHistoryOf old.calls (workers_of old) past → Stands old past → Continues old new before lines event past
 core_continues old new before lines event o steps past means stands =
     let calls = old.calls in
     let workers = workers_of old in
     let a = stands_agrees old past means stands in
-    let part = part_of calls old.made old.moment event in
-    let longer = history_from calls workers past part in
-    let same : part_of calls (made (happenings past)) (now_of calls (happenings past)) event ≡ part = ap (λ w. part_of calls w.made w.moment event) (sym a.view) in
-    let there : state_of new ≡ after calls workers (happenings longer) =
-    steps.state ∙ (ap (λ s. after_from calls workers s part) stands
-    ∙ (sym (after_from-append calls workers _ part (happenings past)) ∙ ap (after calls workers) (sym (happenings_from calls workers past part))))
-    in
-    record {
-      means = subst (λ hs. IsHistoryOf calls workers (history_from calls workers past hs)) same (part_means calls workers past event o means);
-      stands = there ∙ (ap (λ cs. after cs workers (happenings longer)) (sym steps.calls) ∙ ap (λ n. after new.calls n (happenings longer)) (sym steps.workers));
-      added = lines_from calls workers (state_of old) part;
-      given = steps.lines;
-      spoken = lines_follow calls workers (state_of old) past part a;
-    }
+    let same : part_of calls (made (happenings past)) (now_of calls (happenings past)) event ≡ part_of calls old.made old.moment event = ap (λ w. part_of calls w.made w.moment event) (sym a.view) in
+    steps_continue old new before lines (part_of calls old.made old.moment event) steps past means stands
+    (subst (λ hs. IsHistoryOf calls workers (history_from calls workers past hs)) same (part_means calls workers past event o means))
+
+-- one step, for each history in which the core stood and after which it may come
+pub step_continues : (old new : Machine) (before lines : List Line) (happening : Happening) → Steps old new before lines (happening ∷ []) → ContinuesAny old new before lines happening
+step_continues old new before lines happening steps past means stands may = steps_continue old new before lines (happening ∷ []) steps past means stands (means, may, refl, refl)
 
 -- some steps after others
 pub steps_then : (old mid new : Machine) (a b c : List Line) (hs gs : List Happening) → Steps old mid a b hs → Steps mid new b c gs → Steps old new a c (gs ++ hs)

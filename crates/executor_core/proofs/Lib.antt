@@ -1,3 +1,4 @@
+pub mod Keeping
 pub mod Moves
 pub mod Views
 pub mod Sound
@@ -8,11 +9,16 @@ pub mod Flowing
 pub mod Pairs
 pub mod Counting
 pub mod Tables
+pub mod Calling
 pub mod Submits
+pub mod Meeting
 pub mod WorkerSteps
 pub mod RunSteps
 pub mod Cancels
+pub mod Asking
 pub mod Opens
 pub mod Events
 pub mod Errors
 pub mod Within
+pub mod Sweeping
+pub mod SweepSteps

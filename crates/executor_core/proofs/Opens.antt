@@ -4,46 +4,53 @@ use Rattle.std.specs.Prelude.{slice_index_or, replicate, IsTrue}
 use Rattle.std.proofs.lemmas.Bool.{false≢true, le-leb, leb-true, cases_lt}
 use Rattle.std.proofs.lemmas.Bool.Decides.{nat_tests}
 use Rattle.std.proofs.lemmas.List.{length-replicate}
-use Rattle.sched_time.specs.declared.timing.Timing.{Timing}
-use Rattle.sched_time.specs.declared.timing.Timing.TheVariants as t
+use Rattle.executor_core.specs.declared.policies.Policies.{Policies}
 use Rattle.executor_core.specs.declared.task.Task.{Task}
 use Rattle.executor_core.specs.declared.task.Phase.TheVariants as ph
 use Rattle.queue_code.specs.Calls.{Planned, IsOrderly, IsOrderlyFrom, count_after, how_many, task_count}
 use Rattle.executor_core.specs.Flows.{reached, ReachesNext}
+use Rattle.executor_core.specs.Answers.{default_policies}
 use Rattle.executor_core.specs.State.{opening, vacant, view_of_state}
-use Rattle.executor_core.specs.Machine.{Machine, IsOpening, IsWellFormedCore, IsSound, IsDue, queued}
+use Rattle.executor_core.specs.Machine.{Machine, state_of, IsOpening, IsWellFormedCore, IsSound, IsDue, queued, held}
 use Rattle.executor_core.proofs.Agree.{opening_sound}
 use Rattle.executor_core.proofs.Tables.{at_replicate}
-use Rattle.executor_core.proofs.Submits.{state_at}
+
+-- vacant tasks stand in no queue
 
 map_vacant : (n : ℕ) → map queued (replicate n vacant) ≡ replicate n None
 map_vacant zero = refl
 map_vacant (suc n) = ap (λ l. None ∷ l) (map_vacant n)
 
-opening_state : (count workers : ℕ) → state_at 0 0 (replicate count vacant) (replicate workers None) ≡ opening
-opening_state count workers = λ i. record { made = 0; moment = 0; tasks = λ k. at_replicate count k vacant i; workers = λ w. at_replicate workers w None i }
+map_unheld : (n : ℕ) → map held (replicate n vacant) ≡ replicate n None
+map_unheld zero = refl
+map_unheld (suc n) = ap (λ l. None ∷ l) (map_unheld n)
 
 -- what contracts see of a core that was just made
-abbrev pub opening_machine : List Planned → ℕ → List Task → List (Option ℕ) → Machine
-opening_machine calls limit tasks work = record { calls = calls; limit = limit; taken = 0; made = 0; moment = 0; tasks = tasks; work = work }
+abbrev pub opening_machine : List Planned → ℕ → List Task → List (Option ℕ) → Policies → Machine
+opening_machine calls limit tasks work policies = record { calls = calls; limit = limit; taken = 0; made = 0; moment = 0; tasks = tasks; work = work; policies = policies; shut = false }
+
+opening_state : (calls : List Planned) (count workers limit : ℕ) (tasks : List Task) (work : List (Option ℕ)) (policies : Policies) → tasks ≡ replicate count vacant → work ≡ replicate workers None → policies ≡ default_policies → state_of (opening_machine calls limit tasks work policies) ≡ opening
+opening_state calls count workers limit tasks work policies is free unset =
+    (λ i. state_of (opening_machine calls limit (is i) (free i) (unset i))) ∙ (λ i. record opening { tasks = λ k. at_replicate count k vacant i; workers = λ w. at_replicate workers w None i })
 
 -- a core that was just made is the opening one
-pub opening_is : (calls : List Planned) (count workers limit : ℕ) (tasks : List Task) (work : List (Option ℕ)) → tasks ≡ replicate count vacant → work ≡ replicate workers None → IsOpening (opening_machine calls limit tasks work) calls workers limit
-opening_is calls count workers limit tasks work is free = record {
+pub opening_is : (calls : List Planned) (count workers limit : ℕ) (tasks : List Task) (work : List (Option ℕ)) (policies : Policies) → tasks ≡ replicate count vacant → work ≡ replicate workers None → policies ≡ default_policies → IsOpening (opening_machine calls limit tasks work policies) calls workers limit
+opening_is calls count workers limit tasks work policies is free unset = record {
   calls = refl;
   limit = refl;
   taken = refl;
   count = ap length free ∙ length-replicate workers None;
-  stands = (λ i. state_at 0 0 (is i) (free i)) ∙ opening_state count workers;
+  stands = opening_state calls count workers limit tasks work policies is free unset;
 }
 
 -- a core that was just made is well formed
-pub opening_kept : (calls : List Planned) (count workers limit : ℕ) (tasks : List Task) (timings : List Timing) (work entries : List (Option ℕ)) → IsOrderly calls → count ≡ task_count calls → 0 < workers → workers ≤ 64 →
-    tasks ≡ replicate count vacant → timings ≡ replicate count t.Once → work ≡ replicate workers None → entries ≡ replicate count None →
-    IsWellFormedCore (opening_machine calls limit tasks work) entries timings
-opening_kept calls count workers limit tasks timings work entries orderly counted some few is timed free empty =
+pub opening_kept : (calls : List Planned) (count workers limit : ℕ) (tasks : List Task) (work entries keeps : List (Option ℕ)) (policies : Policies) → IsOrderly calls → count ≡ task_count calls → 0 < workers → workers ≤ 64 →
+    tasks ≡ replicate count vacant → work ≡ replicate workers None → entries ≡ replicate count None → keeps ≡ replicate count None → policies ≡ default_policies →
+    IsWellFormedCore (opening_machine calls limit tasks work policies) entries keeps false
+opening_kept calls count workers limit tasks work entries keeps policies orderly counted some few is free empty unkept unset =
     let long : length work ≡ workers = ap length free ∙ length-replicate workers None in
     let at : (k : ℕ) → slice_index_or tasks k vacant ≡ vacant = λ k. ap (λ l. slice_index_or l k vacant) is ∙ at_replicate count k vacant in
+    let state = opening_state calls count workers limit tasks work policies is free unset in
     record {
       orderly = orderly;
       made = omega arith;
@@ -53,11 +60,12 @@ opening_kept calls count workers limit tasks timings work entries orderly counte
       moment = omega arith;
       count = ap length is ∙ (length-replicate count vacant ∙ counted);
       queue = empty ∙ (sym (map_vacant count) ∙ ap (map queued) (sym is));
-      timed = ap length timed ∙ (length-replicate count t.Once ∙ counted);
-      timing = λ k used. absurd (used (ap (λ x. x.phase) (at k)));
+      keeping = unkept ∙ (sym (map_unheld count) ∙ ap (map held) (sym is));
+      timing = λ k used. absurd (used (ap (λ (x : Task). x.phase) (at k)));
       fresh = λ k above. at k;
-      sound = subst IsSound (sym ((λ i. state_at 0 0 (is i) (free i)) ∙ opening_state count workers)) opening_sound;
-      due = subst (λ s. IsDue calls (view_of_state calls s)) (sym ((λ i. state_at 0 0 (is i) (free i)) ∙ opening_state count workers)) (λ k. (None, refl));
+      sound = subst IsSound (sym state) opening_sound;
+      due = subst (λ s. IsDue calls (view_of_state calls s)) (sym state) (λ k. (None, refl));
+      delayed = λ q. absurd (false≢true q);
       runs = record {
         all = λ k. omega (arith, ap (λ (x : Task). x.run) (at k));
         begun = λ k q. let none : ph.Vacant ≡ ph.Running = sym (ap (λ (x : Task). x.phase) (at k)) ∙ q in absurd cc;

@@ -1,7 +1,9 @@
 -- Pairs: the tasks of two tables, item by item.
-use Rattle.std.proofs.Common.{◌≡◌, ℕ, ◌+◌, ◌<◌, zero, suc, Bool, true, false, List, [], ◌∷◌, length, map, get_or, replicate, ◌&&◌, ap, refl, sym, ◌∙◌, arith}
+use Rattle.std.proofs.Common.{◌≡◌, ℕ, ◌+◌, ◌<◌, zero, suc, Bool, true, false, List, [], ◌∷◌, length, map, get_or, replicate, ◌&&◌, ap, refl, sym, ◌∙◌, ◌⊎◌, inl, inr, arith}
 use Rattle.std.specs.Prelude.{slice_index_or}
 use Rattle.std.proofs.Math.ListN.{set}
+use Rattle.sched_time.specs.declared.timing.Timing.{Timing}
+use Rattle.sched_time.specs.declared.timing.Timing.TheVariants as t
 use Rattle.task_word.specs.Words.{Parts}
 use Rattle.task_word.specs.Words as words
 use Rattle.task_word.specs.declared.phases.Phase.{Phase as WordPhase}
@@ -35,6 +37,10 @@ both_set (y ∷ ws) [] k x d e = absurd (omega (arith, e))
 both_set (y ∷ ws) (c ∷ ds) zero x d e = refl
 both_set (y ∷ ws) (c ∷ ds) (suc k) x d e = ap (λ l. task_of y c ∷ l) (both_set ws ds k x d (omega (arith, e)))
 
+-- both tables of some tasks are written, by a task
+pub both_sets : (ws : List Parts) (ds : List Detail) (tasks : List Task) (k : ℕ) (x : Parts) (d : Detail) (t : Task) → length ws ≡ length ds → tasks_of ws ds ≡ tasks → task_of x d ≡ t → tasks_of (set ws k x) (set ds k d) ≡ set tasks k t
+both_sets ws ds tasks k x d t e view is = both_set ws ds k x d e ∙ (λ i. set (view i) k (is i))
+
 -- the table of words is written
 pub word_set : (ws : List Parts) (ds : List Detail) (k : ℕ) (x : Parts) (d : Detail) → length ws ≡ length ds → tasks_of (set ws k x) ds ≡ set (tasks_of ws ds) k (task_of x (get_or ds k d))
 word_set [] [] k x d e = refl
@@ -42,6 +48,14 @@ word_set [] (c ∷ ds) k x d e = absurd (omega (arith, e))
 word_set (y ∷ ws) [] k x d e = absurd (omega (arith, e))
 word_set (y ∷ ws) (c ∷ ds) zero x d e = refl
 word_set (y ∷ ws) (c ∷ ds) (suc k) x d e = ap (λ l. task_of y c ∷ l) (word_set ws ds k x d (omega (arith, e)))
+
+-- the table of details is written
+pub detail_set : (ws : List Parts) (ds : List Detail) (k : ℕ) (x : Parts) (d : Detail) → length ws ≡ length ds → tasks_of ws (set ds k d) ≡ set (tasks_of ws ds) k (task_of (get_or ws k x) d)
+detail_set [] [] k x d e = refl
+detail_set [] (c ∷ ds) k x d e = absurd (omega (arith, e))
+detail_set (y ∷ ws) [] k x d e = absurd (omega (arith, e))
+detail_set (y ∷ ws) (c ∷ ds) zero x d e = refl
+detail_set (y ∷ ws) (c ∷ ds) (suc k) x d e = ap (λ l. task_of y c ∷ l) (detail_set ws ds k x d (omega (arith, e)))
 
 -- the word of a task is the one that it was made of
 of_phase : (p : Parts) (over : Bool) → word_phase (phase_in p.phase over) ≡ p.phase
@@ -68,7 +82,7 @@ task_read ws ds tasks k x d e view low at =
 
 -- what is kept beside the word of a vacant task
 abbrev pub blank : Detail
-blank = record { due = 0; over = false }
+blank = record { due = 0; timing = t.Once; over = false; kept = false }
 
 -- a task is cancelled
 pub cancel_sets : (ws : List Parts) (ds : List Detail) (tasks : List Task) (k : ℕ) (x y : Parts) → length ws ≡ length ds → tasks_of ws ds ≡ tasks → k < length tasks → x ≡ get_or ws k x → y ≡ words.marked x →
@@ -124,33 +138,43 @@ word_marked ws ds tasks k x e view low at = sym (ap (λ (t : Task). t.cancelled)
 pub word_run : (ws : List Parts) (ds : List Detail) (tasks : List Task) (k : ℕ) (x : Parts) → length ws ≡ length ds → tasks_of ws ds ≡ tasks → k < length tasks → x ≡ get_or ws k x → x.run ≡ (slice_index_or tasks k vacant).run
 word_run ws ds tasks k x e view low at = sym (ap (λ (t : Task). t.run) (task_read ws ds tasks k x blank e view low at))
 
+-- a word that has the run of a task, and its bit
+pub record IsWordOf (x : Parts) (t : Task) : Type 0 where
+  pub run : x.run ≡ t.run
+  pub marked : x.marked ≡ t.cancelled
+
+-- the word at a place is that of its task
+pub word_there : (ws : List Parts) (ds : List Detail) (tasks : List Task) (k : ℕ) (x : Parts) (t : Task) → length ws ≡ length ds → tasks_of ws ds ≡ tasks → k < length tasks → x ≡ get_or ws k x → t ≡ slice_index_or tasks k vacant → IsWordOf x t
+word_there ws ds tasks k x t e view low at is = record {
+  run = word_run ws ds tasks k x e view low at ∙ ap (λ (q : Task). q.run) (sym is);
+  marked = word_marked ws ds tasks k x e view low at ∙ ap (λ (q : Task). q.cancelled) (sym is);
+}
+
 -- a word without the bit is not cancelled
 pub unmarked : (x : Parts) → x.marked ≡ false → words.is_cancelled x ≡ false
 unmarked x q = elim (x.phase) as (λ p. (words.is_live p && x.marked) ≡ false) [ w.Vacant ↦ refl | w.New ↦ q | w.Running ↦ q | w.Done ↦ refl | w.Failed ↦ refl ]
 
 -- a task is submitted
-pub submit_sets : (ws : List Parts) (ds : List Detail) (tasks : List Task) (k due : ℕ) (x y : Parts) → length ws ≡ length ds → tasks_of ws ds ≡ tasks → y ≡ words.submitted x →
-    tasks_of (set ws k y) (set ds k (record { due = due; over = false })) ≡ set tasks k (submit_task due vacant)
-submit_sets ws ds tasks k due x y e view is =
-    let d : Detail = record { due = due; over = false } in
-    both_set ws ds k y d e ∙ (λ i. set (view i) k (task_of (is i) d))
+pub submit_sets : (ws : List Parts) (ds : List Detail) (tasks : List Task) (k : ℕ) (timing : Timing) (due : ℕ) (x y : Parts) → length ws ≡ length ds → tasks_of ws ds ≡ tasks → y ≡ words.submitted x →
+    tasks_of (set ws k y) (set ds k (record { due = due; timing = timing; over = false; kept = false })) ≡ set tasks k (submit_task timing due vacant)
+submit_sets ws ds tasks k timing due x y e view is =
+    let d : Detail = record { due = due; timing = timing; over = false; kept = false } in
+    both_sets ws ds tasks k y d _ e view (ap (λ z. task_of z d) is)
 
 -- a run of a task begins
 pub start_sets : (ws : List Parts) (ds : List Detail) (tasks : List Task) (k : ℕ) (x y : Parts) (d : Detail) → length ws ≡ length ds → tasks_of ws ds ≡ tasks → k < length tasks → x ≡ get_or ws k x → d ≡ get_or ds k d → y ≡ words.started x →
-    tasks_of (set ws k y) (set ds k (record { due = d.due; over = false })) ≡ set tasks k (record (slice_index_or tasks k vacant) { phase = ph.Running })
+    tasks_of (set ws k y) (set ds k (record d { over = false })) ≡ set tasks k (record (slice_index_or tasks k vacant) { phase = ph.Running })
 start_sets ws ds tasks k x y d e view low at with_it is =
-    let c : Detail = record { due = d.due; over = false } in
+    let c : Detail = record d { over = false } in
     let task = task_read ws ds tasks k x d e view low at ∙ ap (task_of x) (sym with_it) in
     both_set ws ds k y c e ∙ (λ i. set (view i) k (task_of (is i) c)) ∙ ap (λ (t : Task). set tasks k (record t { phase = ph.Running })) (sym task)
 
--- a run of a task ends
-pub finish_sets : (ws : List Parts) (ds : List Detail) (tasks : List Task) (k due : ℕ) (x y : Parts) (over : Bool) (outcome : Outcome) → length ws ≡ length ds → tasks_of ws ds ≡ tasks → k < length tasks → x ≡ get_or ws k x →
-    ((d : Detail) → task_of y (record { due = due; over = over }) ≡ end_task outcome due (task_of x d)) →
-    tasks_of (set ws k y) (set ds k (record { due = due; over = over })) ≡ set tasks k (end_task outcome due (slice_index_or tasks k vacant))
-finish_sets ws ds tasks k due x y over outcome e view low at ends =
-    let c : Detail = record { due = due; over = over } in
-    let d = get_or ds k blank in
-    both_set ws ds k y c e ∙ (λ i. set (view i) k (ends d i)) ∙ ap (λ t. set tasks k (end_task outcome due t)) (sym (task_read ws ds tasks k x blank e view low at))
+-- a task is kept, or is kept no more
+pub keep_sets : (ws : List Parts) (ds : List Detail) (tasks : List Task) (k : ℕ) (d : Detail) (kept : Bool) → length ws ≡ length ds → tasks_of ws ds ≡ tasks → k < length tasks → d ≡ get_or ds k d →
+    tasks_of ws (set ds k (record d { kept = kept })) ≡ set tasks k (record (slice_index_or tasks k vacant) { kept = kept })
+keep_sets ws ds tasks k d kept e view low with_it =
+    let task = sym (ap (λ l. slice_index_or l k vacant) view) ∙ (at_place ws ds k words.vacant d e (is_in ws ds tasks k e view low) ∙ ap (task_of (get_or ws k words.vacant)) (sym with_it)) in
+    detail_set ws ds k words.vacant (record d { kept = kept }) e ∙ (λ i. set (view i) k (task_of (get_or ws k words.vacant) (record d { kept = kept }))) ∙ ap (λ (t : Task). set tasks k (record t { kept = kept })) (sym task)
 
 -- n vacant words, with nothing kept beside them, are n vacant tasks
 vacant_tasks : (n : ℕ) (x : Parts) → x ≡ words.vacant → tasks_of (replicate n x) (replicate n blank) ≡ replicate n vacant
@@ -163,21 +187,33 @@ vacant_tables n x ws ds is all none = (λ i. tasks_of (all i) (none i)) ∙ vaca
 
 -- ---- the task once its run has ended, by the outcome
 
+-- what is held beside the word of a task once its run has ended
+abbrev pub detail_past : Task → ℕ → Bool → Detail
+detail_past t due over = record { due = due; timing = t.timing; over = over; kept = t.kept }
+
 -- a task whose word and detail were written since it is done
-pub ended_done : (due : ℕ) (x y : Parts) (over : Bool) (outcome : Outcome) {value : ℕ} (d : Detail) → outcome ≡ o.Done value → y ≡ words.ended_well x → task_of y (record { due = due; over = over }) ≡ end_task outcome due (task_of x d)
-ended_done due x y over outcome d of is = ap (λ z. task_of z (record { due = due; over = over })) is ∙ ap (λ q. end_task q due (task_of x d)) (sym of)
+pub ended_done : (due : ℕ) (x y : Parts) (over : Bool) (outcome : Outcome) {value : ℕ} (t : Task) → IsWordOf x t → outcome ≡ o.Done value → y ≡ words.ended_well x → task_of y (detail_past t due over) ≡ end_task outcome due t
+ended_done due x y over outcome t word of is =
+    ap (λ z. task_of z (detail_past t due over)) is ∙ (λ i. record { phase = ph.Done; run = word.run i; due = due; timing = t.timing; cancelled = word.marked i; kept = t.kept }) ∙ ap (λ q. end_task q due t) (sym of)
 
 -- a task whose word and detail were written since its run failed
-pub ended_failed : (due : ℕ) (x y : Parts) (over : Bool) (outcome : Outcome) {code : ℕ} (d : Detail) → outcome ≡ o.Failed code → y ≡ words.ended_badly x → task_of y (record { due = due; over = over }) ≡ end_task outcome due (task_of x d)
-ended_failed due x y over outcome d of is = ap (λ z. task_of z (record { due = due; over = over })) is ∙ ap (λ q. end_task q due (task_of x d)) (sym of)
+pub ended_failed : (due : ℕ) (x y : Parts) (over : Bool) (outcome : Outcome) {code : ℕ} (t : Task) → IsWordOf x t → outcome ≡ o.Failed code → y ≡ words.ended_badly x → task_of y (detail_past t due over) ≡ end_task outcome due t
+ended_failed due x y over outcome t word of is =
+    ap (λ z. task_of z (detail_past t due over)) is ∙ (λ i. record { phase = ph.Failed; run = word.run i; due = due; timing = t.timing; cancelled = word.marked i; kept = t.kept }) ∙ ap (λ q. end_task q due t) (sym of)
 
 -- a task whose word and detail were written since it runs again
-pub ended_again : (due : ℕ) (x y : Parts) (over : Bool) (outcome : Outcome) {next : ℕ} (d : Detail) → outcome ≡ o.Again next → y ≡ words.rearmed x → task_of y (record { due = due; over = over }) ≡ end_task outcome due (task_of x d)
-ended_again due x y over outcome d of is =
-    let run : x.run + 1 ≡ 1 + x.run = omega arith in
-    ap (λ z. task_of z (record { due = due; over = over })) is ∙ (λ i. record { phase = ph.Waiting; run = run i; due = due; cancelled = x.marked }) ∙ ap (λ q. end_task q due (task_of x d)) (sym of)
+pub ended_again : (due : ℕ) (x y : Parts) (over : Bool) (outcome : Outcome) {next : ℕ} (t : Task) → IsWordOf x t → outcome ≡ o.Again next → y ≡ words.rearmed x → task_of y (detail_past t due over) ≡ end_task outcome due t
+ended_again due x y over outcome t word of is =
+    let run : x.run + 1 ≡ 1 + t.run = omega (arith, word.run) in
+    ap (λ z. task_of z (detail_past t due over)) is ∙ (λ i. record { phase = ph.Waiting; run = run i; due = due; timing = t.timing; cancelled = word.marked i; kept = t.kept }) ∙ ap (λ q. end_task q due t) (sym of)
 
--- a task whose detail was written since its run was dropped
-pub ended_dropped : (due : ℕ) (x y : Parts) (over : Bool) (outcome : Outcome) (d : Detail) → outcome ≡ o.Dropped → over ≡ true → x.phase ≡ w.Running → y ≡ x → task_of y (record { due = due; over = over }) ≡ end_task outcome due (task_of x d)
-ended_dropped due x y over outcome d of dropped runs is =
-    ap (λ z. task_of z (record { due = due; over = over })) is ∙ (λ i. record { phase = phase_in (runs i) (dropped i); run = x.run; due = due; cancelled = x.marked }) ∙ ap (λ q. end_task q due (task_of x d)) (sym of)
+-- a run that is dropped, or ends as its task is cancelled, leaves the task dropped
+pub end_over : (outcome : Outcome) (due : ℕ) (t : Task) → (outcome ≡ o.Dropped) ⊎ (outcome ≡ o.Ended) → end_task outcome due t ≡ record t { phase = ph.Dropped; due = due }
+end_over outcome due t (inl is) = ap (λ q. end_task q due t) is
+end_over outcome due t (inr is) = ap (λ q. end_task q due t) is
+
+-- a task whose detail was written since its run was dropped, or since it was cancelled as its run ended
+pub ended_over : (due : ℕ) (x y : Parts) (over : Bool) (outcome : Outcome) (t : Task) → IsWordOf x t → end_task outcome due t ≡ record t { phase = ph.Dropped; due = due } → over ≡ true → x.phase ≡ w.Running → y ≡ x →
+    task_of y (detail_past t due over) ≡ end_task outcome due t
+ended_over due x y over outcome t word of is_over runs is =
+    ap (λ z. task_of z (detail_past t due over)) is ∙ (λ i. record { phase = phase_in (runs i) (is_over i); run = word.run i; due = due; timing = t.timing; cancelled = word.marked i; kept = t.kept }) ∙ sym of

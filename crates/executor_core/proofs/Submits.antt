@@ -1,52 +1,63 @@
--- The step of a call.
-use Rattle.std.proofs.Common.{◌≡◌, ◌≢◌, ℕ, ◌+◌, ◌<◌, ◌==◌, max, Bool, true, false, cond, List, length, take, Option, Some, None, refl, sym, ap, ◌∙◌, arith, subst, add-one, suc}
+-- The step of a call that submits a task, or is refused.
+use Rattle.std.proofs.Common.{◌≡◌, ℕ, ◌+◌, ◌<◌, ◌≤◌, ◌==◌, ◌&&◌, ◌||◌, max, Bool, true, false, cond, List, length, take, Option, Some, None, refl, sym, ap, ◌∙◌, arith, subst, add-one}
 use Rattle.std.specs.Prelude.{slice_get, slice_index_or}
-use Rattle.std.specs.Option.{option_map_or}
 use Rattle.std.proofs.Math.ListN.{set}
+use Rattle.std.proofs.Math.Seq.{map-set_same}
 use Rattle.std.proofs.lemmas.Bool.{eqb-true}
 use Rattle.std.proofs.lemmas.Bool.Decides.{nat_tests}
 use Rattle.std.proofs.lemmas.Option.{slice_get_within}
 use Rattle.std.proofs.lemmas.List.{length-set, map-set}
+use Rattle.sched_time.specs.declared.timing.Timing.{Timing}
+use Rattle.sched_time.specs.declared.timing.Timing.TheVariants as t
+use Rattle.queue_code.specs.declared.call.CodeCall.{CodeCall}
 use Rattle.queue_code.specs.declared.call.CodeCall.TheVariants as c
+use Rattle.executor_core.specs.declared.types.Refusal.{Refusal}
 use Rattle.executor_core.specs.declared.types.Refusal.TheVariants as refusal
 use Rattle.executor_core.specs.declared.types.Happening.TheVariants as h
 use Rattle.executor_core.specs.declared.types.Kind.{Kind}
 use Rattle.executor_core.specs.declared.types.Answer.TheVariants as a
-use Rattle.executor_core.specs.declared.task.Phase.TheVariants as ph
 use Rattle.executor_core.specs.declared.task.Task.{Task}
-use Rattle.sched_time.specs.declared.timing.Timing.{Timing}
-use Rattle.sched_time.specs.declared.timing.Timing.TheVariants as t
-use Rattle.queue_code.specs.Calls.{Planned, Terms, terms_of, due_at, task_count}
-use Rattle.executor_core.specs.Answers.{Reply, plain, called, kind_of}
-use Rattle.executor_core.specs.State.{State, view_of_state, next, reply_of, state_after, vacant, submit_phase, submit_task}
-use Rattle.executor_core.specs.Machine.{Machine, workers_of, state_of, IsSound, IsWellFormedCore, IsDue, Takes, queued}
-use Rattle.executor_core.proofs.Agree.{next_sound, next_due_is}
-use Rattle.executor_core.proofs.Tables.{at_set, submission, runs_set, call_moment, count_grows}
+use Rattle.queue_code.specs.Calls.{Terms, terms_of, due_at, task_count}
+use Rattle.executor_core.specs.Answers.{plain, called, kind_of}
+use Rattle.executor_core.specs.State.{vacant, view_of_state, submit_phase, submit_task}
+use Rattle.executor_core.specs.Tasks.{uncancelled_in}
+use Rattle.executor_core.specs.Machine.{Machine, workers_of, state_of, IsWellFormedCore, Takes, queued, held}
+use Rattle.executor_core.proofs.Keeping.{kept_stays}
+use Rattle.executor_core.proofs.Agree.{still_true}
+use Rattle.executor_core.proofs.Tables.{at_set, submission, runs_set, uncancelled_set}
+use Rattle.executor_core.proofs.Calling.{view_at, called_state, call_reply, call_state, kept_so, passed, passed_steps}
 
--- the state of two tables
-abbrev pub state_at : ℕ → ℕ → List Task → List (Option ℕ) → State
-state_at made moment tasks work = record {
-  made = made;
-  moment = moment;
-  tasks = λ k. slice_index_or tasks k vacant;
-  workers = λ w. slice_index_or work w None;
-}
+-- a call that is refused
 
--- the reply to a call, given the call
-abbrev pub reply_to : List Planned → State → Option Planned → Reply
-reply_to calls s call = option_map_or (λ p. called calls (record (view_of_state calls s) { moment = max s.moment p.0 }) p.1) call (plain a.Clock)
+-- the state after a refusal
+refused_state : (m : Machine) (at task : ℕ) (refusal : Refusal) → state_of (passed m (max m.moment at)) ≡ called_state m.calls (state_of m) at (a.Refuse task refusal)
+refused_state m at task refusal =
+    let one : m.made + 1 ≡ 1 + m.made = omega arith in
+    λ i. record (state_of m) {
+      made = one i;
+      moment = max m.moment at;
+      tasks = λ k. record ((state_of m).tasks k) { kept = sym (kept_stays (view_of_state m.calls (state_of m)) k (a.Refuse task refusal) refl refl refl) i };
+    }
 
--- the state after it
-abbrev pub state_to : List Planned → State → Option Planned → State
-state_to calls s call = record (state_after calls s h.Call (reply_to calls s call)) { moment = option_map_or (λ p. max s.moment p.0) call s.moment }
+-- a core takes the step of a call that is refused
+pub refuse_steps : (m old : Machine) (moment at task : ℕ) (call : CodeCall) (refusal : Refusal) → slice_get m.calls m.made ≡ Some (at, call) → called m.calls (view_at m.calls (state_of m) at) call ≡ plain (a.Refuse task refusal) →
+    moment ≡ max m.moment at → m ≡ old → Takes old (passed m moment) h.Call (a.Refuse task refusal)
+refuse_steps m old moment at task call refusal is said greatest same =
+    passed_steps m old moment at call (a.Refuse task refusal) is said (refused_state m at task refusal) greatest same
+
+-- the reply to a submission where the executor is shut
+pub shut_reply : (m : Machine) (at task delay : ℕ) (timing : Timing) → m.shut ≡ true → called m.calls (view_at m.calls (state_of m) at) (c.Submit task timing delay) ≡ plain (a.Refuse task refusal.Rejected)
+shut_reply m at task delay timing shut = ap (λ b. plain (cond b (a.Refuse task refusal.Rejected) (a.Submit task (kind_of timing) (due_at (terms_of m.calls task) 0 None)))) shut
+
+-- a call that is accepted
 
 -- a task that was just submitted
-abbrev pub waiting : ℕ → Task
-waiting due = submit_task due vacant
+abbrev pub waiting : Timing → ℕ → Task
+waiting timing due = submit_task timing due vacant
 
--- a task, cancelled or not as before
-abbrev as_before : Task → Task → Task
-as_before old new = record new { cancelled = old.cancelled }
+-- a core whose next call submitted a task
+abbrev pub submitted : Machine → ℕ → ℕ → Timing → ℕ → Machine
+submitted m moment task timing due = record m { made = m.made + 1; moment = moment; tasks = set m.tasks task (waiting timing due) }
 
 due_first : (terms : Terms) (timing : Timing) (first : ℕ) → terms ≡ record { timing = timing; first = first } → due_at terms 0 None ≡ first
 due_first terms timing first e = ap (λ x. due_at x 0 None) e ∙ by timing
@@ -54,134 +65,59 @@ due_first terms timing first e = ap (λ x. due_at x 0 None) e ∙ by timing
     by : (timing : Timing) → due_at (record { timing = timing; first = first }) 0 None ≡ first
     by timing = elim timing as (λ timing. due_at (record { timing = timing; first = first }) 0 None ≡ first) [ t.Once ↦ refl | t.Rate period ↦ omega arith | t.Fixed delay ↦ refl ]
 
--- the reply to a call that submits a task
-pub submit_answer : (calls : List Planned) (workers made moment at task delay : ℕ) (timing : Timing) (tasks : List Task) (work : List (Option ℕ)) →
-    slice_get calls made ≡ Some (at, c.Submit task timing delay) → terms_of calls task ≡ record { timing = timing; first = at + delay } →
-    a.Submit task (kind_of timing) (at + delay) ≡ (reply_of calls workers (state_at made moment tasks work) h.Call).answer
-submit_answer calls workers made moment at task delay timing tasks work is terms =
-    ap (a.Submit task (kind_of timing)) (sym (due_first (terms_of calls task) timing (at + delay) terms))
-    ∙ sym (ap (λ o. (reply_to calls (state_at made moment tasks work) o).answer) is)
+-- the reply to a submission where the executor is not shut
+open_reply : (m : Machine) (at task delay : ℕ) (timing : Timing) (kind : Kind) → m.shut ≡ false → terms_of m.calls task ≡ record { timing = timing; first = at + delay } → kind ≡ kind_of timing →
+    called m.calls (view_at m.calls (state_of m) at) (c.Submit task timing delay) ≡ plain (a.Submit task kind (at + delay))
+open_reply m at task delay timing kind opened terms how = λ i.
+    plain (cond (opened i) (a.Refuse task refusal.Rejected) (a.Submit task (sym how i) (due_first (terms_of m.calls task) timing (at + delay) terms i)))
 
-submitted_at : (tasks : List Task) (task k due : ℕ) → task < length tasks → slice_index_or tasks task vacant ≡ vacant →
-    slice_index_or (set tasks task (waiting due)) k vacant ≡ as_before (slice_index_or tasks k vacant) (cond (task == k) (submit_phase due (slice_index_or tasks k vacant).phase (slice_index_or tasks k vacant)) (slice_index_or tasks k vacant))
-submitted_at tasks task k due low fresh =
-    let pick : (b : Bool) → (task == k) ≡ b → cond b (waiting due) (slice_index_or tasks k vacant) ≡ as_before (slice_index_or tasks k vacant) (cond b (submit_phase due (slice_index_or tasks k vacant).phase (slice_index_or tasks k vacant)) (slice_index_or tasks k vacant)) =
-    elim [
-      | true ↦ λ same. sym (ap (λ (t : Task). as_before t (submit_phase due t.phase t)) (ap (λ j. slice_index_or tasks j vacant) (sym (eqb-true task k same)) ∙ fresh))
-      | false ↦ λ apart. refl
-    ]
-    in
-    at_set tasks task k (waiting due) vacant low ∙ pick (task == k) refl
+-- a task, cancelled and kept as before
+abbrev as_before : Task → Task → Task
+as_before old new = record new { cancelled = old.cancelled; kept = (old.kept && true) || false }
 
--- the state after a call that submits a task
-pub submit_state : (calls : List Planned) (workers made moment at task delay : ℕ) (timing : Timing) (tasks : List Task) (work : List (Option ℕ)) →
-    slice_get calls made ≡ Some (at, c.Submit task timing delay) → terms_of calls task ≡ record { timing = timing; first = at + delay } →
-    task < length tasks → slice_index_or tasks task vacant ≡ vacant →
-    state_at (made + 1) (max moment at) (set tasks task (waiting (at + delay))) work ≡ next calls workers (state_at made moment tasks work) h.Call
-submit_state calls workers made moment at task delay timing tasks work is terms low fresh =
-    let s = state_at made moment tasks work in
-    let one : made + 1 ≡ 1 + made = omega arith in
-    let due = due_first (terms_of calls task) timing (at + delay) terms in
-    let there : state_at (made + 1) (max moment at) (set tasks task (waiting (at + delay))) work ≡ state_to calls s (Some (at, c.Submit task timing delay)) =
-    λ i. record {
-      made = one i;
-      moment = max moment at;
-      tasks = λ k. (submitted_at tasks task k (at + delay) low fresh
-          ∙ ap (λ d. as_before (slice_index_or tasks k vacant) (cond (task == k) (submit_phase d (slice_index_or tasks k vacant).phase (slice_index_or tasks k vacant)) (slice_index_or tasks k vacant))) (sym due)) i;
-      workers = λ w. slice_index_or work w None;
-    }
-    in
-    there ∙ ap (state_to calls s) (sym is)
-
--- the state after a call that is not accepted
-pub refuse_state : (calls : List Planned) (workers made moment at task : ℕ) (tasks : List Task) (work : List (Option ℕ)) →
-    slice_get calls made ≡ Some (at, c.Illegal task) →
-    state_at (made + 1) (max moment at) tasks work ≡ next calls workers (state_at made moment tasks work) h.Call
-refuse_state calls workers made moment at task tasks work is =
-    let s = state_at made moment tasks work in
-    let one : made + 1 ≡ 1 + made = omega arith in
-    let there : state_at (made + 1) (max moment at) tasks work ≡ state_to calls s (Some (at, c.Illegal task)) =
-    λ i. record { made = one i; moment = max moment at; tasks = λ k. slice_index_or tasks k vacant; workers = λ w. slice_index_or work w None }
-    in
-    there ∙ ap (state_to calls s) (sym is)
-
--- a core once it has refused a task
-abbrev pub refused : Machine → ℕ → Machine
-refused m moment = record m { made = m.made + 1; moment = moment }
-
--- the step of a call that is not accepted
-pub refuse_takes : (m : Machine) (at task : ℕ) → slice_get m.calls m.made ≡ Some (at, c.Illegal task) →
-    Takes m (refused m (max m.moment at)) h.Call (a.Refuse task refusal.Illegal)
-refuse_takes m at task is = record {
-  calls = refl;
-  limit = refl;
-  taken = refl;
-  workers = refl;
-  state = refuse_state m.calls (workers_of m) m.made m.moment at task m.tasks m.work is;
-  said = sym (ap (λ o. (reply_to m.calls (state_of m) o).answer) is);
-}
-
--- what stays true after it
-pub refuse_kept : (m : Machine) (entries : List (Option ℕ)) (timings : List Timing) (at task : ℕ) → IsWellFormedCore m entries timings → slice_get m.calls m.made ≡ Some (at, c.Illegal task) →
-    IsWellFormedCore (refused m (max m.moment at)) entries timings
-refuse_kept m entries timings at task kept is =
-    let near = call_moment m.calls 0 0 m.made at (c.Illegal task) kept.orderly.1 is in
-    let state = refuse_state m.calls (workers_of m) m.made m.moment at task m.tasks m.work is in
-    record {
-      orderly = kept.orderly;
-      made = omega (arith, slice_get_within m.calls m.made (at, c.Illegal task) is);
-      some = kept.some;
-      few = kept.few;
-      taken = kept.taken;
-      moment = grind (arith, kept.moment, near);
-      count = kept.count;
-      queue = kept.queue;
-      timed = kept.timed;
-      timing = kept.timing;
-      fresh = λ k above.
-          let more : task_count (take (m.made + 1) m.calls) ≡ task_count (take (suc m.made) m.calls) = ap (λ n. task_count (take n m.calls)) (add-one m.made) in
-          kept.fresh k (omega (arith, above, more, count_grows m.calls m.made));
-      sound = subst IsSound (sym state) (next_sound m.calls (workers_of m) (state_of m) h.Call kept.sound);
-      due = subst (λ s. IsDue m.calls (view_of_state m.calls s)) (sym state) (next_due_is m.calls (workers_of m) (state_of m) h.Call kept.sound kept.due);
-      runs = kept.runs;
-    }
-
--- ---- the same, with the moment as a call gives it, and the core as it was
-
--- a core stays well formed where its next call is refused
-pub refuse_keeps : (m : Machine) (entries : List (Option ℕ)) (timings : List Timing) (moment at task : ℕ) → IsWellFormedCore m entries timings → slice_get m.calls m.made ≡ Some (at, c.Illegal task) →
-    moment ≡ max m.moment at → IsWellFormedCore (refused m moment) entries timings
-refuse_keeps m entries timings moment at task kept is greatest = subst (λ n. IsWellFormedCore (refused m n) entries timings) (sym greatest) (refuse_kept m entries timings at task kept is)
-
--- a core takes the step of a call that is refused
-pub refuse_steps : (m old : Machine) (moment at task : ℕ) → slice_get m.calls m.made ≡ Some (at, c.Illegal task) → moment ≡ max m.moment at → m ≡ old →
-    Takes old (refused m moment) h.Call (a.Refuse task refusal.Illegal)
-refuse_steps m old moment at task is greatest same =
-    subst (λ x. Takes x (refused m moment) h.Call (a.Refuse task refusal.Illegal)) same
-    (subst (λ n. Takes m (refused m n) h.Call (a.Refuse task refusal.Illegal)) (sym greatest) (refuse_takes m at task is))
+submitted_at : (m : Machine) (task k due : ℕ) (timing : Timing) → task < length m.tasks → slice_index_or m.tasks task vacant ≡ vacant → (terms_of m.calls task).timing ≡ timing →
+    slice_index_or (set m.tasks task (waiting timing due)) k vacant
+    ≡ as_before (slice_index_or m.tasks k vacant) (cond (task == k) (submit_phase (terms_of m.calls k).timing due (slice_index_or m.tasks k vacant).phase (slice_index_or m.tasks k vacant)) (slice_index_or m.tasks k vacant))
+submitted_at m task k due timing low fresh timed = at_set m.tasks task k (waiting timing due) vacant low ∙ by (task == k) refl
+  where
+    by : (b : Bool) → (task == k) ≡ b → cond b (waiting timing due) (slice_index_or m.tasks k vacant)
+        ≡ as_before (slice_index_or m.tasks k vacant) (cond b (submit_phase (terms_of m.calls k).timing due (slice_index_or m.tasks k vacant).phase (slice_index_or m.tasks k vacant)) (slice_index_or m.tasks k vacant))
+    by true same =
+        let here : vacant ≡ slice_index_or m.tasks k vacant = sym fresh ∙ ap (λ j. slice_index_or m.tasks j vacant) (eqb-true task k same) in
+        let how : timing ≡ (terms_of m.calls k).timing = sym timed ∙ ap (λ j. (terms_of m.calls j).timing) (eqb-true task k same) in
+        λ i. as_before (here i) (submit_phase (how i) due (here i).phase (here i))
+    by false apart = λ i. record (slice_index_or m.tasks k vacant) { kept = kept_so (slice_index_or m.tasks k vacant).kept i }
 
 -- the step of a submission
-pub submit_takes : (m : Machine) (entries : List (Option ℕ)) (timings : List Timing) (at task delay : ℕ) (timing : Timing) (kind : Kind) → IsWellFormedCore m entries timings → slice_get m.calls m.made ≡ Some (at, c.Submit task timing delay) →
-    kind ≡ kind_of timing →
-    Takes m (record m { made = m.made + 1; moment = max m.moment at; tasks = set m.tasks task (waiting (at + delay)) }) h.Call (a.Submit task kind (at + delay))
-submit_takes m entries timings at task delay timing kind kept is how =
+submit_takes : (m : Machine) (entries keeps : List (Option ℕ)) (searched : Bool) (at task delay : ℕ) (timing : Timing) (kind : Kind) → IsWellFormedCore m entries keeps searched →
+    slice_get m.calls m.made ≡ Some (at, c.Submit task timing delay) → m.shut ≡ false → kind ≡ kind_of timing → Takes m (submitted m (max m.moment at) task timing (at + delay)) h.Call (a.Submit task kind (at + delay))
+submit_takes m entries keeps searched at task delay timing kind kept is opened how =
     let sub = submission m.calls 0 0 m.made at task timing delay kept.orderly.1 is in
+    let one : m.made + 1 ≡ 1 + m.made = omega arith in
+    let low : task < length m.tasks = omega (arith, sub.below, kept.count) in
+    let fresh = kept.fresh task (omega (arith, sub.number)) in
+    let said = open_reply m at task delay timing kind opened sub.terms how in
+    let there : state_of (submitted m (max m.moment at) task timing (at + delay)) ≡ called_state m.calls (state_of m) at (a.Submit task kind (at + delay)) =
+    λ i. record (state_of m) { made = one i; moment = max m.moment at; tasks = λ k. submitted_at m task k (at + delay) timing low fresh (ap (λ (x : Terms). x.timing) sub.terms) i }
+    in
     record {
       calls = refl;
       limit = refl;
       taken = refl;
       workers = refl;
-      state = submit_state m.calls (workers_of m) m.made m.moment at task delay timing m.tasks m.work is sub.terms (omega (arith, sub.below, kept.count)) (kept.fresh task (omega (arith, sub.number)));
-      said = ap (λ x. a.Submit task x (at + delay)) how ∙ submit_answer m.calls (workers_of m) m.made m.moment at task delay timing m.tasks m.work is sub.terms;
+      state = call_state m.calls (workers_of m) at (state_of m) _ (c.Submit task timing delay) (a.Submit task kind (at + delay)) is said there;
+      said = call_reply m.calls (workers_of m) at (state_of m) (c.Submit task timing delay) (a.Submit task kind (at + delay)) is said;
     }
 
 -- what stays true after a submission
-pub submit_kept : (m : Machine) (entries : List (Option ℕ)) (timings : List Timing) (at task delay : ℕ) (timing : Timing) → IsWellFormedCore m entries timings → slice_get m.calls m.made ≡ Some (at, c.Submit task timing delay) →
-    IsWellFormedCore (record m { made = m.made + 1; moment = max m.moment at; tasks = set m.tasks task (waiting (at + delay)) }) (set entries task (Some (at + delay))) (set timings task timing)
-submit_kept m entries timings at task delay timing kept is =
+submit_kept : (m : Machine) (entries keeps : List (Option ℕ)) (searched : Bool) (at task delay : ℕ) (timing : Timing) → IsWellFormedCore m entries keeps searched →
+    slice_get m.calls m.made ≡ Some (at, c.Submit task timing delay) → m.shut ≡ false → IsWellFormedCore (submitted m (max m.moment at) task timing (at + delay)) (set entries task (Some (at + delay))) keeps searched
+submit_kept m entries keeps searched at task delay timing kept is opened =
     let sub = submission m.calls 0 0 m.made at task timing delay kept.orderly.1 is in
     let low : task < length m.tasks = omega (arith, sub.below, kept.count) in
     let fresh = kept.fresh task (omega (arith, sub.number)) in
+    let takes = submit_takes m entries keeps searched at task delay timing (kind_of timing) kept is opened refl in
+    let still = still_true m (submitted m (max m.moment at) task timing (at + delay)) entries keeps searched h.Call kept refl takes.state in
     record {
       orderly = kept.orderly;
       made = omega (arith, slice_get_within m.calls m.made (at, c.Submit task timing delay) is);
@@ -189,61 +125,45 @@ submit_kept m entries timings at task delay timing kept is =
       few = kept.few;
       taken = kept.taken;
       moment = grind (arith, kept.moment, sub.moment);
-      count = length-set m.tasks task (waiting (at + delay)) ∙ kept.count;
-      queue = ap (λ q. set q task (Some (at + delay))) kept.queue ∙ sym (map-set queued m.tasks task (waiting (at + delay)));
-      timed = length-set timings task timing ∙ kept.timed;
-      timing = λ k used.
-          at_set timings task k timing t.Once (omega (arith, sub.below, kept.timed))
-          ∙ timed (task == k) k refl (subst (λ x. x.phase ≢ ph.Vacant) (at_set m.tasks task k (waiting (at + delay)) vacant low) used) sub.terms kept;
+      count = length-set m.tasks task (waiting timing (at + delay)) ∙ kept.count;
+      queue = ap (λ q. set q task (Some (at + delay))) kept.queue ∙ sym (map-set queued m.tasks task (waiting timing (at + delay)));
+      keeping = kept.keeping ∙ sym (map-set_same held m.tasks task (waiting timing (at + delay)) vacant (sym (ap held fresh)));
+      timing = still.timing;
+      delayed = still.delayed;
       fresh = λ k above.
           let more : task_count (take (m.made + 1) m.calls) ≡ task + 1 = ap (λ n. task_count (take n m.calls)) (add-one m.made) ∙ (omega arith ∙ sub.more) in
-          at_set m.tasks task k (waiting (at + delay)) vacant low
-          ∙ (ap (λ b. cond b (waiting (at + delay)) (slice_index_or m.tasks k vacant)) (apart task k (omega (arith, above, more))) ∙ kept.fresh k (omega (arith, above, more, sub.number)));
-      sound = subst IsSound (sym (submit_state m.calls (workers_of m) m.made m.moment at task delay timing m.tasks m.work is sub.terms low fresh)) (next_sound m.calls (workers_of m) (state_of m) h.Call kept.sound);
-      due = subst (λ s. IsDue m.calls (view_of_state m.calls s)) (sym (submit_state m.calls (workers_of m) m.made m.moment at task delay timing m.tasks m.work is sub.terms low fresh))
-          (next_due_is m.calls (workers_of m) (state_of m) h.Call kept.sound kept.due);
-      runs = runs_set m.taken m.tasks task (waiting (at + delay)) low kept.runs (omega arith) (λ q. cc);
+          at_set m.tasks task k (waiting timing (at + delay)) vacant low
+          ∙ (ap (λ b. cond b (waiting timing (at + delay)) (slice_index_or m.tasks k vacant)) (apart task k (omega (arith, above, more))) ∙ kept.fresh k (omega (arith, above, more, sub.number)));
+      sound = still.sound;
+      due = still.due;
+      runs = runs_set m.taken m.tasks task (waiting timing (at + delay)) low kept.runs (omega arith) (λ q. cc);
     }
   where
-    timed : (b : Bool) (k : ℕ) → (task == k) ≡ b → (cond b (waiting (at + delay)) (slice_index_or m.tasks k vacant)).phase ≢ ph.Vacant →
-        terms_of m.calls task ≡ record { timing = timing; first = at + delay } → IsWellFormedCore m entries timings → cond b timing (slice_index_or timings k t.Once) ≡ (terms_of m.calls k).timing
-    timed true k same used terms kept = sym (ap (λ x. x.timing) terms) ∙ ap (λ j. (terms_of m.calls j).timing) (eqb-true task k same)
-    timed false k other used terms kept = kept.timing k used
-
     apart : (j k : ℕ) → j < k → (j == k) ≡ false
     apart j k l = grind (arith, nat_tests)
 
--- the same, with the moment and the entries as a call gives them
-pub submit_keeps : (m : Machine) (entries entries' : List (Option ℕ)) (timings : List Timing) (moment at task delay : ℕ) (timing : Timing) → IsWellFormedCore m entries timings → slice_get m.calls m.made ≡ Some (at, c.Submit task timing delay) →
-    moment ≡ max m.moment at → entries' ≡ set entries task (Some (at + delay)) →
-    IsWellFormedCore (record m { made = m.made + 1; moment = moment; tasks = set m.tasks task (waiting (at + delay)) }) entries' (set timings task timing)
-submit_keeps m entries entries' timings moment at task delay timing kept is greatest put =
-    subst (λ n. IsWellFormedCore (record m { made = m.made + 1; moment = n; tasks = set m.tasks task (waiting (at + delay)) }) entries' (set timings task timing)) (sym greatest)
-    (subst (λ q. IsWellFormedCore (record m { made = m.made + 1; moment = max m.moment at; tasks = set m.tasks task (waiting (at + delay)) }) q (set timings task timing)) (sym put) (submit_kept m entries timings at task delay timing kept is))
+-- the same, with what a call gives
 
--- a core takes the step of a call that submits a task
-pub submit_steps : (m old : Machine) (entries : List (Option ℕ)) (timings : List Timing) (moment at task delay : ℕ) (timing : Timing) (kind : Kind) → IsWellFormedCore m entries timings → slice_get m.calls m.made ≡ Some (at, c.Submit task timing delay) →
-    kind ≡ kind_of timing → moment ≡ max m.moment at → m ≡ old →
-    Takes old (record m { made = m.made + 1; moment = moment; tasks = set m.tasks task (waiting (at + delay)) }) h.Call (a.Submit task kind (at + delay))
-submit_steps m old entries timings moment at task delay timing kind kept is how greatest same =
-    subst (λ x. Takes x (record m { made = m.made + 1; moment = moment; tasks = set m.tasks task (waiting (at + delay)) }) h.Call (a.Submit task kind (at + delay))) same
-    (subst (λ n. Takes m (record m { made = m.made + 1; moment = n; tasks = set m.tasks task (waiting (at + delay)) }) h.Call (a.Submit task kind (at + delay))) (sym greatest)
-    (submit_takes m entries timings at task delay timing kind kept is how))
-
--- ---- the same, with the tasks as a call leaves them
-
--- a core whose table the code has written at a submission stays well formed
-pub submit_keeps_in : (m : Machine) (entries entries' : List (Option ℕ)) (timings : List Timing) (moment at task delay : ℕ) (timing : Timing) (tasks : List Task) → IsWellFormedCore m entries timings → slice_get m.calls m.made ≡ Some (at, c.Submit task timing delay) →
-    moment ≡ max m.moment at → entries' ≡ set entries task (Some (at + delay)) → tasks ≡ set m.tasks task (waiting (at + delay)) →
-    IsWellFormedCore (record m { made = m.made + 1; moment = moment; tasks = tasks }) entries' (set timings task timing)
-submit_keeps_in m entries entries' timings moment at task delay timing tasks kept is greatest put written =
-    subst (λ l. IsWellFormedCore (record m { made = m.made + 1; moment = moment; tasks = l }) entries' (set timings task timing)) (sym written)
-    (submit_keeps m entries entries' timings moment at task delay timing kept is greatest put)
+-- a core whose tables the code has written at a submission stays well formed
+pub submit_keeps_in : (m : Machine) (entries entries' keeps : List (Option ℕ)) (searched : Bool) (moment at task delay : ℕ) (timing : Timing) (tasks : List Task) → IsWellFormedCore m entries keeps searched →
+    slice_get m.calls m.made ≡ Some (at, c.Submit task timing delay) → m.shut ≡ false → moment ≡ max m.moment at → entries' ≡ set entries task (Some (at + delay)) → tasks ≡ set m.tasks task (waiting timing (at + delay)) →
+    IsWellFormedCore (record m { made = m.made + 1; moment = moment; tasks = tasks }) entries' keeps searched
+submit_keeps_in m entries entries' keeps searched moment at task delay timing tasks kept is opened greatest put written =
+    subst (λ l. IsWellFormedCore (record m { made = m.made + 1; moment = moment; tasks = l }) entries' keeps searched) (sym written)
+    (subst (λ q. IsWellFormedCore (submitted m moment task timing (at + delay)) q keeps searched) (sym put)
+    (subst (λ n. IsWellFormedCore (submitted m n task timing (at + delay)) (set entries task (Some (at + delay))) keeps searched) (sym greatest) (submit_kept m entries keeps searched at task delay timing kept is opened)))
 
 -- a core whose table the code has written takes the step of a submission
-pub submit_steps_in : (m old : Machine) (entries : List (Option ℕ)) (timings : List Timing) (moment at task delay : ℕ) (timing : Timing) (kind : Kind) (tasks : List Task) → IsWellFormedCore m entries timings → slice_get m.calls m.made ≡ Some (at, c.Submit task timing delay) →
-    kind ≡ kind_of timing → moment ≡ max m.moment at → m ≡ old → tasks ≡ set m.tasks task (waiting (at + delay)) →
+pub submit_steps_in : (m old : Machine) (entries keeps : List (Option ℕ)) (searched : Bool) (moment at task delay : ℕ) (timing : Timing) (kind : Kind) (tasks : List Task) → IsWellFormedCore m entries keeps searched →
+    slice_get m.calls m.made ≡ Some (at, c.Submit task timing delay) → m.shut ≡ false → kind ≡ kind_of timing → moment ≡ max m.moment at → m ≡ old → tasks ≡ set m.tasks task (waiting timing (at + delay)) →
     Takes old (record m { made = m.made + 1; moment = moment; tasks = tasks }) h.Call (a.Submit task kind (at + delay))
-submit_steps_in m old entries timings moment at task delay timing kind tasks kept is how greatest same written =
+submit_steps_in m old entries keeps searched moment at task delay timing kind tasks kept is opened how greatest same written =
     subst (λ l. Takes old (record m { made = m.made + 1; moment = moment; tasks = l }) h.Call (a.Submit task kind (at + delay))) (sym written)
-    (submit_steps m old entries timings moment at task delay timing kind kept is how greatest same)
+    (subst (λ x. Takes x (submitted m moment task timing (at + delay)) h.Call (a.Submit task kind (at + delay))) same
+    (subst (λ n. Takes m (submitted m n task timing (at + delay)) h.Call (a.Submit task kind (at + delay))) (sym greatest) (submit_takes m entries keeps searched at task delay timing kind kept is opened how)))
+
+-- a submission makes no more tasks that are not cancelled
+pub submit_fewer : (m old : Machine) (task due : ℕ) (timing : Timing) (tasks : List Task) → task < length m.tasks → slice_index_or m.tasks task vacant ≡ vacant → m ≡ old → tasks ≡ set m.tasks task (waiting timing due) →
+    uncancelled_in tasks ≤ uncancelled_in old.tasks
+submit_fewer m old task due timing tasks low fresh same written =
+    omega (arith, ap uncancelled_in written, ap (λ (x : Machine). uncancelled_in x.tasks) same, uncancelled_set m.tasks task (waiting timing due) low (λ q. ap (λ (x : Task). x.cancelled) fresh))

@@ -1,6 +1,6 @@
 -- Tables of tasks and workers as lists, and the numbers of submissions.
-use Rattle.std.proofs.Common.{◌≡◌, ℕ, ◌+◌, ◌^◌, ◌<◌, ◌≤◌, ◌==◌, zero, suc, Bool, true, false, cond, List, [], ◌∷◌, length, take, Option, Some, None, refl, sym, ap, ◌∙◌, arith, subst}
-use Rattle.std.specs.Prelude.{slice_get, slice_index_or, replicate, is_some}
+use Rattle.std.proofs.Common.{◌≡◌, ◌≢◌, ℕ, ◌+◌, ◌^◌, ◌<◌, ◌≤◌, ◌==◌, zero, suc, Bool, true, false, cond, List, [], ◌∷◌, length, map, take, Option, Some, None, refl, sym, ap, ◌∙◌, arith, subst}
+use Rattle.std.specs.Prelude.{slice_get, slice_index_or, replicate, is_some, not}
 use Rattle.std.proofs.Math.ListN.{set}
 use Rattle.std.proofs.lemmas.Bool.{false≢true, eqb-true, eqb-false, eq-eqb, false_from_ne_true}
 use Rattle.std.proofs.lemmas.Option.{none-some, same_Some}
@@ -11,7 +11,8 @@ use Rattle.sched_time.specs.declared.timing.Timing.{Timing}
 use Rattle.executor_core.specs.declared.task.Phase.TheVariants as ph
 use Rattle.executor_core.specs.declared.task.Task.{Task}
 use Rattle.executor_core.specs.State.{vacant}
-use Rattle.executor_core.specs.Machine.{RunsBelow}
+use Rattle.executor_core.specs.Tasks.{uncancelled_in}
+use Rattle.executor_core.specs.Machine.{RunsBelow, queued, held}
 use Rattle.queue_code.specs.Calls.{Planned, IsOrderlyFrom, IsOrderlyCall, count_after, is_submission, task_count, terms_of}
 
 -- a table after a write
@@ -31,12 +32,9 @@ at_replicate zero j x = refl
 at_replicate (suc n) zero x = refl
 at_replicate (suc n) (suc j) x = at_replicate n j x
 
--- ---- submissions have their numbers
+-- submissions have their numbers
 
-submit_same : {at at' j j' d d' : ℕ} {how how' : Timing} → (let x : Planned = (at, c.Submit j how d) in let y : Planned = (at', c.Submit j' how' d') in x ≡ y) → (at ≡ at') × (j ≡ j') × (how ≡ how') × (d ≡ d')
-submit_same e = let call = ap (λ (p : Planned). p.1) e in (ap (λ (p : Planned). p.0) e, cc, cc, cc)
-
--- what a submission says, where `count` is the number of submissions before the calls
+-- what a submission says, where so many submissions stand before the calls
 pub record Submission (calls : List Planned) (count n at task : ℕ) (timing : Timing) (delay : ℕ) : Type 0 where
   pub terms : terms_of calls task ≡ record { timing = timing; first = at + delay }
   pub number : task ≡ count + task_count (take n calls)
@@ -46,19 +44,19 @@ pub record Submission (calls : List Planned) (count n at task : ℕ) (timing : T
   pub within : delay ≤ 2 ^ 62
 
 -- where the calls after the first one have it
-later_submission : (calls : List Planned) (at' count n at task : ℕ) (call : CodeCall) (timing : Timing) (delay : ℕ) → IsOrderlyCall count call → count_after count call ≡ count + 1 → is_submission call ≡ true →
-    Submission calls (count + 1) n at task timing delay → Submission ((at', call) ∷ calls) count (suc n) at task timing delay
-later_submission calls at' count n at task (c.Submit j how d) timing delay o one is rest =
+later_submission : (calls : List Planned) (first count n at task : ℕ) (call : CodeCall) (timing : Timing) (delay : ℕ) → IsOrderlyCall count call →
+    Submission calls (count_after count call) n at task timing delay → Submission ((first, call) ∷ calls) count (suc n) at task timing delay
+later_submission calls first count n at task (c.Submit j how d) timing delay o rest =
     let apart : (j == task) ≡ false = false_from_ne_true (j == task) (λ e. absurd (omega (arith, rest.number, o.0, eqb-true j task e))) in
     record {
-      terms = ap (λ b. cond b (record { timing = how; first = at' + d }) (terms_of calls task)) apart ∙ rest.terms;
+      terms = ap (λ b. cond b (record { timing = how; first = first + d }) (terms_of calls task)) apart ∙ rest.terms;
       number = omega (arith, rest.number);
       more = omega (arith, rest.more);
       below = omega (arith, rest.below);
       moment = rest.moment;
       within = rest.within;
     }
-later_submission calls at' count n at task (c.Illegal j) timing delay o one is rest = record {
+later_submission calls first count n at task (c.Illegal j) timing delay o rest = record {
   terms = rest.terms;
   number = omega (arith, rest.number);
   more = omega (arith, rest.more);
@@ -66,37 +64,33 @@ later_submission calls at' count n at task (c.Illegal j) timing delay o one is r
   moment = rest.moment;
   within = rest.within;
 }
-later_submission calls at' count n at task (c.Cancel j) timing delay o one is rest = absurd (false≢true is)
+later_submission calls first count n at task (c.Cancel j) timing delay o rest = record { terms = rest.terms; number = rest.number; more = rest.more; below = rest.below; moment = rest.moment; within = rest.within }
+later_submission calls first count n at task (c.SetPolicy which value) timing delay o rest = record { terms = rest.terms; number = rest.number; more = rest.more; below = rest.below; moment = rest.moment; within = rest.within }
+later_submission calls first count n at task c.Shutdown timing delay o rest = record { terms = rest.terms; number = rest.number; more = rest.more; below = rest.below; moment = rest.moment; within = rest.within }
+later_submission calls first count n at task c.Ask timing delay o rest = record { terms = rest.terms; number = rest.number; more = rest.more; below = rest.below; moment = rest.moment; within = rest.within }
+
+-- where the first call is it
+first_submission : (calls : List Planned) (count at task : ℕ) (timing : Timing) (delay : ℕ) → at ≤ 2 ^ 62 → IsOrderlyCall count (c.Submit task timing delay) → Submission ((at, c.Submit task timing delay) ∷ calls) count zero at task timing delay
+first_submission calls count at task timing delay near o = record {
+  terms = ap (λ b. cond b (record { timing = timing; first = at + delay }) (terms_of calls task)) (eq-eqb task task refl);
+  number = omega (arith, o.0);
+  more = omega (arith, o.0);
+  below = omega (arith, o.0);
+  moment = near;
+  within = omega (arith, o.1);
+}
 
 -- what the submission at a place of the calls says
 pub submission : (calls : List Planned) (count moment n at task : ℕ) (timing : Timing) (delay : ℕ) → IsOrderlyFrom count moment calls → slice_get calls n ≡ Some (at, c.Submit task timing delay) →
     Submission calls count n at task timing delay
 submission [] count moment n at task timing delay o q = absurd (none-some _ q)
-submission ((at', c.Submit j how d) ∷ calls) count moment zero at task timing delay o q =
-    let same = submit_same (same_Some (at', c.Submit j how d) (at, c.Submit task timing delay) q) in
-    record {
-      terms = ap (λ b. cond b (record { timing = how; first = at' + d }) (terms_of calls task)) (eq-eqb j task same.1) ∙ (λ i. record { timing = same.2 i; first = same.0 i + same.3 i });
-      number = omega (arith, o.2.0, same.1);
-      more = omega (arith, o.2.0, same.1);
-      below = omega (arith, o.2.0, same.1);
-      moment = omega (arith, o.1, same.0);
-      within = omega (arith, o.2.1, same.3);
-    }
-submission ((at', c.Submit j how d) ∷ calls) count moment (suc n) at task timing delay o q =
-    later_submission calls at' count n at task (c.Submit j how d) timing delay o.2 refl refl (submission calls (count + 1) at' n at task timing delay o.3 q)
-submission ((at', c.Illegal j) ∷ calls) count moment zero at task timing delay o q =
-    let same = same_Some (at', c.Illegal j) (at, c.Submit task timing delay) q in
-    let clash : c.Illegal j ≡ c.Submit task timing delay = ap (λ (p : Planned). p.1) same in
-    absurd cc
-submission ((at', c.Illegal j) ∷ calls) count moment (suc n) at task timing delay o q =
-    later_submission calls at' count n at task (c.Illegal j) timing delay o.2 refl refl (submission calls (count + 1) at' n at task timing delay o.3 q)
-submission ((at', c.Cancel j) ∷ calls) count moment zero at task timing delay o q =
-    let same = same_Some (at', c.Cancel j) (at, c.Submit task timing delay) q in
-    let clash : c.Cancel j ≡ c.Submit task timing delay = ap (λ (p : Planned). p.1) same in
-    absurd cc
-submission ((at', c.Cancel j) ∷ calls) count moment (suc n) at task timing delay o q =
-    let rest = submission calls count at' n at task timing delay o.3 q in
-    record { terms = rest.terms; number = rest.number; more = rest.more; below = rest.below; moment = rest.moment; within = rest.within }
+submission (p ∷ calls) count moment zero at task timing delay o q =
+    let same : p ≡ (at, c.Submit task timing delay) = same_Some p (at, c.Submit task timing delay) q in
+    let near : at ≤ 2 ^ 62 = omega (arith, o.1, ap (λ (x : Planned). x.0) same) in
+    subst (λ x. Submission (x ∷ calls) count zero at task timing delay) (sym same)
+    (first_submission calls count at task timing delay near (subst (λ (x : Planned). IsOrderlyCall count x.1) same o.2))
+submission (p ∷ calls) count moment (suc n) at task timing delay o q =
+    later_submission calls p.0 count n at task p.1 timing delay o.2 (submission calls (count_after count p.1) p.0 n at task timing delay o.3 q)
 
 -- each call has a moment within the limit, and stands where it does
 pub call_moment : (calls : List Planned) (count moment n at : ℕ) (call : CodeCall) → IsOrderlyFrom count moment calls → slice_get calls n ≡ Some (at, call) → at ≤ 2 ^ 62
@@ -115,6 +109,18 @@ count_grows (p ∷ calls) (suc n) =
     elim [ true ↦ omega (arith, rest) | false ↦ rest ]
     in
     pick (is_submission p.1)
+
+-- the entry of a task in the queue of some tasks
+pub queued_at : (tasks : List Task) (k : ℕ) → slice_index_or (map queued tasks) k None ≡ queued (slice_index_or tasks k vacant)
+queued_at [] k = refl
+queued_at (t ∷ tasks) zero = refl
+queued_at (t ∷ tasks) (suc k) = queued_at tasks k
+
+-- the entry of a task among the kept ones
+pub held_at : (tasks : List Task) (k : ℕ) → slice_index_or (map held tasks) k None ≡ held (slice_index_or tasks k vacant)
+held_at [] k = refl
+held_at (t ∷ tasks) zero = refl
+held_at (t ∷ tasks) (suc k) = held_at tasks k
 
 -- what indexing reads
 pub read_at : {X : Type 0} (xs : List X) (i : ℕ) (x d : X) → i < length xs → x ≡ slice_index_or xs i x → x ≡ slice_index_or xs i d
@@ -145,3 +151,27 @@ runs_set count tasks k task low runs within begun = record {
 -- one event more
 pub runs_counted : (count : ℕ) (tasks : List Task) → RunsBelow count tasks → RunsBelow (count + 1) tasks
 runs_counted count tasks runs = record { all = λ k. omega (arith, runs.all k); begun = λ k q. omega (arith, runs.all k) }
+
+-- what stays vacant where a task that was submitted is written
+pub vacant_stays : (tasks : List Task) (k bound : ℕ) (task : Task) → k < length tasks → (slice_index_or tasks k vacant).phase ≢ ph.Vacant → ((j : ℕ) → bound ≤ j → slice_index_or tasks j vacant ≡ vacant) →
+    (j : ℕ) → bound ≤ j → slice_index_or (set tasks k task) j vacant ≡ vacant
+vacant_stays tasks k bound task low used fresh j above = at_set tasks k j task vacant low ∙ by (k == j) refl
+  where
+    by : (b : Bool) → (k == j) ≡ b → cond b task (slice_index_or tasks j vacant) ≡ vacant
+    by true same = absurd (used (ap (λ (x : Task). x.phase) (ap (λ i. slice_index_or tasks i vacant) (eqb-true k j same) ∙ fresh j above)))
+    by false apart = fresh j above
+
+-- no more tasks are not cancelled, where one is written that is cancelled or stands for one that was not
+pub uncancelled_set : (tasks : List Task) (k : ℕ) (task : Task) → k < length tasks → (task.cancelled ≡ false → (slice_index_or tasks k vacant).cancelled ≡ false) → uncancelled_in (set tasks k task) ≤ uncancelled_in tasks
+uncancelled_set [] k task low same = absurd (omega (arith, low))
+uncancelled_set (x ∷ tasks) zero task low same =
+    let pick : (b c : Bool) → (b ≡ false → c ≡ false) → cond (not b) (1 + uncancelled_in tasks) (uncancelled_in tasks) ≤ cond (not c) (1 + uncancelled_in tasks) (uncancelled_in tasks) =
+    elim [ true ↦ elim [ true ↦ λ q. omega arith | false ↦ λ q. omega arith ] | false ↦ elim [ true ↦ λ q. absurd (false≢true (sym (q refl))) | false ↦ λ q. omega arith ] ]
+    in
+    pick task.cancelled x.cancelled same
+uncancelled_set (x ∷ tasks) (suc k) task low same =
+    let rest = uncancelled_set tasks k task (omega (arith, low)) same in
+    let pick : (b : Bool) → cond b (1 + uncancelled_in (set tasks k task)) (uncancelled_in (set tasks k task)) ≤ cond b (1 + uncancelled_in tasks) (uncancelled_in tasks) =
+    elim [ true ↦ omega (arith, rest) | false ↦ rest ]
+    in
+    pick (not x.cancelled)

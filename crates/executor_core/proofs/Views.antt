@@ -1,5 +1,5 @@
 -- One step of a history and one step of a state move the view alike.
-use Rattle.std.proofs.Common.{◌≡◌, ℕ, ◌+◌, ◌*◌, Bool, true, false, cond, List, ◌∷◌, Option, Some, refl, arith, ap, sym, ◌∙◌, subst}
+use Rattle.std.proofs.Common.{◌≡◌, ℕ, ◌+◌, ◌*◌, ◌||◌, Bool, true, false, cond, List, ◌∷◌, Option, Some, refl, arith, ap, sym, ◌∙◌, subst}
 use Rattle.std.specs.Prelude.{if◌then◌else◌, slice_get}
 use Rattle.sched_time.specs.declared.timing.Timing.{Timing}
 use Rattle.sched_time.specs.declared.timing.Timing.TheVariants as t
@@ -7,15 +7,15 @@ use Rattle.executor_core.specs.declared.types.Happening.{Happening}
 use Rattle.queue_code.specs.Calls.{Planned, Terms, terms_of, due_at, after_finish}
 use Rattle.executor_core.specs.View.{Fate, View}
 use Rattle.executor_core.specs.Answers.{Reply, moment_after}
-use Rattle.executor_core.specs.Histories.{HistoryEntry, entry_of, happenings, is_call, is_submit, is_cancel, is_start, is_finish, is_finish_with, is_done, is_failed, work_after, view_of_history, starts, last_finish, now_of}
+use Rattle.executor_core.specs.Histories.{HistoryEntry, entry_of, happenings, is_call, is_submit, cancels, kept_after, is_start, is_finish, is_finish_with, is_done, is_failed, work_after, policies_after, is_shutdown, view_of_history, starts, last_finish, now_of}
 use Rattle.executor_core.specs.State.{State, view_of_state, state_after}
 use Rattle.executor_core.specs.Machine.{IsDue}
-use Rattle.executor_core.proofs.Moves.{fate_with, due_after, Fits, task_moves}
+use Rattle.executor_core.proofs.Moves.{moved_fate, due_after, Fits, task_moves}
 
 -- what is known of a task after a reply
 abbrev pub fate_after : List Planned → View → Reply → ℕ → Fate
 fate_after calls v r k =
-    fate_with (terms_of calls k).timing (v.fate k) v.moment (is_submit k r.answer) (is_cancel k r.answer) (is_start k r.answer) (is_finish k r.answer) (is_finish_with is_done k r.answer) (is_finish_with is_failed k r.answer)
+    moved_fate (terms_of calls k).timing (v.fate k) v.moment (is_submit k r.answer) (cancels k r.answer r.ends) (is_start k r.answer) (is_finish k r.answer) (is_finish_with is_done k r.answer) (is_finish_with is_failed k r.answer) (kept_after v k r.answer)
 
 -- the view after a reply, with what is known of each task then
 abbrev pub view_with : List Planned → View → Happening → Reply → (ℕ → Fate) → View
@@ -24,6 +24,8 @@ view_with calls v happening r fates = record {
   moment = moment_after v.moment (slice_get calls v.made) happening;
   fate = fates;
   work = λ w. work_after w r.answer (v.work w);
+  policies = policies_after r.answer v.policies;
+  shut = is_shutdown r.answer || v.shut;
 }
 
 -- the view after a reply
@@ -70,7 +72,7 @@ pub seen_moves : (calls : List Planned) (s : State) (happening : Happening) (r :
     ((k : ℕ) → Fits (terms_of calls k) s.moment k (s.tasks k) r.answer) →
     view_of_state calls (state_after calls s happening r) ≡ view_after calls (view_of_state calls s) happening r
 seen_moves calls s happening r fits = λ i.
-    view_with calls (view_of_state calls s) happening r (λ k. task_moves (terms_of calls k) s.moment k (s.tasks k) r.answer (fits k) i)
+    view_with calls (view_of_state calls s) happening r (λ k. task_moves (terms_of calls k) s.moment k (s.tasks k) r.answer (cancels k r.answer r.ends) (kept_after (view_of_state calls s) k r.answer) (fits k) i)
 
 -- the due moments that are seen stay those of the terms
 pub due_stays : (calls : List Planned) (v : View) (happening : Happening) (r : Reply) → IsDue calls v → IsDue calls (view_after calls v happening r)

@@ -32,6 +32,9 @@ call_due count k moment (c.Submit task timing delay) rest o l m =
     pick (task == k)
 call_due count k moment (c.Illegal task) rest o l m = m
 call_due count k moment (c.Cancel task) rest o l m = m
+call_due count k moment (c.SetPolicy which value) rest o l m = m
+call_due count k moment c.Shutdown rest o l m = m
+call_due count k moment c.Ask rest o l m = m
 
 -- the first run of each task is due in time
 pub first_within : (count moment : ℕ) (calls : List Planned) (k : ℕ) → IsOrderlyFrom count moment calls → (terms_of calls k).first ≤ 2 ^ 63
@@ -44,6 +47,9 @@ call_timed count k moment (c.Submit task timing delay) rest o l =
     pick (task == k)
 call_timed count k moment (c.Illegal task) rest o l = l
 call_timed count k moment (c.Cancel task) rest o l = l
+call_timed count k moment (c.SetPolicy which value) rest o l = l
+call_timed count k moment c.Shutdown rest o l = l
+call_timed count k moment c.Ask rest o l = l
 
 -- the period, or the fixed delay, of each task is within the limit
 pub timed_within : (count moment : ℕ) (calls : List Planned) (k : ℕ) → IsOrderlyFrom count moment calls → IsTimed (terms_of calls k).timing
@@ -78,6 +84,10 @@ start_was_due calls workers v y k (a.Submit j kind due) is q = absurd (false≢t
 start_was_due calls workers v y k (a.Refuse j refusal) is q = absurd (false≢true q)
 start_was_due calls workers v y k (a.Cancel j effect) is q = absurd (false≢true q)
 start_was_due calls workers v y k (a.Outside j effect) is q = absurd (false≢true q)
+start_was_due calls workers v y k (a.Policy which value) is q = absurd (false≢true q)
+start_was_due calls workers v y k a.Shutdown is q = absurd (false≢true q)
+start_was_due calls workers v y k a.ShutdownAgain is q = absurd (false≢true q)
+start_was_due calls workers v y k (a.Ask queue running shutdown terminated) is q = absurd (false≢true q)
 start_was_due calls workers v y k a.Clock is q = absurd (false≢true q)
 start_was_due calls workers v y k (a.Start w j n d) is q =
     let said = start_says calls workers v y w j n d (sym is) in
@@ -129,7 +139,7 @@ answered_within calls workers (e ∷ past) o m k =
 -- as in a history that means the calls
 pub means_answered : (calls : List Planned) (workers : ℕ) (past : List HistoryEntry) → IsHistoryOf calls workers past → IsAnswered calls workers past
 means_answered calls workers [] m = tt
-means_answered calls workers (e ∷ past) m = (means_answered calls workers past m.0, m.2)
+means_answered calls workers (e ∷ past) m = (means_answered calls workers past m.0, m.2, m.3)
 
 -- each due moment that a history shows is at most 2^63
 pub dues_within : (calls : List Planned) (workers : ℕ) (past : List HistoryEntry) → IsOrderly calls → IsHistoryOf calls workers past → IsWithin calls past
@@ -138,7 +148,7 @@ dues_within calls workers past o m = answered_within calls workers past o (means
 -- a history that is made longer by answers of the table is answered so
 pub answered_from : (calls : List Planned) (workers : ℕ) (past : List HistoryEntry) (more : List Happening) → IsAnswered calls workers past → IsAnswered calls workers (history_from calls workers past more)
 answered_from calls workers past [] m = m
-answered_from calls workers past (y ∷ more) m = (answered_from calls workers past more m, refl)
+answered_from calls workers past (y ∷ more) m = (answered_from calls workers past more m, refl, refl)
 
 -- the due moment after a finish now
 pub next_within : (calls : List Planned) (past : List HistoryEntry) (k : ℕ) → IsOrderly calls → IsWithin calls past → due_at (terms_of calls k) (starts k past) (Some (now_of calls (happenings past))) ≤ 2 ^ 63

@@ -2,15 +2,19 @@
 -- The order of the cases, and the answers to a wrong event, are this project's rule.
 -- Where a definition names a class, its source is the Java SE 17 documentation of that class.
 -- Where it names no source, it is this project's rule.
-use Rattle.std.specs.Prelude.{ℕ, ◌-◌, ◌&&◌, max, nat_lt, nat_le, Bool, if◌then◌else◌, List, [], Option, Some, None, slice_get}
+use Rattle.std.specs.Prelude.{ℕ, ◌-◌, ◌==◌, ◌&&◌, ◌||◌, not, max, nat_lt, nat_le, Bool, true, false, if◌then◌else◌, List, [], Option, Some, None, slice_get}
 use Rattle.std.specs.Option.{option_map_or}
+use Rattle.std.specs.List.{filter}
 use Rattle.sched_time.specs.Times.{longest}
 use Rattle.sched_time.specs.declared.timing.Timing.{Timing}
 use Rattle.sched_time.specs.declared.timing.Timing.TheVariants as t
+use Rattle.sched_time.specs.declared.policies.Which.{Which}
+use Rattle.sched_time.specs.declared.policies.Which.TheVariants as p
 use Rattle.sched_time.specs.declared.timing.Ending.{Ending}
 use Rattle.sched_time.specs.declared.timing.Ending.TheVariants as e
 use Rattle.queue_code.specs.declared.call.CodeCall.{CodeCall}
 use Rattle.queue_code.specs.declared.call.CodeCall.TheVariants as c
+use Rattle.executor_core.specs.declared.policies.Policies.{Policies}
 use Rattle.executor_core.specs.declared.types.Happening.{Happening}
 use Rattle.executor_core.specs.declared.types.Happening.TheVariants as h
 use Rattle.executor_core.specs.declared.types.Kind.{Kind}
@@ -23,10 +27,10 @@ use Rattle.executor_core.specs.declared.types.Outcome.{Outcome}
 use Rattle.executor_core.specs.declared.types.Outcome.TheVariants as o
 use Rattle.executor_core.specs.declared.types.Answer.{Answer}
 use Rattle.executor_core.specs.declared.types.Answer.TheVariants as a
-use Rattle.queue_code.specs.Calls.{Planned, terms_of, due_at, numbers, task_count}
-use Rattle.executor_core.specs.View.{Fate, View, is_live, first_enabled}
+use Rattle.queue_code.specs.Calls.{Planned, how_many, terms_of, due_at, numbers, task_count}
+use Rattle.executor_core.specs.View.{Fate, View, is_waiting, is_running, is_live, first_enabled}
 
--- an answer, and the tasks that it ends; no answer ends a task yet
+-- an answer, and the tasks that it ends, ascending
 pub record Reply : Type 0 where
   pub answer : Answer
   pub ends : List ℕ
@@ -47,40 +51,121 @@ kind_of (t.Fixed delay) = kind.Fixed
 abbrev pub effect_on : Fate → CancelEffect
 effect_on fate = if fate.accepted then (if is_live fate then f.Yes else f.No) else f.Absent
 
+-- the policies, and what sets them
+
+-- the policies before any is set
+-- (ScheduledThreadPoolExecutor.getContinueExistingPeriodicTasksAfterShutdownPolicy and getRemoveOnCancelPolicy:
+-- by default false; getExecuteExistingDelayedTasksAfterShutdownPolicy: by default true)
+abbrev pub default_policies : Policies
+default_policies = record { continues = false; executes = true; removes = false }
+
+-- the policies after one is set
+abbrev pub set_policy : Which → Bool → Policies → Policies
+set_policy p.Continue value policies = record policies { continues = value }
+set_policy p.Execute value policies = record policies { executes = value }
+set_policy p.Remove value policies = record policies { removes = value }
+
+-- a sweep
+
+-- the policy is that on removal at a cancel
+abbrev pub is_remove : Which → Bool
+is_remove p.Remove = true
+is_remove _ = false
+
+-- setting a policy sweeps where the executor is shut and the continue or the execute policy is set to false, also
+-- where it was false before
+abbrev pub setting_sweeps : Bool → Which → Bool → Bool
+setting_sweeps shut which value = shut && (not value && not (is_remove which))
+
+-- a sweep under these policies ends a waiting task of this timing, which is due at `due`, at the moment `now`: one
+-- that is periodic where periodic tasks do not continue, and a one-shot one that is not due yet where delayed
+-- tasks are not executed
+abbrev pub is_ended_by : Policies → ℕ → Timing → ℕ → Bool
+is_ended_by policies now t.Once due = not policies.executes && nat_lt now due
+is_ended_by policies now (t.Rate period) due = not policies.continues
+is_ended_by policies now (t.Fixed delay) due = not policies.continues
+
+-- a sweep under these policies ends task k
+abbrev pub is_swept : List Planned → View → Policies → ℕ → Bool
+is_swept calls v policies k = is_waiting (v.fate k) && is_ended_by policies v.moment (terms_of calls k).timing (v.fate k).due
+
+-- the tasks that a sweep under these policies ends, ascending
+abbrev pub swept : List Planned → View → Policies → List ℕ
+swept calls v policies = filter (is_swept calls v policies) (numbers calls)
+
+-- what is counted for an ask
+
+-- a task stands in the queue: it waits, or is kept
+abbrev pub is_queued : Fate → Bool
+is_queued fate = is_waiting fate || fate.kept
+
+-- how many tasks stand in the queue
+abbrev pub queue_size : List Planned → View → ℕ
+queue_size calls v = how_many (λ k. is_queued (v.fate k)) (numbers calls)
+
+-- how many tasks have a run under way
+abbrev pub running_count : List Planned → View → ℕ
+running_count calls v = how_many (λ k. is_running (v.fate k)) (numbers calls)
+
+-- the executor is shut, and nothing is queued or run (this project's rule, as in ExecutorService.isTerminated:
+-- "Returns true if all tasks have completed following shut down.")
+abbrev pub is_terminated : Bool → ℕ → ℕ → Bool
+is_terminated shut queue running = shut && ((queue == 0) && (running == 0))
+
 -- the answer to a call, in a view whose moment is the call's
 -- (a period or a fixed delay that is zero or negative: ScheduledExecutorService.scheduleAtFixedRate and
--- scheduleWithFixedDelay, "IllegalArgumentException")
+-- scheduleWithFixedDelay, "IllegalArgumentException"; a submission where the executor is shut:
+-- ScheduledExecutorService.schedule, "RejectedExecutionException"; that the first is tested before: this project's
+-- rule; ExecutorService.shutdown: "no new tasks will be accepted. Invocation has no additional effect if already
+-- shut down.")
 abbrev pub called : List Planned → View → CodeCall → Reply
-called calls v (c.Submit task timing delay) = plain (a.Submit task (kind_of timing) (due_at (terms_of calls task) 0 None))
+called calls v (c.Submit task timing delay) =
+    plain (if v.shut then a.Refuse task refusal.Rejected else a.Submit task (kind_of timing) (due_at (terms_of calls task) 0 None))
 called calls v (c.Illegal task) = plain (a.Refuse task refusal.Illegal)
 called calls v (c.Cancel task) = plain (a.Cancel task (effect_on (v.fate task)))
+called calls v (c.SetPolicy which value) =
+    record { answer = a.Policy which value; ends = if setting_sweeps v.shut which value then swept calls v (set_policy which value v.policies) else [] }
+called calls v c.Shutdown = if v.shut then plain a.ShutdownAgain else record { answer = a.Shutdown; ends = swept calls v v.policies }
+called calls v c.Ask =
+    plain (a.Ask (queue_size calls v) (running_count calls v) v.shut (is_terminated v.shut (queue_size calls v) (running_count calls v)))
 
 -- the answer to a worker without work that asks for a task: the first enabled one, or idle where none is
 abbrev pub started : View → ℕ → Option ℕ → Answer
 started v w None = a.Idle w
 started v w (Some k) = a.Start w k (v.fate k).starts (v.fate k).due
 
--- the outcome of a run that ended with a value, where the run after it would be due at some moment: the one
--- run of a one-shot task is its last, and each other task waits for its next run
+-- what comes after a run of a periodic task, where the run after it would be due at some moment: the task waits
+-- for it, or ends where periodic tasks do not go on
+-- (this project's rule, as ScheduledThreadPoolExecutor.setContinueExistingPeriodicTasksAfterShutdownPolicy has such a
+-- policy)
+abbrev pub next_run : Bool → ℕ → Outcome
+next_run stops due = if stops then o.Ended else o.Again due
+
+-- the outcome of a run that ended with a value, where the run after it would be due at some moment, and periodic
+-- tasks maybe do not go on: the one run of a one-shot task is its last
 -- (ScheduledExecutorService.schedule: "a value-returning one-shot task"; scheduleAtFixedRate and
 -- scheduleWithFixedDelay: "The sequence of task executions continues indefinitely until one of the following
 -- exceptional completions occur")
-abbrev pub ended_well : Timing → ℕ → ℕ → Outcome
-ended_well t.Once due value = o.Done value
-ended_well (t.Rate period) due value = o.Again due
-ended_well (t.Fixed delay) due value = o.Again due
+abbrev pub ended_well : Bool → Timing → ℕ → ℕ → Outcome
+ended_well stops t.Once due value = o.Done value
+ended_well stops (t.Rate period) due value = next_run stops due
+ended_well stops (t.Fixed delay) due value = next_run stops due
 
 -- the outcome of a run, by how its task is timed, when the run after it would be due, and how the run ended:
 -- a failure is the end of each task
 -- (ScheduledExecutorService.scheduleAtFixedRate and scheduleWithFixedDelay: "An execution of the task throws an
 -- exception. [..] Subsequent executions are suppressed."; of a one-shot task: this project's rule)
-abbrev pub outcome_of : Timing → ℕ → Ending → Outcome
-outcome_of timing due (e.Value value) = ended_well timing due value
-outcome_of timing due (e.Fault code) = o.Failed code
+abbrev pub outcome_of : Bool → Timing → ℕ → Ending → Outcome
+outcome_of stops timing due (e.Value value) = ended_well stops timing due value
+outcome_of stops timing due (e.Fault code) = o.Failed code
 
 -- the outcome of a run whose task was maybe cancelled: then it is dropped, whatever the run gave
-abbrev pub outcome_in : Bool → Timing → ℕ → Ending → Outcome
-outcome_in cancelled timing due ending = if cancelled then o.Dropped else outcome_of timing due ending
+abbrev pub outcome_in : Bool → Bool → Timing → ℕ → Ending → Outcome
+outcome_in cancelled stops timing due ending = if cancelled then o.Dropped else outcome_of stops timing due ending
+
+-- periodic tasks do not go on: the executor is shut, and its policy says so
+abbrev pub stops_periodic : Bool → Policies → Bool
+stops_periodic shut policies = shut && not policies.continues
 
 -- the due moment of the run of task k that would come after a finish at the view's moment
 abbrev pub due_next : List Planned → View → ℕ → ℕ
@@ -90,7 +175,7 @@ due_next calls v k = due_at (terms_of calls k) (v.fate k).starts (Some v.moment)
 -- last, with its outcome
 abbrev pub finished : List Planned → View → ℕ → Ending → Option ℕ → Answer
 finished calls v w ending None = a.Error x.NotRunning
-finished calls v w ending (Some k) = a.Finish w k ((v.fate k).starts - 1) (outcome_in (v.fate k).cancelled (terms_of calls k).timing (due_next calls v k) ending)
+finished calls v w ending (Some k) = a.Finish w k ((v.fate k).starts - 1) (outcome_in (v.fate k).cancelled (stops_periodic v.shut v.policies) (terms_of calls k).timing (due_next calls v k) ending)
 
 -- a clock is accepted where it does not go back and is within the limit
 abbrev pub is_accepted : ℕ → ℕ → Bool

@@ -1,11 +1,13 @@
 -- Which happenings some events make, and the lines of a history.
 -- All of it is this project's rule.
-use Rattle.std.specs.Prelude.{◌≡◌, ℕ, ◌+◌, ◌<◌, length, nat_le, if◌then◌else◌, List, [], ◌∷◌, ◌++◌, replicate, drop}
+use Rattle.std.specs.Prelude.{◌≡◌, ℕ, ◌+◌, ◌<◌, length, nat_le, if◌then◌else◌, List, [], ◌∷◌, ◌++◌, replicate, map, drop}
 use Rattle.executor_core.specs.declared.types.Event.{Event}
 use Rattle.executor_core.specs.declared.types.Event.TheVariants as v
 use Rattle.executor_core.specs.declared.types.Happening.{Happening}
 use Rattle.executor_core.specs.declared.types.Happening.TheVariants as h
+use Rattle.executor_core.specs.declared.types.Answer.{Answer}
 use Rattle.executor_core.specs.declared.types.Line.{Line}
+use Rattle.executor_core.specs.declared.types.Message.TheVariants as m
 use Rattle.queue_code.specs.Calls.{Planned, how_many}
 use Rattle.executor_core.specs.Answers.{Reply, is_accepted}
 use Rattle.executor_core.specs.Histories.{HistoryEntry, happenings, made, now_of, answer, entry_of}
@@ -54,9 +56,17 @@ history_from calls workers past (happening ∷ before) =
 abbrev pub history_of : List Planned → ℕ → List Event → List HistoryEntry
 history_of calls workers events = history_from calls workers [] (flow calls events)
 
--- the lines of one answer: its own; no answer ends a task yet
+-- the line of an answer
+abbrev pub answer_line : ℕ → Answer → Line
+answer_line moment answer = record { moment = moment; message = m.Answer answer }
+
+-- the line of a task that an answer ends
+abbrev pub end_line : ℕ → ℕ → Line
+end_line moment task = record { moment = moment; message = m.End task }
+
+-- the lines of one answer: its own, and then one of each task that it ends
 abbrev pub lines_at : ℕ → Reply → List Line
-lines_at moment r = record { moment = moment; answer = r.answer } ∷ []
+lines_at moment r = answer_line moment r.answer ∷ map (end_line moment) r.ends
 
 -- the reply that an entry of a history holds
 abbrev pub reply_in : HistoryEntry → Reply

@@ -1,8 +1,9 @@
 -- What the happenings of a history are answered, by counting in what stands before each of them.
 -- A history is a list of entries, the newest first: what stands before an entry is the rest of the list
 -- behind it. Counting in a history is this project's rule, and so is all that is said here.
-use Rattle.std.specs.Prelude.{◌≡◌, ℕ, ◌<◌, ◌≤◌, ◌==◌, ◌&&◌, Bool, true, false, if◌then◌else◌, List, [], ◌∷◌, length, map, Option, Some, None, slice_get}
+use Rattle.std.specs.Prelude.{◌≡◌, ℕ, ◌<◌, ◌≤◌, ◌==◌, ◌&&◌, ◌||◌, not, nat_le, Bool, true, false, if◌then◌else◌, List, [], ◌∷◌, length, map, Option, Some, None, slice_get}
 use Rattle.std.specs.List.{list_any}
+use Rattle.executor_core.specs.declared.policies.Policies.{Policies}
 use Rattle.executor_core.specs.declared.types.Happening.{Happening}
 use Rattle.executor_core.specs.declared.types.Happening.TheVariants as h
 use Rattle.executor_core.specs.declared.types.CancelEffect.{CancelEffect}
@@ -12,8 +13,8 @@ use Rattle.executor_core.specs.declared.types.Outcome.TheVariants as o
 use Rattle.executor_core.specs.declared.types.Answer.{Answer}
 use Rattle.executor_core.specs.declared.types.Answer.TheVariants as a
 use Rattle.queue_code.specs.Calls.{Planned, how_many, terms_of, due_at}
-use Rattle.executor_core.specs.View.{Fate, View}
-use Rattle.executor_core.specs.Answers.{Reply, reply, moment_after, is_accepted}
+use Rattle.executor_core.specs.View.{Fate, View, is_waiting, comes_before}
+use Rattle.executor_core.specs.Answers.{Reply, reply, moment_after, is_accepted, default_policies, set_policy, setting_sweeps}
 
 -- a happening with its answer, and the tasks that the answer ends
 pub record HistoryEntry : Type 0 where
@@ -88,6 +89,51 @@ is_cancel k (a.Cancel task effect) = (task == k) && is_yes effect
 is_cancel k (a.Outside task effect) = (task == k) && is_yes effect
 is_cancel k _ = false
 
+-- an outcome says that the run was the last one of a periodic task that does not go on
+abbrev pub is_ended : Outcome → Bool
+is_ended o.Ended = true
+is_ended _ = false
+
+-- task k is one of those that an answer ends
+abbrev pub is_end : ℕ → List ℕ → Bool
+is_end k ends = list_any (λ j. j == k) ends
+
+-- an answer, with the tasks that it ends, says that task k is cancelled from then on: a cancel of it had an effect,
+-- it is ended, or its last run ended it
+abbrev pub cancels : ℕ → Answer → List ℕ → Bool
+cancels k answer ends = is_cancel k answer || (is_end k ends || is_finish_with is_ended k answer)
+
+-- the policies after an answer
+abbrev pub policies_after : Answer → Policies → Policies
+policies_after (a.Policy which value) before = set_policy which value before
+policies_after _ before = before
+
+-- an answer says that a shutdown call was made
+abbrev pub is_shutdown : Answer → Bool
+is_shutdown a.Shutdown = true
+is_shutdown a.ShutdownAgain = true
+is_shutdown _ = false
+
+-- an answer says that there was a sweep, where the executor was shut before it or not: it is the first shutdown, or
+-- sets the continue or the execute policy to false while the executor is shut
+abbrev pub is_sweep : Bool → Answer → Bool
+is_sweep shut a.Shutdown = not shut
+is_sweep shut (a.Policy which value) = setting_sweeps shut which value
+is_sweep shut _ = false
+
+-- a start that is not refused meets task k, which is kept and due at `due`: its due moment is reached, and the start
+-- gets no task, or one after it in the order
+abbrev pub meets : View → ℕ → ℕ → Answer → Bool
+meets v due k (a.Idle worker) = nat_le due v.moment
+meets v due k (a.Start worker task run at) = nat_le due v.moment && comes_before due k (v.fate task).due task
+meets v due k _ = false
+
+-- task k is kept after an answer, in the view before it: there was no sweep, and it was kept and is not met, or is
+-- cancelled while it waits and the remove policy does not say that it leaves
+abbrev pub kept_after : View → ℕ → Answer → Bool
+kept_after v k answer = not (is_sweep v.shut answer)
+    && (((v.fate k).kept && not (meets v (v.fate k).due k answer)) || (is_cancel k answer && (is_waiting (v.fate k) && not v.policies.removes)))
+
 -- the task of a worker after an answer
 abbrev pub work_after : ℕ → Answer → Option ℕ → Option ℕ
 work_after w (a.Start worker task run due) before = if worker == w then Some task else before
@@ -113,9 +159,9 @@ last_finish calls k (e ∷ past) = if is_finish k e.answer then Some (now_of cal
 abbrev pub was_accepted : ℕ → List HistoryEntry → Bool
 was_accepted k past = list_any (λ e. is_submit k e.answer) past
 
--- task k was cancelled
+-- task k was cancelled, or ended
 abbrev pub was_cancelled : ℕ → List HistoryEntry → Bool
-was_cancelled k past = list_any (λ e. is_cancel k e.answer) past
+was_cancelled k past = list_any (λ e. cancels k e.answer e.ends) past
 
 -- the one run of task k was finished with a value
 abbrev pub was_done : ℕ → List HistoryEntry → Bool
@@ -134,9 +180,18 @@ work_of w (e ∷ past) = work_after w e.answer (work_of w past)
 abbrev pub due_of : List Planned → List HistoryEntry → ℕ → ℕ
 due_of calls past k = due_at (terms_of calls k) (starts k past) (last_finish calls k past)
 
--- what a history tells of task k
-abbrev pub fate_of : List Planned → List HistoryEntry → ℕ → Fate
-fate_of calls past k = record {
+-- the policies that are set last, and the defaults where none was set
+abbrev pub policies_of : List HistoryEntry → Policies
+policies_of [] = default_policies
+policies_of (e ∷ past) = policies_after e.answer (policies_of past)
+
+-- a shutdown call was made
+abbrev pub was_shut : List HistoryEntry → Bool
+was_shut past = list_any (λ e. is_shutdown e.answer) past
+
+-- what a history tells of task k, which is kept or not
+abbrev pub fate_with : List Planned → List HistoryEntry → ℕ → Bool → Fate
+fate_with calls past k kept = record {
   accepted = was_accepted k past;
   cancelled = was_cancelled k past;
   done = was_done k past;
@@ -144,16 +199,32 @@ fate_of calls past k = record {
   starts = starts k past;
   finishes = finishes k past;
   due = due_of calls past k;
+  kept = kept;
 }
+
+-- what the answer after a history looks at, with the tasks that are kept
+abbrev pub view_with : List Planned → List HistoryEntry → (ℕ → Bool) → View
+view_with calls past kept = record {
+  made = made (happenings past);
+  moment = now_of calls (happenings past);
+  fate = λ k. fate_with calls past k (kept k);
+  work = λ w. work_of w past;
+  policies = policies_of past;
+  shut = was_shut past;
+}
+
+-- task k was cancelled while it waited, and still stands in the queue
+abbrev pub is_kept : List Planned → List HistoryEntry → ℕ → Bool
+is_kept calls [] k = false
+is_kept calls (e ∷ past) k = kept_after (view_with calls past (λ j. is_kept calls past j)) k e.answer
+
+-- what a history tells of task k
+abbrev pub fate_of : List Planned → List HistoryEntry → ℕ → Fate
+fate_of calls past k = fate_with calls past k (is_kept calls past k)
 
 -- what the answer after a history looks at
 abbrev pub view_of_history : List Planned → List HistoryEntry → View
-view_of_history calls past = record {
-  made = made (happenings past);
-  moment = now_of calls (happenings past);
-  fate = λ k. fate_of calls past k;
-  work = λ w. work_of w past;
-}
+view_of_history calls past = view_with calls past (λ k. is_kept calls past k)
 
 -- the answer to what happens after a history
 abbrev pub answer : List Planned → ℕ → List HistoryEntry → Happening → Reply

@@ -1,9 +1,10 @@
 -- What contracts see of an executor's core, and the state and history in which it stands.
 -- All of it is this project's rule.
-use Rattle.std.specs.Prelude.{◌≡◌, ◌≢◌, ℕ, ◌+◌, ◌-◌, ◌<◌, ◌≤◌, true, if◌then◌else◌, List, [], ◌∷◌, ◌++◌, length, map, take, Option, Some, None, slice_index_or}
+use Rattle.std.specs.Prelude.{◌≡◌, ◌≢◌, ℕ, ◌+◌, ◌-◌, ◌<◌, ◌≤◌, ◌&&◌, ◌||◌, not, nat_lt, nat_le, Bool, true, false, if◌then◌else◌, List, [], ◌∷◌, ◌++◌, length, map, take, Option, Some, None, slice_index_or}
+use Rattle.std.specs.List.{filter, range_with_len}
 use Rattle.sched_time.specs.Times.{longest}
-use Rattle.sched_time.specs.declared.timing.Timing.{Timing}
 use Rattle.sched_time.specs.declared.timing.Timing.TheVariants as t
+use Rattle.executor_core.specs.declared.policies.Policies.{Policies}
 use Rattle.executor_core.specs.declared.types.Event.{Event}
 use Rattle.executor_core.specs.declared.types.Happening.{Happening}
 use Rattle.executor_core.specs.declared.types.Line.{Line}
@@ -15,15 +16,18 @@ use Rattle.executor_core.specs.declared.types.Outcome.TheVariants as o
 use Rattle.executor_core.specs.declared.task.Phase.{Phase}
 use Rattle.executor_core.specs.declared.task.Phase.TheVariants as ph
 use Rattle.executor_core.specs.declared.task.Task.{Task}
+use Rattle.delay_queue.specs.declared.entry.Entry.{Entry}
 use Rattle.queue_code.specs.Calls.{Planned, IsOrderly, task_count, terms_of, due_at}
 use Rattle.executor_core.specs.Counts.{most_workers}
-use Rattle.executor_core.specs.View.{View}
-use Rattle.executor_core.specs.Histories.{HistoryEntry, happenings, IsHistoryOf}
-use Rattle.executor_core.specs.State.{State, view_of_state, vacant, after, after_from, next, reply_of}
+use Rattle.executor_core.specs.View.{View, comes_before}
+use Rattle.executor_core.specs.Answers.{plain, is_swept, swept}
+use Rattle.executor_core.specs.Histories.{HistoryEntry, happenings, is_ended, IsHistoryOf, MayCome}
+use Rattle.executor_core.specs.State.{State, view_of_state, vacant, end_task, after, after_from, next, reply_of}
 use Rattle.executor_core.specs.Tasks.{uncancelled_in}
-use Rattle.executor_core.specs.Flows.{happening_of, part_of, history_from, lines_of, lines_from}
+use Rattle.executor_core.specs.Flows.{happening_of, part_of, history_from, answer_line, end_line, lines_of, lines_from}
 
--- what contracts see of a core: its plan's calls, how many of them it made, the moment, and its two tables
+-- what contracts see of a core: its plan's calls, how many of them it made, the moment, its two tables, its policies,
+-- and whether it is shut
 pub record Machine : Type 0 where
   pub calls : List Planned
   -- how many events it takes, and how many it took
@@ -35,6 +39,8 @@ pub record Machine : Type 0 where
   pub tasks : List Task
   -- the task of a worker by the worker's number
   pub work : List (Option ℕ)
+  pub policies : Policies
+  pub shut : Bool
 
 -- how many workers a core has
 abbrev pub workers_of : Machine → ℕ
@@ -47,6 +53,8 @@ state_of m = record {
   moment = m.moment;
   tasks = λ k. slice_index_or m.tasks k vacant;
   workers = λ w. slice_index_or m.work w None;
+  policies = m.policies;
+  shut = m.shut;
 }
 
 -- how many lines an event adds at most: one of its own, one of each call that is left, and one of each task that
@@ -74,14 +82,14 @@ pub record Steps (old new : Machine) (before after_lines : List Line) (happened 
   pub state : state_of new ≡ after_from old.calls (workers_of old) (state_of old) happened
   pub lines : after_lines ≡ before ++ lines_from old.calls (workers_of old) (state_of old) happened
 
--- the core took the step of one happening, and this is its answer
+-- the core took the step of one happening, and this is its answer, which ends no task
 pub record Takes (old new : Machine) (happening : Happening) (answer : Answer) : Type 0 where
   pub calls : new.calls ≡ old.calls
   pub limit : new.limit ≡ old.limit
   pub taken : new.taken ≡ old.taken
   pub workers : workers_of new ≡ workers_of old
   pub state : state_of new ≡ next old.calls (workers_of old) (state_of old) happening
-  pub said : answer ≡ (reply_of old.calls (workers_of old) (state_of old) happening).answer
+  pub said : reply_of old.calls (workers_of old) (state_of old) happening ≡ plain answer
 
 -- the core counted an event, and nothing else changed
 abbrev pub Counts : Machine → Machine → Type 0
@@ -92,15 +100,63 @@ Counts old new = new ≡ record old { taken = old.taken + 1 }
 abbrev pub ErrorOnlyCounts : Machine → Machine → List Line → List Line → Event → Type 0
 ErrorOnlyCounts old new before after_lines event =
     (error : EventError) → (reply_of old.calls (workers_of old) (state_of old) (happening_of event)).answer ≡ a.Error error
-    → Counts old new × (after_lines ≡ before ++ record { moment = old.moment; answer = a.Error error } ∷ [])
+    → Counts old new × (after_lines ≡ before ++ answer_line old.moment (a.Error error) ∷ [])
 
--- after any history in which the core stood, the event's part of the flow is answered as the equations say
-pub record Continues (old new : Machine) (before after_lines : List Line) (event : Event) (past : List HistoryEntry) : Type 0 where
-  pub means : IsHistoryOf old.calls (workers_of old) (history_from old.calls (workers_of old) past (part_of old.calls old.made old.moment event))
-  pub stands : Stands new (history_from old.calls (workers_of old) past (part_of old.calls old.made old.moment event))
+-- after a history in which the core stood, what happened then, the newest first, is answered as the equations say, and
+-- its lines are added
+pub record ContinuesWith (old new : Machine) (before after_lines : List Line) (happened : List Happening) (past : List HistoryEntry) : Type 0 where
+  pub means : IsHistoryOf old.calls (workers_of old) (history_from old.calls (workers_of old) past happened)
+  pub stands : Stands new (history_from old.calls (workers_of old) past happened)
   pub added : List Line
   pub given : after_lines ≡ before ++ added
-  pub spoken : lines_of old.calls (history_from old.calls (workers_of old) past (part_of old.calls old.made old.moment event)) ≡ lines_of old.calls past ++ added
+  pub spoken : lines_of old.calls (history_from old.calls (workers_of old) past happened) ≡ lines_of old.calls past ++ added
+
+-- the same of the event's part of the flow
+abbrev pub Continues : Machine → Machine → List Line → List Line → Event → List HistoryEntry → Type 0
+Continues old new before after_lines event past = ContinuesWith old new before after_lines (part_of old.calls old.made old.moment event) past
+
+-- after any history in which the core stood, and after which this may happen, it is answered as the equations say
+abbrev pub ContinuesAny : Machine → Machine → List Line → List Line → Happening → Type 0
+ContinuesAny old new before after_lines happening = (past : List HistoryEntry) → IsHistoryOf old.calls (workers_of old) past → Stands old past
+    → MayCome old.calls (happenings past) happening → ContinuesWith old new before after_lines (happening ∷ []) past
+
+-- what leaves the queue of kept tasks
+
+-- a start at the moment `now` that gets this entry of the queue, or none, meets a kept task k that is due at `due`
+abbrev pub is_met : ℕ → Option Entry → ℕ → ℕ → Bool
+is_met now None due k = nat_le due now
+is_met now (Some e) due k = nat_le due now && comes_before due k e.due e.task
+
+-- the tasks are as they were, but that those which such a start meets are kept no more
+pub record LeavesMet (now : ℕ) (first : Option Entry) (old new : List Task) : Type 0 where
+  pub size : length new ≡ length old
+  pub each : (k : ℕ) → slice_index_or new k vacant
+      ≡ record (slice_index_or old k vacant) { kept = (slice_index_or old k vacant).kept && not (is_met now first (slice_index_or old k vacant).due k) }
+
+-- what a sweep does
+
+-- the tasks below some number that a sweep in this state ends are cancelled, a line for each, and nothing else changed
+pub record Ends (old new : Machine) (before after_lines : List Line) (count : ℕ) : Type 0 where
+  pub rest : new ≡ record old { tasks = new.tasks }
+  pub size : length new.tasks ≡ length old.tasks
+  pub each : (k : ℕ) → slice_index_or new.tasks k vacant
+      ≡ record (slice_index_or old.tasks k vacant) { cancelled = (nat_lt k count && is_swept old.calls (view_of_state old.calls (state_of old)) old.policies k) || (slice_index_or old.tasks k vacant).cancelled }
+  pub lines : after_lines ≡ before ++ map (end_line old.moment) (filter (is_swept old.calls (view_of_state old.calls (state_of old)) old.policies) (range_with_len 0 count))
+
+-- no task is kept any more, and nothing else changed
+pub record Drops (old new : Machine) : Type 0 where
+  pub rest : new ≡ record old { tasks = new.tasks }
+  pub size : length new.tasks ≡ length old.tasks
+  pub each : (k : ℕ) → slice_index_or new.tasks k vacant ≡ record (slice_index_or old.tasks k vacant) { kept = false }
+
+-- the tasks that a sweep in this state ends are cancelled, a line for each, no task is kept any more, and nothing else
+-- changed
+pub record Sweeps (old new : Machine) (before after_lines : List Line) : Type 0 where
+  pub rest : new ≡ record old { tasks = new.tasks }
+  pub size : length new.tasks ≡ length old.tasks
+  pub each : (k : ℕ) → slice_index_or new.tasks k vacant
+      ≡ record (slice_index_or old.tasks k vacant) { cancelled = is_swept old.calls (view_of_state old.calls (state_of old)) old.policies k || (slice_index_or old.tasks k vacant).cancelled; kept = false }
+  pub lines : after_lines ≡ before ++ map (end_line old.moment) (swept old.calls (view_of_state old.calls (state_of old)) old.policies)
 
 -- ---- what stays true of each core
 
@@ -113,22 +169,40 @@ queued_phase _ due = None
 abbrev pub queued : Task → Option ℕ
 queued task = if task.cancelled then None else queued_phase task.phase task.due
 
+-- a task whose run ended with this outcome, and which holds this due moment from then on: it is cancelled where it
+-- does not go on
+abbrev pub finished_task : Outcome → ℕ → Task → Task
+finished_task outcome due task = record (end_task outcome due task) { cancelled = is_ended outcome || task.cancelled }
+
 -- the due moment at which a task stands in the queue once its run had this outcome
 abbrev pub queued_again : Outcome → Option ℕ
 queued_again (o.Again due) = Some due
 queued_again _ = None
 
+-- the due moment at which a task stands among the kept ones
+abbrev pub held : Task → Option ℕ
+held task = if task.kept then Some task.due else None
+
 -- a busy worker's task runs, no two workers have one task, the due moment of a run that is under way was
--- reached, and a task whose run was dropped was cancelled
+-- reached, a task whose run was dropped was cancelled, and a kept one was cancelled while it waited
 pub record IsSound (s : State) : Type 0 where
   pub at_work : (w k : ℕ) → s.workers w ≡ Some k → (s.tasks k).phase ≡ ph.Running
   pub apart : (v w k : ℕ) → s.workers v ≡ Some k → s.workers w ≡ Some k → v ≡ w
   pub reached : (k : ℕ) → (s.tasks k).phase ≡ ph.Running → (s.tasks k).due ≤ s.moment
   pub over : (k : ℕ) → (s.tasks k).phase ≡ ph.Dropped → (s.tasks k).cancelled ≡ true
+  pub kept : (k : ℕ) → (s.tasks k).kept ≡ true → ((s.tasks k).phase ≡ ph.Waiting) × ((s.tasks k).cancelled ≡ true)
+
+-- no one-shot task waits whose due moment is not reached
+abbrev pub NoneDelayed : State → Type 0
+NoneDelayed s = (k : ℕ) → (s.tasks k).phase ≡ ph.Waiting → (s.tasks k).cancelled ≡ false → (s.tasks k).timing ≡ t.Once → (s.tasks k).due ≤ s.moment
 
 -- the due moment that is known of each task is that of its terms, after its starts and some last finish
 abbrev pub IsDue : List Planned → View → Type 0
 IsDue calls v = (k : ℕ) → (last : Option ℕ) × ((v.fate k).due ≡ due_at (terms_of calls k) (v.fate k).starts last)
+
+-- each task that was submitted has the timing of its terms
+abbrev pub TimingsAgree : List Planned → State → Type 0
+TimingsAgree calls s = (k : ℕ) → (s.tasks k).phase ≢ ph.Vacant → (s.tasks k).timing ≡ (terms_of calls k).timing
 
 -- the run of each task has a number of at most `count`, and one under way a lower one
 pub record RunsBelow (count : ℕ) (tasks : List Task) : Type 0 where
@@ -139,8 +213,9 @@ pub record RunsBelow (count : ℕ) (tasks : List Task) : Type 0 where
 abbrev pub IsCounted : Machine → Type 0
 IsCounted m = (k : ℕ) → (slice_index_or m.tasks k vacant).run < m.taken
 
--- what stays true of a core, with its queue's entries by task number and its table of timings
-pub record IsWellFormedCore (m : Machine) (entries : List (Option ℕ)) (timings : List Timing) : Type 0 where
+-- what stays true of a core, with the entries of its two queues by task number, and whether a sweep has ended the
+-- delayed tasks
+pub record IsWellFormedCore (m : Machine) (entries kept : List (Option ℕ)) (searched : Bool) : Type 0 where
   pub orderly : IsOrderly m.calls
   pub made : m.made ≤ length m.calls
   pub some : 0 < workers_of m
@@ -149,9 +224,10 @@ pub record IsWellFormedCore (m : Machine) (entries : List (Option ℕ)) (timings
   pub moment : m.moment ≤ longest
   pub count : length m.tasks ≡ task_count m.calls
   pub queue : entries ≡ map queued m.tasks
-  -- a table has the timing of each task that was submitted
-  pub timed : length timings ≡ task_count m.calls
-  pub timing : (k : ℕ) → (slice_index_or m.tasks k vacant).phase ≢ ph.Vacant → slice_index_or timings k t.Once ≡ (terms_of m.calls k).timing
+  pub keeping : kept ≡ map held m.tasks
+  pub timing : TimingsAgree m.calls (state_of m)
+  -- once the delayed tasks were ended, none comes
+  pub delayed : searched ≡ true → (m.shut ≡ true) × NoneDelayed (state_of m)
   -- what no call made submits is vacant
   pub fresh : (k : ℕ) → task_count (take m.made m.calls) ≤ k → slice_index_or m.tasks k vacant ≡ vacant
   pub sound : IsSound (state_of m)

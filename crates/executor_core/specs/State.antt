@@ -5,6 +5,7 @@ use Rattle.std.specs.Option.{option_map_or}
 use Rattle.sched_time.specs.Dues.{next_due}
 use Rattle.sched_time.specs.declared.timing.Timing.{Timing}
 use Rattle.sched_time.specs.declared.timing.Timing.TheVariants as t
+use Rattle.executor_core.specs.declared.policies.Policies.{Policies}
 use Rattle.executor_core.specs.declared.types.Happening.{Happening}
 use Rattle.executor_core.specs.declared.types.Outcome.{Outcome}
 use Rattle.executor_core.specs.declared.types.Outcome.TheVariants as o
@@ -15,23 +16,26 @@ use Rattle.executor_core.specs.declared.task.Phase.TheVariants as ph
 use Rattle.executor_core.specs.declared.task.Task.{Task}
 use Rattle.queue_code.specs.Calls.{Planned, Terms, terms_of, due_at}
 use Rattle.executor_core.specs.View.{Fate, View}
-use Rattle.executor_core.specs.Answers.{Reply, reply, moment_after}
-use Rattle.executor_core.specs.Histories.{is_call, is_cancel, work_after}
+use Rattle.executor_core.specs.Answers.{Reply, reply, moment_after, default_policies}
+use Rattle.executor_core.specs.Histories.{is_call, cancels, kept_after, policies_after, is_shutdown, work_after}
 
--- how many calls were made, the moment, each task by its number, and the task of each worker that works
+-- how many calls were made, the moment, each task by its number, the task of each worker that works, the policies,
+-- and whether a shutdown call was made
 pub record State : Type 0 where
   pub made : ℕ
   pub moment : ℕ
   pub tasks : ℕ → Task
   pub workers : ℕ → Option ℕ
+  pub policies : Policies
+  pub shut : Bool
 
 -- a task that was not submitted
 abbrev pub vacant : Task
-vacant = record { phase = ph.Vacant; run = 0; due = 0; cancelled = false }
+vacant = record { phase = ph.Vacant; run = 0; due = 0; timing = t.Once; cancelled = false; kept = false }
 
 -- before anything happened
 abbrev pub opening : State
-opening = record { made = 0; moment = 0; tasks = λ _. vacant; workers = λ _. None }
+opening = record { made = 0; moment = 0; tasks = λ _. vacant; workers = λ _. None; policies = default_policies; shut = false }
 
 -- ---- what is seen of a task
 
@@ -58,7 +62,7 @@ starts_of ph.Waiting run = run
 starts_of _ run = 1 + run
 
 -- how often a task in this phase has finished: never before its submission, and else the runs before `run`,
--- and that one where the task is done or failed, or its last run was dropped
+-- and that one where the task is done or failed, or its last run was dropped or ended it
 abbrev pub finishes_of : Phase → ℕ → ℕ
 finishes_of ph.Done run = 1 + run
 finishes_of ph.Failed run = 1 + run
@@ -81,9 +85,9 @@ due_seen terms ph.Running due = due_ahead terms.timing due
 due_seen terms _ due = due
 
 -- what is known of a task with these terms, by its phase, its run, the due moment that it holds, and whether it
--- was cancelled
-abbrev pub seen_phase : Terms → Phase → ℕ → ℕ → Bool → Fate
-seen_phase terms phase run due cancelled = record {
+-- was cancelled and is kept
+abbrev pub seen_phase : Terms → Phase → ℕ → ℕ → Bool → Bool → Fate
+seen_phase terms phase run due cancelled kept = record {
   accepted = was_submitted phase;
   cancelled = cancelled;
   done = is_done_phase phase;
@@ -91,11 +95,12 @@ seen_phase terms phase run due cancelled = record {
   starts = starts_of phase run;
   finishes = finishes_of phase run;
   due = due_seen terms phase due;
+  kept = kept;
 }
 
 -- what is known of a task with these terms
 abbrev pub seen_task : Terms → Task → Fate
-seen_task terms task = seen_phase terms task.phase task.run task.due task.cancelled
+seen_task terms task = seen_phase terms task.phase task.run task.due task.cancelled task.kept
 
 -- what an answer looks at, in a state
 abbrev pub view_of_state : List Planned → State → View
@@ -104,6 +109,8 @@ view_of_state calls s = record {
   moment = s.moment;
   fate = λ k. seen_task (terms_of calls k) (s.tasks k);
   work = s.workers;
+  policies = s.policies;
+  shut = s.shut;
 }
 
 -- ---- what a happening does to a state
@@ -117,31 +124,35 @@ abbrev pub end_task : Outcome → ℕ → Task → Task
 end_task (o.Done value) due task = record task { phase = ph.Done; due = due }
 end_task (o.Failed code) due task = record task { phase = ph.Failed; due = due }
 end_task o.Dropped due task = record task { phase = ph.Dropped; due = due }
+end_task o.Ended due task = record task { phase = ph.Dropped; due = due }
 end_task (o.Again next) due task = record task { phase = ph.Waiting; run = 1 + task.run; due = due }
 
 -- a task after the finish of its run, at this moment and with this outcome
 abbrev pub finish_task : Timing → ℕ → Outcome → Task → Task
 finish_task timing now outcome task = end_task outcome (due_past timing task.due now) task
 
--- a task that is submitted, and first due at this moment
-abbrev pub submit_task : ℕ → Task → Task
-submit_task due task = record task { phase = ph.Waiting; run = 0; due = due }
+-- a task that is submitted, is timed so, and first due at this moment
+abbrev pub submit_task : Timing → ℕ → Task → Task
+submit_task timing due task = record task { phase = ph.Waiting; run = 0; due = due; timing = timing }
 
 -- only a vacant task is submitted
-abbrev pub submit_phase : ℕ → Phase → Task → Task
-submit_phase due ph.Vacant task = submit_task due task
-submit_phase due _ task = task
+abbrev pub submit_phase : Timing → ℕ → Phase → Task → Task
+submit_phase timing due ph.Vacant task = submit_task timing due task
+submit_phase timing due _ task = task
 
--- what an answer does to one task, but for a cancel
+-- what an answer does to one task, but for whether it is cancelled and kept
 abbrev pub move_task : Timing → ℕ → ℕ → Answer → Task → Task
-move_task timing now k (a.Submit j kind due) task = if j == k then submit_phase due task.phase task else task
+move_task timing now k (a.Submit j kind due) task = if j == k then submit_phase timing due task.phase task else task
 move_task timing now k (a.Start w j run due) task = if j == k then record task { phase = ph.Running } else task
 move_task timing now k (a.Finish w j run outcome) task = if j == k then finish_task timing now outcome task else task
 move_task timing now k _ task = task
 
 -- task k after a reply: a cancel leaves it in its phase
 abbrev pub task_after : List Planned → State → Reply → ℕ → Task
-task_after calls s r k = record (move_task (terms_of calls k).timing s.moment k r.answer (s.tasks k)) { cancelled = is_cancel k r.answer || (s.tasks k).cancelled }
+task_after calls s r k = record (move_task (terms_of calls k).timing s.moment k r.answer (s.tasks k)) {
+  cancelled = cancels k r.answer r.ends || (s.tasks k).cancelled;
+  kept = kept_after (view_of_state calls s) k r.answer;
+}
 
 -- the state after a happening that has such a reply
 abbrev pub state_after : List Planned → State → Happening → Reply → State
@@ -150,6 +161,8 @@ state_after calls s happening r = record {
   moment = moment_after s.moment (slice_get calls s.made) happening;
   tasks = λ k. task_after calls s r k;
   workers = λ w. work_after w r.answer (s.workers w);
+  policies = policies_after r.answer s.policies;
+  shut = is_shutdown r.answer || s.shut;
 }
 
 -- the table of the answers, read on a state

@@ -1,7 +1,9 @@
--- What an answer looks at: the moment, what is known of each task, and the work of each worker.
+-- What an answer looks at: the moment, what is known of each task, the work of each worker, the policies, and whether
+-- the executor is shut.
 -- Where a definition names a class, its source is the Java SE 17 documentation of that class.
 -- Where it names no source, it is this project's rule.
 use Rattle.std.specs.Prelude.{ℕ, ◌==◌, ◌&&◌, ◌||◌, Bool, not, nat_lt, nat_le, if◌then◌else◌, List, [], ◌∷◌, Option, Some, None}
+use Rattle.executor_core.specs.declared.policies.Policies.{Policies}
 
 -- what is known of one task
 pub record Fate : Type 0 where
@@ -16,10 +18,13 @@ pub record Fate : Type 0 where
   -- how often it started and finished
   pub starts : ℕ
   pub finishes : ℕ
-  -- the due moment of its next run
+  -- the due moment of its next run; of a task with a fixed delay that runs, that of this run
   pub due : ℕ
+  -- it was cancelled while it waited, and still stands in the queue
+  pub kept : Bool
 
--- what an answer looks at: the calls made, the moment, each task by its number, and each worker's work
+-- what an answer looks at: the calls made, the moment, each task by its number, each worker's work, the
+-- policies, and whether the executor is shut
 -- (this project's rule)
 pub record View : Type 0 where
   -- how many calls were made
@@ -28,6 +33,9 @@ pub record View : Type 0 where
   pub fate : ℕ → Fate
   -- the task of a busy worker
   pub work : ℕ → Option ℕ
+  pub policies : Policies
+  -- a shutdown call was made
+  pub shut : Bool
 
 -- a run is under way: the task started once more than it finished (this project's rule)
 abbrev pub is_running : Fate → Bool

@@ -8,7 +8,7 @@ use Rattle.executor_core.specs.Histories.{HistoryEntry, answer, due_of}
 -- each answer of a history is the table's for what stands before it, whatever may come there
 abbrev pub IsAnswered : List Planned → ℕ → List HistoryEntry → Type 0
 IsAnswered calls workers [] = Unit {0}
-IsAnswered calls workers (e ∷ past) = IsAnswered calls workers past × (e.answer ≡ (answer calls workers past e.happening).answer)
+IsAnswered calls workers (e ∷ past) = IsAnswered calls workers past × (e.answer ≡ (answer calls workers past e.happening).answer) × (e.ends ≡ (answer calls workers past e.happening).ends)
 
 -- the latest due moment: the latest moment and the longest span
 abbrev pub latest_due : ℕ

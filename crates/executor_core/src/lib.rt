@@ -17,12 +17,12 @@
 //!     core.event(event, &mut lines)?;
 //! }
 //! for line in &lines {
-//!     println!(rt; "{} {:?}", line.moment, line.answer)?;
+//!     println!(rt; "{} {:?}", line.moment, line.message)?;
 //! }
-//! // 0 Submit { task: 0, kind: Schedule, due: 5 }
-//! // 5 Clock
-//! // 5 Start { worker: 0, task: 0, run: 0, due: 5 }
-//! // 5 Finish { worker: 0, task: 0, run: 0, outcome: Done(7) }
+//! // 0 Answer(Submit { task: 0, kind: Schedule, due: 5 })
+//! // 5 Answer(Clock)
+//! // 5 Answer(Start { worker: 0, task: 0, run: 0, due: 5 })
+//! // 5 Answer(Finish { worker: 0, task: 0, run: 0, outcome: Done(7) })
 //! ```
 //!
 //! # Behaviour
@@ -31,8 +31,14 @@
 //! calls with a moment of at most its own are made, in their order, and then the clock is moved. A worker that
 //! starts gets the first task that is due, or is idle. A task with one run is done with its value; one at a fixed
 //! rate, or with a fixed delay, waits for its next run. A run that fails is the last one of its task. A cancelled
-//! task that waits starts no more; one whose run is under way runs on to the end, and its outcome is dropped.
+//! task that waits starts no more, and stays in the queue until a sweep, or a start at or after its due moment that gets no
+//! task before it, unless the remove policy is true; one whose run is under way runs on to the end, and its outcome is dropped.
 //! [`words`](Core::words) shows how far each task has come.
+//!
+//! After a shutdown no task is accepted. The first shutdown ends, a line for each, the tasks that its policies say, as
+//! does the continue or the execute policy that is set to false later: periodic tasks unless they are to continue, and those with one run that are
+//! not due yet unless they are to be executed. A periodic task that runs at the shutdown ends with its run, unless
+//! the policy at the end of the run says that it continues. An ended task is cancelled.
 //!
 //! # Order and ties
 //!
@@ -49,17 +55,21 @@
 //!
 //! # Memory and cost
 //!
-//! `Core::new` takes all memory that the core needs for itself: for each task some 60 bytes beside its call, and
+//! `Core::new` takes all memory that the core needs for itself: for each task some 80 bytes beside its call, and
 //! 8 for each worker. `event` takes memory for lines alone, and none where the list has room for one line, one for
 //! each call that is left and one for each task that is not cancelled. A clock costs what the calls that it reaches
 //! cost; a submission, a start, a finish and a cancel cost what the queue of waiting tasks does
-//! (see [`DelayQueue`](delay_queue::DelayQueue)).
+//! (see [`DelayQueue`](delay_queue::DelayQueue)), and a start also what the kept tasks that leave cost. Setting a policy
+//! that does not sweep and asking how far the executor is cost the same whatever it holds. A sweep that may end a task goes over all tasks
+//! once; one that has none to end, since no periodic task waits and the delayed ones were ended before, costs nothing but
+//! the kept tasks that leave.
 #![tactic(auto)]
 
-mod equality;
 mod error;
 mod limits;
 mod machine;
+mod policies;
+mod tallies;
 mod task;
 mod tasks;
 #[cfg(test)]
@@ -68,5 +78,8 @@ mod types;
 
 pub use error::CoreError;
 pub use machine::Core;
+pub use policies::Policies;
 pub use task::{Phase, Task};
-pub use types::{Answer, CancelEffect, Event, EventError, Happening, Kind, Line, Outcome, Refusal};
+pub use types::{
+    Answer, CancelEffect, Event, EventError, Happening, Kind, Line, Message, Outcome, Refusal,
+};

@@ -1,4 +1,4 @@
-ghost use Rattle.std.specs.Prelude.{◌≡◌, ◌+◌, ◌-◌, ◌<◌, ◌≤◌, ◌↔◌, ◌⊎◌, List, true, length, map, None, Option, OnOk, OnErr, IsOk, IfOk, IfErr, IsErrOf, false, vec_len, vec_capacity};
+ghost use Rattle.std.specs.Prelude.{◌≡◌, ◌+◌, ◌-◌, ◌<◌, ◌≤◌, ◌↔◌, ◌⊎◌, List, [], ◌∷◌, true, length, map, None, Option, OnOk, OnErr, IsOk, IfOk, IfErr, IsErrOf, false, vec_len, vec_capacity};
 ghost use Rattle.executor_core.specs.declared.types.Happening.TheVariants as happening;
 ghost use Rattle.queue_code.specs.declared.call.CodeCall.TheVariants as call;
 ghost use Rattle.queue_code.specs.Calls.{IsOrderly, most_calls, task_count, is_submission};
@@ -10,15 +10,17 @@ ghost use Rattle.executor_core.specs.Flows.{happening_of, part_of};
 
 mod calls;
 mod cancels;
+mod sweeps;
 mod workers;
 
 use crate::error::CoreError;
 use crate::limits::MOST_WORKERS;
+use crate::policies::Policies;
 use crate::tasks::Tasks;
-use crate::types::{Answer, Event, EventError, Line};
+use crate::types::{Answer, Event, EventError, Line, Message};
 use delay_queue::DelayQueue;
 use queue_code::CodeCall;
-use sched_time::{LONGEST, Timing};
+use sched_time::LONGEST;
 use std::alloc::{AllocError, Allocator};
 use std::marker::Model;
 use task_word::Word;
@@ -31,12 +33,17 @@ pub struct Core<A: Allocator> {
     made: usize,
     moment: u64,
     tasks: Tasks<A>,
-    /// How each task that was submitted is timed.
-    timings: Vec<Timing, A>,
     /// The task of each worker.
     work: Vec<Option<u32>, A>,
     /// The tasks that wait.
     queue: DelayQueue<A>,
+    /// The tasks that were cancelled while they waited, and still stand in the queue.
+    kept: DelayQueue<A>,
+    policies: Policies,
+    /// A shutdown call was made.
+    shut: bool,
+    /// A sweep has ended the delayed tasks, and no more come.
+    searched: bool,
     limit: u32,
     taken: u32,
 }
@@ -46,13 +53,13 @@ impl<A: Allocator> Model for Core<A> {
 
     ghost Value = { Machine };
 
-    ghost view = { λ c. record { calls = c.calls.items; limit = c.limit; taken = c.taken; made = c.made; moment = c.moment; tasks = c.tasks; work = c.work.items } };
+    ghost view = { λ c. record { calls = c.calls.items; limit = c.limit; taken = c.taken; made = c.made; moment = c.moment; tasks = c.tasks; work = c.work.items; policies = c.policies; shut = c.shut } };
 
-    ghost invariant = { λ c. IsWellFormedCore (record { calls = c.calls.items; limit = c.limit; taken = c.taken; made = c.made; moment = c.moment; tasks = c.tasks; work = c.work.items }) c.queue.entries c.timings.items };
+    ghost invariant = { λ c. IsWellFormedCore (record { calls = c.calls.items; limit = c.limit; taken = c.taken; made = c.made; moment = c.moment; tasks = c.tasks; work = c.work.items; policies = c.policies; shut = c.shut }) c.queue.entries c.kept.entries c.searched };
 }
 
 impl<A: Allocator> Core<A> {
-    ghost use Rattle.executor_core.specs.Machine.{workers_of, room_of, Takes, Counts, IsCounted, Steps, Stands, Continues, ErrorOnlyCounts, IsOpening};
+    ghost use Rattle.executor_core.specs.Machine.{workers_of, room_of, Takes, Counts, IsCounted, Steps, Stands, Continues, ContinuesAny, ErrorOnlyCounts, IsOpening};
 
     /// A core before anything happened, for these calls.
     ///
@@ -151,11 +158,7 @@ impl<A: Allocator> Core<A> {
         }
         self.make_calls_before(event, out);
         self.count();
-        let answer = self.answer(event);
-        out.push_reserved(Line {
-            moment: self.moment,
-            answer,
-        });
+        self.happen(event, out);
         Ok(())
     }
 
@@ -175,7 +178,24 @@ impl<A: Allocator> Core<A> {
         1 + (self.calls.len() - self.made) + self.tasks.uncancelled()
     }
 
-    /// What an event is answered, once the calls before it were made and it was counted.
+    /// An event happens, once the calls before it were made and it was counted: the line of its answer is added.
+    fn happen<B: Allocator>(&mut self, event: Event, out: &mut Vec<Line, B>)
+        requires counted { IsCounted self.old }
+        requires room { vec_len out.old < vec_capacity out.old }
+        ensures steps { Steps self.old self.new out.old.items out.new.items (happening_of event ∷ []) }
+        ensures history { ContinuesAny self.old self.new out.old.items out.new.items (happening_of event) }
+        ensures tasks { length self.new.tasks ≡ task_count self.new.calls }
+        ensures taken { self.new.taken ≡ self.old.taken }
+        ensures capacity { vec_capacity out.new ≡ vec_capacity out.old }
+    {
+        let answer = self.answer(event);
+        out.push_reserved(Line {
+            moment: self.moment,
+            message: Message::Answer(answer),
+        });
+    }
+
+    /// What an event is answered.
     fn answer(&mut self, event: Event) -> Answer
         requires { IsCounted self.old }
         ensures { Takes self.old self.new (happening_of event) result }
@@ -218,17 +238,20 @@ impl<A: Allocator> Core<A> {
         ensures { IfOk result (λ core. IsOpening core calls.items workers limit) }
     {
         let tasks = Tasks::new(alloc, count)?;
-        let timings = Vec::from_elem(alloc, Timing::Once, count as usize)?;
         let work = Vec::from_elem(alloc, None, workers as usize)?;
         let queue = DelayQueue::new(alloc, count).map_err(|_| AllocError)?;
+        let kept = DelayQueue::new(alloc, count).map_err(|_| AllocError)?;
         Ok(Core {
             calls,
             made: 0,
             moment: 0,
             tasks,
-            timings,
             work,
             queue,
+            kept,
+            policies: Policies::defaults(),
+            shut: false,
+            searched: false,
             limit,
             taken: 0,
         })
@@ -270,6 +293,7 @@ fn is_submission(call: &CodeCall) -> bool
 {
     match call {
         CodeCall::Submit { .. } | CodeCall::Illegal { .. } => true,
-        CodeCall::Cancel { .. } => false,
+        CodeCall::Cancel { .. } | CodeCall::SetPolicy { .. } | CodeCall::Shutdown | CodeCall::Ask =>
+            false,
     }
 }

@@ -1,3 +1,5 @@
+use sched_time::Timing;
+
 /// How far a task has come.
 #[derive(Clone, Copy, Debug, PartialEq, Eq)]
 pub enum Phase {
@@ -11,7 +13,8 @@ pub enum Phase {
     Done,
     /// A run failed.
     Failed,
-    /// A run was under way when it was cancelled, and has ended.
+    /// A run was under way when it was cancelled, and has ended; or its last run ended when periodic tasks did not
+    /// go on.
     Dropped,
 }
 
@@ -24,6 +27,10 @@ pub struct Task {
     /// The due moment of that run, and after the last one that of the run that would come, in
     /// nanoseconds.
     pub due: u64,
+    /// How often it runs.
+    pub timing: Timing,
     /// It was cancelled.
     pub cancelled: bool,
+    /// It was cancelled while it waited, and still stands in the queue.
+    pub kept: bool,
 }

@@ -3,21 +3,27 @@ ghost use Rattle.std.specs.Prelude.{◌≡◌, ◌≢◌, ◌+◌, ◌^◌, ◌<
 ghost use Rattle.executor_core.specs.declared.task.Phase.TheVariants as ph;
 ghost use Rattle.executor_core.specs.declared.types.Outcome.TheVariants as o;
 ghost use Rattle.executor_core.specs.State.{vacant, submit_task, end_task};
-ghost use Rattle.executor_core.specs.Tasks.{phase_in, word_of, uncancelled_in};
+ghost use Rattle.executor_core.specs.Tasks.{phase_in, word_of, uncancelled_in, running_in, periodic_in};
 
+use crate::tallies::Tallies;
 use crate::task::{Phase, Task};
 use crate::types::Outcome;
+use sched_time::Timing;
 use std::alloc::{AllocError, Allocator};
 use std::marker::Model;
 use task_word::Word;
 
 /// What is kept of a task beside its word.
-#[derive(Clone, Copy, Debug, PartialEq, Eq)]
+#[derive(Clone, Copy)]
 pub(crate) struct Detail {
     /// The due moment of the task, in nanoseconds.
     due: u64,
-    /// A run was under way when the task was cancelled, and has ended.
+    /// How often it runs.
+    timing: Timing,
+    /// Its last run has ended, and its word does not say so.
     over: bool,
+    /// It was cancelled while it waited, and still stands in the queue.
+    kept: bool,
 }
 
 /// The tasks of a plan by their numbers. Contracts see the list of them.
@@ -25,8 +31,7 @@ pub(crate) struct Detail {
 pub(crate) struct Tasks<A: Allocator> {
     words: Vec<Word, A>,
     details: Vec<Detail, A>,
-    /// How many tasks are not cancelled.
-    uncancelled: usize,
+    tallies: Tallies,
 }
 
 impl<A: Allocator> Model for Tasks<A> {
@@ -38,7 +43,7 @@ impl<A: Allocator> Model for Tasks<A> {
 
     ghost view = { λ t. tasks_of t.words.items t.details.items };
 
-    ghost invariant = { λ t. AreTables t.words.items t.details.items t.uncancelled };
+    ghost invariant = { λ t. AreTables t.words.items t.details.items t.tallies };
 }
 
 impl<A: Allocator> Tasks<A> {
@@ -50,12 +55,14 @@ impl<A: Allocator> Tasks<A> {
     {
         let detail = Detail {
             due: 0,
+            timing: Timing::Once,
             over: false,
+            kept: false,
         };
         Ok(Tasks {
             words: Vec::from_elem(alloc, Word::vacant(), count as usize)?,
             details: Vec::from_elem(alloc, detail, count as usize)?,
-            uncancelled: count as usize,
+            tallies: Tallies::of_vacant(count as usize),
         })
     }
 
@@ -70,7 +77,21 @@ impl<A: Allocator> Tasks<A> {
     pub(crate) fn uncancelled(&self) -> usize
         ensures { result ≡ uncancelled_in self.now }
     {
-        self.uncancelled
+        self.tallies.uncancelled
+    }
+
+    /// How many tasks have a run under way.
+    pub(crate) fn running(&self) -> usize
+        ensures { result ≡ running_in self.now }
+    {
+        self.tallies.running
+    }
+
+    /// How many periodic tasks wait for a run.
+    pub(crate) fn periodic(&self) -> usize
+        ensures { result ≡ periodic_in self.now }
+    {
+        self.tallies.periodic
     }
 
     /// Whether there is a task of this number.
@@ -98,18 +119,33 @@ impl<A: Allocator> Tasks<A> {
             phase: phase_in(word.phase(), detail.over),
             run: word.run(),
             due: detail.due,
+            timing: detail.timing,
             cancelled: word.is_marked(),
+            kept: detail.kept,
         }
     }
 
-    /// A task is submitted, and first due at this moment.
-    pub(crate) fn submit(&mut self, task: usize, due: u64)
+    /// A task is submitted, timed so, and first due at this moment.
+    pub(crate) fn submit(&mut self, task: usize, timing: Timing, due: u64)
         requires known { task < length self.old }
         requires vacant { slice_index_or self.old task vacant ≡ vacant }
-        ensures { self.new ≡ slice_set self.old task (submit_task due vacant) }
+        ensures { self.new ≡ slice_set self.old task (submit_task timing due vacant) }
     {
+        let before = self.get(task);
+        let after = Task {
+            phase: Phase::Waiting,
+            timing,
+            due,
+            ..before
+        };
         self.words[task] = self.words[task].submitted();
-        self.details[task] = Detail { due, over: false };
+        self.details[task] = Detail {
+            due,
+            timing: after.timing,
+            over: false,
+            kept: false,
+        };
+        self.tallies = self.tallies.recount(before, after);
     }
 
     /// A run of a task begins.
@@ -119,8 +155,14 @@ impl<A: Allocator> Tasks<A> {
         requires live { (slice_index_or self.old task vacant).cancelled ≡ false }
         ensures { self.new ≡ slice_set self.old task (record (slice_index_or self.old task vacant) { phase = ph.Running }) }
     {
+        let before = self.get(task);
+        let after = Task {
+            phase: Phase::Running,
+            ..before
+        };
         self.words[task] = self.words[task].started();
         self.details[task].over = false;
+        self.tallies = self.tallies.recount(before, after);
     }
 
     /// The run of a task ends with this outcome, and the run after it is due at this moment.
@@ -131,17 +173,22 @@ impl<A: Allocator> Tasks<A> {
         requires run { (slice_index_or self.old task vacant).run + 1 < 2 ^ 32 }
         ensures { self.new ≡ slice_set self.old task (end_task outcome due (slice_index_or self.old task vacant)) }
     {
+        let before = self.get(task);
+        let after = end_task(outcome, due, before);
         let word = self.words[task];
         self.words[task] = match outcome {
             Outcome::Done(_) => word.done(),
             Outcome::Failed(_) => word.failed(),
             Outcome::Again(_) => word.rearmed(),
-            Outcome::Dropped => word,
+            Outcome::Dropped | Outcome::Ended => word,
         };
         self.details[task] = Detail {
             due,
-            over: outcome == Outcome::Dropped,
+            timing: before.timing,
+            over: after.phase == Phase::Dropped,
+            kept: before.kept,
         };
+        self.tallies = self.tallies.recount(before, after);
     }
 
     /// A task that is not cancelled is cancelled.
@@ -150,8 +197,51 @@ impl<A: Allocator> Tasks<A> {
         requires live { (slice_index_or self.old task vacant).cancelled ≡ false }
         ensures { self.new ≡ slice_set self.old task (record (slice_index_or self.old task vacant) { cancelled = true }) }
     {
+        let before = self.get(task);
+        let after = Task {
+            cancelled: true,
+            ..before
+        };
         self.words[task] = self.words[task].with_cancel_bit();
-        self.uncancelled -= 1;
+        self.tallies = self.tallies.recount(before, after);
+    }
+
+    /// A task is kept from now on, or is kept no more.
+    pub(crate) fn keep(&mut self, task: usize, kept: bool)
+        requires known { task < length self.old }
+        ensures { self.new ≡ slice_set self.old task (record (slice_index_or self.old task vacant) { kept = kept }) }
+    {
+        self.details[task].kept = kept;
+    }
+}
+
+/// A task once its run ended with this outcome, and which holds this due moment from then on.
+fn end_task(outcome: Outcome, due: u64, task: Task) -> Task
+    requires { task.run + 1 < 2 ^ 32 }
+    ensures { result ≡ end_task outcome due task }
+{
+    match outcome {
+        Outcome::Done(_) => Task {
+            phase: Phase::Done,
+            due,
+            ..task
+        },
+        Outcome::Failed(_) => Task {
+            phase: Phase::Failed,
+            due,
+            ..task
+        },
+        Outcome::Dropped | Outcome::Ended => Task {
+            phase: Phase::Dropped,
+            due,
+            ..task
+        },
+        Outcome::Again(_) => Task {
+            phase: Phase::Waiting,
+            run: task.run + 1,
+            due,
+            ..task
+        },
     }
 }
 

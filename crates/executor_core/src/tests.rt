@@ -1,13 +1,14 @@
 mod heap;
 mod sizes;
+mod sweeps;
+mod words;
 
 use super::*;
 use queue_code::{CodeCall, orderly};
 use sched_time::{Ending, Span, Timing, Unit, span};
-use std::alloc::Allocator;
+use std::alloc::{AllocGlobal, Allocator, Global};
 use std::process::Abort;
 use std::test::Fail;
-use task_word::Phase;
 
 /// A span of `value` nanoseconds.
 fn nanos(value: i64) -> Result<Span, Fail> {
@@ -31,8 +32,18 @@ fn periodic(moment: u64, task: u32, timing: Timing, delay: u64) -> (u64, CodeCal
     )
 }
 
-fn cancelled(task: u32, effect: CancelEffect) -> Answer {
-    Answer::Cancel { task, effect }
+/// `count` submissions, each of them at moment 0.
+fn submissions(alloc: Global, count: u32) -> Result<Vec<(u64, CodeCall)>, Fail> {
+    let mut calls = Vec::new(alloc);
+    for task in 0..count {
+        let call = CodeCall::Submit {
+            task,
+            timing: Timing::Once,
+            delay: 0,
+        };
+        calls.push((0, call))?;
+    }
+    Ok(calls)
 }
 
 /// A core of these calls, which are in order.
@@ -48,37 +59,30 @@ fn core_of<A: Allocator + Copy>(
     Ok(Core::new(alloc, planned, workers, limit)?)
 }
 
-/// What a word says: its phase, its run, and whether it is cancelled.
-fn word_of<A: Allocator>(core: &Core<A>, task: usize) -> Option<(Phase, u32, bool)> {
-    let word = *core.words().get(task)?;
-    Some((word.phase(), word.run(), word.is_cancelled()))
+/// Gives a core these events, which it takes.
+fn give<A: Allocator, B: Allocator>(
+    core: &mut Core<A>,
+    events: &[Event],
+    out: &mut Vec<Line, B>,
+) -> Result<(), Fail> {
+    for event in events {
+        core.event(*event, out)?;
+    }
+    Ok(())
 }
 
-#[test]
-fn words_tell_how_far_each_task_has_come(rt: HostRuntime) -> Result<(), Fail> {
-    let calls = [
-        periodic(0, 0, Timing::Rate(nanos(5)?), 0),
-        submission(0, 1, 0),
-        submission(9, 2, 0),
-    ];
-    let mut core = core_of(&rt, rt.alloc(), &calls, 1, 100)?;
+/// The lines with which a core of these calls answers these events, which it takes.
+fn lines_after(
+    rt: &(impl AllocGlobal + Abort),
+    calls: &[(u64, CodeCall)],
+    workers: u8,
+    events: &[Event],
+) -> Result<Vec<Line>, Fail> {
+    let mut core = core_of(rt, rt.alloc(), calls, workers, u32::MAX)?;
     let mut out = Vec::new(rt.alloc());
-    assert_eq!(rt; core.words().len(), 3);
-    assert_eq!(rt; word_of(&core, 0), Some((Phase::Vacant, 0, false)));
-    core.event(Event::Clock(0), &mut out)?;
-    core.event(Event::Start(0), &mut out)?;
-    assert_eq!(rt; word_of(&core, 0), Some((Phase::Running, 0, false)));
-    assert_eq!(rt; word_of(&core, 1), Some((Phase::New, 0, false)));
-    core.event(Event::Finish(0, Ending::Value(1)), &mut out)?;
-    assert_eq!(rt; word_of(&core, 0), Some((Phase::New, 1, false)));
-    core.event(Event::Start(0), &mut out)?;
-    core.event(Event::Cancel(1), &mut out)?;
-    assert_eq!(rt; word_of(&core, 1), Some((Phase::Running, 0, true)));
-    core.event(Event::Finish(0, Ending::Value(1)), &mut out)?;
-    assert_eq!(rt; word_of(&core, 1), Some((Phase::Running, 0, true)));
-    assert_eq!(rt; word_of(&core, 2), Some((Phase::Vacant, 0, false)));
-    assert_eq!(rt; word_of(&core, 3), None);
-    Ok(())
+    give(&mut core, events, &mut out)?;
+    assert_eq!(rt; core.taken() as usize, events.len());
+    Ok(out)
 }
 
 #[test]
@@ -96,8 +100,7 @@ fn each_error_says_what_is_wrong(rt: HostRuntime) -> Result<(), Fail> {
 }
 
 /// The lines of code at the head of this crate's documentation.
-#[test]
-fn a_task_runs_once_its_delay_has_passed(rt: HostRuntime) -> Result<(), Fail> {
+fn example(rt: &(impl AllocGlobal + Abort)) -> Result<Vec<Line>, Fail> {
     let alloc = rt.alloc();
     let timer = CodeCall::Submit {
         task: 0,
@@ -108,24 +111,28 @@ fn a_task_runs_once_its_delay_has_passed(rt: HostRuntime) -> Result<(), Fail> {
     assert!(rt; orderly(&calls));
     let mut core = Core::new(alloc, calls, 1, 100)?;
     let mut lines = Vec::new(alloc);
-    let run = [
+    for event in [
         Event::Clock(5),
         Event::Start(0),
         Event::Finish(0, Ending::Value(7)),
-    ];
-    for event in run {
+    ] {
         core.event(event, &mut lines)?;
     }
-    let mut text = String::new(alloc);
-    for line in &lines {
-        writeln!(text, "{} {:?}", line.moment, line.answer)?;
+    Ok(lines)
+}
+
+#[test]
+fn a_task_runs_once_its_delay_has_passed(rt: HostRuntime) -> Result<(), Fail> {
+    let mut text = String::new(rt.alloc());
+    for line in &example(&rt)? {
+        writeln!(text, "{} {:?}", line.moment, line.message)?;
     }
     assert_eq!(rt;
         text.as_str(),
-        "0 Submit { task: 0, kind: Schedule, due: 5 }\n\
-         5 Clock\n\
-         5 Start { worker: 0, task: 0, run: 0, due: 5 }\n\
-         5 Finish { worker: 0, task: 0, run: 0, outcome: Done(7) }\n"
+        "0 Answer(Submit { task: 0, kind: Schedule, due: 5 })\n\
+         5 Answer(Clock)\n\
+         5 Answer(Start { worker: 0, task: 0, run: 0, due: 5 })\n\
+         5 Answer(Finish { worker: 0, task: 0, run: 0, outcome: Done(7) })\n"
     );
     Ok(())
 }

@@ -1,4 +1,4 @@
-use sched_time::Ending;
+use sched_time::{Ending, Which};
 
 /// What the outside reports to the executor.
 #[derive(Clone, Copy, Debug, PartialEq, Eq)]
@@ -44,6 +44,8 @@ pub enum Kind {
 pub enum Refusal {
     /// Its period, or its fixed delay, is zero or negative.
     Illegal,
+    /// The executor is shut.
+    Rejected,
 }
 
 /// Why an event had no effect.
@@ -85,6 +87,8 @@ pub enum Outcome {
     Again(u64),
     /// The task was cancelled while the run was under way, so that its outcome does not count.
     Dropped,
+    /// The executor is shut, and its periodic tasks do not go on: the task is cancelled.
+    Ended,
 }
 
 /// What a happening is answered.
@@ -111,6 +115,26 @@ pub enum Answer {
     Outside {
         task: u32,
         effect: CancelEffect,
+    },
+    /// A policy was set.
+    Policy {
+        which: Which,
+        value: bool,
+    },
+    /// The executor was shut.
+    Shutdown,
+    /// The executor was shut before.
+    ShutdownAgain,
+    /// How far the executor is.
+    Ask {
+        /// How many tasks wait, or are kept after a cancel.
+        queue: u32,
+        /// How many tasks have a run under way.
+        running: u32,
+        /// A shutdown call was made.
+        shutdown: bool,
+        /// It is shut, and nothing is queued or run.
+        terminated: bool,
     },
     /// The clock was moved.
     Clock,
@@ -139,10 +163,19 @@ pub enum Answer {
     Error(EventError),
 }
 
-/// A line of a trace: an answer, and the moment at which it was given.
+/// What a line of a trace says.
+#[derive(Clone, Copy, Debug, PartialEq, Eq)]
+pub enum Message {
+    /// The answer to a happening.
+    Answer(Answer),
+    /// The happening that was answered last ends this task, which is cancelled.
+    End(u32),
+}
+
+/// A line of a trace: what it says, and the moment at which it was said.
 #[derive(Clone, Copy, Debug, PartialEq, Eq)]
 pub struct Line {
     /// The moment, 0 to 2^62 nanoseconds.
     pub moment: u64,
-    pub answer: Answer,
+    pub message: Message,
 }

@@ -17,14 +17,15 @@ use Rattle.executor_core.specs.declared.types.Answer.{Answer}
 use Rattle.executor_core.specs.declared.types.Answer.TheVariants as a
 use Rattle.queue_code.specs.Calls.{Planned, Terms, numbers, terms_of}
 use Rattle.executor_core.specs.View.{View, is_running, is_over, is_waiting, first_enabled}
-use Rattle.executor_core.specs.Answers.{plain, reply, called, started, finished, outcome_of, due_next, effect_on, outcome_in}
-use Rattle.executor_core.specs.Histories.{HistoryEntry, IsHistoryOf, view_of_history, is_submit, is_start, is_finish, is_finish_with, is_done, is_failed, starts, finishes, was_accepted, was_done, was_failed, is_cancel, was_cancelled}
+use Rattle.executor_core.specs.Answers.{plain, reply, called, started, finished, outcome_of, due_next, stops_periodic, effect_on, outcome_in}
+use Rattle.executor_core.specs.Histories.{HistoryEntry, IsHistoryOf, view_of_history, is_submit, is_start, is_finish, is_finish_with, is_done, is_failed, starts, finishes, was_accepted, was_done, was_failed, cancels, was_cancelled}
 use Rattle.executor_laws.specs.Laws.{NothingStartsOnceDone, OneShotsRunOnce, OneShotsStartOnce, RunsAreNumbered, IllegalTasksDoNotStart}
 use Rattle.executor_laws.specs.Positions.{IsSubmissionOf}
 use Rattle.executor_core.proofs.Tables.{submission}
 use Rattle.executor_laws.proofs.StartLaws.{means_front}
 use Rattle.executor_laws.proofs.Reading.{tasks_are_submitted}
-use Rattle.executor_laws.proofs.Waiting.{submit_says}
+use Rattle.executor_laws.proofs.Replies.{IsOfCall, call_answer}
+use Rattle.executor_laws.proofs.Waiting.{call_submits, submit_says, unfinishing}
 use Rattle.executor_laws.proofs.Repeats.{started_so, waits_even, due_by, starts_grow}
 
 -- a task that waits is not over
@@ -54,24 +55,22 @@ nothing_starts_once_done calls workers past between finish start v w k m n d val
 
 -- ---- the finish of a one-shot task ends it, or it was cancelled before
 
-ends_once : (timing : Timing) (due : ℕ) (ending : Ending) → timing ≡ t.Once → (is_failed (outcome_of timing due ending) || is_done (outcome_of timing due ending)) ≡ true
-ends_once t.Once due (e.Value value) q = refl
-ends_once t.Once due (e.Fault code) q = refl
-ends_once (t.Rate period) due ending q = absurd cc
-ends_once (t.Fixed delay) due ending q = absurd cc
+ends_once : (stops : Bool) (timing : Timing) (due : ℕ) (ending : Ending) → timing ≡ t.Once → (is_failed (outcome_of stops timing due ending) || is_done (outcome_of stops timing due ending)) ≡ true
+ends_once stops t.Once due (e.Value value) q = refl
+ends_once stops t.Once due (e.Fault code) q = refl
+ends_once stops (t.Rate period) due ending q = absurd cc
+ends_once stops (t.Fixed delay) due ending q = absurd cc
 
 abbrev Ends : View → ℕ → Answer → Type 0
 Ends v k answer = is_finish k answer ≡ true → ((v.fate k).cancelled || (is_finish_with is_failed k answer || is_finish_with is_done k answer)) ≡ true
 
-call_ends : (calls : List Planned) (v : View) (call : CodeCall) (k : ℕ) → Ends v k (called calls v call).answer
-call_ends calls v (c.Submit task timing delay) k q = absurd (false≢true q)
-call_ends calls v (c.Illegal task) k q = absurd (false≢true q)
-call_ends calls v (c.Cancel task) k q = absurd (false≢true q)
+call_ends : (v : View) (k : ℕ) (answer : Answer) → IsOfCall answer → Ends v k answer
+call_ends v k answer of q = absurd (false≢true (sym (unfinishing k answer of) ∙ q))
 
 once_ends : (calls : List Planned) (workers : ℕ) (v : View) (y : Happening) (k : ℕ) → (terms_of calls k).timing ≡ t.Once → Ends v k (reply calls workers v y).answer
 once_ends calls workers v h.Call k once =
     let pick : (p : Option Planned) → Ends v k (option_map_or (λ p. called calls (record v { moment = max v.moment p.0 }) p.1) p (plain a.Clock)).answer =
-    elim [ None ↦ λ q. absurd (false≢true q) | Some p ↦ call_ends calls (record v { moment = max v.moment p.0 }) p.1 k ]
+    elim [ None ↦ λ q. absurd (false≢true q) | Some p ↦ call_ends v k _ (call_answer calls (record v { moment = max v.moment p.0 }) p.1) ]
     in
     pick (slice_get calls v.made)
 once_ends calls workers v (h.Clock moment) k once =
@@ -86,12 +85,13 @@ once_ends calls workers v (h.Start u) k once =
     in
     other _ _
 once_ends calls workers v (h.Finish u ending) k once =
-    let from : (j : ℕ) → Ends v k (a.Finish u j ((v.fate j).starts - 1) (outcome_in (v.fate j).cancelled (terms_of calls j).timing (due_next calls v j) ending)) = λ j q.
+    let stops = stops_periodic v.shut v.policies in
+    let from : (j : ℕ) → Ends v k (a.Finish u j ((v.fate j).starts - 1) (outcome_in (v.fate j).cancelled stops (terms_of calls j).timing (due_next calls v j) ending)) = λ j q.
     let live : (c : Bool) → (v.fate j).cancelled ≡ c →
-    (c || (is_failed (outcome_in c (terms_of calls j).timing (due_next calls v j) ending) || is_done (outcome_in c (terms_of calls j).timing (due_next calls v j) ending))) ≡ true =
-    elim [ true ↦ λ is. refl | false ↦ λ is. ends_once (terms_of calls j).timing (due_next calls v j) ending (ap (λ i. (terms_of calls i).timing) (eqb-true j k q) ∙ once) ]
+    (c || (is_failed (outcome_in c stops (terms_of calls j).timing (due_next calls v j) ending) || is_done (outcome_in c stops (terms_of calls j).timing (due_next calls v j) ending))) ≡ true =
+    elim [ true ↦ λ is. refl | false ↦ λ is. ends_once stops (terms_of calls j).timing (due_next calls v j) ending (ap (λ i. (terms_of calls i).timing) (eqb-true j k q) ∙ once) ]
     in
-    let out = outcome_in (v.fate j).cancelled (terms_of calls j).timing (due_next calls v j) ending in
+    let out = outcome_in (v.fate j).cancelled stops (terms_of calls j).timing (due_next calls v j) ending in
     ap (λ i. (v.fate i).cancelled || (((j == k) && is_failed out) || ((j == k) && is_done out))) (sym (eqb-true j k q))
     ∙ (ap (λ b. (v.fate j).cancelled || ((b && is_failed out) || (b && is_done out))) q ∙ live (v.fate j).cancelled refl)
     in
@@ -112,8 +112,8 @@ over_of calls workers (e ∷ past) k m once l =
     let ends : Ends v k e.answer = subst (Ends v k) (sym m.2) (once_ends calls workers v e.happening k once) in
     let pick : (b : Bool) → is_finish k e.answer ≡ b → 0 < cond b (1 + finishes k past) (finishes k past) → (was_cancelled k (e ∷ past) || (was_failed k (e ∷ past) || was_done k (e ∷ past))) ≡ true =
     elim [
-      | true ↦ λ is l. here (is_cancel k e.answer) (was_cancelled k past) (is_finish_with is_failed k e.answer) (is_finish_with is_done k e.answer) (was_failed k past) (was_done k past) (ends is)
-      | false ↦ λ is l. there (is_cancel k e.answer) (was_cancelled k past) (is_finish_with is_failed k e.answer) (is_finish_with is_done k e.answer) (was_failed k past) (was_done k past) (over_of calls workers past k m.0 once l)
+      | true ↦ λ is l. here (cancels k e.answer e.ends) (was_cancelled k past) (is_finish_with is_failed k e.answer) (is_finish_with is_done k e.answer) (was_failed k past) (was_done k past) (ends is)
+      | false ↦ λ is l. there (cancels k e.answer e.ends) (was_cancelled k past) (is_finish_with is_failed k e.answer) (is_finish_with is_done k e.answer) (was_failed k past) (was_done k past) (over_of calls workers past k m.0 once l)
     ]
     in
     pick (is_finish k e.answer) refl l
@@ -175,8 +175,7 @@ one_shots_start_once calls workers past between first second v w k m n d f place
 -- a call is the submission of task k, and legal
 abbrev IsLegalSubmissionOf : ℕ → CodeCall → Type 0
 IsLegalSubmissionOf k (c.Submit task timing delay) = task ≡ k
-IsLegalSubmissionOf k (c.Illegal task) = ⊥
-IsLegalSubmissionOf k (c.Cancel task) = ⊥
+IsLegalSubmissionOf k _ = ⊥
 
 record WasLegal (calls : List Planned) (k : ℕ) : Type 0 where
   place : ℕ
@@ -186,9 +185,12 @@ record WasLegal (calls : List Planned) (k : ℕ) : Type 0 where
   legal : IsLegalSubmissionOf k call.1
 
 call_is_legal : (calls : List Planned) (v : View) (call : CodeCall) (k : ℕ) → is_submit k (called calls v call).answer ≡ true → IsLegalSubmissionOf k call
-call_is_legal calls v (c.Submit task timing delay) k q = eqb-true task k q
+call_is_legal calls v (c.Submit task timing delay) k q = call_submits calls v (c.Submit task timing delay) k q
 call_is_legal calls v (c.Illegal task) k q = false≢true q
 call_is_legal calls v (c.Cancel task) k q = false≢true q
+call_is_legal calls v (c.SetPolicy which value) k q = false≢true q
+call_is_legal calls v c.Shutdown k q = call_submits calls v c.Shutdown k q
+call_is_legal calls v c.Ask k q = false≢true q
 
 submit_is_legal : (calls : List Planned) (workers : ℕ) (v : View) (y : Happening) (k : ℕ) → is_submit k (reply calls workers v y).answer ≡ true → WasLegal calls k
 submit_is_legal calls workers v y k q =

@@ -1,3 +1,4 @@
+pub mod Replies
 pub mod StartLaws
 pub mod Flows
 pub mod Places
@@ -6,3 +7,8 @@ pub mod Waiting
 pub mod Repeats
 pub mod Endings
 pub mod TaskWords
+pub mod Policies
+pub mod Refusals
+pub mod Termination
+pub mod Kept
+pub mod Lines

@@ -6,8 +6,6 @@ use Rattle.std.specs.List.{list_any}
 use Rattle.std.proofs.lemmas.Bool.{false≢true, eqb-true, eq-eqb}
 use Rattle.std.proofs.lemmas.Bool.Decides.{nat_tests}
 use Rattle.std.proofs.lemmas.Option.{none-some, same_Some}
-use Rattle.queue_code.specs.declared.call.CodeCall.{CodeCall}
-use Rattle.queue_code.specs.declared.call.CodeCall.TheVariants as c
 use Rattle.executor_core.specs.declared.types.EventError.TheVariants as x
 use Rattle.executor_core.specs.declared.types.Happening.{Happening}
 use Rattle.executor_core.specs.declared.types.Happening.TheVariants as h
@@ -19,6 +17,7 @@ use Rattle.executor_core.specs.Answers.{plain, reply, called, started, finished,
 use Rattle.executor_core.specs.Histories.{HistoryEntry, IsHistoryOf, view_of_history, now_of, happenings, made, work_of, work_after, answer}
 use Rattle.executor_laws.specs.Positions.{starts_by, finishes_by, StartedLast, WorkIsTheLastStart, StartsExceedFinishes, busy, HasMoment, Shows, NowIsTheGreatest, FirstIsTheLeast, NoneIsEnabled}
 use Rattle.executor_core.proofs.Sound.{first_is_enabled}
+use Rattle.executor_laws.proofs.Replies.{IsOfCall, call_answer}
 use Rattle.executor_core.proofs.First.{first_is, first_is_in, first_is_least, first_is_none, none_enabled, in_range, range_below}
 
 -- ---- the first enabled task
@@ -48,27 +47,22 @@ none_is_enabled calls v = (
 
 -- ---- what an answer tells of the worker's work before it
 
-no_call_moves : (calls : List Planned) (v : View) (call : CodeCall) (w k n d : ℕ) → (called calls v call).answer ≡ a.Start w k n d → ⊥
-no_call_moves calls v (c.Submit task timing delay) w k n d q = cc
-no_call_moves calls v (c.Illegal task) w k n d q = cc
-no_call_moves calls v (c.Cancel task) w k n d q = cc
-
 -- the work of the worker is free where the answer is a start by it, and taken where it is a finish by it
 abbrev Told : ℕ → Option ℕ → Answer → Type 0
 Told w work (a.Start worker task run due) = (worker == w) ≡ true → work ≡ None
 Told w work (a.Finish worker task run outcome) = (worker == w) ≡ true → work ≡ Some task
 Told w work _ = Unit {0}
 
-call_tells : (calls : List Planned) (v : View) (call : CodeCall) (w : ℕ) (work : Option ℕ) → Told w work (called calls v call).answer
-call_tells calls v (c.Submit task timing delay) w work = tt
-call_tells calls v (c.Illegal task) w work = tt
-call_tells calls v (c.Cancel task) w work = tt
+call_tells : (answer : Answer) (w : ℕ) (work : Option ℕ) → IsOfCall answer → Told w work answer
+call_tells (a.Start worker task run due) w work of = absurd of
+call_tells (a.Finish worker task run outcome) w work of = absurd of
+call_tells _ w work of = tt
 
 -- what a reply says of the work of a worker
 pub work_is_told : (calls : List Planned) (workers : ℕ) (v : View) (y : Happening) (w : ℕ) → Told w (v.work w) (reply calls workers v y).answer
 work_is_told calls workers v h.Call w =
     let pick : (q : Option Planned) → Told w (v.work w) (option_map_or (λ p. called calls (record v { moment = max v.moment p.0 }) p.1) q (plain a.Clock)).answer =
-    elim [ None ↦ tt | Some p ↦ call_tells calls (record v { moment = max v.moment p.0 }) p.1 w (v.work w) ]
+    elim [ None ↦ tt | Some p ↦ call_tells _ w (v.work w) (call_answer calls (record v { moment = max v.moment p.0 }) p.1) ]
     in
     pick (slice_get calls v.made)
 work_is_told calls workers v (h.Clock t) w =
@@ -149,6 +143,10 @@ last_start (e ∷ past) w k q =
       | a.Refuse j refusal ↦ λ is q. behind past e w k (ap (finishes_by w) is) (last_start past w k q)
       | a.Cancel j effect ↦ λ is q. behind past e w k (ap (finishes_by w) is) (last_start past w k q)
       | a.Outside j effect ↦ λ is q. behind past e w k (ap (finishes_by w) is) (last_start past w k q)
+      | a.Policy which value ↦ λ is q. behind past e w k (ap (finishes_by w) is) (last_start past w k q)
+      | a.Shutdown ↦ λ is q. behind past e w k (ap (finishes_by w) is) (last_start past w k q)
+      | a.ShutdownAgain ↦ λ is q. behind past e w k (ap (finishes_by w) is) (last_start past w k q)
+      | a.Ask queue running shutdown terminated ↦ λ is q. behind past e w k (ap (finishes_by w) is) (last_start past w k q)
       | a.Clock ↦ λ is q. behind past e w k (ap (finishes_by w) is) (last_start past w k q)
       | a.Idle u ↦ λ is q. behind past e w k (ap (finishes_by w) is) (last_start past w k q)
       | a.Error y ↦ λ is q. behind past e w k (ap (finishes_by w) is) (last_start past w k q)
@@ -168,13 +166,7 @@ keeps w k (a.Finish u j n o) work told unended is =
     elim [ true ↦ λ same. absurd (false≢true (sym unended ∙ same)) | false ↦ λ other. is ]
     in
     by (u == w) refl
-keeps w k (a.Submit j kind due) work told unended is = is
-keeps w k (a.Refuse j refusal) work told unended is = is
-keeps w k (a.Cancel j effect) work told unended is = is
-keeps w k (a.Outside j effect) work told unended is = is
-keeps w k a.Clock work told unended is = is
-keeps w k (a.Idle u) work told unended is = is
-keeps w k (a.Error y) work told unended is = is
+keeps w k _ work told unended is = is
 
 none_of_parts : (b d : Bool) → (b || d) ≡ false → (b ≡ false) × (d ≡ false)
 none_of_parts true d q = absurd (false≢true (sym q))
@@ -208,13 +200,7 @@ one_more w (a.Finish u j run o) work n m told is =
     elim [ true ↦ λ same. omega (arith, is, ap busy (told same)) | false ↦ λ other. is ]
     in
     by (u == w) refl
-one_more w (a.Submit j kind due) work n m told is = is
-one_more w (a.Refuse j refusal) work n m told is = is
-one_more w (a.Cancel j effect) work n m told is = is
-one_more w (a.Outside j effect) work n m told is = is
-one_more w a.Clock work n m told is = is
-one_more w (a.Idle u) work n m told is = is
-one_more w (a.Error y) work n m told is = is
+one_more w _ work n m told is = is
 
 -- the law that a worker that works started once more than it finished
 pub starts_exceed_finishes : StartsExceedFinishes

@@ -1,9 +1,9 @@
 -- What holds of the runs of a task that runs more than once.
-use Rattle.std.proofs.Common.{◌≡◌, ℕ, ◌+◌, ◌*◌, ◌-◌, ◌<◌, ◌≤◌, ◌==◌, ◌&&◌, nat_lt, nat_le, Bool, true, false, cond, inl, inr, List, [], ◌∷◌, ◌++◌, Option, Some, None, refl, sym, ap, ◌∙◌, arith}
+use Rattle.std.proofs.Common.{◌≡◌, ℕ, ◌+◌, ◌*◌, ◌-◌, ◌<◌, ◌≤◌, ◌==◌, ◌&&◌, nat_lt, nat_le, Bool, true, false, cond, inl, inr, List, [], ◌∷◌, ◌++◌, Option, Some, None, refl, sym, ap, ◌∙◌, arith, subst}
 use Rattle.std.specs.Prelude.{slice_get, max, not, ◌||◌}
 use Rattle.std.specs.Option.{option_map_or}
 use Rattle.std.specs.List.{list_any}
-use Rattle.std.proofs.lemmas.Bool.{false≢true, eqb-true, eq-eqb, and_parts, or_parts}
+use Rattle.std.proofs.lemmas.Bool.{false≢true, eqb-true, eq-eqb, and_parts, or_parts, or_left}
 use Rattle.std.proofs.lemmas.Bool.Decides.{nat_tests}
 use Rattle.sched_time.specs.declared.timing.Timing.{Timing}
 use Rattle.sched_time.specs.declared.timing.Timing.TheVariants as t
@@ -12,6 +12,7 @@ use Rattle.sched_time.specs.declared.timing.Ending.TheVariants as e
 use Rattle.queue_code.specs.declared.call.CodeCall.{CodeCall}
 use Rattle.queue_code.specs.declared.call.CodeCall.TheVariants as c
 use Rattle.executor_core.specs.declared.types.EventError.TheVariants as x
+use Rattle.executor_core.specs.declared.types.Refusal.TheVariants as refusal
 use Rattle.executor_core.specs.declared.types.Happening.{Happening}
 use Rattle.executor_core.specs.declared.types.Happening.TheVariants as h
 use Rattle.executor_core.specs.declared.types.CancelEffect.{CancelEffect}
@@ -19,12 +20,13 @@ use Rattle.executor_core.specs.declared.types.CancelEffect.TheVariants as f
 use Rattle.executor_core.specs.declared.types.Outcome.TheVariants as o
 use Rattle.executor_core.specs.declared.types.Answer.TheVariants as a
 use Rattle.queue_code.specs.Calls.{Planned, Terms, numbers, task_count, terms_of, due_at}
-use Rattle.executor_core.specs.View.{View, is_running, is_over, is_waiting, first_enabled}
-use Rattle.executor_core.specs.Answers.{plain, reply, called, started, finished, outcome_of, due_next, effect_on, outcome_in}
-use Rattle.executor_core.specs.Histories.{HistoryEntry, view_of_history, happenings, now_of, is_cancel, is_yes, is_start, is_finish, is_finish_with, is_failed, starts, finishes, last_finish, was_cancelled, was_failed, due_of}
+use Rattle.executor_core.specs.View.{Fate, View, is_running, is_over, is_waiting, first_enabled}
+use Rattle.executor_core.specs.Answers.{plain, reply, called, kind_of, swept, started, finished, outcome_of, due_next, stops_periodic, effect_on, outcome_in}
+use Rattle.executor_core.specs.Histories.{HistoryEntry, view_of_history, happenings, now_of, is_cancel, cancels, is_yes, is_start, is_finish, is_finish_with, is_failed, starts, finishes, last_finish, was_cancelled, was_failed, due_of}
 use Rattle.executor_laws.specs.Laws.{Starts, TiesGoBySubmission, RateRunsAreDue, FixedRunsAreDue, AgainIsDue, RunsDoNotOverlap, NothingStartsAfterAFailure, NothingStartsAfterACancel, CancelsHaveOneEffect}
 use Rattle.executor_core.proofs.Tables.{submission}
 use Rattle.executor_core.proofs.Sound.{first_is_enabled}
+use Rattle.executor_laws.proofs.Replies.{IsOfCall, call_answer}
 use Rattle.executor_laws.proofs.StartLaws.{start_is_first, starts_are_in_order, means_front}
 use Rattle.executor_laws.proofs.Waiting.{finish_found}
 
@@ -55,13 +57,16 @@ waits_even calls past k q =
     in
     pick (starts k past == finishes k past) refl idle
 
--- it was not cancelled
-waits_live : (calls : List Planned) (past : List HistoryEntry) (k : ℕ) → is_waiting ((view_of_history calls past).fate k) ≡ true → was_cancelled k past ≡ false
-waits_live calls past k q =
-    let f = (view_of_history calls past).fate k in
-    let on = (and_parts (not (is_running f)) (not (is_over f)) (and_parts f.accepted (not (is_running f) && not (is_over f)) q).1).1 in
+-- a task that waits was not cancelled
+pub waiting_live : (fate : Fate) → is_waiting fate ≡ true → fate.cancelled ≡ false
+waiting_live fate q =
+    let on = (and_parts (not (is_running fate)) (not (is_over fate)) (and_parts fate.accepted (not (is_running fate) && not (is_over fate)) q).1).1 in
     let pick : (a b : Bool) → not (a || b) ≡ true → a ≡ false = elim [ true ↦ λ b q. absurd (false≢true q) | false ↦ λ b q. refl ] in
-    pick f.cancelled (f.failed || f.done) on
+    pick fate.cancelled (fate.failed || fate.done) on
+
+-- it was not cancelled
+pub waits_live : (calls : List Planned) (past : List HistoryEntry) (k : ℕ) → is_waiting ((view_of_history calls past).fate k) ≡ true → was_cancelled k past ≡ false
+waits_live calls past k q = waiting_live ((view_of_history calls past).fate k) q
 
 -- and it is not over
 waits_on : (calls : List Planned) (past : List HistoryEntry) (k : ℕ) → is_waiting ((view_of_history calls past).fate k) ≡ true → was_failed k past ≡ false
@@ -130,21 +135,18 @@ fixed_runs_are_due calls workers past e w k n d place moment initial delay o is 
 
 -- ---- a finish that makes a task wait again tells the due moment of its next run
 
-again_landed : (timing : Timing) (due d : ℕ) (ending : Ending) → outcome_of timing due ending ≡ o.Again d → d ≡ due
-again_landed timing due d (e.Fault code) q = absurd cc
-again_landed t.Once due d (e.Value value) q = absurd cc
-again_landed (t.Rate period) due d (e.Value value) q = cc
-again_landed (t.Fixed delay) due d (e.Value value) q = cc
-
-no_call_again : (calls : List Planned) (v : View) (call : CodeCall) (w k n d : ℕ) → (called calls v call).answer ≡ a.Finish w k n (o.Again d) → ⊥
-no_call_again calls v (c.Submit task timing delay) w k n d q = cc
-no_call_again calls v (c.Illegal task) w k n d q = cc
-no_call_again calls v (c.Cancel task) w k n d q = cc
+again_landed : (stops : Bool) (timing : Timing) (due d : ℕ) (ending : Ending) → outcome_of stops timing due ending ≡ o.Again d → d ≡ due
+again_landed stops timing due d (e.Fault code) q = absurd cc
+again_landed stops t.Once due d (e.Value value) q = absurd cc
+again_landed true (t.Rate period) due d (e.Value value) q = absurd cc
+again_landed false (t.Rate period) due d (e.Value value) q = cc
+again_landed true (t.Fixed delay) due d (e.Value value) q = absurd cc
+again_landed false (t.Fixed delay) due d (e.Value value) q = cc
 
 again_says : (calls : List Planned) (workers : ℕ) (v : View) (y : Happening) (w k n d : ℕ) → (reply calls workers v y).answer ≡ a.Finish w k n (o.Again d) → d ≡ due_next calls v k
 again_says calls workers v h.Call w k n d q =
     let pick : (q : Option Planned) → (option_map_or (λ p. called calls (record v { moment = max v.moment p.0 }) p.1) q (plain a.Clock)).answer ≡ a.Finish w k n (o.Again d) → ⊥ =
-    elim [ None ↦ λ q. cc | Some p ↦ λ q. no_call_again calls (record v { moment = max v.moment p.0 }) p.1 w k n d q ]
+    elim [ None ↦ λ q. cc | Some p ↦ λ q. subst IsOfCall q (call_answer calls (record v { moment = max v.moment p.0 }) p.1) ]
     in
     absurd (pick (slice_get calls v.made) q)
 again_says calls workers v (h.Clock t) w k n d q =
@@ -157,11 +159,12 @@ again_says calls workers v (h.Start u) w k n d q =
     in
     absurd (other _ _ q)
 again_says calls workers v (h.Finish u ending) w k n d q =
-    let from : (j : ℕ) → a.Finish u j ((v.fate j).starts - 1) (outcome_in (v.fate j).cancelled (terms_of calls j).timing (due_next calls v j) ending) ≡ a.Finish w k n (o.Again d) → d ≡ due_next calls v k = λ j q.
+    let stops = stops_periodic v.shut v.policies in
+    let from : (j : ℕ) → a.Finish u j ((v.fate j).starts - 1) (outcome_in (v.fate j).cancelled stops (terms_of calls j).timing (due_next calls v j) ending) ≡ a.Finish w k n (o.Again d) → d ≡ due_next calls v k = λ j q.
     let same : j ≡ k = cc in
-    let outcome : outcome_in (v.fate j).cancelled (terms_of calls j).timing (due_next calls v j) ending ≡ o.Again d = cc in
-    let live : (b : Bool) → outcome_in b (terms_of calls j).timing (due_next calls v j) ending ≡ o.Again d → d ≡ due_next calls v j =
-    elim [ true ↦ λ q. absurd cc | false ↦ λ q. again_landed (terms_of calls j).timing (due_next calls v j) d ending q ]
+    let outcome : outcome_in (v.fate j).cancelled stops (terms_of calls j).timing (due_next calls v j) ending ≡ o.Again d = cc in
+    let live : (b : Bool) → outcome_in b stops (terms_of calls j).timing (due_next calls v j) ending ≡ o.Again d → d ≡ due_next calls v j =
+    elim [ true ↦ λ q. absurd cc | false ↦ λ q. again_landed stops (terms_of calls j).timing (due_next calls v j) d ending q ]
     in
     live (v.fate j).cancelled outcome ∙ ap (due_next calls v) same
     in
@@ -233,19 +236,18 @@ nothing_starts_after_a_failure calls workers past between finish start v w k m n
 
 -- ---- cancels
 
-cancelled_stays : (k : ℕ) (between past : List HistoryEntry) → was_cancelled k past ≡ true → was_cancelled k (between ++ past) ≡ true
+pub cancelled_stays : (k : ℕ) (between past : List HistoryEntry) → was_cancelled k past ≡ true → was_cancelled k (between ++ past) ≡ true
 cancelled_stays k [] past q = q
 cancelled_stays k (e ∷ between) past q =
     let rest = cancelled_stays k between past q in
     let pick : (b : Bool) → (b || was_cancelled k (between ++ past)) ≡ true = elim [ true ↦ refl | false ↦ rest ] in
-    pick (is_cancel k e.answer)
+    pick (cancels k e.answer e.ends)
 
 -- the law that a cancelled task does not start again
 pub nothing_starts_after_a_cancel : NothingStartsAfterACancel
 nothing_starts_after_a_cancel calls workers past between cancel start w k n d s is =
     let live = waits_live calls (between ++ cancel ∷ past) k (started_so calls workers (between ++ cancel ∷ past) start w k n d s).waiting in
-    let cancelled : was_cancelled k (cancel ∷ past) ≡ true = ap (λ b. b || was_cancelled k past) is in
-    false≢true (sym live ∙ cancelled_stays k between (cancel ∷ past) cancelled)
+    false≢true (sym live ∙ cancelled_stays k between (cancel ∷ past) (or_left _ (was_cancelled k past) is))
 
 -- what a cancel does to a task of which this is known
 abbrev effect_with : Bool → Bool → Bool → Bool → CancelEffect
@@ -266,11 +268,18 @@ effect_live v j k q =
     ap (λ i. (v.fate i).cancelled) (sym (eqb-true j k parts.0)) ∙ yes_live fate.accepted (is_running fate) fate.cancelled (fate.failed || fate.done) parts.1
 
 call_cancels : (calls : List Planned) (v : View) (call : CodeCall) (k : ℕ) → is_cancel k (called calls v call).answer ≡ true → (v.fate k).cancelled ≡ false
-call_cancels calls v (c.Submit task timing delay) k q = absurd (false≢true q)
+call_cancels calls v (c.Submit task timing delay) k q =
+    let pick : (b : Bool) → is_cancel k (cond b (a.Refuse task refusal.Rejected) (a.Submit task (kind_of timing) (due_at (terms_of calls task) 0 None))) ≡ true → ⊥ = elim [ true ↦ λ q. false≢true q | false ↦ λ q. false≢true q ] in
+    absurd (pick v.shut q)
 call_cancels calls v (c.Illegal task) k q = absurd (false≢true q)
 call_cancels calls v (c.Cancel task) k q = effect_live v task k q
+call_cancels calls v (c.SetPolicy which value) k q = absurd (false≢true q)
+call_cancels calls v c.Shutdown k q =
+    let pick : (b : Bool) → is_cancel k (cond b (plain a.ShutdownAgain) (record { answer = a.Shutdown; ends = swept calls v v.policies })).answer ≡ true → ⊥ = elim [ true ↦ λ q. false≢true q | false ↦ λ q. false≢true q ] in
+    absurd (pick v.shut q)
+call_cancels calls v c.Ask k q = absurd (false≢true q)
 
-cancel_says : (calls : List Planned) (workers : ℕ) (v : View) (y : Happening) (k : ℕ) → is_cancel k (reply calls workers v y).answer ≡ true → (v.fate k).cancelled ≡ false
+pub cancel_says : (calls : List Planned) (workers : ℕ) (v : View) (y : Happening) (k : ℕ) → is_cancel k (reply calls workers v y).answer ≡ true → (v.fate k).cancelled ≡ false
 cancel_says calls workers v h.Call k =
     let pick : (p : Option Planned) → is_cancel k (option_map_or (λ p. called calls (record v { moment = max v.moment p.0 }) p.1) p (plain a.Clock)).answer ≡ true → (v.fate k).cancelled ≡ false =
     elim [ None ↦ λ q. absurd (false≢true q) | Some p ↦ call_cancels calls (record v { moment = max v.moment p.0 }) p.1 k ]
@@ -303,5 +312,4 @@ pub cancels_have_one_effect : CancelsHaveOneEffect
 cancels_have_one_effect calls workers past between first second k m one other =
     let before = between ++ first ∷ past in
     let live = cancel_says calls workers (view_of_history calls before) second.happening k (sym (ap (is_cancel k) m.2) ∙ other) in
-    let cancelled : was_cancelled k (first ∷ past) ≡ true = ap (λ b. b || was_cancelled k past) one in
-    false≢true (sym live ∙ cancelled_stays k between (first ∷ past) cancelled)
+    false≢true (sym live ∙ cancelled_stays k between (first ∷ past) (or_left _ (was_cancelled k past) (or_left _ _ one)))

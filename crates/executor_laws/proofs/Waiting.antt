@@ -10,12 +10,15 @@ use Rattle.queue_code.specs.declared.call.CodeCall.TheVariants as c
 use Rattle.executor_core.specs.declared.types.EventError.TheVariants as x
 use Rattle.executor_core.specs.declared.types.Happening.{Happening}
 use Rattle.executor_core.specs.declared.types.Happening.TheVariants as h
+use Rattle.executor_core.specs.declared.types.Refusal.TheVariants as refusal
+use Rattle.executor_core.specs.declared.types.Answer.{Answer}
 use Rattle.executor_core.specs.declared.types.Answer.TheVariants as a
-use Rattle.queue_code.specs.Calls.{Planned, numbers}
+use Rattle.queue_code.specs.Calls.{Planned, numbers, terms_of, due_at}
 use Rattle.executor_core.specs.View.{View, is_running, is_over, first_enabled}
-use Rattle.executor_core.specs.Answers.{plain, reply, called, started, finished, moment_after, effect_on}
+use Rattle.executor_core.specs.Answers.{plain, reply, called, kind_of, swept, started, finished, moment_after, effect_on}
 use Rattle.executor_core.specs.Histories.{HistoryEntry, IsHistoryOf, view_of_history, happenings, made, now_of, is_submit, is_finish, was_accepted, last_finish}
 use Rattle.executor_laws.specs.Positions.{IsSubmissionOf, WasSubmitted, WaitingIsATask, WaitingIsDueInTime, FinishedLast, LastFinishIsTheLast, FinishKeepsNow}
+use Rattle.executor_laws.proofs.Replies.{IsOfCall, call_answer}
 use Rattle.executor_laws.proofs.Reading.{tasks_are_submitted}
 use Rattle.executor_core.proofs.Within.{dues_within}
 
@@ -28,10 +31,19 @@ pub record Submits (calls : List Planned) (v : View) (happening : Happening) (k 
   pub there : slice_get calls v.made ≡ Some call
   pub submits : IsSubmissionOf k call.1
 
-call_submits : (calls : List Planned) (v : View) (call : CodeCall) (k : ℕ) → is_submit k (called calls v call).answer ≡ true → IsSubmissionOf k call
-call_submits calls v (c.Submit task timing delay) k q = eqb-true task k q
+pub call_submits : (calls : List Planned) (v : View) (call : CodeCall) (k : ℕ) → is_submit k (called calls v call).answer ≡ true → IsSubmissionOf k call
+call_submits calls v (c.Submit task timing delay) k q =
+    let pick : (b : Bool) → is_submit k (cond b (a.Refuse task refusal.Rejected) (a.Submit task (kind_of timing) (due_at (terms_of calls task) 0 None))) ≡ true → task ≡ k =
+    elim [ true ↦ λ q. absurd (false≢true q) | false ↦ eqb-true task k ]
+    in
+    pick v.shut q
 call_submits calls v (c.Illegal task) k q = absurd (false≢true q)
 call_submits calls v (c.Cancel task) k q = absurd (false≢true q)
+call_submits calls v (c.SetPolicy which value) k q = absurd (false≢true q)
+call_submits calls v c.Shutdown k q =
+    let pick : (b : Bool) → is_submit k (cond b (plain a.ShutdownAgain) (record { answer = a.Shutdown; ends = swept calls v v.policies })).answer ≡ true → ⊥ = elim [ true ↦ λ q. false≢true q | false ↦ λ q. false≢true q ] in
+    pick v.shut q
+call_submits calls v c.Ask k q = absurd (false≢true q)
 
 -- an answer that submits a task is that of a call that does
 pub submit_says : (calls : List Planned) (workers : ℕ) (v : View) (y : Happening) (k : ℕ) → is_submit k (reply calls workers v y).answer ≡ true → Submits calls v y k
@@ -63,7 +75,7 @@ submit_says calls workers v (h.Cancel j) k q =
 
 -- ---- a task whose submission was accepted was submitted by a call that was made
 
-made_more : (y : Happening) (past : List Happening) → made past ≤ made (y ∷ past)
+pub made_more : (y : Happening) (past : List Happening) → made past ≤ made (y ∷ past)
 made_more h.Call past = omega arith
 made_more (h.Clock t) past = omega arith
 made_more (h.Start w) past = omega arith
@@ -82,7 +94,7 @@ submitted_here calls past y k s = record {
   before = subst (λ z. made (happenings past) < made (z ∷ happenings past)) (sym s.is) (omega arith);
 }
 
-was_submitted : (calls : List Planned) (workers : ℕ) (past : List HistoryEntry) (k : ℕ) → IsHistoryOf calls workers past → was_accepted k past ≡ true → WasSubmitted calls (happenings past) k
+pub was_submitted : (calls : List Planned) (workers : ℕ) (past : List HistoryEntry) (k : ℕ) → IsHistoryOf calls workers past → was_accepted k past ≡ true → WasSubmitted calls (happenings past) k
 was_submitted calls workers [] k m q = absurd (false≢true q)
 was_submitted calls workers (e ∷ past) k m q = elim (or_cases (is_submit k e.answer) (was_accepted k past) q) [
   | inl here ↦ submitted_here calls past e.happening k (submit_says calls workers (view_of_history calls past) e.happening k (sym (ap (is_submit k) m.2) ∙ here))
@@ -164,15 +176,15 @@ last_finish_is_the_last calls past k = (
 
 -- ---- a finish does not move now
 
-no_call_finishes : (calls : List Planned) (v : View) (call : CodeCall) (k : ℕ) → is_finish k (called calls v call).answer ≡ true → ⊥
-no_call_finishes calls v (c.Submit task timing delay) k q = false≢true q
-no_call_finishes calls v (c.Illegal task) k q = false≢true q
-no_call_finishes calls v (c.Cancel task) k q = false≢true q
+-- an answer to a call finishes no run
+pub unfinishing : (k : ℕ) (answer : Answer) → IsOfCall answer → is_finish k answer ≡ false
+unfinishing k (a.Finish worker task run outcome) of = absurd of
+unfinishing k _ of = refl
 
 finish_keeps : (calls : List Planned) (workers : ℕ) (v : View) (y : Happening) (k now : ℕ) (call : Option Planned) → is_finish k (reply calls workers v y).answer ≡ true → moment_after now call y ≡ now
 finish_keeps calls workers v h.Call k now call q =
     let pick : (o : Option Planned) → is_finish k (option_map_or (λ p. called calls (record v { moment = max v.moment p.0 }) p.1) o (plain a.Clock)).answer ≡ true → ⊥ =
-    elim [ None ↦ λ q. false≢true q | Some p ↦ λ q. no_call_finishes calls (record v { moment = max v.moment p.0 }) p.1 k q ]
+    elim [ None ↦ λ q. false≢true q | Some p ↦ λ q. false≢true (sym (unfinishing k _ (call_answer calls (record v { moment = max v.moment p.0 }) p.1)) ∙ q) ]
     in
     absurd (pick (slice_get calls v.made) q)
 finish_keeps calls workers v (h.Clock t) k now call q =

@@ -11,7 +11,7 @@ use Rattle.executor_core.specs.declared.types.Happening.{Happening}
 use Rattle.executor_core.specs.declared.types.Answer.TheVariants as a
 use Rattle.queue_code.specs.Calls.{Planned, IsOrderly, task_count}
 use Rattle.executor_core.specs.View.{is_enabled, precedes}
-use Rattle.executor_core.specs.Histories.{HistoryEntry, IsHistoryOf, starts, MayCome, happenings, is_cancel, is_finish, view_of_history, due_of, now_of, answer}
+use Rattle.executor_core.specs.Histories.{HistoryEntry, IsHistoryOf, starts, MayCome, happenings, is_cancel, cancels, is_finish, view_of_history, due_of, now_of, answer}
 use Rattle.executor_core.specs.State.{after, view_of_state}
 use Rattle.executor_core.specs.Flows.{flow, history_of}
 use Rattle.executor_laws.specs.Positions.{FinishedLast}
@@ -80,10 +80,11 @@ abbrev pub NothingStartsAfterAFailure : Type 0
 NothingStartsAfterAFailure = (calls : List Planned) (workers : ℕ) (past between : List HistoryEntry) (finish start : HistoryEntry) (v w k m n d code : ℕ)
     → Starts calls workers (between ++ finish ∷ past) start w k n d → finish.answer ≡ a.Finish v k m (o.Failed code) → ⊥
 
--- after a cancel with an effect nothing of its task starts (this project's rule)
+-- after a task is cancelled, by a cancel with an effect, by a sweep or at the end of its run, nothing of it starts
+-- (this project's rule)
 abbrev pub NothingStartsAfterACancel : Type 0
 NothingStartsAfterACancel = (calls : List Planned) (workers : ℕ) (past between : List HistoryEntry) (cancel start : HistoryEntry) (w k n d : ℕ)
-    → Starts calls workers (between ++ cancel ∷ past) start w k n d → is_cancel k cancel.answer ≡ true → ⊥
+    → Starts calls workers (between ++ cancel ∷ past) start w k n d → cancels k cancel.answer cancel.ends ≡ true → ⊥
 
 -- at most one cancel of a task has an effect (this project's rule)
 abbrev pub CancelsHaveOneEffect : Type 0
@@ -114,7 +115,9 @@ OneShotsStartOnce = (calls : List Planned) (workers : ℕ) (past between : List 
 abbrev pub RunsAreNumbered : Type 0
 RunsAreNumbered = (calls : List Planned) (workers : ℕ) (past : List HistoryEntry) (e : HistoryEntry) (w k n d : ℕ) → Starts calls workers past e w k n d → n ≡ starts k past
 
--- a task whose submission is illegal does not start (this project's rule)
+-- a task whose submission is illegal does not start
+-- (that a period or a fixed delay of zero or less is illegal: ScheduledExecutorService.scheduleAtFixedRate and
+-- scheduleWithFixedDelay, "IllegalArgumentException")
 abbrev pub IllegalTasksDoNotStart : Type 0
 IllegalTasksDoNotStart = (calls : List Planned) (workers : ℕ) (past : List HistoryEntry) (e : HistoryEntry) (w k n d place moment : ℕ) → IsOrderly calls
     → slice_get calls place ≡ Some (moment, c.Illegal k) → Starts calls workers past e w k n d → ⊥

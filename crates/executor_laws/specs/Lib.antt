@@ -7,3 +7,4 @@ pub use Rattle.executor_core.specs.Flows
 pub mod Positions
 pub mod Laws
 pub mod TaskWords
+pub mod Policies

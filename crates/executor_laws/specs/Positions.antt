@@ -12,11 +12,15 @@ use Rattle.executor_core.specs.declared.types.Happening.{Happening}
 use Rattle.executor_core.specs.declared.types.Happening.TheVariants as h
 use Rattle.executor_core.specs.declared.types.Answer.{Answer}
 use Rattle.executor_core.specs.declared.types.Answer.TheVariants as a
+use Rattle.executor_core.specs.declared.types.Outcome.TheVariants as o
+use Rattle.executor_core.specs.declared.types.Line.{Line}
+use Rattle.executor_core.specs.declared.types.Message.{Message}
+use Rattle.executor_core.specs.declared.types.Message.TheVariants as m
 use Rattle.queue_code.specs.Calls.{Planned, how_many, numbers, task_count, IsOrderly, terms_of}
 use Rattle.executor_core.specs.View.{View, is_waiting, is_enabled, precedes, first_enabled}
 use Rattle.executor_core.specs.Histories.{HistoryEntry, IsHistoryOf, MayCome, happenings, is_call, is_finish, last_finish, view_of_history, made, now_of, work_of}
 use Rattle.executor_core.specs.Within.{latest_due}
-use Rattle.executor_core.specs.Flows.{reached, flow, happening_of}
+use Rattle.executor_core.specs.Flows.{reached, flow, happening_of, lines_of}
 
 -- ---- the work of a worker
 
@@ -113,6 +117,9 @@ abbrev pub IsSubmissionOf : ℕ → CodeCall → Type 0
 IsSubmissionOf k (c.Submit task timing delay) = task ≡ k
 IsSubmissionOf k (c.Illegal task) = task ≡ k
 IsSubmissionOf k (c.Cancel task) = ⊥
+IsSubmissionOf k (c.SetPolicy which value) = ⊥
+IsSubmissionOf k c.Shutdown = ⊥
+IsSubmissionOf k c.Ask = ⊥
 
 -- a call is the submission of task k, and no other call is; k submissions stand before it
 pub record HasSubmission (calls : List Planned) (k : ℕ) : Type 0 where
@@ -186,6 +193,25 @@ WaitingIsATask = (calls : List Planned) (workers : ℕ) (past : List HistoryEntr
 abbrev pub WaitingIsDueInTime : Type 0
 WaitingIsDueInTime = (calls : List Planned) (workers : ℕ) (past : List HistoryEntry) (k : ℕ) → IsOrderly calls → IsHistoryOf calls workers past
     → is_waiting ((view_of_history calls past).fate k) ≡ true → ((view_of_history calls past).fate k).due ≤ latest_due
+
+-- ---- the lines
+
+-- the due moment that an answer names, where it names one, is not later than the latest due moment
+abbrev pub IsDueInTime : Answer → Type 0
+IsDueInTime (a.Submit task kind due) = due ≤ latest_due
+IsDueInTime (a.Start worker task run due) = due ≤ latest_due
+IsDueInTime (a.Finish worker task run (o.Again due)) = due ≤ latest_due
+IsDueInTime _ = Unit {0}
+
+-- the same of what a line says
+abbrev pub SaysInTime : Message → Type 0
+SaysInTime (m.Answer answer) = IsDueInTime answer
+SaysInTime (m.End task) = Unit {0}
+
+-- each line of a history is of a moment within the limit, and names no due moment that is later than the latest one
+abbrev pub LinesAreInTime : Type 0
+LinesAreInTime = (calls : List Planned) (workers : ℕ) (past : List HistoryEntry) (n : ℕ) (line : Line) → IsOrderly calls → IsHistoryOf calls workers past
+    → slice_get (lines_of calls past) n ≡ Some line → (line.moment ≤ longest) × SaysInTime line.message
 
 -- ---- the last finish of a task
 

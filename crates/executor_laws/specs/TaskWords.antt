@@ -7,7 +7,8 @@ use Rattle.executor_core.specs.declared.types.EventError.{EventError}
 use Rattle.executor_core.specs.declared.types.Happening.{Happening}
 use Rattle.executor_core.specs.declared.types.Answer.TheVariants as a
 use Rattle.queue_code.specs.Calls.{Planned}
-use Rattle.executor_core.specs.Histories.{HistoryEntry, IsHistoryOf, happenings, starts, was_accepted, was_cancelled, was_done, was_failed}
+use Rattle.executor_core.specs.View.{is_waiting, is_running}
+use Rattle.executor_core.specs.Histories.{HistoryEntry, IsHistoryOf, view_of_history, happenings, starts, was_accepted, was_cancelled, was_done, was_failed}
 use Rattle.executor_core.specs.State.{State, after, next, reply_of}
 use Rattle.executor_core.specs.Tasks.{word_of}
 
@@ -24,10 +25,14 @@ starts_of_word w.Running run = 1 + run
 starts_of_word w.Done run = 1 + run
 starts_of_word w.Failed run = 1 + run
 
--- a word says of task k what the history shows: whether it was accepted, is done, has failed, was cancelled, and
--- how often it started
-pub record TellsHistory (past : List HistoryEntry) (k : ℕ) (word : Parts) : Type 0 where
+-- a word says of task k what the history shows: whether it was accepted, waits, is run, is done, has failed, was
+-- cancelled or ended, and how often it started
+pub record TellsHistory (calls : List Planned) (past : List HistoryEntry) (k : ℕ) (word : Parts) : Type 0 where
   pub vacant : (word.phase ≡ w.Vacant) ↔ (was_accepted k past ≡ false)
+  -- where the word is not cancelled, it is new exactly when the task waits, and running exactly when a run of it is under
+  -- way
+  pub waiting : is_cancelled word ≡ false → ((word.phase ≡ w.New) ↔ (is_waiting ((view_of_history calls past).fate k) ≡ true))
+  pub running : is_cancelled word ≡ false → ((word.phase ≡ w.Running) ↔ (is_running ((view_of_history calls past).fate k) ≡ true))
   pub done : (word.phase ≡ w.Done) ↔ (was_done k past ≡ true)
   pub failed : (word.phase ≡ w.Failed) ↔ (was_failed k past ≡ true)
   pub cancelled : is_cancelled word ≡ was_cancelled k past
@@ -37,7 +42,7 @@ pub record TellsHistory (past : List HistoryEntry) (k : ℕ) (word : Parts) : Ty
 
 -- the word of each task says what the history shows
 abbrev pub WordsTellTheHistory : Type 0
-WordsTellTheHistory = (calls : List Planned) (workers : ℕ) (past : List HistoryEntry) (k : ℕ) → IsHistoryOf calls workers past → TellsHistory past k (word_after calls workers past k)
+WordsTellTheHistory = (calls : List Planned) (workers : ℕ) (past : List HistoryEntry) (k : ℕ) → IsHistoryOf calls workers past → TellsHistory calls past k (word_after calls workers past k)
 
 -- no answer lowers the rank of a word
 abbrev pub RanksDoNotFall : Type 0

@@ -43,7 +43,8 @@ pub fn nothing_starts_after_a_failure()
     ensures { NothingStartsAfterAFailure }
 {}
 
-/// After a cancel with an effect nothing of its task starts.
+/// After a task is cancelled, by a cancel with an effect, by a sweep or at the end of its run,
+/// nothing of it starts.
 pub fn nothing_starts_after_a_cancel()
     ensures { NothingStartsAfterACancel }
 {}

@@ -11,7 +11,8 @@
 //! The first group says what a client of the executor may rely on: due moments, order, ties, overlap, failures, cancels.
 //! The second one says what the definitions, which count and recur over a history, say of the positions in it. The
 //! third one is on states: what the words of the tasks say of the history, that no answer lowers the rank of a word or
-//! changes a cancelled one, and that an error changes nothing.
+//! changes a cancelled one, and that an error changes nothing. The fourth one is on policies, the shutdown, sweeps and kept
+//! tasks. The last one says that `==` of the executor's types leaves no field out.
 //!
 //! # Order and ties
 //!
@@ -23,10 +24,18 @@
 //! No function fails, takes memory, or does anything when it runs.
 #![tactic(auto)]
 
+mod equality;
 mod laws;
 mod positions;
 mod states;
+mod sweeps;
 
+pub use equality::{
+    answer_equality_tells, cancel_effect_equality_tells, core_error_equality_tells,
+    event_equality_tells, event_error_equality_tells, happening_equality_tells,
+    kind_equality_tells, line_equality_tells, message_equality_tells, outcome_equality_tells,
+    phase_equality_tells, policies_equality_tells, refusal_equality_tells, task_equality_tells,
+};
 pub use laws::{
     again_is_due, answers_by_position, cancels_have_one_effect, fixed_runs_are_due,
     flows_are_answered, histories_are_one, illegal_tasks_do_not_start, no_start_is_early,
@@ -36,10 +45,16 @@ pub use laws::{
 };
 pub use positions::{
     finish_keeps_now, first_is_the_least, flow_keeps_the_events, flow_makes_what_is_reached,
-    flow_may_come, last_finish_is_the_last, none_is_enabled, now_is_the_greatest,
-    reached_is_a_front, starts_exceed_finishes, tasks_are_submitted, terms_are_its_own,
-    waiting_is_a_task, waiting_is_due_in_time, work_is_the_last_start,
+    flow_may_come, last_finish_is_the_last, lines_are_in_time, none_is_enabled,
+    now_is_the_greatest, reached_is_a_front, starts_exceed_finishes, tasks_are_submitted,
+    terms_are_its_own, waiting_is_a_task, waiting_is_due_in_time, work_is_the_last_start,
 };
 pub use states::{
     cancelled_words_stay, errors_change_nothing, ranks_do_not_fall, words_tell_the_history,
+};
+pub use sweeps::{
+    kept_by_positions, nothing_is_accepted_once_shut, nothing_starts_after_an_end,
+    nothing_starts_once_terminated, policies_are_the_last_set, queued_and_running_are_tasks,
+    refused_tasks_do_not_start, shut_is_a_shutdown, sweeps_end_those, swept_are_those,
+    tasks_are_cancelled_once,
 };

@@ -1,5 +1,5 @@
 //! What the definitions by recursion say of the positions in a history.
-ghost use Rattle.executor_laws.specs.Positions.{WorkIsTheLastStart, StartsExceedFinishes, NowIsTheGreatest, FirstIsTheLeast, NoneIsEnabled, ReachedIsAFront, TasksAreSubmitted, TermsAreItsOwn, FlowKeepsTheEvents, FlowMakesWhatIsReached, FlowMayCome, WaitingIsATask, WaitingIsDueInTime, LastFinishIsTheLast, FinishKeepsNow};
+ghost use Rattle.executor_laws.specs.Positions.{WorkIsTheLastStart, StartsExceedFinishes, NowIsTheGreatest, FirstIsTheLeast, NoneIsEnabled, ReachedIsAFront, TasksAreSubmitted, TermsAreItsOwn, FlowKeepsTheEvents, FlowMakesWhatIsReached, FlowMayCome, WaitingIsATask, WaitingIsDueInTime, LinesAreInTime, LastFinishIsTheLast, FinishKeepsNow};
 
 /// The work of a worker is the task of its last start, where no finish came after it.
 pub fn work_is_the_last_start()
@@ -64,6 +64,12 @@ pub fn waiting_is_a_task()
 /// A task that waits is due at a moment of at most 2^63 nanoseconds.
 pub fn waiting_is_due_in_time()
     ensures { WaitingIsDueInTime }
+{}
+
+/// Each line of a history has a moment of at most 2^62 nanoseconds, and each due moment in it is at
+/// most 2^63.
+pub fn lines_are_in_time()
+    ensures { LinesAreInTime }
 {}
 
 /// The last finish of a task is the one with no other after it, at its moment.

@@ -3,7 +3,8 @@ ghost use Rattle.executor_laws.specs.TaskWords.{WordsTellTheHistory, RanksDoNotF
 
 /// The word of each task says what the history shows: it is vacant exactly when the task was not
 /// accepted, done exactly when it is done, failed exactly when it has failed, cancelled exactly when
-/// it was cancelled, and its run follows the starts.
+/// it was cancelled or ended, and its run follows the starts. One that is not cancelled is new exactly
+/// when the task waits, and running exactly when a run of it is under way.
 pub fn words_tell_the_history()
     ensures { WordsTellTheHistory }
 {}

@@ -1,36 +1,48 @@
 ghost use Rattle.std.specs.Prelude.{◌≡◌, slice_get};
 ghost use Rattle.executor_core.specs.Histories as histories;
 ghost use Rattle.executor_core.specs.Answers as answers;
-ghost use Rattle.executor_plain.specs.Plain.{history};
 
-use executor_core::{Answer, CancelEffect, Happening, Outcome};
+use crate::policies::{default_policies, policies_after};
+use crate::telling::{
+    cancels, is_done_finish, is_failed_finish, is_finish, is_shutdown, is_start, is_submit,
+    work_after,
+};
+use executor_core::{Answer, Happening, Policies};
 use queue_code::CodeCall;
 use sched_time::LONGEST;
+use std::alloc::Allocator;
+use std::marker::Model;
 
-/// A happening with its answer.
+/// A happening with its answer, and the tasks that the answer ends.
 ///
 /// A history is a slice of these, the newest first, so that what stands before one of them is the
 /// rest of the slice.
-#[derive(Clone, Copy, Debug, PartialEq, Eq)]
-pub struct Past {
+#[derive(Debug, Drop)]
+pub struct Past<A: Allocator> {
     pub happening: Happening,
     pub answer: Answer,
+    /// The numbers of the tasks that the answer ends, ascending.
+    pub ends: Vec<u32, A>,
+}
+
+impl<A: Allocator> Model for Past<A> {
+    ghost use Rattle.executor_core.specs.Histories.{HistoryEntry};
+
+    ghost Value = { HistoryEntry };
+
+    ghost view = { λ p. record { happening = p.happening; answer = p.answer; ends = p.ends.items } };
 }
 
 /// Whether the next call of the plan is made.
 fn is_call(happening: Happening) -> bool
     ensures { result ≡ histories.is_call happening }
 {
-    match happening {
-        Happening::Call => true,
-        Happening::Clock(_) | Happening::Start(_) | Happening::Finish(..) | Happening::Cancel(_) =>
-            false,
-    }
+    matches!(happening, Happening::Call)
 }
 
 /// How many calls were made.
-pub(crate) fn made(past: &[Past]) -> usize
-    ensures { result ≡ histories.made (histories.happenings (history past.now)) }
+pub(crate) fn made<A: Allocator>(past: &[Past<A>]) -> usize
+    ensures { result ≡ histories.made (histories.happenings past.now) }
 {
     match past {
         [] => 0,
@@ -79,8 +91,8 @@ fn moment_after(now: u64, call: Option<(u64, CodeCall)>, happening: Happening) -
 }
 
 /// The moment, in nanoseconds.
-pub(crate) fn now_of(calls: &[(u64, CodeCall)], past: &[Past]) -> u64
-    ensures { result ≡ histories.now_of calls.now (histories.happenings (history past.now)) }
+pub(crate) fn now_of<A: Allocator>(calls: &[(u64, CodeCall)], past: &[Past<A>]) -> u64
+    ensures { result ≡ histories.now_of calls.now (histories.happenings past.now) }
 {
     match past {
         [] => 0,
@@ -91,162 +103,9 @@ pub(crate) fn now_of(calls: &[(u64, CodeCall)], past: &[Past]) -> u64
     }
 }
 
-/// Whether an answer accepts a task.
-fn is_submit(k: u32, answer: Answer) -> bool
-    ensures { result ≡ histories.is_submit k answer }
-{
-    match answer {
-        Answer::Submit { task, .. } => task == k,
-        Answer::Refuse { .. }
-        | Answer::Cancel { .. }
-        | Answer::Outside { .. }
-        | Answer::Clock
-        | Answer::Start { .. }
-        | Answer::Idle { .. }
-        | Answer::Finish { .. }
-        | Answer::Error(_) => false,
-    }
-}
-
-/// Whether an answer starts a run of a task.
-fn is_start(k: u32, answer: Answer) -> bool
-    ensures { result ≡ histories.is_start k answer }
-{
-    match answer {
-        Answer::Start { task, .. } => task == k,
-        Answer::Submit { .. }
-        | Answer::Refuse { .. }
-        | Answer::Cancel { .. }
-        | Answer::Outside { .. }
-        | Answer::Clock
-        | Answer::Idle { .. }
-        | Answer::Finish { .. }
-        | Answer::Error(_) => false,
-    }
-}
-
-/// Whether an answer ends a run of a task.
-fn is_finish(k: u32, answer: Answer) -> bool
-    ensures { result ≡ histories.is_finish k answer }
-{
-    match answer {
-        Answer::Finish { task, .. } => task == k,
-        Answer::Submit { .. }
-        | Answer::Refuse { .. }
-        | Answer::Cancel { .. }
-        | Answer::Outside { .. }
-        | Answer::Clock
-        | Answer::Start { .. }
-        | Answer::Idle { .. }
-        | Answer::Error(_) => false,
-    }
-}
-
-/// Whether an outcome is the value of a task's one run.
-fn is_done(outcome: Outcome) -> bool
-    ensures { result ≡ histories.is_done outcome }
-{
-    match outcome {
-        Outcome::Done(_) => true,
-        Outcome::Failed(_) | Outcome::Again(_) | Outcome::Dropped => false,
-    }
-}
-
-/// Whether an outcome is a failure.
-fn is_failed(outcome: Outcome) -> bool
-    ensures { result ≡ histories.is_failed outcome }
-{
-    match outcome {
-        Outcome::Failed(_) => true,
-        Outcome::Done(_) | Outcome::Again(_) | Outcome::Dropped => false,
-    }
-}
-
-/// Whether an answer says that a run of a task failed.
-fn is_failed_finish(k: u32, answer: Answer) -> bool
-    ensures { result ≡ histories.is_finish_with histories.is_failed k answer }
-{
-    match answer {
-        Answer::Finish { task, outcome, .. } => task == k && is_failed(outcome),
-        Answer::Submit { .. }
-        | Answer::Refuse { .. }
-        | Answer::Cancel { .. }
-        | Answer::Outside { .. }
-        | Answer::Clock
-        | Answer::Start { .. }
-        | Answer::Idle { .. }
-        | Answer::Error(_) => false,
-    }
-}
-
-/// Whether an answer ends the one run of a task with a value.
-fn is_done_finish(k: u32, answer: Answer) -> bool
-    ensures { result ≡ histories.is_finish_with histories.is_done k answer }
-{
-    match answer {
-        Answer::Finish { task, outcome, .. } => task == k && is_done(outcome),
-        Answer::Submit { .. }
-        | Answer::Refuse { .. }
-        | Answer::Cancel { .. }
-        | Answer::Outside { .. }
-        | Answer::Clock
-        | Answer::Start { .. }
-        | Answer::Idle { .. }
-        | Answer::Error(_) => false,
-    }
-}
-
-/// Whether an answer says that a task was cancelled, by the plan or from outside.
-fn is_cancel(k: u32, answer: Answer) -> bool
-    ensures { result ≡ histories.is_cancel k answer }
-{
-    match answer {
-        Answer::Cancel { task, effect } | Answer::Outside { task, effect } => {
-            task == k && effect == CancelEffect::Yes
-        }
-        Answer::Submit { .. }
-        | Answer::Refuse { .. }
-        | Answer::Clock
-        | Answer::Start { .. }
-        | Answer::Idle { .. }
-        | Answer::Finish { .. }
-        | Answer::Error(_) => false,
-    }
-}
-
-/// The task of a worker after an answer, given the one before.
-fn work_after(worker: u8, answer: Answer, before: Option<u32>) -> Option<u32>
-    ensures { result ≡ histories.work_after worker answer before }
-{
-    match answer {
-        Answer::Start {
-            worker: starter,
-            task,
-            ..
-        } => {
-            if starter == worker {
-                Some(task)
-            } else {
-                before
-            }
-        }
-        Answer::Finish {
-            worker: finisher,
-            ..
-        } => { if finisher == worker { None } else { before } }
-        Answer::Submit { .. }
-        | Answer::Refuse { .. }
-        | Answer::Cancel { .. }
-        | Answer::Outside { .. }
-        | Answer::Clock
-        | Answer::Idle { .. }
-        | Answer::Error(_) => before,
-    }
-}
-
 /// How often a task started.
-pub(crate) fn starts(k: u32, past: &[Past]) -> u64
-    ensures { result ≡ histories.starts k (history past.now) }
+pub(crate) fn starts<A: Allocator>(k: u32, past: &[Past<A>]) -> u64
+    ensures { result ≡ histories.starts k past.now }
 {
     match past {
         [] => 0,
@@ -261,8 +120,8 @@ pub(crate) fn starts(k: u32, past: &[Past]) -> u64
 }
 
 /// How often a task finished.
-pub(crate) fn finishes(k: u32, past: &[Past]) -> u64
-    ensures { result ≡ histories.finishes k (history past.now) }
+pub(crate) fn finishes<A: Allocator>(k: u32, past: &[Past<A>]) -> u64
+    ensures { result ≡ histories.finishes k past.now }
 {
     match past {
         [] => 0,
@@ -277,8 +136,12 @@ pub(crate) fn finishes(k: u32, past: &[Past]) -> u64
 }
 
 /// The moment of the last finish of a task.
-pub(crate) fn last_finish(calls: &[(u64, CodeCall)], k: u32, past: &[Past]) -> Option<u64>
-    ensures { result ≡ histories.last_finish calls.now k (history past.now) }
+pub(crate) fn last_finish<A: Allocator>(
+    calls: &[(u64, CodeCall)],
+    k: u32,
+    past: &[Past<A>],
+) -> Option<u64>
+    ensures { result ≡ histories.last_finish calls.now k past.now }
 {
     match past {
         [] => None,
@@ -293,8 +156,8 @@ pub(crate) fn last_finish(calls: &[(u64, CodeCall)], k: u32, past: &[Past]) -> O
 }
 
 /// Whether the submission of a task was accepted.
-pub(crate) fn was_accepted(k: u32, past: &[Past]) -> bool
-    ensures { result ≡ histories.was_accepted k (history past.now) }
+pub(crate) fn was_accepted<A: Allocator>(k: u32, past: &[Past<A>]) -> bool
+    ensures { result ≡ histories.was_accepted k past.now }
 {
     match past {
         [] => false,
@@ -302,19 +165,21 @@ pub(crate) fn was_accepted(k: u32, past: &[Past]) -> bool
     }
 }
 
-/// Whether a task was cancelled.
-pub(crate) fn was_cancelled(k: u32, past: &[Past]) -> bool
-    ensures { result ≡ histories.was_cancelled k (history past.now) }
+/// Whether a task was cancelled, or ended.
+pub(crate) fn was_cancelled<A: Allocator>(k: u32, past: &[Past<A>]) -> bool
+    ensures { result ≡ histories.was_cancelled k past.now }
 {
     match past {
         [] => false,
-        [newest, before @ ..] => is_cancel(k, newest.answer) || was_cancelled(k, before),
+        [newest, before @ ..] => {
+            cancels(k, newest.answer, newest.ends.as_slice()) || was_cancelled(k, before)
+        }
     }
 }
 
 /// Whether a run of a task failed.
-pub(crate) fn was_failed(k: u32, past: &[Past]) -> bool
-    ensures { result ≡ histories.was_failed k (history past.now) }
+pub(crate) fn was_failed<A: Allocator>(k: u32, past: &[Past<A>]) -> bool
+    ensures { result ≡ histories.was_failed k past.now }
 {
     match past {
         [] => false,
@@ -323,8 +188,8 @@ pub(crate) fn was_failed(k: u32, past: &[Past]) -> bool
 }
 
 /// Whether the one run of a task ended with a value.
-pub(crate) fn was_done(k: u32, past: &[Past]) -> bool
-    ensures { result ≡ histories.was_done k (history past.now) }
+pub(crate) fn was_done<A: Allocator>(k: u32, past: &[Past<A>]) -> bool
+    ensures { result ≡ histories.was_done k past.now }
 {
     match past {
         [] => false,
@@ -333,11 +198,31 @@ pub(crate) fn was_done(k: u32, past: &[Past]) -> bool
 }
 
 /// The task that a worker started and has not finished.
-pub(crate) fn work_of(worker: u8, past: &[Past]) -> Option<u32>
-    ensures { result ≡ histories.work_of worker (history past.now) }
+pub(crate) fn work_of<A: Allocator>(worker: u8, past: &[Past<A>]) -> Option<u32>
+    ensures { result ≡ histories.work_of worker past.now }
 {
     match past {
         [] => None,
         [newest, before @ ..] => work_after(worker, newest.answer, work_of(worker, before)),
+    }
+}
+
+/// The policies that were set last.
+pub(crate) fn policies_of<A: Allocator>(past: &[Past<A>]) -> Policies
+    ensures { result ≡ histories.policies_of past.now }
+{
+    match past {
+        [] => default_policies(),
+        [newest, before @ ..] => policies_after(newest.answer, policies_of(before)),
+    }
+}
+
+/// Whether a shutdown call was made.
+pub(crate) fn was_shut<A: Allocator>(past: &[Past<A>]) -> bool
+    ensures { result ≡ histories.was_shut past.now }
+{
+    match past {
+        [] => false,
+        [newest, before @ ..] => is_shutdown(newest.answer) || was_shut(before),
     }
 }

@@ -8,7 +8,7 @@
 //! ```
 //!
 //! [`trace`] gives the lines of some events, as a core of the same calls does. [`answer_after`] gives the answer to
-//! one happening after a history.
+//! one happening after a history, and [`ends_after`] the tasks that this answer ends.
 //!
 //! # Behaviour
 //!
@@ -23,22 +23,29 @@
 //!
 //! # Errors
 //!
-//! `trace` fails only where there is no memory, and `answer_after` does not fail.
+//! `trace` and `ends_after` fail only where there is no memory, and `answer_after` does not fail.
 //!
 //! # Memory and cost
 //!
-//! `trace` takes memory for the history and for the lines, and `answer_after` takes none. An answer to a start goes
-//! over the whole history once and more for each task, and each other one a few times: it is slow, and for tests.
+//! `trace` takes memory for the history and for the lines, `ends_after` for the tasks, and `answer_after` takes none.
+//! An answer to a start, and the tasks of a sweep, go over the whole history once and more for each task; an answer to
+//! a question goes over what stands before each entry once and more for each task, and each other one over the whole
+//! history a few times: it is slow, and for tests.
 #![tactic(auto)]
 
-mod equality;
+mod ends;
 mod history;
+mod kept;
+mod policies;
+mod queue;
 mod table;
 mod tasks;
+mod telling;
 #[cfg(test)]
 mod tests;
 mod tracing;
 
+pub use ends::ends_after;
 pub use history::Past;
 pub use table::answer_after;
 pub use tracing::trace;

@@ -1,11 +1,11 @@
-ghost use Rattle.std.specs.Prelude.{◌≡◌, ◌+◌, ◌≤◌, length};
+ghost use Rattle.std.specs.Prelude.{◌≡◌, ◌+◌, ◌≤◌, length, nat_le};
 ghost use Rattle.std.specs.List.{range_with_len};
 ghost use Rattle.queue_code.specs.Calls.{IsOrderly, most_calls, task_count, terms_of, due_at};
 ghost use Rattle.executor_core.specs.View as views;
 ghost use Rattle.executor_core.specs.Answers as answers;
 ghost use Rattle.executor_core.specs.Histories as histories;
-ghost use Rattle.executor_plain.specs.Plain.{IsOrderlyPart, history};
-ghost use Rattle.executor_core.specs.Within.{IsWithin, latest_due};
+ghost use Rattle.executor_core.specs.Within.{latest_due};
+ghost use Rattle.executor_plain.specs.Plain.{IsAnsweredBySome, IsOrderlyPart};
 
 use crate::history::{
     Past, finishes, last_finish, now_of, starts, was_accepted, was_cancelled, was_done, was_failed,
@@ -13,6 +13,7 @@ use crate::history::{
 use executor_core::CancelEffect;
 use queue_code::CodeCall;
 use sched_time::Timing;
+use std::alloc::Allocator;
 
 /// How a task is timed: by its submission.
 pub(crate) fn timing_of(calls: &[(u64, CodeCall)], k: u32) -> Timing
@@ -27,10 +28,7 @@ pub(crate) fn timing_of(calls: &[(u64, CodeCall)], k: u32) -> Timing
                 timing_of(later, k)
             }
         }
-        [
-            (_, CodeCall::Illegal { .. } | CodeCall::Cancel { .. }),
-            later @ ..,
-        ] => timing_of(later, k),
+        [_, later @ ..] => timing_of(later, k),
     }
 }
 
@@ -48,10 +46,7 @@ fn first_due(calls: &[(u64, CodeCall)], k: u32) -> u64
                 first_due(later, k)
             }
         }
-        [
-            (_, CodeCall::Illegal { .. } | CodeCall::Cancel { .. }),
-            later @ ..,
-        ] => first_due(later, k),
+        [_, later @ ..] => first_due(later, k),
     }
 }
 
@@ -73,24 +68,24 @@ pub(crate) fn due_at(calls: &[(u64, CodeCall)], k: u32, starts: u64, last: Optio
 }
 
 /// When the next run of a task is due.
-pub(crate) fn due_of(calls: &[(u64, CodeCall)], past: &[Past], k: u32) -> u64
+pub(crate) fn due_of<A: Allocator>(calls: &[(u64, CodeCall)], past: &[Past<A>], k: u32) -> u64
     requires orderly { IsOrderly calls.now }
-    requires within { IsWithin calls.now (history past.now) }
-    ensures { result ≡ histories.due_of calls.now (history past.now) k }
+    requires answered { IsAnsweredBySome calls.now past.now }
+    ensures { result ≡ histories.due_of calls.now past.now k }
 {
     due_at(calls, k, starts(k, past), last_finish(calls, k, past))
 }
 
 /// Whether a run of a task is under way.
-fn is_running(calls: &[(u64, CodeCall)], past: &[Past], k: u32) -> bool
-    ensures { result ≡ views.is_running ((histories.view_of_history calls.now (history past.now)).fate k) }
+pub(crate) fn is_running<A: Allocator>(calls: &[(u64, CodeCall)], past: &[Past<A>], k: u32) -> bool
+    ensures { result ≡ views.is_running ((histories.view_of_history calls.now past.now).fate k) }
 {
     starts(k, past) != finishes(k, past)
 }
 
 /// Whether a task was accepted, is not running and is not over.
-fn is_waiting(calls: &[(u64, CodeCall)], past: &[Past], k: u32) -> bool
-    ensures { result ≡ views.is_waiting ((histories.view_of_history calls.now (history past.now)).fate k) }
+pub(crate) fn is_waiting<A: Allocator>(calls: &[(u64, CodeCall)], past: &[Past<A>], k: u32) -> bool
+    ensures { result ≡ views.is_waiting ((histories.view_of_history calls.now past.now).fate k) }
 {
     was_accepted(k, past)
         && !is_running(calls, past, k)
@@ -100,8 +95,12 @@ fn is_waiting(calls: &[(u64, CodeCall)], past: &[Past], k: u32) -> bool
 }
 
 /// What a cancel does to a task.
-pub(crate) fn effect_on(calls: &[(u64, CodeCall)], past: &[Past], k: u32) -> CancelEffect
-    ensures { result ≡ answers.effect_on ((histories.view_of_history calls.now (history past.now)).fate k) }
+pub(crate) fn effect_on<A: Allocator>(
+    calls: &[(u64, CodeCall)],
+    past: &[Past<A>],
+    k: u32,
+) -> CancelEffect
+    ensures { result ≡ answers.effect_on ((histories.view_of_history calls.now past.now).fate k) }
 {
     if !was_accepted(k, past) {
         CancelEffect::Absent
@@ -113,26 +112,40 @@ pub(crate) fn effect_on(calls: &[(u64, CodeCall)], past: &[Past], k: u32) -> Can
 }
 
 /// Whether a cancel of a task would have an effect.
-fn is_live(calls: &[(u64, CodeCall)], past: &[Past], k: u32) -> bool
-    ensures { result ≡ views.is_live ((histories.view_of_history calls.now (history past.now)).fate k) }
+fn is_live<A: Allocator>(calls: &[(u64, CodeCall)], past: &[Past<A>], k: u32) -> bool
+    ensures { result ≡ views.is_live ((histories.view_of_history calls.now past.now).fate k) }
 {
     is_waiting(calls, past, k) || (is_running(calls, past, k) && !was_cancelled(k, past))
 }
 
 /// Whether a task waits and its due moment is reached.
-pub(crate) fn is_enabled(calls: &[(u64, CodeCall)], past: &[Past], k: u32) -> bool
+fn is_enabled<A: Allocator>(calls: &[(u64, CodeCall)], past: &[Past<A>], k: u32) -> bool
     requires orderly { IsOrderly calls.now }
-    requires within { IsWithin calls.now (history past.now) }
-    ensures { result ≡ views.is_enabled (histories.view_of_history calls.now (history past.now)) k }
+    requires answered { IsAnsweredBySome calls.now past.now }
+    ensures { result ≡ views.is_enabled (histories.view_of_history calls.now past.now) k }
 {
-    is_waiting(calls, past, k) && due_of(calls, past, k) <= now_of(calls, past)
+    is_waiting(calls, past, k) && is_reached(calls, past, k)
+}
+
+/// Whether the due moment of a task is reached.
+pub(crate) fn is_reached<A: Allocator>(calls: &[(u64, CodeCall)], past: &[Past<A>], k: u32) -> bool
+    requires orderly { IsOrderly calls.now }
+    requires answered { IsAnsweredBySome calls.now past.now }
+    ensures { result ≡ nat_le (histories.due_of calls.now past.now k) (histories.now_of calls.now (histories.happenings past.now)) }
+{
+    due_of(calls, past, k) <= now_of(calls, past)
 }
 
 /// Whether one task comes before another, by due moment and then by number.
-fn precedes(calls: &[(u64, CodeCall)], past: &[Past], j: u32, k: u32) -> bool
+pub(crate) fn precedes<A: Allocator>(
+    calls: &[(u64, CodeCall)],
+    past: &[Past<A>],
+    j: u32,
+    k: u32,
+) -> bool
     requires orderly { IsOrderly calls.now }
-    requires within { IsWithin calls.now (history past.now) }
-    ensures { result ≡ views.precedes (histories.view_of_history calls.now (history past.now)) j k }
+    requires answered { IsAnsweredBySome calls.now past.now }
+    ensures { result ≡ views.precedes (histories.view_of_history calls.now past.now) j k }
 {
     let one = due_of(calls, past, j);
     let other = due_of(calls, past, k);
@@ -140,10 +153,15 @@ fn precedes(calls: &[(u64, CodeCall)], past: &[Past], j: u32, k: u32) -> bool
 }
 
 /// The earlier one of a task and perhaps another.
-fn earlier(calls: &[(u64, CodeCall)], past: &[Past], k: u32, other: Option<u32>) -> u32
+fn earlier<A: Allocator>(
+    calls: &[(u64, CodeCall)],
+    past: &[Past<A>],
+    k: u32,
+    other: Option<u32>,
+) -> u32
     requires orderly { IsOrderly calls.now }
-    requires within { IsWithin calls.now (history past.now) }
-    ensures { result ≡ views.earlier (histories.view_of_history calls.now (history past.now)) k other }
+    requires answered { IsAnsweredBySome calls.now past.now }
+    ensures { result ≡ views.earlier (histories.view_of_history calls.now past.now) k other }
 {
     match other {
         None => k,
@@ -152,16 +170,16 @@ fn earlier(calls: &[(u64, CodeCall)], past: &[Past], k: u32, other: Option<u32>)
 }
 
 /// The first enabled task of the `count` tasks from `from` on.
-pub(crate) fn first_enabled(
+pub(crate) fn first_enabled<A: Allocator>(
     calls: &[(u64, CodeCall)],
-    past: &[Past],
+    past: &[Past<A>],
     from: u32,
     count: u32,
 ) -> Option<u32>
     requires orderly { IsOrderly calls.now }
-    requires due { IsWithin calls.now (history past.now) }
+    requires answered { IsAnsweredBySome calls.now past.now }
     requires within { from + count ≤ most_calls }
-    ensures { result ≡ views.first_enabled (histories.view_of_history calls.now (history past.now)) (range_with_len from count) }
+    ensures { result ≡ views.first_enabled (histories.view_of_history calls.now past.now) (range_with_len from count) }
 {
     if count == 0 {
         return None;
@@ -185,6 +203,6 @@ pub(crate) fn count_tasks(calls: &[(u64, CodeCall)]) -> u32
             (_, CodeCall::Submit { .. } | CodeCall::Illegal { .. }),
             later @ ..,
         ] => { 1 + count_tasks(later) }
-        [(_, CodeCall::Cancel { .. }), later @ ..] => count_tasks(later),
+        [_, later @ ..] => count_tasks(later),
     }
 }

@@ -1,14 +1,14 @@
-ghost use Rattle.std.specs.Prelude.{◌≡◌, ◌-◌, [], ◌∷◌, drop, nat_le, reverse, replicate, OnOk, IfOk};
+ghost use Rattle.std.specs.Prelude.{◌≡◌, ◌-◌, [], ◌∷◌, ◌++◌, drop, nat_le, reverse, replicate, OnOk, IfOk};
 ghost use Rattle.executor_core.specs.declared.types.Happening.TheVariants as happening;
 ghost use Rattle.queue_code.specs.Calls.{IsOrderly, how_many};
 ghost use Rattle.executor_core.specs.Histories as histories;
 ghost use Rattle.executor_core.specs.Flows as flows;
-ghost use Rattle.executor_plain.specs.Plain.{history};
 ghost use Rattle.executor_core.specs.Within.{IsAnswered};
 
+use crate::ends::ends_after;
 use crate::history::{Past, is_accepted, made, now_of};
 use crate::table::answer_after;
-use executor_core::{Event, Happening, Line};
+use executor_core::{Event, Happening, Line, Message};
 use queue_code::CodeCall;
 use std::alloc::{AllocError, Allocator};
 
@@ -85,68 +85,77 @@ fn calls_before(calls: &[(u64, CodeCall)], made: usize, now: u64, event: Event) 
 }
 
 /// Adds a happening to a history, with its answer.
-fn happen<A: Allocator>(
+fn happen<A: Allocator + Copy>(
+    alloc: A,
     calls: &[(u64, CodeCall)],
     workers: u8,
-    past: &mut Vec<Past, A>,
+    past: &mut Vec<Past<A>, A>,
     happening: Happening,
 ) -> Result<(), AllocError>
     requires orderly { IsOrderly calls.now }
-    requires answered { IsAnswered calls.now workers (history past.old.items) }
-    ensures { OnOk result (history past.new.items ≡ flows.history_from calls.now workers (history past.old.items) (happening ∷ [])) }
+    requires answered { IsAnswered calls.now workers past.old.items }
+    ensures { OnOk result (past.new.items ≡ flows.history_from calls.now workers past.old.items (happening ∷ [])) }
 {
     let answer = answer_after(calls, workers, past, happening);
-    past.insert(0, Past { happening, answer })?;
+    let ends = ends_after(alloc, calls, workers, past, happening)?;
+    let entry = Past {
+        happening,
+        answer,
+        ends,
+    };
+    past.insert(0, entry)?;
     Ok(())
 }
 
 /// Makes `count` calls.
-fn make_calls<A: Allocator>(
+fn make_calls<A: Allocator + Copy>(
+    alloc: A,
     calls: &[(u64, CodeCall)],
     workers: u8,
-    past: &mut Vec<Past, A>,
+    past: &mut Vec<Past<A>, A>,
     count: usize,
 ) -> Result<(), AllocError>
     requires orderly { IsOrderly calls.now }
-    requires answered { IsAnswered calls.now workers (history past.old.items) }
-    ensures { OnOk result (history past.new.items ≡ flows.history_from calls.now workers (history past.old.items) (replicate count happening.Call)) }
+    requires answered { IsAnswered calls.now workers past.old.items }
+    ensures { OnOk result (past.new.items ≡ flows.history_from calls.now workers past.old.items (replicate count happening.Call)) }
 {
     for _made in 0..count {
-        happen(calls, workers, past, Happening::Call)?;
+        happen(alloc, calls, workers, past, Happening::Call)?;
     }
     Ok(())
 }
 
 /// Adds an event to a history, after the calls that are made just before it.
-fn take_event<A: Allocator>(
+fn take_event<A: Allocator + Copy>(
+    alloc: A,
     calls: &[(u64, CodeCall)],
     workers: u8,
-    past: &mut Vec<Past, A>,
+    past: &mut Vec<Past<A>, A>,
     event: Event,
 ) -> Result<(), AllocError>
     requires orderly { IsOrderly calls.now }
-    requires answered { IsAnswered calls.now workers (history past.old.items) }
-    ensures { OnOk result (history past.new.items ≡ flows.history_from calls.now workers (history past.old.items)
-        (flows.part_of calls.now (histories.made (histories.happenings (history past.old.items))) (histories.now_of calls.now (histories.happenings (history past.old.items))) event)) }
+    requires answered { IsAnswered calls.now workers past.old.items }
+    ensures { OnOk result (past.new.items ≡ flows.history_from calls.now workers past.old.items
+        (flows.part_of calls.now (histories.made (histories.happenings past.old.items)) (histories.now_of calls.now (histories.happenings past.old.items)) event)) }
 {
     let count = calls_before(calls, made(past), now_of(calls, past), event);
-    make_calls(calls, workers, past, count)?;
-    happen(calls, workers, past, happening_of(event))
+    make_calls(alloc, calls, workers, past, count)?;
+    happen(alloc, calls, workers, past, happening_of(event))
 }
 
 /// The history of some events, which stand the oldest first.
-fn history_of<A: Allocator>(
+fn history_of<A: Allocator + Copy>(
     alloc: A,
     calls: &[(u64, CodeCall)],
     workers: u8,
     events: &[Event],
-) -> Result<Vec<Past, A>, AllocError>
+) -> Result<Vec<Past<A>, A>, AllocError>
     requires { IsOrderly calls.now }
-    ensures { IfOk result (λ past. history past.items ≡ flows.history_of calls.now workers (reverse events.now)) }
+    ensures { IfOk result (λ past. past.items ≡ flows.history_of calls.now workers (reverse events.now)) }
 {
     let mut past = Vec::new(alloc);
     for event in events {
-        take_event(calls, workers, &mut past, *event)?;
+        take_event(alloc, calls, workers, &mut past, *event)?;
     }
     Ok(past)
 }
@@ -155,19 +164,37 @@ fn history_of<A: Allocator>(
 fn lines_of<A: Allocator>(
     alloc: A,
     calls: &[(u64, CodeCall)],
-    past: &[Past],
+    past: &[Past<A>],
 ) -> Result<Vec<Line, A>, AllocError>
-    ensures { IfOk result (λ lines. lines.items ≡ flows.lines_of calls.now (history past.now)) }
+    ensures { IfOk result (λ lines. lines.items ≡ flows.lines_of calls.now past.now) }
 {
     match past {
         [] => Ok(Vec::new(alloc)),
         [newest, before @ ..] => {
             let mut lines = lines_of(alloc, calls, before)?;
-            lines.push(Line {
-                moment: now_of(calls, past),
-                answer: newest.answer,
-            })?;
+            add_lines(&mut lines, now_of(calls, past), newest)?;
             Ok(lines)
         }
     }
+}
+
+/// Adds the lines of an entry of a history: that of its answer, and one of each task that it ends.
+fn add_lines<A: Allocator>(
+    lines: &mut Vec<Line, A>,
+    moment: u64,
+    entry: &Past<A>,
+) -> Result<(), AllocError>
+    ensures { OnOk result (lines.new.items ≡ lines.old.items ++ flows.lines_at moment (flows.reply_in entry.now)) }
+{
+    lines.push(Line {
+        moment,
+        message: Message::Answer(entry.answer),
+    })?;
+    for task in &entry.ends {
+        lines.push(Line {
+            moment,
+            message: Message::End(*task),
+        })?;
+    }
+    Ok(())
 }

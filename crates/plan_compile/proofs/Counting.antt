@@ -3,11 +3,10 @@ use Rattle.std.proofs.Common.{◌≡◌, ◌⊎◌, ℕ, zero, suc, ◌+◌, ◌
 use Rattle.std.proofs.lemmas.Nat.{mul-le}
 use Rattle.std.proofs.lemmas.Bool.{cases_Bool}
 use Rattle.std.proofs.lemmas.Bool.Decides.{nat_tests}
-use Rattle.queue_code.specs.declared.call.CodeCall.{CodeCall}
 use Rattle.plan_read.specs.declared.plans.Call.{Call}
 use Rattle.plan_read.specs.declared.plans.Op.{Op}
 use Rattle.plan_read.specs.Plans.{BlockTree, PlanTree, is_submission, name_of, names_of, tasks_after, tasks_after_calls, made_from}
-use Rattle.plan_compile.specs.PlanCalls.{code_call, at_moment, calls_at, tasks_of, iteration, iterations, calls_from}
+use Rattle.plan_compile.specs.PlanCalls.{calls_at, tasks_of, iteration, iterations, calls_from}
 
 -- a value that may be missing is missing or there
 pub none_or_some : {A : Type 0} (o : Option A) → (o ≡ None) ⊎ ((x : A) × (o ≡ Some x))
@@ -49,17 +48,10 @@ length-names_of n (c ∷ cs) =
 
 -- ---- calls
 
-length-at_moment : (m : ℕ) (o : Option CodeCall) → length (at_moment m o) ≤ 1
-length-at_moment m None = omega arith
-length-at_moment m (Some call) = omega arith
-
 -- an iteration makes no more calls than stand in the text
 pub length-calls_at : (firsts : List ℕ) (base start task : ℕ) (cs : List Call) → length (calls_at firsts base start task cs) ≤ length cs
 length-calls_at firsts base start task [] = omega arith
-length-calls_at firsts base start task (c ∷ cs) =
-    let here = at_moment (base + c.at) (code_call firsts start task c.op) in
-    let rest = calls_at firsts base start (tasks_after task c.op) cs in
-    omega (arith, length-append here rest, length-at_moment (base + c.at) (code_call firsts start task c.op), length-calls_at firsts base start (tasks_after task c.op) cs)
+length-calls_at firsts base start task (c ∷ cs) = omega (arith, length-calls_at firsts base start (tasks_after task c.op) cs)
 
 -- one more iteration
 pub times-suc : (n k : ℕ) → suc n * k ≡ n * k + k

@@ -1,40 +1,20 @@
 -- One turn of each loop that writes out a plan's calls.
-use Rattle.std.proofs.Common.{◌≡◌, ℕ, suc, ◌+◌, ◌*◌, ◌≤◌, ◌<◌, List, [], ◌∷◌, ◌++◌, length, get_or, drop, take, Option, Some, None, refl, sym, ◌∙◌, ap, subst, arith, append_assoc}
+use Rattle.std.proofs.Common.{◌≡◌, ℕ, suc, ◌+◌, ◌*◌, ◌≤◌, ◌<◌, List, [], ◌∷◌, ◌++◌, length, get_or, drop, take, refl, sym, ◌∙◌, ap, subst, arith, append_assoc}
 use Rattle.std.proofs.lemmas.List.{append-nil, drop_more, take_more}
 use Rattle.queue_code.specs.declared.call.CodeCall.{CodeCall}
-use Rattle.queue_code.specs.Calls.{count_after, IsOrderlyFrom}
+use Rattle.queue_code.specs.Calls.{IsOrderlyFrom}
 use Rattle.plan_read.specs.declared.plans.Call.{Call}
 use Rattle.plan_read.specs.declared.plans.Header.{Header}
-use Rattle.plan_read.specs.declared.plans.Op.{Op}
 use Rattle.sched_time.specs.Times.{longest}
-use Rattle.plan_read.specs.declared.plans.Op.TheVariants as ops
 use Rattle.plan_read.specs.Plans.{BlockTree, PlanTree, tasks_after, tasks_after_calls, made_by, IsBlockAfter, AreBlocksAfter, IsOrdered}
 use Rattle.plan_read.proofs.Accepted.{made_from_one_more}
-use Rattle.plan_compile.specs.PlanCalls.{code_call, at_moment, calls_at, tasks_of, iteration, iterations, calls_from, calls_of, CanWrite}
+use Rattle.plan_compile.specs.PlanCalls.{code_call, calls_at, tasks_of, iteration, iterations, calls_from, calls_of, CanWrite}
 use Rattle.plan_compile.proofs.Counting.{tasks_after-le, tasks_of-le}
-use Rattle.plan_compile.proofs.Ordering.{AreFirsts, firsts_start, firsts_next, base_reach, no_iterations, iteration_runs}
+use Rattle.plan_compile.proofs.Ordering.{call_counts, AreFirsts, firsts_start, firsts_next, base_reach, no_iterations, iteration_runs}
 use Rattle.plan_compile.proofs.Runs.{runs_orderly}
 use Rattle.std.proofs.lemmas.Nat.{mul-le}
 
 -- ---- the calls of an iteration
-
--- the calls before some others are in order
-orderly_front : (count moment : ℕ) (xs ys : List (ℕ × CodeCall)) → IsOrderlyFrom count moment (xs ++ ys) → IsOrderlyFrom count moment xs
-orderly_front count moment [] ys h = tt
-orderly_front count moment (x ∷ xs) ys h = (h.0, h.1, h.2, orderly_front (count_after count x.1) x.0 xs ys h.3)
-
--- and so are those behind a call
-orderly_back : (firsts : List ℕ) (start task moment at : ℕ) (op : Op) (rest : List (ℕ × CodeCall)) → IsOrderlyFrom task moment (at_moment at (code_call firsts start task op) ++ rest)
-    → (m : ℕ) × IsOrderlyFrom (tasks_after task op) m rest
-orderly_back firsts start task moment at (ops.Schedule name delay) rest h = (at, h.3)
-orderly_back firsts start task moment at (ops.Rate name first (Some period)) rest h = (at, h.3)
-orderly_back firsts start task moment at (ops.Rate name first None) rest h = (at, h.3)
-orderly_back firsts start task moment at (ops.Fixed name first (Some delay)) rest h = (at, h.3)
-orderly_back firsts start task moment at (ops.Fixed name first None) rest h = (at, h.3)
-orderly_back firsts start task moment at (ops.Cancel target) rest h = (at, h.3)
-orderly_back firsts start task moment at (ops.Policy which value) rest h = (moment, h)
-orderly_back firsts start task moment at ops.Shutdown rest h = (moment, h)
-orderly_back firsts start task moment at ops.Ask rest h = (moment, h)
 
 -- where `rest` of an iteration's calls is still to be written, behind `out`
 pub record CallsLeft (firsts : List ℕ) (base start : ℕ) (all : List Call) (old out : List (ℕ × CodeCall)) (task : ℕ) (rest : List Call) : Type 0 where
@@ -48,23 +28,17 @@ pub record CallsLeft (firsts : List ℕ) (base start : ℕ) (all : List Call) (o
 pub next_call : (cs : List Call) (i : ℕ) (c : Call) → i < length cs → c ≡ get_or cs i c → drop i cs ≡ c ∷ drop (i + 1) cs
 next_call cs i c h is = drop_more cs i c h ∙ ap (λ (d : Call). d ∷ drop (i + 1) cs) (sym is)
 
--- the next call is in order
-pub call_ordered : (firsts : List ℕ) (base start : ℕ) (all : List Call) (old out : List (ℕ × CodeCall)) (task : ℕ) (c : Call) (rest : List Call)
-    → CallsLeft firsts base start all old out task (c ∷ rest) → (moment : ℕ) × (at : ℕ) × IsOrderlyFrom task moment (at_moment at (code_call firsts start task c.op))
-call_ordered firsts base start all old out task c rest left =
-    (left.moment, base + c.at, orderly_front task left.moment (at_moment (base + c.at) (code_call firsts start task c.op)) (calls_at firsts base start (tasks_after task c.op) rest) left.ordered)
-
 -- after the next call
 pub call_written : (firsts : List ℕ) (base start : ℕ) (all : List Call) (old out : List (ℕ × CodeCall)) (task : ℕ) (c : Call) (rest : List Call)
     → CallsLeft firsts base start all old out task (c ∷ rest)
-    → CallsLeft firsts base start all old (out ++ at_moment (base + c.at) (code_call firsts start task c.op)) (tasks_after task c.op) rest
+    → CallsLeft firsts base start all old (out ++ (base + c.at, code_call firsts start task c.op) ∷ []) (tasks_after task c.op) rest
 call_written firsts base start all old out task c rest left =
-    let back = orderly_back firsts start task left.moment (base + c.at) c.op (calls_at firsts base start (tasks_after task c.op) rest) left.ordered in
+    let behind = calls_at firsts base start (tasks_after task c.op) rest in
     record {
-      done = append_assoc out (at_moment (base + c.at) (code_call firsts start task c.op)) (calls_at firsts base start (tasks_after task c.op) rest) ∙ left.done;
+      done = append_assoc out ((base + c.at, code_call firsts start task c.op) ∷ []) behind ∙ left.done;
       tasks = left.tasks;
-      moment = back.0;
-      ordered = back.1;
+      moment = base + c.at;
+      ordered = subst (λ (n : ℕ). IsOrderlyFrom n (base + c.at) behind) (call_counts firsts start task c.op) left.ordered.3;
       room = omega (arith, left.room, tasks_after-le task c.op);
     }
 

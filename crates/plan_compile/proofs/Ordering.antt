@@ -5,7 +5,7 @@ use Rattle.std.proofs.lemmas.Bool.{cases_Bool}
 use Rattle.std.proofs.lemmas.Nat.{mul-le}
 use Rattle.std.proofs.lemmas.Option.{slice_get_within, slice_get_past}
 use Rattle.sched_time.specs.Times.{longest}
-use Rattle.queue_code.specs.Calls.{count_after, IsOrderly, IsOrderlyFrom}
+use Rattle.queue_code.specs.Calls.{count_after, IsOrderlyCall, IsOrderly}
 use Rattle.plan_read.specs.declared.plans.Call.{Call}
 use Rattle.plan_read.specs.declared.plans.Header.{Header}
 use Rattle.plan_read.specs.declared.plans.Op.{Op}
@@ -14,7 +14,7 @@ use Rattle.plan_read.specs.declared.plans.Target.{Target}
 use Rattle.plan_read.specs.Plans.{BlockTree, PlanTree, is_submission, names_of, tasks_after, tasks_after_calls, last_offset, last_offset_from, last_moment, end_of, end_of_block, made_by, made_from, IsWithinLimits, StandsBefore, IsAimed, IsCallAfter, AreCallsAfter, IsBlockAfter, AreBlocksAfter, IsOrdered}
 use Rattle.plan_read.proofs.Accepted.{end_from_one_more, made_from_one_more}
 use Rattle.plan_read.proofs.Naming.{tasks_after-one_more}
-use Rattle.plan_compile.specs.PlanCalls.{number_of, code_call, at_moment, calls_at, tasks_of, iteration, iterations, calls_from, calls_of}
+use Rattle.plan_compile.specs.PlanCalls.{number_of, code_call, calls_at, tasks_of, iteration, iterations, calls_from, calls_of}
 use Rattle.plan_compile.proofs.Counting.{tasks_after_calls-from, length-names_of, length-calls_from, times-suc}
 use Rattle.plan_compile.proofs.Runs.{Runs, runs_orderly, runs_earlier, runs_later, runs_append}
 
@@ -102,17 +102,29 @@ op_below earlier firsts start task before (ops.Policy which value) a is aimed = 
 op_below earlier firsts start task before ops.Shutdown a is aimed = tt
 op_below earlier firsts start task before ops.Ask a is aimed = tt
 
-op_runs : (firsts : List ℕ) (start task moment at : ℕ) (op : Op) → moment ≤ at → at ≤ 2 ^ 62 → IsWithinLimits op → IsBelow firsts start task op
-    → Runs task moment (at_moment at (code_call firsts start task op)) (tasks_after task op) at
-op_runs firsts start task moment at (ops.Schedule name delay) le short limits below = (le, short, (refl, limits, tt), (refl, omega arith))
-op_runs firsts start task moment at (ops.Rate name first (Some period)) le short limits below = (le, short, (refl, limits.0, limits.1.1), (refl, omega arith))
-op_runs firsts start task moment at (ops.Rate name first None) le short limits below = (le, short, refl, (refl, omega arith))
-op_runs firsts start task moment at (ops.Fixed name first (Some delay)) le short limits below = (le, short, (refl, limits.0, limits.1.1), (refl, omega arith))
-op_runs firsts start task moment at (ops.Fixed name first None) le short limits below = (le, short, refl, (refl, omega arith))
-op_runs firsts start task moment at (ops.Cancel target) le short limits below = (le, short, below, (refl, omega arith))
-op_runs firsts start task moment at (ops.Policy which value) le short limits below = (refl, le)
-op_runs firsts start task moment at ops.Shutdown le short limits below = (refl, le)
-op_runs firsts start task moment at ops.Ask le short limits below = (refl, le)
+-- the call of an operation is in order
+call_orderly : (firsts : List ℕ) (start task : ℕ) (op : Op) → IsWithinLimits op → IsBelow firsts start task op → IsOrderlyCall task (code_call firsts start task op)
+call_orderly firsts start task (ops.Schedule name delay) limits below = (refl, limits, tt)
+call_orderly firsts start task (ops.Rate name first (Some period)) limits below = (refl, limits.0, limits.1.1)
+call_orderly firsts start task (ops.Rate name first None) limits below = refl
+call_orderly firsts start task (ops.Fixed name first (Some delay)) limits below = (refl, limits.0, limits.1.1)
+call_orderly firsts start task (ops.Fixed name first None) limits below = refl
+call_orderly firsts start task (ops.Cancel target) limits below = below
+call_orderly firsts start task (ops.Policy which value) limits below = tt
+call_orderly firsts start task ops.Shutdown limits below = tt
+call_orderly firsts start task ops.Ask limits below = tt
+
+-- a call counts the task that its operation submits
+pub call_counts : (firsts : List ℕ) (start task : ℕ) (op : Op) → count_after task (code_call firsts start task op) ≡ tasks_after task op
+call_counts firsts start task (ops.Schedule name delay) = refl
+call_counts firsts start task (ops.Rate name first (Some period)) = refl
+call_counts firsts start task (ops.Rate name first None) = refl
+call_counts firsts start task (ops.Fixed name first (Some delay)) = refl
+call_counts firsts start task (ops.Fixed name first None) = refl
+call_counts firsts start task (ops.Cancel target) = refl
+call_counts firsts start task (ops.Policy which value) = refl
+call_counts firsts start task ops.Shutdown = refl
+call_counts firsts start task ops.Ask = refl
 
 -- ---- one iteration
 
@@ -133,12 +145,13 @@ calls_run earlier h firsts base start before (c ∷ cs) task offset ordered a re
     let short : base + c.at ≤ 2 ^ 62 = omega (arith, reach, one.last) in
     let forward : base + offset ≤ base + c.at = omega (arith, last, one.order) in
     let below = op_below earlier firsts start task before c.op a is one.aimed in
-    let here = op_runs firsts start task (base + offset) (base + c.at) c.op forward short one.limits below in
     let count : tasks_after task c.op ≡ start + tasks_after_calls 0 (before ++ c ∷ []) =
     rw (is, tasks_after-one_more 0 before c) (tasks_after-shifted start (tasks_after_calls 0 before) c.op) in
     let rest = calls_run earlier h firsts base start (before ++ c ∷ []) cs (tasks_after task c.op) c.at ordered.1 a reach count (sym (last_offset-one_more 0 before c)) in
-    runs_append task (base + offset) (at_moment (base + c.at) (code_call firsts start task c.op)) (calls_at firsts base start (tasks_after task c.op) cs)
-    (tasks_after task c.op) (base + c.at) (tasks_after_calls task (c ∷ cs)) (base + last_offset_from c.at cs) here rest
+    let end = base + last_offset_from c.at cs in
+    let counted = sym (call_counts firsts start task c.op) in
+    let behind = subst (λ (n : ℕ). Runs n (base + c.at) (calls_at firsts base start (tasks_after task c.op) cs) (tasks_after_calls task (c ∷ cs)) end) counted rest in
+    (forward, short, call_orderly firsts start task c.op one.limits below, behind)
 
 offset_within : (h : Header) (offset : ℕ) → 1 < h.times → (h.times ≤ 1) ⊎ (offset ≤ h.every) → offset ≤ h.every
 offset_within h offset many (inl once) = absurd (omega (arith, many, once))

@@ -1,6 +1,6 @@
 -- The calls that a plan makes, with their moments.
 -- All of it is this project's rule.
-use Rattle.std.specs.Prelude.{ℕ, zero, suc, ◌≤◌, ◌+◌, ◌*◌, List, [], ◌∷◌, ◌++◌, Option, Some, None, unwrap_or, slice_get}
+use Rattle.std.specs.Prelude.{ℕ, zero, suc, ◌≤◌, ◌+◌, ◌*◌, List, [], ◌∷◌, ◌++◌, Some, None, unwrap_or, slice_get}
 use Rattle.sched_time.specs.declared.timing.Timing.TheVariants as t
 use Rattle.sched_time.specs.Times.{longest}
 use Rattle.queue_code.specs.Calls.{IsOrderlyFrom}
@@ -18,30 +18,24 @@ abbrev pub number_of : List ℕ → ℕ → Target → ℕ
 number_of firsts start target = unwrap_or (slice_get firsts target.block) start + target.sub
 
 -- the call that an operation asks for, where `task` submissions stand before it
--- (a submission with no legal period or fixed delay is a call too, and has a number; calls that the executor does not know yet are
--- left out, and no plan text has them yet)
-abbrev pub code_call : List ℕ → ℕ → ℕ → Op → Option CodeCall
-code_call firsts start task (ops.Schedule name delay) = Some (made.Submit task t.Once delay)
-code_call firsts start task (ops.Rate name first (Some period)) = Some (made.Submit task (t.Rate period) first)
-code_call firsts start task (ops.Rate name first None) = Some (made.Illegal task)
-code_call firsts start task (ops.Fixed name first (Some delay)) = Some (made.Submit task (t.Fixed delay) first)
-code_call firsts start task (ops.Fixed name first None) = Some (made.Illegal task)
-code_call firsts start task (ops.Cancel target) = Some (made.Cancel (number_of firsts start target))
-code_call firsts start task (ops.Policy which value) = None
-code_call firsts start task ops.Shutdown = None
-code_call firsts start task ops.Ask = None
-
--- a call at a moment, if there is one
-abbrev pub at_moment : ℕ → Option CodeCall → List (ℕ × CodeCall)
-at_moment moment None = []
-at_moment moment (Some call) = (moment, call) ∷ []
+-- (a submission with no legal period or fixed delay is a call too, and has a number)
+abbrev pub code_call : List ℕ → ℕ → ℕ → Op → CodeCall
+code_call firsts start task (ops.Schedule name delay) = made.Submit task t.Once delay
+code_call firsts start task (ops.Rate name first (Some period)) = made.Submit task (t.Rate period) first
+code_call firsts start task (ops.Rate name first None) = made.Illegal task
+code_call firsts start task (ops.Fixed name first (Some delay)) = made.Submit task (t.Fixed delay) first
+code_call firsts start task (ops.Fixed name first None) = made.Illegal task
+code_call firsts start task (ops.Cancel target) = made.Cancel (number_of firsts start target)
+code_call firsts start task (ops.Policy which value) = made.SetPolicy which value
+code_call firsts start task ops.Shutdown = made.Shutdown
+code_call firsts start task ops.Ask = made.Ask
 
 -- some calls of an iteration that begins at the moment `base` and after `start` submissions, where `task` stand before these: the
 -- call with offset o is made at `base + o`
 abbrev pub calls_at : List ℕ → ℕ → ℕ → ℕ → List Call → List (ℕ × CodeCall)
 calls_at firsts base start task [] = []
 calls_at firsts base start task (c ∷ cs) =
-    at_moment (base + c.at) (code_call firsts start task c.op) ++ calls_at firsts base start (tasks_after task c.op) cs
+    (base + c.at, code_call firsts start task c.op) ∷ calls_at firsts base start (tasks_after task c.op) cs
 
 -- how many submissions each iteration of a block makes
 abbrev pub tasks_of : BlockTree → ℕ

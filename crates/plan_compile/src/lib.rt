@@ -33,9 +33,11 @@
 #![tactic(auto)]
 
 mod calls;
+mod laws;
 mod numbers;
 #[cfg(test)]
 mod tests;
 mod writing;
 
+pub use laws::calls_are_in_order;
 pub use writing::written_out;

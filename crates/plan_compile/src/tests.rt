@@ -2,7 +2,7 @@
 use crate::written_out;
 use plan_read::read_plan;
 use queue_code::CodeCall;
-use sched_time::{Timing, Unit, span};
+use sched_time::{Timing, Unit, Which, span};
 use std::test::Fail;
 
 /// The calls of the plan that a text writes.
@@ -26,6 +26,10 @@ fn once(task: u32, delay: u64) -> CodeCall {
 
 fn cancel(task: u32) -> CodeCall {
     CodeCall::Cancel { task }
+}
+
+fn set(which: Which, value: bool) -> CodeCall {
+    CodeCall::SetPolicy { which, value }
 }
 
 #[test]
@@ -128,6 +132,83 @@ call = [
         ]
         .as_slice()
     );
+    Ok(())
+}
+
+#[test]
+fn writes_out_policies_a_shutdown_and_questions(rt: HostRuntime) -> Result<(), Fail> {
+    let text = "version = 1
+[[block]]
+at = 5
+unit = \"us\"
+call = [
+  { op = \"policy\", which = \"continue\", value = true },
+  { op = \"policy\", which = \"execute\", value = false },
+  { op = \"policy\", which = \"remove\", value = true, at = 1 },
+  { op = \"ask\", at = 1 },
+  { op = \"shutdown\", at = 2 },
+]
+";
+    assert_eq!(rt;
+        calls(&rt, text)?.as_slice(),
+        [
+            (5_000u64, set(Which::Continue, true)),
+            (5_000, set(Which::Execute, false)),
+            (6_000, set(Which::Remove, true)),
+            (6_000, CodeCall::Ask),
+            (7_000, CodeCall::Shutdown),
+        ]
+        .as_slice()
+    );
+    Ok(())
+}
+
+/// They are no submissions: the numbers of tasks go on as without them.
+#[test]
+fn repeats_policies_a_shutdown_and_questions(rt: HostRuntime) -> Result<(), Fail> {
+    let text = "version = 1
+[[block]]
+at = 100
+times = 2
+every = 10
+call = [
+  { op = \"policy\", which = \"remove\", value = true },
+  { op = \"schedule\", name = \"a\", delay = 50 },
+  { op = \"ask\", at = 1 },
+  { op = \"cancel\", name = \"a\", at = 4 },
+  { op = \"shutdown\", at = 9 },
+]
+[[block]]
+at = 119
+call = [{ op = \"ask\" }, { op = \"schedule\", name = \"b\", delay = 0 }]
+";
+    assert_eq!(rt;
+        calls(&rt, text)?.as_slice(),
+        [
+            (100u64, set(Which::Remove, true)),
+            (100, once(0, 50)),
+            (101, CodeCall::Ask),
+            (104, cancel(0)),
+            (109, CodeCall::Shutdown),
+            (110, set(Which::Remove, true)),
+            (110, once(1, 50)),
+            (111, CodeCall::Ask),
+            (114, cancel(1)),
+            (119, CodeCall::Shutdown),
+            (119, CodeCall::Ask),
+            (119, once(2, 0)),
+        ]
+        .as_slice()
+    );
+    Ok(())
+}
+
+#[test]
+fn writes_out_65536_questions(rt: HostRuntime) -> Result<(), Fail> {
+    let text = "version = 1\n[[block]]\ntimes = 65536\nevery = 1\ncall = [{ op = \"ask\" }]";
+    let made = calls(&rt, text)?;
+    assert_eq!(rt; made.len(), 65_536);
+    assert_eq!(rt; made.last(), Some(&(65_535, CodeCall::Ask)));
     Ok(())
 }
 

@@ -16,9 +16,9 @@ use std::alloc::{AllocError, Allocator};
 /// There are at most 65,536 of them. Moments do not fall, and moments and delays are at most 2^62
 /// nanoseconds. Submissions are numbered 0, 1, .. in this list, illegal ones among them, and a cancel has
 /// the number of one before it. The only error is want of memory.
-pub fn written_out<A: Allocator + Copy>(
+pub fn written_out<A: Allocator + Copy, B: Allocator>(
     alloc: A,
-    plan: &Plan,
+    plan: &Plan<B>,
 ) -> Result<Vec<(u64, CodeCall), A>, AllocError>
     ensures calls { IfOk result (λ v. v.items ≡ calls_of plan.now) }
     ensures orderly { IfOk result (λ v. IsOrderly v.items) }
@@ -38,11 +38,11 @@ pub fn written_out<A: Allocator + Copy>(
 /// number of each block before it.
 ///
 /// The answer is how many submissions there are then.
-fn write_block<A: Allocator>(
+fn write_block<A: Allocator, B: Allocator>(
     out: &mut Vec<(u64, CodeCall), A>,
     firsts: &[u32],
     first: u32,
-    block: &Block,
+    block: &Block<B>,
 ) -> Result<u32, AllocError>
     requires room { first + block.now.header.times * length block.now.calls ≤ 65536 }
     requires steps { 1 ≤ length block.now.calls → (r : ℕ) → r < block.now.header.times → CanWrite firsts.now first block.now r }
@@ -79,9 +79,8 @@ fn write_iteration<A: Allocator>(
 {
     let mut task = start;
     for call in calls {
-        if let Some(made) = code_call(firsts, start, task, &call.op) {
-            out.push((base + call.at, made))?;
-        }
+        let made = code_call(firsts, start, task, &call.op);
+        out.push((base + call.at, made))?;
         task = tasks_after(task, &call.op);
     }
     Ok(task)

@@ -10,5 +10,6 @@ pub mod CallLaw
 pub mod TreeLaw
 pub mod TextLaw
 pub mod NameLaw
+pub mod NameText
 pub mod Found
 pub mod OrderLaw

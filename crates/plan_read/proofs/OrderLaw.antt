@@ -1,5 +1,5 @@
 -- The calls of a written plan are in order and within the limits.
-use Rattle.std.proofs.Common.{◌≡◌, ◌≤◌, ℕ, zero, suc, ◌*◌, ◌+◌, ℤ, pos, negsuc, List, [], ◌∷◌, ◌++◌, length, Option, codes, refl, arith, subst, sym}
+use Rattle.std.proofs.Common.{◌≡◌, ◌≤◌, ℕ, zero, suc, ◌*◌, ℤ, pos, negsuc, List, [], ◌∷◌, ◌++◌, length, Option, codes, refl, arith, subst, sym}
 use Rattle.toml.specs.Data.{Members, string}
 use Rattle.sched_time.specs.Times.{longest, nanos_of, span_of, period_of}
 use Rattle.sched_time.specs.declared.unit.Unit.{Unit as TimeUnit}

@@ -2,7 +2,7 @@
 -- All of it is this project's rule.
 use Rattle.std.specs.Prelude.{ℕ, ◌+◌, ◌*◌, ℤ, pos, negsuc, Bool, true, false, not, ◌&&◌, ◌||◌, nat_le, ◌==◌, if◌then◌else◌, List, [], ◌∷◌, ◌++◌, length, Option, Some, None, is_some, is_none, option_and_then, codes}
 use Rattle.toml.specs.Data.{Members, get_member, as_integer}
-use Rattle.sched_time.specs.Times.{longest, span_of}
+use Rattle.sched_time.specs.Times.{longest}
 use Rattle.sched_time.specs.declared.unit.Unit.{Unit as TimeUnit}
 use Rattle.plan_read.specs.declared.faults.Place.{Place}
 use Rattle.plan_read.specs.declared.faults.PlanFault.{PlanFault}

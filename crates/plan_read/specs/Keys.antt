@@ -12,13 +12,16 @@ use Rattle.plan_read.specs.declared.verbs.Verb.TheVariants as verbs
 
 -- ---- words
 
--- the operation that a word names (`policy`, `shutdown` and `ask` are no words yet: the executor does not know these calls)
+-- the operation that a word names
 abbrev pub verb_of_word : List ℕ → Option Verb
 verb_of_word word =
     if bytes_eq word (codes "schedule") then Some verbs.Schedule else
     (if bytes_eq word (codes "rate") then Some verbs.Rate else
     (if bytes_eq word (codes "fixed") then Some verbs.Fixed else
-    (if bytes_eq word (codes "cancel") then Some verbs.Cancel else None)))
+    (if bytes_eq word (codes "cancel") then Some verbs.Cancel else
+    (if bytes_eq word (codes "policy") then Some verbs.Policy else
+    (if bytes_eq word (codes "shutdown") then Some verbs.Shutdown else
+    (if bytes_eq word (codes "ask") then Some verbs.Ask else None))))))
 
 -- the unit that a word names
 abbrev pub unit_of_word : List ℕ → Option TimeUnit

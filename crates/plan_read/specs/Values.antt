@@ -1,6 +1,6 @@
 -- What stands at the keys of a plan's tables, with a default where there is none; a later check refuses what has no other value.
 -- All of it is this project's rule.
-use Rattle.std.specs.Prelude.{ℕ, ℤ, pos, Bool, false, List, [], ◌∷◌, ◌++◌, length, Option, Some, None, option_and_then, unwrap_or, codes, int_lt}
+use Rattle.std.specs.Prelude.{ℕ, ℤ, pos, Bool, false, List, [], ◌∷◌, ◌++◌, Option, Some, None, option_and_then, unwrap_or, codes, int_lt}
 use Rattle.toml.specs.Data.{Data, table, Items, no_items, item, Members, no_members, get_member, as_integer, as_bool, as_str, as_array}
 use Rattle.sched_time.specs.Times.{span_of, period_of, delay_units}
 use Rattle.sched_time.specs.declared.policies.Which.{Which}

@@ -18,13 +18,11 @@ use crate::tables::{has, integer_or, text_or, truth_at};
 use crate::units::which_of_word;
 use crate::verbs::Verb;
 use sched_time::{LONGEST, Span, Unit, Which, period};
-use std::alloc::Global;
 use toml::Table;
 
 /// The call that a table writes, where `found` is the submission of its name that stands before it, and
 /// the call before it in its block has the offset `last`.
 pub fn read_call(
-    alloc: Global,
     place: Place,
     found: Option<Site>,
     block: usize,
@@ -38,7 +36,7 @@ pub fn read_call(
     let verb = read_verb(place, table)?;
     check_keys(place, verb, table)?;
     check_name(place, verb, found, block, table)?;
-    read_timed(alloc, place, verb, found, block, header, last, table)
+    read_timed(place, verb, found, block, header, last, table)
 }
 
 /// The operation of a call.
@@ -128,7 +126,6 @@ fn check_known_name(
 /// The call of a table whose keys and name are checked, where the call before it has the offset `last`.
 #[tactic(auto, unfolding(crate::specs::Checks::time_checks))]
 fn read_timed(
-    alloc: Global,
     place: Place,
     verb: Verb,
     found: Option<Site>,
@@ -146,7 +143,7 @@ fn read_timed(
         return Err(place.fault(PlanFaultKind::Negative));
     }
     let at = read_span(place, at, header.unit)?.nanos();
-    let op = read_op(alloc, place, verb, found, block, header.unit, table)?;
+    let op = read_op(place, verb, found, block, header.unit, table)?;
     if last_moment(header, at) > u128::from(LONGEST) {
         return Err(place.fault(PlanFaultKind::TooLarge));
     }
@@ -159,7 +156,6 @@ fn read_timed(
 /// The operation of a call whose name is checked.
 #[tactic(auto, unfolding(crate::specs::Checks::name_checks, crate::specs::Values::op_of))]
 fn read_op(
-    alloc: Global,
     place: Place,
     verb: Verb,
     found: Option<Site>,
@@ -172,12 +168,12 @@ fn read_op(
 {
     match verb {
         Verb::Schedule => {
-            let name = Name::new(alloc, text_or("", "name", table))?;
+            let name = Name::new(text_or("", "name", table));
             let delay = read_span(place, integer_or(0, "delay", table), unit)?;
             Ok(Op::Schedule { name, delay })
         }
         Verb::Rate => {
-            let name = Name::new(alloc, text_or("", "name", table))?;
+            let name = Name::new(text_or("", "name", table));
             let first = read_span(place, integer_or(0, "first", table), unit)?;
             let period = read_period(place, integer_or(0, "period", table), unit)?;
             Ok(Op::Rate {
@@ -187,7 +183,7 @@ fn read_op(
             })
         }
         Verb::Fixed => {
-            let name = Name::new(alloc, text_or("", "name", table))?;
+            let name = Name::new(text_or("", "name", table));
             let first = read_span(place, integer_or(0, "first", table), unit)?;
             let delay = read_period(place, integer_or(0, "delay", table), unit)?;
             Ok(Op::Fixed { name, first, delay })

@@ -45,6 +45,9 @@
 //! | `rate` | `name`, `first`, `period` | a task that runs `first` after the call, and then every `period` |
 //! | `fixed` | `name`, `first`, `delay` | a task that runs `first` after the call, and then `delay` after the end of each run |
 //! | `cancel` | `name` | the cancel of a task |
+//! | `policy` | `which`, `value` | that a policy is set: `which` is "continue", "execute" or "remove", `value` a truth value |
+//! | `shutdown` | none | a shutdown |
+//! | `ask` | none | how the executor stands |
 //!
 //! The call with offset `o` is made at `at + r * every + o` in iteration `r`, counted from 0. Moments,
 //! offsets and spans are at most 2^62 nanoseconds, and so is the moment of each call in the last iteration.
@@ -73,14 +76,15 @@
 //! | text | `TooLong`: over 1,048,576 bytes. `Toml`: no UTF-8, or no TOML document |
 //! | top | `Version`, `UnknownKey`, `WrongType`, `TooMany` blocks |
 //! | header | `UnknownKey`, `WrongType`, `BadUnit`, `BadTimes`, `Missing` (`every`), `Negative`, `TooLarge`, `OutOfOrder`, `TooMany` calls |
-//! | call | `Missing` (`op`), `WrongType` (`op`), `UnknownKey`, `Missing`, `WrongType`, `BadName`, `DuplicateName` or `UnknownName`, `Ambiguous`, `Negative`, `TooLarge`, `OutOfOrder` |
+//! | call | `Missing` (`op`), `WrongType` (`op`), `UnknownKey`, `Missing`, `WrongType` (a `which` that is no policy among them), `BadName`, `DuplicateName` or `UnknownName`, `Ambiguous`, `Negative`, `TooLarge`, `OutOfOrder` |
 //!
 //! `Memory`, with block 0 and call 0, may come in place of any other answer, and says nothing of the text.
 //!
 //! # Memory and cost
 //!
-//! A plan owns its blocks, calls and names. While a text is read, its TOML tree and a map from names to
-//! submissions take memory too. A text of n bytes is read in the time of n log n: each name is looked up in
+//! A plan owns its blocks and calls, in the allocator that it was read with; a name stands in its call. While a
+//! text is read, a map from names to submissions takes memory of that allocator too, and its TOML tree memory of
+//! the heap: the allocator is a [`Room`], which gives the heap. A text of n bytes is read in the time of n log n: each name is looked up in
 //! the map once, and each table is read once. What a call needs of those before it is handed on.
 #![tactic(auto)]
 
@@ -93,6 +97,7 @@ mod limits;
 mod names;
 mod plans;
 mod reading;
+mod room;
 mod sites;
 mod tables;
 #[cfg(test)]
@@ -101,6 +106,11 @@ mod units;
 mod verbs;
 
 pub use faults::{PlanFault, PlanFaultKind};
+pub use laws::{
+    comparisons_leave_nothing_out, names_differ, plans_are_ordered, targets_stand_before,
+    trees_write_or_fail,
+};
 pub use names::Name;
 pub use plans::{Block, Call, Op, Plan, Target};
 pub use reading::read_plan;
+pub use room::Room;

@@ -1,27 +1,33 @@
 //! Names of submissions.
 
-ghost use Rattle.std.specs.Prelude.{◌≡◌, true, IfOk};
+ghost use Rattle.std.specs.Prelude.{◌≡◌, true};
 ghost use Rattle.std.specs.List.{list_all};
 ghost use Rattle.plan_read.specs.Names.{is_name_byte, is_name};
 
-use std::alloc::{AllocError, Global};
 use std::marker::Model;
+use std::str;
+
+/// The most bytes of a name.
+const LONGEST: usize = 32;
 
 /// The name of a submission: 1 to 32 ASCII letters, digits, `-` and `_`.
+///
+/// It holds its bytes itself, so it takes no memory.
 #[derive(Debug, Drop)]
 pub struct Name {
-    text: String,
+    bytes: [u8; LONGEST],
+    len: usize,
 }
 
 impl Model for Name {
-    ghost use Rattle.std.specs.Prelude.{◌≡◌, ℕ, List, true, string_bytes};
+    ghost use Rattle.std.specs.Prelude.{◌≡◌, ◌≤◌, ℕ, List, take, true};
     ghost use Rattle.plan_read.specs.Names.{is_name};
 
     ghost Value = { List ℕ };
 
-    ghost view = { λ n. string_bytes n.text };
+    ghost view = { λ n. take n.len n.bytes };
 
-    ghost invariant = { λ n. is_name (string_bytes n.text) ≡ true };
+    ghost invariant = { λ n. (n.len ≤ 32) × (is_name (take n.len n.bytes) ≡ true) };
 }
 
 impl Name {
@@ -30,17 +36,21 @@ impl Name {
         ensures text { result.now ≡ self.now }
         ensures name { is_name self.now ≡ true }
     {
-        self.text.as_str()
+        match str::from_utf8(&self.bytes[..self.len]) {
+            Ok(text) => text,
+            Err(_) => unreachable!(),
+        }
     }
 
-    /// A name of this text. Only memory can be wanting.
-    pub(crate) fn new(alloc: Global, text: &str) -> Result<Name, AllocError>
+    /// A name of this text.
+    pub(crate) fn new(text: &str) -> Name
         requires { is_name text.now ≡ true }
-        ensures { IfOk result (λ n. n ≡ text.now) }
+        ensures { result ≡ text.now }
     {
-        Ok(Name {
-            text: String::from_str(alloc, text)?,
-        })
+        let len = text.len();
+        let mut bytes = [0; LONGEST];
+        bytes[..len].copy_from_slice(text.as_bytes());
+        Name { bytes, len }
     }
 }
 
@@ -49,7 +59,7 @@ pub fn is_name(text: &str) -> bool
     ensures { result ≡ is_name text.now }
 {
     let bytes = text.as_bytes();
-    1 <= bytes.len() && bytes.len() <= 32 && has_name_bytes(bytes)
+    1 <= bytes.len() && bytes.len() <= LONGEST && has_name_bytes(bytes)
 }
 
 /// Whether each byte can stand in a name.

@@ -6,6 +6,7 @@ ghost use Rattle.plan_read.specs.Writes.{IsPlan};
 
 use crate::names::Name;
 use sched_time::{Span, Unit, Which};
+use std::alloc::Allocator;
 use std::marker::Model;
 
 /// A submission of a plan.
@@ -93,12 +94,12 @@ pub struct Header {
 
 /// A block of calls.
 #[derive(Debug, Drop)]
-pub struct Block {
+pub struct Block<A: Allocator> {
     header: Header,
-    calls: Vec<Call>,
+    calls: Vec<Call, A>,
 }
 
-impl Model for Block {
+impl<A: Allocator> Model for Block<A> {
     ghost use Rattle.plan_read.specs.Plans.{BlockTree};
 
     ghost Value = { BlockTree };
@@ -106,9 +107,9 @@ impl Model for Block {
     ghost view = { λ b. record { header = b.header; calls = b.calls.items } };
 }
 
-impl Block {
+impl<A: Allocator> Block<A> {
     /// A block of these calls.
-    pub(crate) fn new(header: Header, calls: Vec<Call>) -> Block
+    pub(crate) fn new(header: Header, calls: Vec<Call, A>) -> Block<A>
         ensures { result ≡ record { header = header; calls = calls.items } }
     {
         Block { header, calls }
@@ -159,11 +160,11 @@ impl Block {
 
 /// What a plan text writes: blocks of calls, which are made in order.
 #[derive(Debug, Drop)]
-pub struct Plan {
-    blocks: Vec<Block>,
+pub struct Plan<A: Allocator> {
+    blocks: Vec<Block<A>, A>,
 }
 
-impl Model for Plan {
+impl<A: Allocator> Model for Plan<A> {
     ghost use Rattle.plan_read.specs.Plans.{PlanTree};
     ghost use Rattle.plan_read.specs.Writes.{IsPlan};
 
@@ -174,9 +175,9 @@ impl Model for Plan {
     ghost invariant = { λ p. IsPlan p.blocks.items };
 }
 
-impl Plan {
+impl<A: Allocator> Plan<A> {
     /// A plan of these blocks.
-    pub(crate) fn new(blocks: Vec<Block>) -> Plan
+    pub(crate) fn new(blocks: Vec<Block<A>, A>) -> Plan<A>
         requires { IsPlan blocks.items }
         ensures { result ≡ blocks.items }
     {
@@ -188,7 +189,7 @@ impl Plan {
     /// The calls of the blocks, iteration by iteration, are at most 65,536, and their moments do not
     /// fall. Moments, offsets and spans are at most 2^62 nanoseconds, and a period or a fixed delay is
     /// at least 1. The target of a cancel stands before it.
-    pub fn blocks(&self) -> &[Block]
+    pub fn blocks(&self) -> &[Block<A>]
         ensures blocks { result.now ≡ self.now }
         ensures written { IsPlan self.now }
         ensures ordered { IsOrdered self.now }

@@ -14,9 +14,10 @@ use crate::faults::{Place, PlanFault, PlanFaultKind, Refusal};
 use crate::headers::{last_moment, read_header, read_top};
 use crate::limits::LONGEST_TEXT;
 use crate::plans::{Block, Call, Header, Op, Plan, Target};
+use crate::room::Room;
 use crate::sites::{Site, add_name};
 use crate::tables::{tables_at, text_or};
-use std::alloc::Global;
+use std::alloc::{Allocator, Global};
 use std::collections::BTreeMap;
 use toml::{Table, Value};
 
@@ -25,7 +26,7 @@ use toml::{Table, Value};
 /// The page of this crate says what a plan text is, and in which order faults are looked for. A fault of
 /// the kind [`PlanFaultKind::Memory`] may come in place of any other answer, and says nothing of the text;
 /// it has block 0 and call 0.
-pub fn read_plan(alloc: Global, text: &[u8]) -> Result<Plan, PlanFault>
+pub fn read_plan<A: Room>(alloc: A, text: &[u8]) -> Result<Plan<A>, PlanFault>
     ensures plan { IfOk result (λ p. TextWrites text.now p) }
     ensures only { (plan : PlanTree) → TextWrites text.now plan → MatchResult result (λ p. p ≡ plan) (λ e. e ≡ out_of_memory) }
     ensures fault { IfErr result (λ e. (fault_of_text text.now ≡ Some e) ⊎ (e ≡ out_of_memory)) }
@@ -42,21 +43,21 @@ pub fn read_plan(alloc: Global, text: &[u8]) -> Result<Plan, PlanFault>
 }
 
 /// The plan that a text writes, or its fault.
-fn read_text(alloc: Global, text: &[u8]) -> Result<Plan, Refusal>
+fn read_text<A: Room>(alloc: A, text: &[u8]) -> Result<Plan<A>, Refusal>
     ensures { Reads (λ p. p) result (fault_of_text text.now) (plan_of_text text.now) }
 {
     if text.len() > LONGEST_TEXT {
         return Err(Place::top().fault(PlanFaultKind::TooLong));
     }
-    let tree = parse(alloc, text)?;
+    let tree = parse(alloc.heap(), text)?;
     read_tree(alloc, &tree)
 }
 
 /// The tree of a text.
-fn parse(alloc: Global, text: &[u8]) -> Result<Table, Refusal>
+fn parse(heap: Global, text: &[u8]) -> Result<Table, Refusal>
     ensures { Reads (λ t. table_view t) result (first_failing top (toml_checks text.now)) (tree_at text.now) }
 {
-    match toml::table_from_slice(alloc, text) {
+    match toml::table_from_slice(heap, text) {
         Ok(table) => Ok(table),
         Err(error) => {
             if error.is_memory() {
@@ -68,7 +69,7 @@ fn parse(alloc: Global, text: &[u8]) -> Result<Table, Refusal>
 }
 
 /// The plan that a tree writes, or its fault.
-fn read_tree(alloc: Global, table: &Table) -> Result<Plan, Refusal>
+fn read_tree<A: Allocator + Copy>(alloc: A, table: &Table) -> Result<Plan<A>, Refusal>
     ensures { Reads (λ p. p) result (fault_of (table_view table.now)) (plan_of (table_view table.now)) }
 {
     let tables = read_top(table)?;
@@ -78,7 +79,7 @@ fn read_tree(alloc: Global, table: &Table) -> Result<Plan, Refusal>
 
 /// The blocks that the tables of a plan write.
 #[tactic(auto, using(crate::proofs::Accepted::end_from_one_more, crate::proofs::Accepted::made_from_one_more))]
-fn read_blocks(alloc: Global, tables: &[Value]) -> Result<Vec<Block>, Refusal>
+fn read_blocks<A: Allocator + Copy>(alloc: A, tables: &[Value]) -> Result<Vec<Block<A>, A>, Refusal>
     requires tables { are_tables (items_view tables.now) ≡ true }
     requires few { length tables.now ≤ 256 }
     ensures { Reads (λ v. v.items) result (blocks_fault [] (tables_in (items_view tables.now))) (blocks_after [] (tables_in (items_view tables.now))) }
@@ -101,14 +102,14 @@ fn read_blocks(alloc: Global, tables: &[Value]) -> Result<Vec<Block>, Refusal>
 
 /// The block that the next table of a plan writes, where the last call before it is at the moment `end`
 /// and `made` calls are made before it.
-fn read_block<'a>(
-    alloc: Global,
-    earlier: &[Block],
+fn read_block<'a, A: Allocator + Copy>(
+    alloc: A,
+    earlier: &[Block<A>],
     end: u128,
     made: u64,
-    names: &mut BTreeMap<&'a str, Site>,
+    names: &mut BTreeMap<&'a str, Site, A>,
     table: &'a Table,
-) -> Result<Block, Refusal>
+) -> Result<Block<A>, Refusal>
     requires blocks { length earlier.now < 256 }
     requires end { end ≡ end_of earlier.now }
     requires made { made ≡ made_by earlier.now }
@@ -130,7 +131,7 @@ fn read_block<'a>(
 }
 
 /// The moment of the last call of a block, and `end` where it has none.
-fn end_of_block(end: u128, block: &Block) -> u128
+fn end_of_block<A: Allocator>(end: u128, block: &Block<A>) -> u128
     requires { 1 ≤ block.now.header.times }
     ensures { result ≡ end_of_block end block.now.header block.now.calls }
 {
@@ -141,13 +142,13 @@ fn end_of_block(end: u128, block: &Block) -> u128
 }
 
 /// The calls that the tables of a block write.
-fn read_calls<'a>(
-    alloc: Global,
-    earlier: &[Block],
+fn read_calls<'a, A: Allocator + Copy>(
+    alloc: A,
+    earlier: &[Block<A>],
     header: Header,
     tables: &'a [Value],
-    names: &mut BTreeMap<&'a str, Site>,
-) -> Result<Vec<Call>, Refusal>
+    names: &mut BTreeMap<&'a str, Site, A>,
+) -> Result<Vec<Call, A>, Refusal>
     requires times { 1 ≤ header.times }
     requires blocks { length earlier.now < 256 }
     requires tables { are_tables (items_view tables.now) ≡ true }
@@ -163,7 +164,7 @@ fn read_calls<'a>(
         let Some(table) = value.as_table() else {
             unreachable!()
         };
-        let call = read_next(alloc, earlier, header, calls.as_slice(), sub, names, table)?;
+        let call = read_next(earlier, header, calls.as_slice(), sub, names, table)?;
         if call.op.is_submission() {
             sub += 1;
         }
@@ -174,13 +175,12 @@ fn read_calls<'a>(
 
 /// The call that the next table of a block writes, after the calls before it, `sub` of which are
 /// submissions.
-fn read_next<'a>(
-    alloc: Global,
-    earlier: &[Block],
+fn read_next<'a, A: Allocator + Copy>(
+    earlier: &[Block<A>],
     header: Header,
     before: &[Call],
     sub: usize,
-    names: &mut BTreeMap<&'a str, Site>,
+    names: &mut BTreeMap<&'a str, Site, A>,
     table: &'a Table,
 ) -> Result<Call, Refusal>
     requires times { 1 ≤ header.times }
@@ -199,7 +199,7 @@ fn read_next<'a>(
     let name = text_or("", "name", table);
     let found = names.get(name).copied();
     let last = last_offset(before);
-    let call = read_call(alloc, place, found, block, header, last, table)?;
+    let call = read_call(place, found, block, header, last, table)?;
     if call.op.is_submission() {
         let target = Target { block, sub };
         let repeated = header.times > 1;

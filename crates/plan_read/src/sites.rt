@@ -6,6 +6,7 @@ ghost use Rattle.plan_read.specs.Reads.{found_in};
 
 use crate::faults::Refusal;
 use crate::plans::Target;
+use std::alloc::Allocator;
 use std::collections::BTreeMap;
 
 /// A submission as the calls behind it see it.
@@ -18,8 +19,8 @@ pub struct Site {
 }
 
 /// Adds a submission of a name that has none.
-pub fn add_name<'a>(
-    names: &mut BTreeMap<&'a str, Site>,
+pub fn add_name<'a, A: Allocator + Copy>(
+    names: &mut BTreeMap<&'a str, Site, A>,
     name: &'a str,
     site: Site,
 ) -> Result<(), Refusal>

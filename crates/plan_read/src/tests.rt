@@ -1,601 +1,397 @@
 //! Plan texts by hand: each fault at each of its places, limits, and what a plan keeps.
 use crate::{Block, Op, Plan, PlanFault, PlanFaultKind, Target, read_plan};
-use sched_time::{Unit, span};
-use std::process::Abort;
+use sched_time::{Unit, Which, span};
+use std::alloc::Global;
 use std::test::Fail;
 
-/// The plan of one delayed task.
-const ONE_DELAY: &str =
-    "version = 1\n\n[[block]]\n\n[[block.call]]\nop = \"schedule\"\nname = \"a\"\ndelay = 5\n";
+/// What stands before the keys of a plan's only block.
+const HEADER: &str = "version = 1\n[[block]]\n";
+
+/// What stands before the keys of a plan's first block, which begins at 100.
+const LATE_BLOCK: &str = "version = 1\n[[block]]\nat = 100\n";
 
 /// What stands before the keys of a plan's only call.
 const CALL: &str = "version = 1\n[[block]]\n[[block.call]]\n";
 
-/// Checks that a text is refused with this kind, block and call.
-fn refuses(
-    rt: &(impl AllocGlobal + Abort),
-    text: &str,
-    kind: PlanFaultKind,
-    block: u32,
-    call: u32,
-) {
-    let fault = read_plan(rt.alloc(), text.as_bytes()).err();
-    assert!(rt;
-        fault == Some(PlanFault { kind, block, call }),
-        "{text}: {fault:?}"
-    );
+/// The plan of a text. All tests read plans through it: what `read_plan` ensures is then looked at once.
+fn read(alloc: Global, text: &[u8]) -> Result<Plan<Global>, PlanFault> {
+    read_plan(alloc, text)
 }
 
-/// Checks that a text is a plan.
-fn accepts(rt: &(impl AllocGlobal + Abort), text: &str) {
-    let fault = read_plan(rt.alloc(), text.as_bytes()).err();
-    assert!(rt; fault.is_none(), "{text}: {fault:?}");
+/// The text of a fault.
+fn spelled(alloc: Global, fault: &PlanFault) -> Result<String, Fail> {
+    Ok(fault.to_string(alloc)?)
 }
 
-/// Checks that a plan whose only block has this header is refused at the header.
-fn refuses_header(
-    rt: &(impl AllocGlobal + Abort),
-    lines: &str,
-    kind: PlanFaultKind,
-) -> Result<(), Fail> {
-    let text = format!(in rt.alloc(); "version = 1\n[[block]]\n{lines}\n")?;
-    refuses(rt, text.as_str(), kind, 1, 0);
-    Ok(())
+/// What is told of a text: its fault, or that it is a plan.
+fn told(alloc: Global, text: &str) -> Result<String, Fail> {
+    match read(alloc, text.as_bytes()) {
+        Ok(_) => Ok(String::from_str(alloc, "plan")?),
+        Err(fault) => spelled(alloc, &fault),
+    }
 }
 
-/// Checks that a plan whose only call has these keys is refused at the call.
-fn refuses_call(
-    rt: &(impl AllocGlobal + Abort),
-    lines: &str,
-    kind: PlanFaultKind,
-) -> Result<(), Fail> {
-    let text = format!(in rt.alloc(); "{CALL}{lines}\n")?;
-    refuses(rt, text.as_str(), kind, 1, 1);
-    Ok(())
+/// The first line of a table that says wrongly what is told of its text.
+///
+/// Behind what is told a line has ` | `, and then the text's lines behind `front`, with ` / ` between them.
+fn first_wrong<'a>(alloc: Global, front: &str, table: &'a str) -> Result<Option<&'a str>, Fail> {
+    for row in table.lines() {
+        let (fault, lines) = row.split_once(" | ").ok_or("no text")?;
+        let mut text = String::from_str(alloc, front)?;
+        for (index, line) in lines.split(" / ").enumerate() {
+            if index > 0 {
+                text.push('\n')?;
+            }
+            text.push_str(line)?;
+        }
+        if told(alloc, text.as_str())?.as_str() != fault {
+            return Ok(Some(row));
+        }
+    }
+    Ok(None)
 }
 
 /// The blocks of a plan by the number of their calls.
-fn sizes(rt: &impl AllocGlobal, plan: &Plan) -> Result<Vec<usize>, Fail> {
+fn sizes(rt: &impl AllocGlobal, plan: &Plan<Global>) -> Result<Vec<usize>, Fail> {
     let sizes = plan.blocks().iter().map(|block| block.calls().len());
     Ok(sizes.collect(rt.alloc())?)
 }
 
+/// Each fault by an example.
+const EXAMPLES: &str = r#"Toml block 0 call 0 | version =
+Version block 0 call 0 | version = "1"
+UnknownKey block 0 call 0 | version = 1 / x = 1
+WrongType block 0 call 0 | version = 1 / block = 1
+Missing block 1 call 0 | version = 1 / [[block]] / times = 2
+BadUnit block 1 call 0 | version = 1 / [[block]] / unit = "year"
+BadTimes block 1 call 0 | version = 1 / [[block]] / times = 0
+Negative block 1 call 0 | version = 1 / [[block]] / at = -1
+Missing block 1 call 1 | version = 1 / [[block]] / [[block.call]] / at = 1
+WrongType block 1 call 1 | version = 1 / [[block]] / [[block.call]] / op = "run"
+UnknownKey block 1 call 1 | version = 1 / [[block]] / [[block.call]] / op = "ask" / name = "a"
+BadName block 1 call 1 | version = 1 / [[block]] / [[block.call]] / op = "cancel" / name = ""
+UnknownName block 1 call 1 | version = 1 / [[block]] / [[block.call]] / op = "cancel" / name = "a"
+OutOfOrder block 1 call 2 | version = 1 / [[block]] / [[block.call]] / op = "ask" / at = 2 / [[block.call]] / op = "ask" / at = 1
+DuplicateName block 1 call 2 | version = 1 /  / [[block]] /  / [[block.call]] / op = "schedule" / name = "a" / delay = 5 /  / [[block.call]] / op = "schedule" / name = "a" / delay = 5
+TooLarge block 1 call 1 | version = 1 / [[block]] / call = [{ op = "schedule", name = "a", delay = 4611686018427387905 }]
+Ambiguous block 2 call 1 | version = 1 / [[block]] / at = 100 / times = 3 / every = 10 / call = [{ op = "schedule", name = "a", delay = 50 }, { op = "cancel", name = "a", at = 4 }] / [[block]] / at = 200 / call = [{ op = "cancel", name = "a" }]
+TooMany block 1 call 0 | version = 1 / [[block]] / times = 65536 / every = 0 / [[block.call]] / op = "ask" / [[block.call]] / op = "ask""#;
+
 #[test]
-fn answers_each_example(rt: HostRuntime) {
-    for (text, kind, block, call) in [
-        ("version =", PlanFaultKind::Toml, 0, 0),
-        ("", PlanFaultKind::Version, 0, 0),
-        ("version = \"1\"", PlanFaultKind::Version, 0, 0),
-        ("version = 1\nx = 1", PlanFaultKind::UnknownKey, 0, 0),
-        ("version = 1\nblock = 1", PlanFaultKind::WrongType, 0, 0),
-        (
-            "version = 1\n[[block]]\ntimes = 2",
-            PlanFaultKind::Missing,
-            1,
-            0,
-        ),
-        (
-            "version = 1\n[[block]]\nunit = \"year\"",
-            PlanFaultKind::BadUnit,
-            1,
-            0,
-        ),
-        (
-            "version = 1\n[[block]]\ntimes = 0",
-            PlanFaultKind::BadTimes,
-            1,
-            0,
-        ),
-        (
-            "version = 1\n[[block]]\nat = -1",
-            PlanFaultKind::Negative,
-            1,
-            0,
-        ),
-        (
-            "version = 1\n[[block]]\n[[block.call]]\nat = 1",
-            PlanFaultKind::Missing,
-            1,
-            1,
-        ),
-        (
-            "version = 1\n[[block]]\n[[block.call]]\nop = \"run\"",
-            PlanFaultKind::WrongType,
-            1,
-            1,
-        ),
-        (
-            "version = 1\n[[block]]\n[[block.call]]\nop = \"cancel\"\nname = \"a\"\ndelay = 1",
-            PlanFaultKind::UnknownKey,
-            1,
-            1,
-        ),
-        (
-            "version = 1\n[[block]]\n[[block.call]]\nop = \"cancel\"\nname = \"\"",
-            PlanFaultKind::BadName,
-            1,
-            1,
-        ),
-        (
-            "version = 1\n[[block]]\n[[block.call]]\nop = \"cancel\"\nname = \"a\"",
-            PlanFaultKind::UnknownName,
-            1,
-            1,
-        ),
-        (
-            "version = 1\n[[block]]\ncall = [{ op = \"schedule\", name = \"a\", delay = 1, at = 2 }, { op = \"cancel\", name = \"a\", at = 1 }]",
-            PlanFaultKind::OutOfOrder,
-            1,
-            2,
-        ),
-        (
-            "version = 1\n[[block]]\ncall = [{ op = \"schedule\", name = \"a\", delay = 5 }, { op = \"schedule\", name = \"a\", delay = 5 }]",
-            PlanFaultKind::DuplicateName,
-            1,
-            2,
-        ),
-        (
-            "version = 1\n[[block]]\ncall = [{ op = \"schedule\", name = \"a\", delay = 4611686018427387905 }]",
-            PlanFaultKind::TooLarge,
-            1,
-            1,
-        ),
-        (
-            "version = 1\n[[block]]\nat = 100\ntimes = 3\nevery = 10\ncall = [{ op = \"schedule\", name = \"a\", delay = 50 }, { op = \"cancel\", name = \"a\", at = 4 }]\n[[block]]\nat = 200\ncall = [{ op = \"cancel\", name = \"a\" }]",
-            PlanFaultKind::Ambiguous,
-            2,
-            1,
-        ),
-        (
-            "version = 1\n[[block]]\ntimes = 65536\nevery = 0\ncall = [{ op = \"schedule\", name = \"a\", delay = 1 }, { op = \"cancel\", name = \"a\" }]",
-            PlanFaultKind::TooMany,
-            1,
-            0,
-        ),
-    ] {
-        refuses(&rt, text, kind, block, call);
-    }
+fn answers_each_example(rt: HostRuntime) -> Result<(), Fail> {
+    assert_eq!(rt; first_wrong(rt.alloc(), "", EXAMPLES)?, None);
+    Ok(())
 }
+
+#[test]
+fn refuses_long_texts(rt: HostRuntime) -> Result<(), Fail> {
+    let alloc = rt.alloc();
+    let long = " ".repeat(alloc, 1_048_577)?;
+    assert!(rt; told(alloc, long.as_str())?.as_str() == "TooLong block 0 call 0");
+    let long = "=".repeat(alloc, 1_048_577)?;
+    assert!(rt; told(alloc, long.as_str())?.as_str() == "TooLong block 0 call 0");
+    let longest = " ".repeat(alloc, 1_048_576)?;
+    assert!(rt; told(alloc, longest.as_str())?.as_str() == "Version block 0 call 0");
+    Ok(())
+}
+
+#[test]
+fn takes_a_plan_of_the_longest_text(rt: HostRuntime) -> Result<(), Fail> {
+    let alloc = rt.alloc();
+    let rest = " ".repeat(alloc, 1_048_565)?;
+    let text = format!(in alloc; "version = 1{rest}")?;
+    assert!(rt; text.len() == 1_048_576);
+    assert!(rt; told(alloc, text.as_str())?.as_str() == "plan");
+    Ok(())
+}
+
+/// Texts that are no TOML document.
+const NO_TOML: &str = r#"Toml block 0 call 0 | version = 2 / =
+Toml block 0 call 0 | version = 1 / version = 1
+Toml block 0 call 0 | version = 1 / x = 9223372036854775808
+Toml block 0 call 0 | version = 1 / [[block]] / at = 9223372036854775808"#;
 
 #[test]
 fn refuses_at_the_text(rt: HostRuntime) -> Result<(), Fail> {
     let alloc = rt.alloc();
-    let long = " ".repeat(alloc, 1_048_577)?;
-    refuses(&rt, long.as_str(), PlanFaultKind::TooLong, 0, 0);
-    let long = "=".repeat(alloc, 1_048_577)?;
-    refuses(&rt, long.as_str(), PlanFaultKind::TooLong, 0, 0);
-    let longest = " ".repeat(alloc, 1_048_576)?;
-    refuses(&rt, longest.as_str(), PlanFaultKind::Version, 0, 0);
-    let rest = " ".repeat(alloc, 1_048_565)?;
-    accepts(&rt, format!(in alloc; "version = 1{rest}")?.as_str());
-    for text in [
-        "version = 2\n=",
-        "version = 1\nversion = 1",
-        "version = 1\nx = 9223372036854775808",
-        "version = 1\n[[block]]\nat = 9223372036854775808",
-    ] {
-        refuses(&rt, text, PlanFaultKind::Toml, 0, 0);
-    }
-    let fault = read_plan(alloc, b"\xff").err();
-    let kind = PlanFaultKind::Toml;
+    assert_eq!(rt; first_wrong(alloc, "", NO_TOML)?, None);
+    assert!(rt; told(alloc, "")?.as_str() == "Version block 0 call 0");
+    let fault = read(alloc, b"\xff").err();
+    let toml = PlanFault {
+        kind: PlanFaultKind::Toml,
+        block: 0,
+        call: 0,
+    };
+    assert!(rt; fault == Some(toml));
+    Ok(())
+}
+
+/// Faults at the top.
+const TOPS: &str = r#"Version block 0 call 0 | version = 1.0
+Version block 0 call 0 | version = -1
+Version block 0 call 0 | version = 2 / x = 1
+Version block 0 call 0 | x = 1 / version = 2
+Version block 0 call 0 | x = 1
+UnknownKey block 0 call 0 | version = 1 / x = 1 / block = 1
+UnknownKey block 0 call 0 | block = 1 / x = 1 / version = 1
+WrongType block 0 call 0 | version = 1 / block = [{}, 1]
+WrongType block 0 call 0 | version = 1 / [block]"#;
+
+#[test]
+fn refuses_at_the_top(rt: HostRuntime) -> Result<(), Fail> {
+    assert_eq!(rt; first_wrong(rt.alloc(), "", TOPS)?, None);
+    Ok(())
+}
+
+/// Faults of a header.
+const HEADERS: &str = r#"UnknownKey block 1 call 0 | x = 1
+UnknownKey block 1 call 0 | name = "a"
+WrongType block 1 call 0 | at = "0"
+WrongType block 1 call 0 | unit = 1
+WrongType block 1 call 0 | times = "1"
+WrongType block 1 call 0 | every = 0.5
+WrongType block 1 call 0 | call = 1
+WrongType block 1 call 0 | call = [{}, 1]
+BadUnit block 1 call 0 | unit = ""
+BadUnit block 1 call 0 | unit = "NS"
+BadTimes block 1 call 0 | times = -1
+BadTimes block 1 call 0 | times = 65537 / every = 0
+Missing block 1 call 0 | times = 65536
+Negative block 1 call 0 | every = -1
+TooLarge block 1 call 0 | at = 4611686018427387905
+TooLarge block 1 call 0 | every = 4611686018427387905
+TooLarge block 1 call 0 | unit = "s" / at = 9223372036854775807"#;
+
+#[test]
+fn refuses_at_the_header(rt: HostRuntime) -> Result<(), Fail> {
+    assert_eq!(rt; first_wrong(rt.alloc(), HEADER, HEADERS)?, None);
+    Ok(())
+}
+
+/// Headers with two faults, each in both orders.
+const HEADERS_OF_TWO_FAULTS: &str = r#"UnknownKey block 1 call 0 | x = 1 / at = "0"
+UnknownKey block 1 call 0 | at = "0" / x = 1
+WrongType block 1 call 0 | times = "2" / unit = "year"
+WrongType block 1 call 0 | unit = "year" / times = "2"
+BadUnit block 1 call 0 | unit = "year" / times = 0
+BadUnit block 1 call 0 | times = 0 / unit = "year"
+BadTimes block 1 call 0 | times = 65537 / at = 0
+BadTimes block 1 call 0 | at = 0 / times = 65537
+Missing block 1 call 0 | times = 2 / at = -1
+Missing block 1 call 0 | at = -1 / times = 2
+Negative block 1 call 0 | every = -1 / at = 4611686018427387905
+Negative block 1 call 0 | at = 4611686018427387905 / every = -1"#;
+
+#[test]
+fn tells_the_first_fault_of_a_header(rt: HostRuntime) -> Result<(), Fail> {
     assert_eq!(rt;
-        fault,
-        Some(PlanFault {
-            kind,
-            block: 0,
-            call: 0
-        })
+        first_wrong(rt.alloc(), HEADER, HEADERS_OF_TWO_FAULTS)?,
+        None
     );
     Ok(())
 }
 
-#[test]
-fn refuses_at_the_top(rt: HostRuntime) {
-    for (text, kind) in [
-        ("version = 1.0", PlanFaultKind::Version),
-        ("version = -1", PlanFaultKind::Version),
-        ("version = 2\nx = 1", PlanFaultKind::Version),
-        ("x = 1\nversion = 2", PlanFaultKind::Version),
-        ("x = 1", PlanFaultKind::Version),
-        ("version = 1\nx = 1\nblock = 1", PlanFaultKind::UnknownKey),
-        ("block = 1\nx = 1\nversion = 1", PlanFaultKind::UnknownKey),
-        ("version = 1\nblock = [{}, 1]", PlanFaultKind::WrongType),
-        ("version = 1\n[block]", PlanFaultKind::WrongType),
-    ] {
-        refuses(&rt, text, kind, 0, 0);
-    }
-}
-
-#[test]
-fn refuses_at_the_header(rt: HostRuntime) -> Result<(), Fail> {
-    for (lines, kind) in [
-        ("x = 1", PlanFaultKind::UnknownKey),
-        ("name = \"a\"", PlanFaultKind::UnknownKey),
-        ("at = \"0\"", PlanFaultKind::WrongType),
-        ("unit = 1", PlanFaultKind::WrongType),
-        ("times = \"1\"", PlanFaultKind::WrongType),
-        ("every = 0.5", PlanFaultKind::WrongType),
-        ("call = 1", PlanFaultKind::WrongType),
-        ("call = [{}, 1]", PlanFaultKind::WrongType),
-        ("unit = \"\"", PlanFaultKind::BadUnit),
-        ("unit = \"NS\"", PlanFaultKind::BadUnit),
-        ("times = -1", PlanFaultKind::BadTimes),
-        ("times = 65537\nevery = 0", PlanFaultKind::BadTimes),
-        ("times = 65536", PlanFaultKind::Missing),
-        ("every = -1", PlanFaultKind::Negative),
-        ("at = 4611686018427387905", PlanFaultKind::TooLarge),
-        ("every = 4611686018427387905", PlanFaultKind::TooLarge),
-        (
-            "unit = \"s\"\nat = 9223372036854775807",
-            PlanFaultKind::TooLarge,
-        ),
-    ] {
-        refuses_header(&rt, lines, kind)?;
-    }
-    Ok(())
-}
-
-#[test]
-fn tells_the_first_fault_of_a_header(rt: HostRuntime) -> Result<(), Fail> {
-    for (first, second, kind) in [
-        ("x = 1", "at = \"0\"", PlanFaultKind::UnknownKey),
-        ("times = \"2\"", "unit = \"year\"", PlanFaultKind::WrongType),
-        ("unit = \"year\"", "times = 0", PlanFaultKind::BadUnit),
-        ("times = 65537", "at = 0", PlanFaultKind::BadTimes),
-        ("times = 2", "at = -1", PlanFaultKind::Missing),
-        (
-            "every = -1",
-            "at = 4611686018427387905",
-            PlanFaultKind::Negative,
-        ),
-    ] {
-        let lines = format!(in rt.alloc(); "{first}\n{second}")?;
-        refuses_header(&rt, lines.as_str(), kind)?;
-        let lines = format!(in rt.alloc(); "{second}\n{first}")?;
-        refuses_header(&rt, lines.as_str(), kind)?;
-    }
-    Ok(())
-}
+/// Faults of a second block, behind one that begins at 100.
+const LATER_HEADERS: &str =
+    r#"OutOfOrder block 2 call 0 | call = [{ op = "schedule", name = "a", delay = 1, at = 5 }] / [[block]] / at = 104 / call = [{ op = "schedule", name = "b", delay = 1 }, { op = "cancel", name = "b" }]
+OutOfOrder block 2 call 0 | call = [{ op = "schedule", name = "a", delay = 1, at = 5 }] / [[block]] / call = [{ op = "schedule", name = "b", delay = 1 }, { op = "cancel", name = "b" }]
+TooLarge block 2 call 0 | call = [{ op = "schedule", name = "a", delay = 1, at = 5 }] / [[block]] / at = 104 / every = 4611686018427387905 / call = [{ op = "schedule", name = "b", delay = 1 }, { op = "cancel", name = "b" }]
+OutOfOrder block 2 call 0 | call = [{ op = "schedule", name = "a", delay = 1, at = 5 }] / [[block]] / at = 104 / times = 65536 / every = 0 / call = [{ op = "schedule", name = "b", delay = 1 }, { op = "cancel", name = "b" }]
+TooMany block 2 call 0 | call = [{ op = "schedule", name = "a", delay = 1, at = 5 }] / [[block]] / at = 105 / times = 65536 / every = 0 / call = [{ op = "schedule", name = "b", delay = 1 }, { op = "cancel", name = "b" }]
+OutOfOrder block 2 call 0 | times = 3 / every = 10 / call = [{ op = "schedule", name = "a", delay = 1, at = 5 }] / [[block]] / at = 124 / call = [{ op = "schedule", name = "b", delay = 1 }, { op = "cancel", name = "b" }]
+OutOfOrder block 2 call 0 | unit = "us" / call = [{ op = "schedule", name = "a", delay = 1, at = 5 }] / [[block]] / at = 104999 / call = [{ op = "schedule", name = "b", delay = 1 }, { op = "cancel", name = "b" }]
+plan | [[block]] / at = 99 / [[block]] / at = 99"#;
 
 #[test]
 fn refuses_a_header_after_another_block(rt: HostRuntime) -> Result<(), Fail> {
-    let twice =
-        "call = [{ op = \"schedule\", name = \"b\", delay = 1 }, { op = \"cancel\", name = \"b\" }]";
-    for (front, lines, kind) in [
-        ("", "at = 104", PlanFaultKind::OutOfOrder),
-        ("", "", PlanFaultKind::OutOfOrder),
-        (
-            "",
-            "at = 104\nevery = 4611686018427387905",
-            PlanFaultKind::TooLarge,
-        ),
-        (
-            "",
-            "at = 104\ntimes = 65536\nevery = 0",
-            PlanFaultKind::OutOfOrder,
-        ),
-        (
-            "",
-            "at = 105\ntimes = 65536\nevery = 0",
-            PlanFaultKind::TooMany,
-        ),
-        (
-            "times = 3\nevery = 10",
-            "at = 124",
-            PlanFaultKind::OutOfOrder,
-        ),
-        ("unit = \"us\"\n", "at = 104999", PlanFaultKind::OutOfOrder),
-    ] {
-        let text = format!(in rt.alloc();
-            "version = 1\n[[block]]\nat = 100\n{front}\ncall = [{{ op = \"schedule\", name = \"a\", delay = 1, at = 5 }}]\n[[block]]\n{lines}\n{twice}\n"
-        )?;
-        refuses(&rt, text.as_str(), kind, 2, 0);
-    }
-    let text = "version = 1\n[[block]]\nat = 100\n[[block]]\nat = 99\n[[block]]\nat = 99\n";
-    accepts(&rt, text);
+    assert_eq!(rt; first_wrong(rt.alloc(), LATE_BLOCK, LATER_HEADERS)?, None);
     Ok(())
 }
+
+/// Faults of a call.
+const CALLS: &str = r#"WrongType block 1 call 1 | op = 1
+WrongType block 1 call 1 | op = "rates"
+Missing block 1 call 1 | op = "schedule"
+Missing block 1 call 1 | op = "schedule" / name = "a"
+Missing block 1 call 1 | op = "rate" / name = "a" / first = 1
+Missing block 1 call 1 | op = "rate" / name = "a" / period = 1
+Missing block 1 call 1 | op = "rate" / first = 1 / period = 1
+Missing block 1 call 1 | op = "fixed" / name = "a" / first = 1
+Missing block 1 call 1 | op = "fixed" / name = "a" / delay = 1
+Missing block 1 call 1 | op = "fixed" / first = 1 / delay = 1
+Missing block 1 call 1 | op = "cancel"
+UnknownKey block 1 call 1 | op = "schedule" / name = "a" / delay = 1 / first = 1
+UnknownKey block 1 call 1 | op = "rate" / name = "a" / first = 1 / delay = 1
+UnknownKey block 1 call 1 | op = "fixed" / name = "a" / first = 1 / period = 1
+UnknownKey block 1 call 1 | op = "cancel" / name = "a" / value = true
+WrongType block 1 call 1 | op = "schedule" / name = "a" / delay = 1.5
+WrongType block 1 call 1 | op = "schedule" / name = 1 / delay = 1
+WrongType block 1 call 1 | op = "rate" / name = "a" / first = "1" / period = 1
+WrongType block 1 call 1 | op = "rate" / name = "a" / first = 1 / period = "1"
+WrongType block 1 call 1 | op = "fixed" / name = "a" / first = 1 / delay = 1.0
+WrongType block 1 call 1 | op = "cancel" / name = 1
+WrongType block 1 call 1 | op = "cancel" / name = "a" / at = "0"
+BadName block 1 call 1 | op = "schedule" / name = "a b" / delay = 1
+BadName block 1 call 1 | op = "schedule" / name = "é" / delay = 1
+BadName block 1 call 1 | op = "rate" / name = "" / first = 1 / period = 1
+BadName block 1 call 1 | op = "fixed" / name = "" / first = 1 / delay = 1
+Negative block 1 call 1 | op = "schedule" / name = "a" / delay = 1 / at = -1
+TooLarge block 1 call 1 | op = "schedule" / name = "a" / delay = 1 / at = 4611686018427387905
+TooLarge block 1 call 1 | op = "rate" / name = "a" / first = 4611686018427387905 / period = 1
+TooLarge block 1 call 1 | op = "rate" / name = "a" / first = 1 / period = 4611686018427387905
+TooLarge block 1 call 1 | op = "fixed" / name = "a" / first = 4611686018427387905 / delay = 1
+TooLarge block 1 call 1 | op = "fixed" / name = "a" / first = 1 / delay = 9223372036854775807"#;
 
 #[test]
 fn refuses_at_a_call(rt: HostRuntime) -> Result<(), Fail> {
-    for (lines, kind) in [
-        ("op = 1", PlanFaultKind::WrongType),
-        ("op = \"rates\"", PlanFaultKind::WrongType),
-        ("op = \"schedule\"", PlanFaultKind::Missing),
-        ("op = \"schedule\"\nname = \"a\"", PlanFaultKind::Missing),
-        (
-            "op = \"rate\"\nname = \"a\"\nfirst = 1",
-            PlanFaultKind::Missing,
-        ),
-        (
-            "op = \"rate\"\nname = \"a\"\nperiod = 1",
-            PlanFaultKind::Missing,
-        ),
-        (
-            "op = \"rate\"\nfirst = 1\nperiod = 1",
-            PlanFaultKind::Missing,
-        ),
-        (
-            "op = \"fixed\"\nname = \"a\"\nfirst = 1",
-            PlanFaultKind::Missing,
-        ),
-        (
-            "op = \"fixed\"\nname = \"a\"\ndelay = 1",
-            PlanFaultKind::Missing,
-        ),
-        (
-            "op = \"fixed\"\nfirst = 1\ndelay = 1",
-            PlanFaultKind::Missing,
-        ),
-        ("op = \"cancel\"", PlanFaultKind::Missing),
-        (
-            "op = \"schedule\"\nname = \"a\"\ndelay = 1\nfirst = 1",
-            PlanFaultKind::UnknownKey,
-        ),
-        (
-            "op = \"rate\"\nname = \"a\"\nfirst = 1\ndelay = 1",
-            PlanFaultKind::UnknownKey,
-        ),
-        (
-            "op = \"fixed\"\nname = \"a\"\nfirst = 1\nperiod = 1",
-            PlanFaultKind::UnknownKey,
-        ),
-        (
-            "op = \"cancel\"\nname = \"a\"\nvalue = true",
-            PlanFaultKind::UnknownKey,
-        ),
-        (
-            "op = \"schedule\"\nname = \"a\"\ndelay = 1.5",
-            PlanFaultKind::WrongType,
-        ),
-        (
-            "op = \"schedule\"\nname = 1\ndelay = 1",
-            PlanFaultKind::WrongType,
-        ),
-        (
-            "op = \"rate\"\nname = \"a\"\nfirst = \"1\"\nperiod = 1",
-            PlanFaultKind::WrongType,
-        ),
-        (
-            "op = \"rate\"\nname = \"a\"\nfirst = 1\nperiod = \"1\"",
-            PlanFaultKind::WrongType,
-        ),
-        (
-            "op = \"fixed\"\nname = \"a\"\nfirst = 1\ndelay = 1.0",
-            PlanFaultKind::WrongType,
-        ),
-        ("op = \"cancel\"\nname = 1", PlanFaultKind::WrongType),
-        (
-            "op = \"cancel\"\nname = \"a\"\nat = \"0\"",
-            PlanFaultKind::WrongType,
-        ),
-        (
-            "op = \"schedule\"\nname = \"a b\"\ndelay = 1",
-            PlanFaultKind::BadName,
-        ),
-        (
-            "op = \"schedule\"\nname = \"\u{e9}\"\ndelay = 1",
-            PlanFaultKind::BadName,
-        ),
-        (
-            "op = \"rate\"\nname = \"\"\nfirst = 1\nperiod = 1",
-            PlanFaultKind::BadName,
-        ),
-        (
-            "op = \"fixed\"\nname = \"\"\nfirst = 1\ndelay = 1",
-            PlanFaultKind::BadName,
-        ),
-        (
-            "op = \"schedule\"\nname = \"a\"\ndelay = 1\nat = -1",
-            PlanFaultKind::Negative,
-        ),
-        (
-            "op = \"schedule\"\nname = \"a\"\ndelay = 1\nat = 4611686018427387905",
-            PlanFaultKind::TooLarge,
-        ),
-        (
-            "op = \"rate\"\nname = \"a\"\nfirst = 4611686018427387905\nperiod = 1",
-            PlanFaultKind::TooLarge,
-        ),
-        (
-            "op = \"rate\"\nname = \"a\"\nfirst = 1\nperiod = 4611686018427387905",
-            PlanFaultKind::TooLarge,
-        ),
-        (
-            "op = \"fixed\"\nname = \"a\"\nfirst = 4611686018427387905\ndelay = 1",
-            PlanFaultKind::TooLarge,
-        ),
-        (
-            "op = \"fixed\"\nname = \"a\"\nfirst = 1\ndelay = 9223372036854775807",
-            PlanFaultKind::TooLarge,
-        ),
-    ] {
-        refuses_call(&rt, lines, kind)?;
-    }
+    assert_eq!(rt; first_wrong(rt.alloc(), CALL, CALLS)?, None);
     Ok(())
 }
 
+/// Faults of a policy, a shutdown and a question.
+const OTHER_CALLS: &str = r#"WrongType block 1 call 1 | op = "Policy"
+WrongType block 1 call 1 | op = "shutdown_now"
+Missing block 1 call 1 | op = "policy"
+Missing block 1 call 1 | op = "policy" / which = "remove"
+Missing block 1 call 1 | op = "policy" / value = true
+UnknownKey block 1 call 1 | op = "policy" / which = "remove" / value = true / name = "a"
+UnknownKey block 1 call 1 | op = "shutdown" / name = "a"
+UnknownKey block 1 call 1 | op = "shutdown" / value = true
+UnknownKey block 1 call 1 | op = "ask" / which = "remove"
+UnknownKey block 1 call 1 | op = "ask" / delay = 1
+WrongType block 1 call 1 | op = "policy" / which = "" / value = true
+WrongType block 1 call 1 | op = "policy" / which = "Remove" / value = true
+WrongType block 1 call 1 | op = "policy" / which = true / value = true
+WrongType block 1 call 1 | op = "policy" / which = "remove" / value = 1
+WrongType block 1 call 1 | op = "policy" / which = "remove" / value = "true"
+WrongType block 1 call 1 | op = "policy" / which = "remove" / value = true / at = "0"
+WrongType block 1 call 1 | op = "shutdown" / at = 0.5
+WrongType block 1 call 1 | op = "ask" / at = true
+Negative block 1 call 1 | op = "policy" / which = "remove" / value = true / at = -1
+Negative block 1 call 1 | op = "shutdown" / at = -1
+Negative block 1 call 1 | op = "ask" / at = -9223372036854775808
+TooLarge block 1 call 1 | op = "policy" / which = "remove" / value = true / at = 4611686018427387905
+TooLarge block 1 call 1 | op = "shutdown" / at = 4611686018427387905
+TooLarge block 1 call 1 | op = "ask" / at = 9223372036854775807"#;
+
 #[test]
-fn refuses_calls_to_come(rt: HostRuntime) -> Result<(), Fail> {
-    for lines in [
-        "op = \"policy\"\nwhich = \"remove\"\nvalue = true",
-        "op = \"shutdown\"",
-        "op = \"ask\"",
-    ] {
-        refuses_call(&rt, lines, PlanFaultKind::WrongType)?;
-    }
+fn refuses_a_policy_a_shutdown_and_a_question(rt: HostRuntime) -> Result<(), Fail> {
+    assert_eq!(rt; first_wrong(rt.alloc(), CALL, OTHER_CALLS)?, None);
     Ok(())
 }
+
+/// Policies, shutdowns and questions in repeated blocks; none is a submission that a cancel could name.
+const REPEATED_OTHERS: &str =
+    r#"OutOfOrder block 1 call 2 | times = 2 / every = 4 / call = [{ op = "ask", at = 4 }, { op = "policy", which = "continue", value = false, at = 3 }]
+OutOfOrder block 1 call 2 | times = 2 / every = 9 / call = [{ op = "ask", at = 4 }, { op = "policy", which = "continue", value = false, at = 10 }]
+TooLarge block 1 call 2 | times = 2 / every = 4611686018427387900 / call = [{ op = "ask", at = 4 }, { op = "policy", which = "continue", value = false, at = 5 }]
+TooMany block 1 call 0 | times = 32769 / every = 0 / call = [{ op = "policy", which = "continue", value = false }, { op = "policy", which = "continue", value = false }]
+plan | times = 32768 / every = 9 / call = [{ op = "policy", which = "continue", value = false }, { op = "policy", which = "continue", value = false, at = 9 }]
+UnknownName block 1 call 2 | call = [{ op = "policy", which = "continue", value = false }, { op = "cancel", name = "ask" }]
+OutOfOrder block 1 call 2 | times = 2 / every = 4 / call = [{ op = "ask", at = 4 }, { op = "shutdown", at = 3 }]
+OutOfOrder block 1 call 2 | times = 2 / every = 9 / call = [{ op = "ask", at = 4 }, { op = "shutdown", at = 10 }]
+TooLarge block 1 call 2 | times = 2 / every = 4611686018427387900 / call = [{ op = "ask", at = 4 }, { op = "shutdown", at = 5 }]
+TooMany block 1 call 0 | times = 32769 / every = 0 / call = [{ op = "shutdown" }, { op = "shutdown" }]
+plan | times = 32768 / every = 9 / call = [{ op = "shutdown" }, { op = "shutdown", at = 9 }]
+UnknownName block 1 call 2 | call = [{ op = "shutdown" }, { op = "cancel", name = "ask" }]
+OutOfOrder block 1 call 2 | times = 2 / every = 4 / call = [{ op = "ask", at = 4 }, { op = "ask", at = 3 }]
+OutOfOrder block 1 call 2 | times = 2 / every = 9 / call = [{ op = "ask", at = 4 }, { op = "ask", at = 10 }]
+TooLarge block 1 call 2 | times = 2 / every = 4611686018427387900 / call = [{ op = "ask", at = 4 }, { op = "ask", at = 5 }]
+TooMany block 1 call 0 | times = 32769 / every = 0 / call = [{ op = "ask" }, { op = "ask" }]
+plan | times = 32768 / every = 9 / call = [{ op = "ask" }, { op = "ask", at = 9 }]
+UnknownName block 1 call 2 | call = [{ op = "ask" }, { op = "cancel", name = "ask" }]"#;
+
+#[test]
+fn refuses_a_policy_a_shutdown_and_a_question_in_a_repeated_block(
+    rt: HostRuntime,
+) -> Result<(), Fail> {
+    assert_eq!(rt; first_wrong(rt.alloc(), HEADER, REPEATED_OTHERS)?, None);
+    Ok(())
+}
+
+/// Calls with two faults, each in both orders.
+const CALLS_OF_TWO_FAULTS: &str = r#"Missing block 1 call 1 | x = 1 / name = 1
+Missing block 1 call 1 | name = 1 / x = 1
+WrongType block 1 call 1 | op = "run" / x = 1
+WrongType block 1 call 1 | x = 1 / op = "run"
+UnknownKey block 1 call 1 | op = "schedule" / x = 1 / delay = 1
+UnknownKey block 1 call 1 | delay = 1 / op = "schedule" / x = 1
+Missing block 1 call 1 | op = "schedule" / delay = "1"
+Missing block 1 call 1 | delay = "1" / op = "schedule"
+WrongType block 1 call 1 | op = "schedule" / name = "" / delay = "1"
+WrongType block 1 call 1 | delay = "1" / op = "schedule" / name = ""
+BadName block 1 call 1 | op = "cancel" / name = "" / at = -1
+BadName block 1 call 1 | at = -1 / op = "cancel" / name = ""
+UnknownName block 1 call 1 | op = "cancel" / name = "a" / at = -1
+UnknownName block 1 call 1 | at = -1 / op = "cancel" / name = "a"
+Negative block 1 call 1 | op = "schedule" / name = "a" / at = -1 / delay = 4611686018427387905
+Negative block 1 call 1 | delay = 4611686018427387905 / op = "schedule" / name = "a" / at = -1
+UnknownKey block 1 call 1 | op = "policy" / x = 1 / which = 1
+UnknownKey block 1 call 1 | which = 1 / op = "policy" / x = 1
+Missing block 1 call 1 | op = "policy" / which = "x"
+Missing block 1 call 1 | which = "x" / op = "policy"
+WrongType block 1 call 1 | op = "policy" / which = "x" / value = true / at = -1
+WrongType block 1 call 1 | value = true / at = -1 / op = "policy" / which = "x"
+UnknownKey block 1 call 1 | op = "shutdown" / name = "" / at = -1
+UnknownKey block 1 call 1 | at = -1 / op = "shutdown" / name = ""
+WrongType block 1 call 1 | op = "ask" / at = "-1"
+WrongType block 1 call 1 | at = "-1" / op = "ask""#;
 
 #[test]
 fn tells_the_first_fault_of_a_call(rt: HostRuntime) -> Result<(), Fail> {
-    for (first, second, kind) in [
-        ("x = 1", "name = 1", PlanFaultKind::Missing),
-        ("op = \"run\"", "x = 1", PlanFaultKind::WrongType),
-        (
-            "op = \"schedule\"\nx = 1",
-            "delay = 1",
-            PlanFaultKind::UnknownKey,
-        ),
-        ("op = \"schedule\"", "delay = \"1\"", PlanFaultKind::Missing),
-        (
-            "op = \"schedule\"\nname = \"\"",
-            "delay = \"1\"",
-            PlanFaultKind::WrongType,
-        ),
-        (
-            "op = \"cancel\"\nname = \"\"",
-            "at = -1",
-            PlanFaultKind::BadName,
-        ),
-        (
-            "op = \"cancel\"\nname = \"a\"",
-            "at = -1",
-            PlanFaultKind::UnknownName,
-        ),
-        (
-            "op = \"schedule\"\nname = \"a\"\nat = -1",
-            "delay = 4611686018427387905",
-            PlanFaultKind::Negative,
-        ),
-    ] {
-        let lines = format!(in rt.alloc(); "{first}\n{second}")?;
-        refuses_call(&rt, lines.as_str(), kind)?;
-        let lines = format!(in rt.alloc(); "{second}\n{first}")?;
-        refuses_call(&rt, lines.as_str(), kind)?;
-    }
+    assert_eq!(rt; first_wrong(rt.alloc(), CALL, CALLS_OF_TWO_FAULTS)?, None);
     Ok(())
 }
+
+/// Faults of a second call.
+const LATER_CALLS: &str =
+    r#"DuplicateName block 1 call 2 | call = [{ op = "schedule", name = "a", delay = 1, at = 2 }, { op = "schedule", name = "a", delay = 1, at = -1 }]
+DuplicateName block 1 call 2 | call = [{ op = "schedule", name = "a", delay = 1, at = 2 }, { at = -1, delay = 1, name = "a", op = "schedule" }]
+UnknownName block 1 call 2 | call = [{ op = "schedule", name = "a", delay = 1, at = 2 }, { op = "cancel", name = "b", at = -1 }]
+Negative block 1 call 2 | call = [{ op = "schedule", name = "a", delay = 1, at = 2 }, { op = "cancel", name = "a", at = -1 }]
+TooLarge block 1 call 2 | call = [{ op = "schedule", name = "a", delay = 1, at = 2 }, { op = "cancel", name = "a", at = 4611686018427387905 }]
+OutOfOrder block 1 call 2 | call = [{ op = "schedule", name = "a", delay = 1, at = 2 }, { op = "cancel", name = "a", at = 1 }]
+OutOfOrder block 1 call 2 | call = [{ op = "schedule", name = "a", delay = 1, at = 2 }, { op = "cancel", name = "a" }]
+TooLarge block 1 call 2 | call = [{ op = "schedule", name = "a", delay = 1, at = 2 }, { op = "schedule", name = "b", delay = 4611686018427387905, at = 1 }]
+TooLarge block 1 call 2 | call = [{ op = "schedule", name = "a", delay = 1, at = 2 }, { op = "rate", name = "b", first = 0, period = 4611686018427387905, at = 1 }]"#;
 
 #[test]
 fn tells_the_first_fault_of_a_later_call(rt: HostRuntime) -> Result<(), Fail> {
-    for (keys, kind) in [
-        (
-            "op = \"schedule\", name = \"a\", delay = 1, at = -1",
-            PlanFaultKind::DuplicateName,
-        ),
-        (
-            "at = -1, delay = 1, name = \"a\", op = \"schedule\"",
-            PlanFaultKind::DuplicateName,
-        ),
-        (
-            "op = \"cancel\", name = \"b\", at = -1",
-            PlanFaultKind::UnknownName,
-        ),
-        (
-            "op = \"cancel\", name = \"a\", at = -1",
-            PlanFaultKind::Negative,
-        ),
-        (
-            "op = \"cancel\", name = \"a\", at = 4611686018427387905",
-            PlanFaultKind::TooLarge,
-        ),
-        (
-            "op = \"cancel\", name = \"a\", at = 1",
-            PlanFaultKind::OutOfOrder,
-        ),
-        ("op = \"cancel\", name = \"a\"", PlanFaultKind::OutOfOrder),
-        (
-            "op = \"schedule\", name = \"b\", delay = 4611686018427387905, at = 1",
-            PlanFaultKind::TooLarge,
-        ),
-        (
-            "op = \"rate\", name = \"b\", first = 0, period = 4611686018427387905, at = 1",
-            PlanFaultKind::TooLarge,
-        ),
-    ] {
-        let text = format!(in rt.alloc();
-            "version = 1\n[[block]]\ncall = [{{ op = \"schedule\", name = \"a\", delay = 1, at = 2 }}, {{ {keys} }}]\n"
-        )?;
-        refuses(&rt, text.as_str(), kind, 1, 2);
-    }
+    assert_eq!(rt; first_wrong(rt.alloc(), HEADER, LATER_CALLS)?, None);
     Ok(())
 }
+
+/// Names of a third block.
+const NAMES_OF_BLOCKS: &str =
+    r#"DuplicateName block 3 call 1 | call = [{ op = "schedule", name = "a", delay = 1 }] / [[block]] / at = 9 / [[block]] / at = 9 / call = [{ op = "schedule", name = "a", delay = 1 }]
+DuplicateName block 3 call 1 | call = [{ op = "schedule", name = "a", delay = 1 }] / [[block]] / at = 9 / [[block]] / at = 9 / call = [{ op = "rate", name = "a", first = 1, period = 0 }]
+UnknownName block 3 call 1 | call = [{ op = "schedule", name = "a", delay = 1 }] / [[block]] / at = 9 / [[block]] / at = 9 / call = [{ op = "cancel", name = "b" }]
+DuplicateName block 3 call 1 | times = 2 / every = 5 / call = [{ op = "schedule", name = "a", delay = 1 }] / [[block]] / at = 9 / [[block]] / at = 9 / call = [{ op = "fixed", name = "a", first = 1, delay = 1 }]
+Ambiguous block 3 call 1 | times = 2 / every = 5 / call = [{ op = "schedule", name = "a", delay = 1 }] / [[block]] / at = 9 / [[block]] / at = 9 / call = [{ op = "cancel", name = "a" }]
+Ambiguous block 3 call 1 | times = 2 / every = 5 / call = [{ op = "schedule", name = "a", delay = 1 }] / [[block]] / at = 9 / [[block]] / at = 9 / call = [{ op = "cancel", name = "a", at = -1 }]
+UnknownName block 3 call 1 | times = 2 / every = 5 / call = [{ op = "schedule", name = "a", delay = 1 }] / [[block]] / at = 9 / [[block]] / at = 9 / call = [{ op = "cancel", name = "b", at = -1 }]"#;
 
 #[test]
 fn refuses_names_over_all_blocks(rt: HostRuntime) -> Result<(), Fail> {
-    for (header, keys, kind) in [
-        (
-            "",
-            "op = \"schedule\", name = \"a\", delay = 1",
-            PlanFaultKind::DuplicateName,
-        ),
-        (
-            "",
-            "op = \"rate\", name = \"a\", first = 1, period = 0",
-            PlanFaultKind::DuplicateName,
-        ),
-        (
-            "",
-            "op = \"cancel\", name = \"b\"",
-            PlanFaultKind::UnknownName,
-        ),
-        (
-            "times = 2\nevery = 5",
-            "op = \"fixed\", name = \"a\", first = 1, delay = 1",
-            PlanFaultKind::DuplicateName,
-        ),
-        (
-            "times = 2\nevery = 5",
-            "op = \"cancel\", name = \"a\"",
-            PlanFaultKind::Ambiguous,
-        ),
-        (
-            "times = 2\nevery = 5",
-            "op = \"cancel\", name = \"a\", at = -1",
-            PlanFaultKind::Ambiguous,
-        ),
-        (
-            "times = 2\nevery = 5",
-            "op = \"cancel\", name = \"b\", at = -1",
-            PlanFaultKind::UnknownName,
-        ),
-    ] {
-        let text = format!(in rt.alloc();
-            "version = 1\n[[block]]\n{header}\ncall = [{{ op = \"schedule\", name = \"a\", delay = 1 }}]\n[[block]]\nat = 9\n[[block]]\nat = 9\ncall = [{{ {keys} }}]\n"
-        )?;
-        refuses(&rt, text.as_str(), kind, 3, 1);
-    }
+    assert_eq!(rt; first_wrong(rt.alloc(), HEADER, NAMES_OF_BLOCKS)?, None);
     Ok(())
 }
 
+/// Calls of blocks by their headers and offsets.
+const REPEATED_CALLS: &str =
+    r#"OutOfOrder block 1 call 1 | times = 2 / every = 4 / call = [{ op = "schedule", name = "a", delay = 1, at = 5 }]
+plan | times = 2 / every = 4 / call = [{ op = "schedule", name = "a", delay = 1, at = 4 }]
+plan | times = 1 / every = 4 / call = [{ op = "schedule", name = "a", delay = 1, at = 5 }]
+TooLarge block 1 call 1 | times = 65536 / every = 4611686018427387904 / call = [{ op = "schedule", name = "a", delay = 1, at = 0 }]
+plan | times = 2 / every = 4611686018427387904 / call = [{ op = "schedule", name = "a", delay = 1, at = 0 }]
+TooLarge block 1 call 1 | times = 2 / every = 4611686018427387904 / call = [{ op = "schedule", name = "a", delay = 1, at = 1 }]
+TooLarge block 1 call 1 | at = 1 / times = 2 / every = 4611686018427387904 / call = [{ op = "schedule", name = "a", delay = 1, at = 0 }]
+plan | at = 4 / times = 3 / every = 2305843009213693948 / call = [{ op = "schedule", name = "a", delay = 1, at = 4 }]
+TooLarge block 1 call 1 | at = 4 / times = 3 / every = 2305843009213693948 / call = [{ op = "schedule", name = "a", delay = 1, at = 5 }]"#;
+
 #[test]
 fn refuses_calls_of_a_repeated_block(rt: HostRuntime) -> Result<(), Fail> {
-    for (header, at, kind) in [
-        ("times = 2\nevery = 4", "5", Some(PlanFaultKind::OutOfOrder)),
-        ("times = 2\nevery = 4", "4", None),
-        ("times = 1\nevery = 4", "5", None),
-        (
-            "times = 65536\nevery = 4611686018427387904",
-            "0",
-            Some(PlanFaultKind::TooLarge),
-        ),
-        ("times = 2\nevery = 4611686018427387904", "0", None),
-        (
-            "times = 2\nevery = 4611686018427387904",
-            "1",
-            Some(PlanFaultKind::TooLarge),
-        ),
-        (
-            "at = 1\ntimes = 2\nevery = 4611686018427387904",
-            "0",
-            Some(PlanFaultKind::TooLarge),
-        ),
-        ("at = 4\ntimes = 3\nevery = 2305843009213693948", "4", None),
-        (
-            "at = 4\ntimes = 3\nevery = 2305843009213693948",
-            "5",
-            Some(PlanFaultKind::TooLarge),
-        ),
-    ] {
-        let text = format!(in rt.alloc();
-            "version = 1\n[[block]]\n{header}\ncall = [{{ op = \"schedule\", name = \"a\", delay = 1, at = {at} }}]\n"
-        )?;
-        match kind {
-            Some(kind) => refuses(&rt, text.as_str(), kind, 1, 1),
-            None => accepts(&rt, text.as_str()),
-        }
-    }
+    assert_eq!(rt; first_wrong(rt.alloc(), HEADER, REPEATED_CALLS)?, None);
     Ok(())
 }
 
@@ -616,7 +412,7 @@ fn takes_the_longest_of_each_unit(rt: HostRuntime) -> Result<(), Fail> {
         let text = format!(in rt.alloc();
             "{front}[[block.call]]\nop = \"schedule\"\nname = \"a\"\ndelay = {longest}\nat = {longest}"
         )?;
-        let plan = read_plan(rt.alloc(), text.as_bytes())?;
+        let plan = read(rt.alloc(), text.as_bytes())?;
         let call = plan
             .blocks()
             .first()
@@ -629,17 +425,15 @@ fn takes_the_longest_of_each_unit(rt: HostRuntime) -> Result<(), Fail> {
         assert_eq!(rt; delay.nanos(), nanos);
         for lines in ["at = ", "every = "] {
             let text = format!(in rt.alloc(); "{front}{lines}{more}")?;
-            refuses(&rt, text.as_str(), PlanFaultKind::TooLarge, 1, 0);
-            accepts(
-                &rt,
-                format!(in rt.alloc(); "{front}{lines}{longest}")?.as_str(),
-            );
+            assert!(rt; told(rt.alloc(), text.as_str())?.as_str() == "TooLarge block 1 call 0");
+            let text = format!(in rt.alloc(); "{front}{lines}{longest}")?;
+            assert!(rt; told(rt.alloc(), text.as_str())?.as_str() == "plan");
         }
         for keys in ["delay = 0\nat = ", "delay = "] {
             let text = format!(in rt.alloc();
                 "{front}[[block.call]]\nop = \"schedule\"\nname = \"a\"\n{keys}{more}"
             )?;
-            refuses(&rt, text.as_str(), PlanFaultKind::TooLarge, 1, 1);
+            assert!(rt; told(rt.alloc(), text.as_str())?.as_str() == "TooLarge block 1 call 1");
         }
     }
     Ok(())
@@ -649,7 +443,7 @@ fn takes_the_longest_of_each_unit(rt: HostRuntime) -> Result<(), Fail> {
 fn takes_negative_delays_as_none(rt: HostRuntime) -> Result<(), Fail> {
     let text =
         "version = 1\n[[block]]\nunit = \"s\"\ncall = [{ op = \"schedule\", name = \"a\", delay = -9223372036854775808 }]";
-    let plan = read_plan(rt.alloc(), text.as_bytes())?;
+    let plan = read(rt.alloc(), text.as_bytes())?;
     let call = plan
         .blocks()
         .first()
@@ -674,7 +468,7 @@ fn reads_plans_without_calls(rt: HostRuntime) -> Result<(), Fail> {
             1,
         ),
     ] {
-        let plan = read_plan(rt.alloc(), text.as_bytes())?;
+        let plan = read(rt.alloc(), text.as_bytes())?;
         assert!(rt; plan.blocks().len() == blocks, "{text}");
         assert!(rt;
             plan.blocks().iter().all(|block| block.calls().is_empty()),
@@ -699,7 +493,7 @@ call = [
 [[block]]
 at = 1000000
 ";
-    let plan = read_plan(rt.alloc(), text.as_bytes())?;
+    let plan = read(rt.alloc(), text.as_bytes())?;
     let [first_block, second] = plan.blocks() else {
         return Err("not two blocks".into());
     };
@@ -708,7 +502,7 @@ at = 1000000
         (second.unit(), second.times(), second.every()),
         (Unit::Ns, 1, 0)
     );
-    keeps_the_header(&rt, first_block);
+    assert!(rt; keeps_the_header(first_block));
     let [often, never] = first_block.calls() else {
         return Err("not two calls".into());
     };
@@ -734,12 +528,61 @@ at = 1000000
     Ok(())
 }
 
-/// Checks the header of the block above.
-fn keeps_the_header(rt: &impl Abort, block: &Block) {
-    assert_eq!(rt; block.at(), 7_000);
-    assert_eq!(rt; block.unit(), Unit::Us);
-    assert_eq!(rt; block.times(), 2);
-    assert_eq!(rt; block.every(), 9_000);
+/// Whether a block begins at 7 microseconds and is made twice, 9 microseconds apart.
+fn keeps_the_header(block: &Block<Global>) -> bool {
+    block.at() == 7_000 && block.unit() == Unit::Us && block.times() == 2 && block.every() == 9_000
+}
+
+#[test]
+fn keeps_policies_shutdowns_and_questions(rt: HostRuntime) -> Result<(), Fail> {
+    let text = "version = 1
+[[block]]
+unit = \"us\"
+call = [
+  { op = \"policy\", which = \"continue\", value = true },
+  { op = \"policy\", which = \"execute\", value = false, at = 1 },
+  { op = \"policy\", which = \"remove\", value = true, at = 2 },
+  { op = \"shutdown\", at = 2 },
+  { op = \"ask\", at = 3 },
+]
+";
+    let plan = read(rt.alloc(), text.as_bytes())?;
+    let block = plan.blocks().first().ok_or("no block")?;
+    let [first, second, third, shutdown, ask] = block.calls() else {
+        return Err("not five calls".into());
+    };
+    assert!(rt;
+        matches!(
+            first.op,
+            Op::Policy {
+                which: Which::Continue,
+                value: true
+            }
+        )
+    );
+    assert!(rt;
+        matches!(
+            second.op,
+            Op::Policy {
+                which: Which::Execute,
+                value: false
+            }
+        )
+    );
+    assert!(rt;
+        matches!(
+            third.op,
+            Op::Policy {
+                which: Which::Remove,
+                value: true
+            }
+        )
+    );
+    assert_eq!(rt; (second.at, third.at), (1_000, 2_000));
+    assert!(rt; matches!(shutdown.op, Op::Shutdown));
+    assert!(rt; matches!(ask.op, Op::Ask));
+    assert_eq!(rt; (shutdown.at, ask.at), (2_000, 3_000));
+    Ok(())
 }
 
 #[test]
@@ -760,7 +603,7 @@ call = [
   { op = \"cancel\", name = \"d\", at = 5 },
 ]
 ";
-    let plan = read_plan(rt.alloc(), text.as_bytes())?;
+    let plan = read(rt.alloc(), text.as_bytes())?;
     let block = plan.blocks().last().ok_or("no block")?;
     let [_, first, _, last] = block.calls() else {
         return Err("not four calls".into());
@@ -778,9 +621,9 @@ call = [
 fn takes_names_of_32_bytes(rt: HostRuntime) -> Result<(), Fail> {
     let longest = "n".repeat(rt.alloc(), 32)?;
     let text = format!(in rt.alloc(); "{CALL}op = \"schedule\"\ndelay = 0\nname = \"{longest}\"")?;
-    accepts(&rt, text.as_str());
+    assert!(rt; told(rt.alloc(), text.as_str())?.as_str() == "plan");
     let text = format!(in rt.alloc(); "{CALL}op = \"schedule\"\ndelay = 0\nname = \"{longest}n\"")?;
-    refuses(&rt, text.as_str(), PlanFaultKind::BadName, 1, 1);
+    assert!(rt; told(rt.alloc(), text.as_str())?.as_str() == "BadName block 1 call 1");
     Ok(())
 }
 
@@ -802,52 +645,40 @@ fn with_calls(rt: &impl AllocGlobal, blocks: u32, calls: u32) -> Result<String, 
 
 #[test]
 fn takes_256_calls_of_a_block(rt: HostRuntime) -> Result<(), Fail> {
-    let plan = read_plan(rt.alloc(), with_calls(&rt, 2, 256)?.as_bytes())?;
+    let plan = read(rt.alloc(), with_calls(&rt, 2, 256)?.as_bytes())?;
     assert_eq!(rt; sizes(&rt, &plan)?.as_slice(), [256usize, 256].as_slice());
     let text = with_calls(&rt, 1, 257)?;
-    refuses(&rt, text.as_str(), PlanFaultKind::TooMany, 1, 0);
+    assert!(rt; told(rt.alloc(), text.as_str())?.as_str() == "TooMany block 1 call 0");
     Ok(())
 }
 
 #[test]
 fn takes_256_blocks(rt: HostRuntime) -> Result<(), Fail> {
-    let plan = read_plan(rt.alloc(), with_calls(&rt, 256, 1)?.as_bytes())?;
+    let plan = read(rt.alloc(), with_calls(&rt, 256, 1)?.as_bytes())?;
     assert_eq!(rt; plan.blocks().len(), 256);
     let text = with_calls(&rt, 257, 0)?;
-    refuses(&rt, text.as_str(), PlanFaultKind::TooMany, 0, 0);
+    assert!(rt; told(rt.alloc(), text.as_str())?.as_str() == "TooMany block 0 call 0");
     let text = format!(in rt.alloc();
         "version = 1\nblock = [{}1]",
         "{},".repeat(rt.alloc(), 257)?
     )?;
-    refuses(&rt, text.as_str(), PlanFaultKind::WrongType, 0, 0);
+    assert!(rt; told(rt.alloc(), text.as_str())?.as_str() == "WrongType block 0 call 0");
     Ok(())
 }
 
+/// As many calls as a plan may have, and more.
+const MANY_CALLS: &str =
+    r#"plan | times = 65536 / every = 0 / call = [{ op = "schedule", name = "a", delay = 1 }]
+plan | times = 65536 / every = 0 / call = [{ op = "schedule", name = "a", delay = 1 }] / [[block]]
+plan | times = 65535 / every = 0 / call = [{ op = "schedule", name = "a", delay = 1 }] / [[block]] / call = [{ op = "schedule", name = "b", delay = 1 }]
+plan | times = 32768 / every = 0 / call = [{ op = "schedule", name = "a", delay = 1 }, { op = "cancel", name = "a" }]
+TooMany block 2 call 0 | times = 65536 / every = 0 / call = [{ op = "schedule", name = "a", delay = 1 }] / [[block]] / call = [{ op = "schedule", name = "b", delay = 1 }]
+TooMany block 2 call 0 | times = 32768 / every = 0 / call = [{ op = "schedule", name = "a", delay = 1 }, { op = "cancel", name = "a" }] / [[block]] / call = [{ op = "schedule", name = "b", delay = 1 }]
+TooMany block 1 call 0 | times = 32769 / every = 0 / call = [{ op = "schedule", name = "a", delay = 1 }, { op = "cancel", name = "a" }]"#;
+
 #[test]
 fn takes_65536_calls_of_a_plan(rt: HostRuntime) -> Result<(), Fail> {
-    let one = "call = [{ op = \"schedule\", name = \"a\", delay = 1 }]\n";
-    let two =
-        "call = [{ op = \"schedule\", name = \"a\", delay = 1 }, { op = \"cancel\", name = \"a\" }]\n";
-    let next = "[[block]]\ncall = [{ op = \"schedule\", name = \"b\", delay = 1 }]\n";
-    for (times, calls, rest, fits) in [
-        (65536, one, "", true),
-        (65536, one, "[[block]]\n", true),
-        (65535, one, next, true),
-        (32768, two, "", true),
-        (65536, one, next, false),
-        (32768, two, next, false),
-    ] {
-        let text = format!(in rt.alloc();
-            "version = 1\n[[block]]\ntimes = {times}\nevery = 0\n{calls}{rest}"
-        )?;
-        if fits {
-            accepts(&rt, text.as_str());
-        } else {
-            refuses(&rt, text.as_str(), PlanFaultKind::TooMany, 2, 0);
-        }
-    }
-    let text = format!(in rt.alloc(); "version = 1\n[[block]]\ntimes = 32769\nevery = 0\n{two}")?;
-    refuses(&rt, text.as_str(), PlanFaultKind::TooMany, 1, 0);
+    assert_eq!(rt; first_wrong(rt.alloc(), HEADER, MANY_CALLS)?, None);
     Ok(())
 }
 
@@ -859,7 +690,7 @@ fn reads_as_many_names_as_fit(rt: HostRuntime) -> Result<(), Fail> {
         "{}",
         text.len()
     );
-    let plan = read_plan(rt.alloc(), text.as_bytes())?;
+    let plan = read(rt.alloc(), text.as_bytes())?;
     let sizes = sizes(&rt, &plan)?;
     assert_eq!(rt; sizes.len(), 108);
     assert!(rt; sizes.iter().all(|size| *size == 256));
@@ -892,7 +723,7 @@ fn spells_each_fault(rt: HostRuntime) -> Result<(), Fail> {
             block: 1,
             call: 2,
         };
-        assert_eq!(rt; format!(in rt.alloc(); "{fault}")?.as_str(), line);
+        assert!(rt; spelled(rt.alloc(), &fault)?.as_str() == line);
     }
     Ok(())
 }

@@ -24,9 +24,6 @@ pub enum Verb {
 
 impl Verb {
     /// The operation that a word names, if it names one.
-    ///
-    /// The words `policy`, `shutdown` and `ask` name none yet, since the executor does not know these
-    /// calls.
     pub fn of_word(word: &str) -> Option<Verb>
         ensures { result ≡ verb_of_word word.now }
     {
@@ -35,6 +32,9 @@ impl Verb {
             "rate" => Some(Verb::Rate),
             "fixed" => Some(Verb::Fixed),
             "cancel" => Some(Verb::Cancel),
+            "policy" => Some(Verb::Policy),
+            "shutdown" => Some(Verb::Shutdown),
+            "ask" => Some(Verb::Ask),
             _ => None,
         }
     }

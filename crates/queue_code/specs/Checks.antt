@@ -4,7 +4,7 @@ use Rattle.std.specs.Prelude.{ℕ, ◌+◌, ◌-◌, ◌*◌, ◌^◌, ◌==◌,
 use Rattle.queue_code.specs.declared.fault.CodeFault.{CodeFault}
 use Rattle.queue_code.specs.declared.fault.CodeFault.TheVariants as fault
 use Rattle.queue_code.specs.declared.instr.Instr.{Instr}
-use Rattle.queue_code.specs.declared.instr.Instr.TheVariants.{Submit, Illegal, CancelFixed, CancelHere, Loop, EndLoop, Halt}
+use Rattle.queue_code.specs.declared.instr.Instr.TheVariants.{Submit, Illegal, CancelFixed, CancelHere, SetPolicy, Shutdown, Ask, Loop, EndLoop, Halt}
 use Rattle.queue_code.specs.declared.progress.OpenLoop.{OpenLoop}
 use Rattle.queue_code.specs.declared.progress.Progress.{Progress}
 use Rattle.queue_code.specs.Calls.{IsTimed}
@@ -20,6 +20,9 @@ offset_of (Submit offset timing delay) = offset
 offset_of (Illegal offset) = offset
 offset_of (CancelFixed offset task) = offset
 offset_of (CancelHere offset nth) = offset
+offset_of (SetPolicy offset which value) = offset
+offset_of (Shutdown offset) = offset
+offset_of (Ask offset) = offset
 offset_of _ = 0
 
 -- an instruction makes a call

@@ -3,7 +3,7 @@
 use Rattle.std.specs.Prelude.{ℕ, zero, suc, ◌+◌, ◌*◌, Bool, true, false, List, [], ◌∷◌, ◌++◌, Option, Some, None}
 use Rattle.queue_code.specs.declared.call.CodeCall.TheVariants as call
 use Rattle.queue_code.specs.declared.instr.Instr.{Instr}
-use Rattle.queue_code.specs.declared.instr.Instr.TheVariants.{Submit, Illegal, CancelFixed, CancelHere, Loop, EndLoop, Halt}
+use Rattle.queue_code.specs.declared.instr.Instr.TheVariants.{Submit, Illegal, CancelFixed, CancelHere, SetPolicy, Shutdown, Ask, Loop, EndLoop, Halt}
 use Rattle.queue_code.specs.Calls.{Planned}
 
 -- the call of an instruction, if it makes one, at a base, where `count` tasks are made before it and `start` of
@@ -13,6 +13,9 @@ call_of base start count (Submit offset timing delay) = Some (base + offset, cal
 call_of base start count (Illegal offset) = Some (base + offset, call.Illegal count)
 call_of base start count (CancelFixed offset task) = Some (base + offset, call.Cancel task)
 call_of base start count (CancelHere offset nth) = Some (base + offset, call.Cancel (start + nth))
+call_of base start count (SetPolicy offset which value) = Some (base + offset, call.SetPolicy which value)
+call_of base start count (Shutdown offset) = Some (base + offset, call.Shutdown)
+call_of base start count (Ask offset) = Some (base + offset, call.Ask)
 call_of base start count _ = None
 
 -- a call, if there is one, in front of others

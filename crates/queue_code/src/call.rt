@@ -1,4 +1,4 @@
-use sched_time::Timing;
+use sched_time::{Timing, Which};
 
 /// A call that a plan makes at its own moment.
 #[derive(Clone, Copy, Debug, PartialEq, Eq)]
@@ -22,4 +22,15 @@ pub enum CodeCall {
         /// The number of the task, whose submission comes before.
         task: u32,
     },
+    /// A policy is set.
+    SetPolicy {
+        /// The policy.
+        which: Which,
+        /// What it is set to.
+        value: bool,
+    },
+    /// A shutdown: no task is accepted after it.
+    Shutdown,
+    /// The executor is asked how it stands.
+    Ask,
 }

@@ -2,8 +2,8 @@
 ghost use Rattle.std.specs.Prelude.{◌≡◌, IfOk};
 ghost use Rattle.queue_code.specs.Cursors.{IsCursorOf};
 
-use crate::{Code, CodeCall, CodeFault, Cursor, Instr, listing};
-use sched_time::{LONGEST, Span, Timing, Unit, span};
+use crate::{Code, CodeCall, CodeFault, Cursor, Instr, listing, orderly};
+use sched_time::{LONGEST, Span, Timing, Unit, Which, span};
 use std::alloc::{AllocError, Global};
 use std::test::Fail;
 
@@ -68,6 +68,11 @@ fn submit(task: u32) -> CodeCall {
         timing: Timing::Once,
         delay: 50,
     }
+}
+
+/// The call that sets a policy.
+fn set(which: Which, value: bool) -> CodeCall {
+    CodeCall::SetPolicy { which, value }
 }
 
 /// A loop of three iterations with a submission and a cancel of it.
@@ -191,6 +196,140 @@ fn cancels_of_each_kind(rt: HostRuntime) -> Result<(), Fail> {
     ];
     assert!(rt; makes(&mut cursor, &code, &calls));
     assert!(rt; cursor.fetch(&code).is_none());
+    Ok(())
+}
+
+#[test]
+fn policies_shutdowns_and_questions_are_made(rt: HostRuntime) -> Result<(), Fail> {
+    let alloc = rt.alloc();
+    let code = code_of(
+        alloc,
+        &[
+            Instr::SetPolicy(1, Which::Continue, true),
+            Instr::Loop(2, 10),
+            Instr::Ask(2),
+            Instr::Illegal(3),
+            Instr::SetPolicy(4, Which::Execute, false),
+            Instr::CancelHere(4, 0),
+            Instr::EndLoop,
+            Instr::Shutdown(14),
+            Instr::SetPolicy(14, Which::Remove, true),
+            Instr::Ask(15),
+            Instr::Halt,
+        ],
+    )?;
+    assert_eq!(rt; code.calls(), 12);
+    assert_eq!(rt; code.tasks(), 2);
+    let mut cursor = Cursor::new(&code);
+    let calls = [
+        (1, set(Which::Continue, true)),
+        (2, CodeCall::Ask),
+        (3, CodeCall::Illegal { task: 0 }),
+        (4, set(Which::Execute, false)),
+        (4, CodeCall::Cancel { task: 0 }),
+        (12, CodeCall::Ask),
+        (13, CodeCall::Illegal { task: 1 }),
+        (14, set(Which::Execute, false)),
+        (14, CodeCall::Cancel { task: 1 }),
+        (14, CodeCall::Shutdown),
+        (14, set(Which::Remove, true)),
+        (15, CodeCall::Ask),
+    ];
+    assert!(rt; makes(&mut cursor, &code, &calls));
+    assert!(rt; cursor.fetch(&code).is_none());
+    assert!(rt; orderly(&calls));
+    Ok(())
+}
+
+/// Whether a call that makes no task has its faults, where it is made at 2^62, one later, and 6 nanoseconds.
+fn has_its_faults(alloc: Global, last: &Instr, late: &Instr, early: &Instr) -> bool {
+    let lists = [
+        (
+            [*last, Instr::Halt, Instr::Halt, Instr::Halt],
+            CodeFault::NoHalt,
+        ),
+        (
+            [*late, Instr::Halt, Instr::Halt, Instr::Halt],
+            CodeFault::TooLarge,
+        ),
+        ([CALL, *early, Instr::Halt, Instr::Halt], CodeFault::Order),
+        (
+            [TWICE, *early, Instr::EndLoop, Instr::EndLoop],
+            CodeFault::Unclosed,
+        ),
+        (
+            [TWICE, *last, Instr::EndLoop, Instr::Halt],
+            CodeFault::TooLarge,
+        ),
+        (
+            [*early, Instr::CancelFixed(6, 0), Instr::Halt, Instr::Halt],
+            CodeFault::BadTask,
+        ),
+        (
+            [TWICE, *early, Instr::CancelHere(6, 0), Instr::EndLoop],
+            CodeFault::BadTask,
+        ),
+    ];
+    for (list, fault) in &lists {
+        if fault_of(alloc, list) != Some(*fault) {
+            return false;
+        }
+    }
+    fault_of(alloc, &[*last, Instr::Halt]).is_none()
+        && fault_of(alloc, &[TWICE, *early, Instr::EndLoop, Instr::Halt]).is_none()
+}
+
+#[test]
+fn policies_shutdowns_and_questions_have_their_faults(rt: HostRuntime) -> Result<(), Fail> {
+    let alloc = rt.alloc();
+    let late = LONGEST + 1;
+    let policy = |offset| Instr::SetPolicy(offset, Which::Remove, false);
+    assert!(rt; has_its_faults(alloc, &policy(LONGEST), &policy(late), &policy(6)));
+    assert!(rt;
+        has_its_faults(
+            alloc,
+            &Instr::Shutdown(LONGEST),
+            &Instr::Shutdown(late),
+            &Instr::Shutdown(6)
+        )
+    );
+    assert!(rt;
+        has_its_faults(
+            alloc,
+            &Instr::Ask(LONGEST),
+            &Instr::Ask(late),
+            &Instr::Ask(6)
+        )
+    );
+    Ok(())
+}
+
+#[test]
+fn too_many_questions(rt: HostRuntime) -> Result<(), Fail> {
+    let alloc = rt.alloc();
+    let most = [
+        Instr::Loop(65_536, 0),
+        Instr::Ask(0),
+        Instr::EndLoop,
+        Instr::Halt,
+    ];
+    assert_eq!(rt; fault_of(alloc, &most), None);
+    let more = [
+        Instr::Loop(65_536, 0),
+        Instr::Ask(0),
+        Instr::EndLoop,
+        Instr::Ask(0),
+        Instr::Halt,
+    ];
+    assert_eq!(rt; fault_of(alloc, &more), Some(CodeFault::TooMany));
+    let overlaps = [
+        Instr::Loop(2, 3),
+        Instr::Ask(0),
+        Instr::Ask(5),
+        Instr::EndLoop,
+        Instr::Halt,
+    ];
+    assert_eq!(rt; fault_of(alloc, &overlaps), Some(CodeFault::Order));
     Ok(())
 }
 
@@ -402,6 +541,35 @@ fn each_instruction_has_its_line(rt: HostRuntime) -> Result<(), Fail> {
 }
 
 #[test]
+fn policies_shutdowns_and_questions_have_their_lines(rt: HostRuntime) -> Result<(), Fail> {
+    let alloc = rt.alloc();
+    let code = code_of(
+        alloc,
+        &[
+            Instr::SetPolicy(0, Which::Continue, true),
+            Instr::SetPolicy(1, Which::Execute, false),
+            Instr::SetPolicy(LONGEST, Which::Remove, true),
+            Instr::Shutdown(LONGEST),
+            Instr::Ask(LONGEST),
+            Instr::Halt,
+        ],
+    )?;
+    let text = listing(alloc, &code)?;
+    let lines =
+        "0 policy 0 continue true\n1 policy 1 execute false\n2 policy 4611686018427387904 remove true\n3 shutdown 4611686018427387904\n4 ask 4611686018427387904\n5 halt\n";
+    assert!(rt; text.as_str() == lines);
+    let ask = [
+        Instr::Loop(65_536, 1),
+        Instr::Ask(0),
+        Instr::EndLoop,
+        Instr::Halt,
+    ];
+    let text = listing(alloc, &code_of(alloc, &ask)?)?;
+    assert!(rt; text.as_str() == "0 loop 65536 every 1\n1 ask 0\n2 endloop\n3 halt\n");
+    Ok(())
+}
+
+#[test]
 fn a_loop_is_listed_once(rt: HostRuntime) -> Result<(), Fail> {
     let alloc = rt.alloc();
     let three = listing(alloc, &code_of(alloc, &THREE_TIMES)?)?;
@@ -419,6 +587,7 @@ fn a_loop_is_listed_once(rt: HostRuntime) -> Result<(), Fail> {
     let straight = [
         Instr::Submit(0, Timing::Once, 0),
         Instr::Illegal(0),
+        Instr::Shutdown(0),
         Instr::Illegal(0),
         Instr::Submit(0, Timing::Rate(nanos(1)?), 1),
         Instr::Halt,
@@ -426,7 +595,7 @@ fn a_loop_is_listed_once(rt: HostRuntime) -> Result<(), Fail> {
     let text = listing(alloc, &code_of(alloc, &straight)?)?;
     assert!(rt;
         text.as_str()
-            == "0 submit 0 schedule 0\n1 illegal 0\n2 illegal 0\n3 submit 0 rate 1 1\n4 halt\n"
+            == "0 submit 0 schedule 0\n1 illegal 0\n2 shutdown 0\n3 illegal 0\n4 submit 0 rate 1 1\n5 halt\n"
     );
     Ok(())
 }

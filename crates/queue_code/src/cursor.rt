@@ -174,6 +174,12 @@ impl Cursor {
             Instr::CancelHere(_, nth) => CodeCall::Cancel {
                 task: self.start + nth,
             },
+            Instr::SetPolicy(_, which, value) => CodeCall::SetPolicy {
+                which: *which,
+                value: *value,
+            },
+            Instr::Shutdown(_) => CodeCall::Shutdown,
+            Instr::Ask(_) => CodeCall::Ask,
             Instr::Loop(..) | Instr::EndLoop | Instr::Halt => return None,
         };
         Some((self.base + instr.offset(), call))

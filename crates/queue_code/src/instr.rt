@@ -1,8 +1,9 @@
 ghost use Rattle.std.specs.Prelude.{◌≡◌};
 ghost use Rattle.queue_code.specs.Codes.{tasks_by};
 ghost use Rattle.queue_code.specs.Checks.{offset_of, is_call};
+ghost use Rattle.queue_code.specs.Listings.{policy_text};
 
-use sched_time::Timing;
+use sched_time::{Timing, Which};
 use std::fmt;
 
 /// An instruction of queue code.
@@ -20,6 +21,12 @@ pub enum Instr {
     CancelFixed(u64, u32),
     /// Cancels a task of this iteration: the one before which this number of tasks of the iteration come.
     CancelHere(u64, u32),
+    /// Sets a policy. Behind the offset stand the policy and what it is set to.
+    SetPolicy(u64, Which, bool),
+    /// Shuts the executor down.
+    Shutdown(u64),
+    /// Asks the executor how it stands.
+    Ask(u64),
     /// Begins a loop: the instructions up to the next [`EndLoop`](Instr::EndLoop) are executed this number of
     /// times, and each iteration's base is this number of nanoseconds above that of the one before.
     Loop(u32, u64),
@@ -38,7 +45,10 @@ impl Instr {
             Instr::Submit(offset, ..)
             | Instr::Illegal(offset)
             | Instr::CancelFixed(offset, _)
-            | Instr::CancelHere(offset, _) => *offset,
+            | Instr::CancelHere(offset, _)
+            | Instr::SetPolicy(offset, ..)
+            | Instr::Shutdown(offset)
+            | Instr::Ask(offset) => *offset,
             Instr::Loop(..) | Instr::EndLoop | Instr::Halt => 0,
         }
     }
@@ -84,9 +94,26 @@ impl fmt::Display for Instr {
             Instr::Illegal(offset) => write!(f, "illegal {offset}"),
             Instr::CancelFixed(offset, task) => write!(f, "cancel {offset} task {task}"),
             Instr::CancelHere(offset, nth) => write!(f, "cancel {offset} here {nth}"),
+            Instr::SetPolicy(offset, which, value) => {
+                let which = policy_text(*which);
+                write!(f, "policy {offset} {which} {value}")
+            }
+            Instr::Shutdown(offset) => write!(f, "shutdown {offset}"),
+            Instr::Ask(offset) => write!(f, "ask {offset}"),
             Instr::Loop(times, every) => write!(f, "loop {times} every {every}"),
             Instr::EndLoop => write!(f, "endloop"),
             Instr::Halt => write!(f, "halt"),
         }
+    }
+}
+
+/// The word of a policy.
+fn policy_text(which: Which) -> &'static str
+    ensures { result.now ≡ policy_text which }
+{
+    match which {
+        Which::Continue => "continue",
+        Which::Execute => "execute",
+        Which::Remove => "remove",
     }
 }

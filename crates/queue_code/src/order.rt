@@ -10,7 +10,7 @@ use sched_time::{LONGEST, Timing};
 ///
 /// There are at most 65,536 of them. Their moments do not fall and are at most 2^62 nanoseconds,
 /// and so is each delay. The submissions are numbered 0, 1, .. in their order, and a cancel names
-/// one that comes before it.
+/// one that comes before it. A policy, a shutdown and a question may stand anywhere, and are no submissions.
 pub fn orderly(calls: &[(u64, CodeCall)]) -> bool
     ensures { IsTrue result ↔ IsOrderly calls.now }
 {
@@ -48,6 +48,7 @@ fn is_orderly_call(count: u32, call: &CodeCall) -> bool
         } => *task == count && *delay <= LONGEST && is_timed(timing),
         CodeCall::Illegal { task } => *task == count,
         CodeCall::Cancel { task } => *task < count,
+        CodeCall::SetPolicy { .. } | CodeCall::Shutdown | CodeCall::Ask => true,
     }
 }
 
@@ -68,6 +69,7 @@ fn count_after(count: u32, call: &CodeCall) -> u32
 {
     match call {
         CodeCall::Submit { .. } | CodeCall::Illegal { .. } => count + 1,
-        CodeCall::Cancel { .. } => count,
+        CodeCall::Cancel { .. } | CodeCall::SetPolicy { .. } | CodeCall::Shutdown | CodeCall::Ask =>
+            count,
     }
 }

@@ -34,6 +34,9 @@ All blocks together make at most 65,536 calls. A call has
             \"fixed\"     submits a task that runs a fixed delay after each of its
                         runs
             \"cancel\"    cancels the task of a call that stands before it
+            \"policy\"    sets a policy
+            \"shutdown\"  shuts the executor: no task is accepted any more
+            \"ask\"       asks how many tasks are queued and run
   name    the task's name: 1 to 32 ASCII letters, digits, '-' and '_';
           no other task of the plan has it, and a cancel has that of its task,
           which is the one of the same time, or of a block that is made once
@@ -44,6 +47,13 @@ and, as all times in the block's unit,
   first   of rate and fixed: when the first run is due after the call
   period  of rate: from one due moment to the next
   delay   of fixed: from the end of a run to the due moment of the next
+  which   of policy: \"continue\" (periodic tasks go on after a shutdown, false
+          before it is set), \"execute\" (so do tasks with one run that are not
+          due, true before) or \"remove\" (a cancelled task that waits leaves the
+          queue at once, false before)
+  value   of policy: true or false
+A shutdown ends the tasks that wait and do not go on, and so does continue or
+execute that is set to false later.
 A negative first, or delay of schedule, counts as 0. A task whose period, or
 delay of fixed, is zero or negative is refused when its call is made.
 Tasks are numbered from 0 in the order of their calls, workers from 0 to N - 1.
@@ -59,8 +69,9 @@ An event is a line on standard input, of at most 63 bytes with its newline:
 Numbers have no leading zero: T and V are below 2^64, W below 256, and C and K
 below 2^32.
 
-The trace goes to standard output, a line for each call and each event, with
-the time in front. All events that were read are answered before more are read.
+The trace goes to standard output: a line for each call and each event, with
+the time in front, and behind that of a call one for each task that it ends.
+All events that were read are answered before more are read.
 
 Example, with the plan
   version = 1

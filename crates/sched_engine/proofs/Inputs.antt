@@ -1,7 +1,8 @@
 -- Inputs: the lines of events, and one event more.
-use Rattle.std.proofs.Common.{◌≡◌, ℕ, ◌+◌, ◌^◌, ◌<◌, ◌≤◌, List, [], ◌∷◌, ◌++◌, take, drop, length, refl, ap, ◌∙◌, sym, subst, arith, append_assoc, append-nil, length-append, length-drop, take_all}
+use Rattle.std.proofs.Common.{◌≡◌, ℕ, ◌+◌, ◌-◌, ◌*◌, ◌^◌, ◌<◌, ◌≤◌, List, [], ◌∷◌, ◌++◌, take, drop, length, refl, ap, ◌∙◌, sym, subst, arith, append_assoc, append-nil, length-append, length-drop, take_all}
 use Rattle.std.specs.Prelude.{replicate}
-use Rattle.std.proofs.lemmas.List.{length-replicate, take-append-le}
+use Rattle.std.proofs.Math.Seq.{drop-append_seam}
+use Rattle.std.proofs.lemmas.List.{drop-drop, length-replicate, take-append-le}
 use Rattle.std.proofs.lemmas.List.Concat.{flat_map-append}
 use Rattle.std.proofs.lemmas.List.Elements.{All-nil, All-cons}
 use Rattle.executor_core.specs.declared.Event.{Event}
@@ -19,6 +20,7 @@ use Rattle.trace_text.specs.Spelling.{event_line, FitsEvent, lines_text, line_te
 use Rattle.sched_engine.specs.Inputs.{input_of}
 use Rattle.sched_engine.specs.Running.{text_of}
 use Rattle.sched_engine.specs.Turns.{TakesEvent, Extends, IsAnswered, IsStanding}
+use Rattle.sched_engine.proofs.LineCounts.{lines_by_calls}
 
 -- the lines of some events and of more after them
 pub input_of-append : (more before : List Event) → input_of (more ++ before) ≡ input_of before ++ input_of more
@@ -26,10 +28,6 @@ input_of-append [] before = sym (append-nil (input_of before))
 input_of-append (e ∷ more) before = ap (λ l. l ++ event_line e) (input_of-append more before) ∙ append_assoc (input_of before) (input_of more) (event_line e)
 
 -- ---- lines are counted
-
-lines_are : (calls : List Planned) (past : List HistoryEntry) → length (lines_of calls past) ≡ length past
-lines_are calls [] = refl
-lines_are calls (e ∷ past) = omega (arith, lines_are calls past, length-append (lines_of calls past) (record { moment = now_of calls (happenings (e ∷ past)); answer = e.answer } ∷ []))
 
 length-happenings : (past : List HistoryEntry) → length (happenings past) ≡ length past
 length-happenings [] = refl
@@ -56,19 +54,20 @@ flow_are calls (e ∷ events) = omega (arith, part_are calls (made (flow calls e
 pub flow_happens : (calls : List Planned) (workers : ℕ) (events : List Event) → happenings (history_of calls workers events) ≡ flow calls events
 flow_happens calls workers events = happenings_from calls workers [] (flow calls events) ∙ append-nil (flow calls events)
 
--- a trace has a line for each event and for each call made
-pub lines_few : (calls : List Planned) (workers : ℕ) (events : List Event) → IsOrderly calls → length (lines_of calls (history_of calls workers events)) ≤ length events + 65536
+-- a trace has a line for each event and for each call made, and for each such call at most one for each task
+pub lines_few : (calls : List Planned) (workers : ℕ) (events : List Event) → IsOrderly calls → length (lines_of calls (history_of calls workers events)) ≤ length events + 65536 * 65537
 lines_few calls workers events o =
     let past = history_of calls workers events in
+    let means = flow_means calls workers events o in
     let same = flow_happens calls workers events in
     omega (
       arith,
-      lines_are calls past,
+      lines_by_calls calls workers past o means,
       length-happenings past,
       ap length same,
       ap made same,
       flow_are calls events,
-      made_past calls workers past (flow_means calls workers events o),
+      made_past calls workers past means,
       o.0,
     )
 
@@ -136,6 +135,35 @@ answered_more old mid new held before put after taken size count n event a fits 
   extends = λ o events stands. extends_more old mid new a.more events event put after a.text count n a.calls a.workers o (a.extends o events stands) t;
 }
 
+-- the rest behind the line of an event, which stood at the front of `rest`
+next_is : (event : Event) (rest next : List ℕ) → rest ≡ event_line event ++ next → drop (length (event_line event)) rest ≡ next
+next_is event rest next front = ap (drop (length (event_line event))) front ∙ drop-append_seam (event_line event) next
+
+-- how many bytes were taken
+taken_more : (event : Event) (held rest next : List ℕ) → length rest ≤ length held → rest ≡ event_line event ++ next → length held - length next ≡ length held - length rest + length (event_line event)
+taken_more event held rest next bound front = omega (arith, bound, ap length front, length-append (event_line event) next)
+
+-- what is left is no more than there was
+pub fewer_left : (event : Event) (rest next : List ℕ) → rest ≡ event_line event ++ next → length rest ≡ length (event_line event) + length next
+fewer_left event rest next front = omega (arith, ap length front, length-append (event_line event) next)
+
+-- what is left once the line of an event was taken
+pub left_more : (event : Event) (held rest next : List ℕ) → rest ≡ drop (length held - length rest) held → length rest ≤ length held → rest ≡ event_line event ++ next → next ≡ drop (length held - length next) held
+left_more event held rest next behind bound front =
+    let size = length (event_line event) in
+    sym (next_is event rest next front) ∙ (ap (drop size) behind ∙ (drop-drop size (length held - length rest) held ∙ ap (λ k. drop k held) (sym (taken_more event held rest next bound front))))
+
+-- the same as `answered_more`, told by the bytes that are left
+pub answered_on : (old mid new : Machine) (held rest next before put after : List ℕ) (count n : ℕ) (event : Event) → IsAnswered old mid held (length held - length rest) before put count → rest ≡ drop (length held - length rest) held →
+    length rest ≤ length held → FitsEvent event → rest ≡ event_line event ++ next → TakesEvent mid new event put after n → IsAnswered old new held (length held - length next) before after (count + n)
+answered_on old mid new held rest next before put after count n event a behind bound fits front t =
+    let taken = length held - length rest in
+    let size = length (event_line event) in
+    let P : List ℕ → Type 0 = λ l. (l ≡ event_line event ++ drop size l) × (size ≤ length l) in
+    let here : P rest = (front ∙ ap (λ l. event_line event ++ l) (sym (next_is event rest next front)), omega (arith, fewer_left event rest next front)) in
+    let there : P (drop taken held) = subst P behind here in
+    subst (λ k. IsAnswered old new held k before after (count + n)) (sym (taken_more event held rest next bound front)) (answered_more old mid new held before put after taken size count n event a fits there.0 there.1 t)
+
 -- nothing was answered yet
 pub answered_none : (m : Machine) (held before : List ℕ) → IsAnswered m m held 0 before before 0
 answered_none m held before = record {
@@ -153,7 +181,7 @@ answered_none m held before = record {
 }
 
 -- the count of lines fits, where the answers to the events so far stand
-pub count_fits : (old mid : Machine) (held before put : List ℕ) (taken count : ℕ) → IsStanding old → IsAnswered old mid held taken before put count → mid.taken ≤ mid.limit → count < 2 ^ 33
+pub count_fits : (old mid : Machine) (held before put : List ℕ) (taken count : ℕ) → IsStanding old → IsAnswered old mid held taken before put count → mid.taken ≤ mid.limit → count < 2 ^ 34
 count_fits old mid held before put taken count s a within =
     let all = a.extends s.orderly s.events s.stands in
     omega (arith, all.counted, lines_few old.calls (workers_of old) (a.more ++ s.events) s.orderly, length-append a.more s.events, a.events, s.taken, s.small, within, a.limit)

@@ -8,16 +8,15 @@ use Rattle.executor_core.specs.Flows.{history_of, lines_of}
 use Rattle.executor_core.specs.Machine.{Machine, workers_of, Stands}
 use Rattle.executor_core.proofs.Flowing.{flow_means}
 use Rattle.trace_text.specs.Spelling.{IsLine, event_line, FitsEvent}
-use Rattle.sched_engine.specs.declared.held.TheConstants.{PIECE}
 use Rattle.sched_engine.specs.declared.report.Report.{Report}
 use Rattle.sched_engine.specs.declared.engine.Turn.{Turn}
 use Rattle.sched_engine.specs.declared.engine.Turn.TheVariants as t
 use Rattle.sched_engine.specs.declared.report.RunError.{RunError}
 use Rattle.sched_engine.specs.declared.report.RunError.TheVariants as x
 use Rattle.sched_engine.specs.Inputs.{input_of, IsRefused, BeginsWithEvent}
-use Rattle.sched_engine.specs.Running.{IsAccepted, IsTrace, Ran, Runs, Taken, text_of}
+use Rattle.sched_engine.specs.Running.{IsAccepted, IsTrace, Ran, Runs, Taken, piece, text_of}
 use Rattle.sched_engine.specs.Turns.{Done, Extends, IsAnswered, IsBetweenTurns, IsStanding, Opens, Progress, Setting, Turns}
-use Rattle.trace_text.specs.declared.front.TheConstants.{MOST_EVENT_BYTES}
+use Rattle.trace_text.specs.Reading.{most_event_bytes}
 use Rattle.trace_text.proofs.Fronts.{unread_part}
 use Rattle.sched_engine.proofs.Runs.{at_end, so_far, read_so_far, came, took, gave, gave_front}
 use Rattle.sched_engine.proofs.Inputs.{input_of-append, lines_few, flow_happens}
@@ -42,7 +41,7 @@ standing run at done =
     }
 
 -- the lines of a run are few enough to be counted
-pub few_lines : (run : Setting) (at : Progress) → Done run at → at.count < 2 ^ 33
+pub few_lines : (run : Setting) (at : Progress) → Done run at → at.count < 2 ^ 34
 few_lines run at done = omega (arith, done.counted, lines_few run.calls run.workers done.events done.orderly, done.taken, done.within, done.small)
 
 -- bytes came in behind those held
@@ -157,7 +156,7 @@ all_written : (run : Setting) (at : Progress) → (done : Done run at) → at.te
 all_written run at done none = subst (Appends run.contents at.contents) (sym (done.says ∙ (ap (λ l. done.before ++ l) none ∙ append-nil done.before))) done.written
 
 -- what was taken so far, where more of the input may follow
-taken_so_far : (run : Setting) (at : Progress) (IsAhead IsRest : List ℕ → Type 0) (Gives : ℕ → ℕ → List ℕ → Type 0) → (done : Done run at) → length at.held ≤ PIECE → IsAhead at.held → ((more : List ℕ) → IsRest (at.held ++ more)) →
+taken_so_far : (run : Setting) (at : Progress) (IsAhead IsRest : List ℕ → Type 0) (Gives : ℕ → ℕ → List ℕ → Type 0) → (done : Done run at) → length at.held ≤ piece → IsAhead at.held → ((more : List ℕ) → IsRest (at.held ++ more)) →
     Gives (length done.events) (length (lines_of run.calls (history_of run.calls run.workers done.events))) (text_of run.calls (history_of run.calls run.workers done.events)) →
     Taken run.calls run.workers run.limit run.input at.left IsAhead IsRest Gives
 taken_so_far run at IsAhead IsRest Gives done near stops rest gives = record {
@@ -175,7 +174,7 @@ taken_so_far run at IsAhead IsRest Gives done near stops rest gives = record {
 }
 
 -- the same where the input has ended
-taken_at_end : (run : Setting) (at : Progress) (IsAhead IsRest : List ℕ → Type 0) (Gives : ℕ → ℕ → List ℕ → Type 0) → (done : Done run at) → IsAtEnd at.left → length at.held ≤ PIECE → IsAhead at.held → IsRest at.held →
+taken_at_end : (run : Setting) (at : Progress) (IsAhead IsRest : List ℕ → Type 0) (Gives : ℕ → ℕ → List ℕ → Type 0) → (done : Done run at) → IsAtEnd at.left → length at.held ≤ piece → IsAhead at.held → IsRest at.held →
     Gives (length done.events) (length (lines_of run.calls (history_of run.calls run.workers done.events))) (text_of run.calls (history_of run.calls run.workers done.events)) →
     Taken run.calls run.workers run.limit run.input at.left IsAhead IsRest Gives
 taken_at_end run at IsAhead IsRest Gives done end near stops rest gives = record {
@@ -193,19 +192,19 @@ taken_at_end run at IsAhead IsRest Gives done end near stops rest gives = record
 }
 
 -- want of memory
-pub out_of_memory : (run : Setting) (at : Progress) → Done run at → at.text ≡ [] → length at.held ≤ PIECE → Runs (Err x.Memory) run.calls run.workers run.limit run.input at.left run.contents at.contents
+pub out_of_memory : (run : Setting) (at : Progress) → Done run at → at.text ≡ [] → length at.held ≤ piece → Runs (Err x.Memory) run.calls run.workers run.limit run.input at.left run.contents at.contents
 out_of_memory run at done none near =
     taken_so_far run at (λ ahead. Unit {0}) (λ rest. Unit {0}) (λ events lines trace. Appends run.contents at.contents trace) done near tt (λ more. tt) (all_written run at done none)
 
 -- a rest that is refused
-pub refused : (run : Setting) (at : Progress) (n : ℕ) → Done run at → at.text ≡ [] → length at.held ≤ PIECE → ((more : List ℕ) → IsRefused (at.held ++ more)) → 0 < length at.held → n ≡ at.core.taken + 1 →
+pub refused : (run : Setting) (at : Progress) (n : ℕ) → Done run at → at.text ≡ [] → length at.held ≤ piece → ((more : List ℕ) → IsRefused (at.held ++ more)) → 0 < length at.held → n ≡ at.core.taken + 1 →
     Runs (Err (x.EventLine n)) run.calls run.workers run.limit run.input at.left run.contents at.contents
 refused run at n done none near no_event some is =
     taken_so_far run at (λ ahead. 0 < length ahead) (λ rest. IsRefused rest × (0 < length rest)) (λ events lines trace. (n ≡ events + 1) × Appends run.contents at.contents trace) done near some
     (λ more. (no_event more, omega (arith, some, length-append at.held more))) (omega (arith, is, done.taken), all_written run at done none)
 
 -- a further event at the limit
-pub full : (run : Setting) (at : Progress) → Done run at → at.text ≡ [] → length at.held ≤ PIECE → at.core.taken ≡ at.core.limit → BeginsWithEvent at.held →
+pub full : (run : Setting) (at : Progress) → Done run at → at.text ≡ [] → length at.held ≤ piece → at.core.taken ≡ at.core.limit → BeginsWithEvent at.held →
     Runs (Err x.Full) run.calls run.workers run.limit run.input at.left run.contents at.contents
 full run at done none near reached begins =
     taken_so_far run at BeginsWithEvent BeginsWithEvent (λ events lines trace. (events ≡ run.limit) × Appends run.contents at.contents trace) done near begins
@@ -220,7 +219,7 @@ ended run at report done blank end none is =
     (sym done.taken ∙ sym (ap (λ r. r.events) is), done.counted ∙ sym (ap (λ r. r.lines) is), all_written run at done blank)
 
 -- the end of the input, with a part of a line held
-pub cut_off : (run : Setting) (at : Progress) (n : ℕ) → Done run at → at.text ≡ [] → IsAtEnd at.left → IsLine at.held → length at.held < MOST_EVENT_BYTES → 0 < length at.held → n ≡ at.core.taken + 1 →
+pub cut_off : (run : Setting) (at : Progress) (n : ℕ) → Done run at → at.text ≡ [] → IsAtEnd at.left → IsLine at.held → length at.held < most_event_bytes → 0 < length at.held → n ≡ at.core.taken + 1 →
     Runs (Err (x.EventLine n)) run.calls run.workers run.limit run.input at.left run.contents at.contents
 cut_off run at n done none end part short some is =
     taken_at_end run at (λ ahead. 0 < length ahead) (λ rest. IsRefused rest × (0 < length rest)) (λ events lines trace. (n ≡ events + 1) × Appends run.contents at.contents trace) done end
@@ -231,11 +230,11 @@ pub faulted : (run : Setting) (at : Progress) (left : Option (List ℕ)) → IsB
 faulted run at left between keeps =
     let here : Progress = record at { left = left } in
     let done = filled run at left at.held [] between.done (kept_none at.left left keeps) (sym (append-nil at.held)) in
-    taken_so_far run here (λ ahead. IsLine ahead × (length ahead < MOST_EVENT_BYTES)) (λ rest. Unit {0}) (λ events lines trace. Appends run.contents at.contents trace) done (omega (arith, between.short)) (between.part, between.short) (λ more. tt)
+    taken_so_far run here (λ ahead. IsLine ahead × (length ahead < most_event_bytes)) (λ rest. Unit {0}) (λ events lines trace. Appends run.contents at.contents trace) done (omega (arith, between.short)) (between.part, between.short) (λ more. tt)
     (all_written run here done between.none)
 
 -- a fault of the writer, after a front of the text at hand
-pub unwritten : (run : Setting) (at : Progress) (contents : Option (List ℕ)) (n : ℕ) → Done run at → length at.held ≤ PIECE → Appends at.contents contents (take n at.text) →
+pub unwritten : (run : Setting) (at : Progress) (contents : Option (List ℕ)) (n : ℕ) → Done run at → length at.held ≤ piece → Appends at.contents contents (take n at.text) →
     Runs (Err x.Write) run.calls run.workers run.limit run.input at.left run.contents contents
 unwritten run at contents n done near appends =
     taken_so_far run at (λ ahead. Unit {0}) (λ rest. Unit {0}) (λ events lines trace. (k : ℕ) × Appends run.contents contents (take k trace)) done near tt (λ more. tt)
@@ -244,11 +243,11 @@ unwritten run at contents n done near appends =
 -- ---- turns end
 
 -- each turn brings an event or a byte
-pub smaller : (limit old new : ℕ) (held bytes whole rest : List ℕ) → whole ≡ held ++ bytes → 0 < length bytes → old ≤ new → new ≤ limit → (new ≡ old → rest ≡ whole) → length rest < MOST_EVENT_BYTES → length held < MOST_EVENT_BYTES →
-    (limit - new) * (MOST_EVENT_BYTES + 1) + (MOST_EVENT_BYTES - length rest) < (limit - old) * (MOST_EVENT_BYTES + 1) + (MOST_EVENT_BYTES - length held)
+pub smaller : (limit old new : ℕ) (held bytes whole rest : List ℕ) → whole ≡ held ++ bytes → 0 < length bytes → old ≤ new → new ≤ limit → (new ≡ old → rest ≡ whole) → length rest < most_event_bytes → length held < most_event_bytes →
+    (limit - new) * (most_event_bytes + 1) + (most_event_bytes - length rest) < (limit - old) * (most_event_bytes + 1) + (most_event_bytes - length held)
 smaller limit old new held bytes whole rest all some rises within same short part = by (new - old) (omega (arith, rises))
   where
-    by : (n : ℕ) → new ≡ old + n → (limit - new) * (MOST_EVENT_BYTES + 1) + (MOST_EVENT_BYTES - length rest) < (limit - old) * (MOST_EVENT_BYTES + 1) + (MOST_EVENT_BYTES - length held)
+    by : (n : ℕ) → new ≡ old + n → (limit - new) * (most_event_bytes + 1) + (most_event_bytes - length rest) < (limit - old) * (most_event_bytes + 1) + (most_event_bytes - length held)
     by zero is = let whole_on : rest ≡ whole = same (omega (arith, is)) in omega (arith, is, ap length whole_on, ap length all, length-append held bytes, some, short, part)
     by (suc n) is = omega (arith, is, within, short, part)
 

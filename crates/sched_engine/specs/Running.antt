@@ -10,15 +10,18 @@ use Rattle.executor_core.specs.Flows.{flow, lines_of}
 use Rattle.sched_engine.specs.declared.report.Report.{Report}
 use Rattle.sched_engine.specs.declared.report.RunError.{RunError}
 use Rattle.sched_engine.specs.declared.report.RunError.TheVariants as x
-use Rattle.sched_engine.specs.declared.held.TheConstants.{PIECE}
 use Rattle.sched_engine.specs.Ends.{IsOneFault, NoneMore}
 use Rattle.sched_engine.specs.Inputs.{input_of, AreEvents, IsRefused, BeginsWithEvent}
 use Rattle.trace_text.specs.Spelling.{IsLine, lines_text}
-use Rattle.trace_text.specs.declared.front.TheConstants.{MOST_EVENT_BYTES}
+use Rattle.trace_text.specs.Reading.{most_event_bytes}
 use Rattle.plan_read.specs.Plans.{PlanTree}
 use Rattle.plan_read.specs.Reads.{out_of_memory}
 use Rattle.plan_read.specs.Texts.{TextWrites, fault_of_text}
 use Rattle.plan_compile.specs.PlanCalls.{calls_of}
+
+-- how many bytes are read at most behind the last event (this project's limit)
+abbrev pub piece : ℕ
+piece = 65536
 
 -- ---- traces
 
@@ -47,7 +50,7 @@ pub record Taken (calls : List Planned) (workers limit : ℕ) (input left : Opti
   pub ahead : List ℕ
   pub read : Consumes input left (input_of events ++ ahead)
   -- no more than one piece is read behind the last event taken
-  pub near : length ahead ≤ PIECE
+  pub near : length ahead ≤ piece
   pub stops : IsAhead ahead
   pub splits : Splits input events IsRest
   pub within : length events ≤ limit
@@ -74,7 +77,7 @@ Runs (Err (x.EventLine n)) calls workers limit input left old new =
 Runs (Err x.Full) calls workers limit input left old new =
     Taken calls workers limit input left BeginsWithEvent BeginsWithEvent (λ events lines trace. (events ≡ limit) × Appends old new trace)
 Runs (Err x.Read) calls workers limit input left old new =
-    Taken calls workers limit input left (λ ahead. IsLine ahead × (length ahead < MOST_EVENT_BYTES)) (λ rest. Unit {0}) (λ events lines trace. Appends old new trace)
+    Taken calls workers limit input left (λ ahead. IsLine ahead × (length ahead < most_event_bytes)) (λ rest. Unit {0}) (λ events lines trace. Appends old new trace)
 Runs (Err x.Write) calls workers limit input left old new =
     Taken calls workers limit input left (λ ahead. Unit {0}) (λ rest. Unit {0}) (λ events lines trace. (n : ℕ) × Appends old new (take n trace))
 Runs (Err x.Memory) calls workers limit input left old new =

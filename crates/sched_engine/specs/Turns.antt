@@ -1,15 +1,16 @@
 -- Turns: how far a run has come, between one read and the next.
 -- All of it is this project's rule.
-use Rattle.std.specs.Prelude.{◌≡◌, ℕ, ◌+◌, ◌-◌, ◌*◌, ◌^◌, ◌<◌, ◌≤◌, List, [], ◌++◌, Option, Result, Ok, Err, length, take}
+use Rattle.std.specs.Prelude.{◌≡◌, ℕ, ◌+◌, ◌-◌, ◌*◌, ◌^◌, ◌<◌, ◌≤◌, List, [], ◌++◌, ◌⊎◌, Option, Result, Ok, Err, drop, length, take}
 use Rattle.std.specs.Io.KnownBytes.{Appends, Consumes, prepend_known}
 use Rattle.executor_core.specs.declared.Event.{Event}
 use Rattle.executor_core.specs.declared.Line.{Line}
 use Rattle.queue_code.specs.Calls.{Planned, IsOrderly}
 use Rattle.executor_core.specs.Histories.{HistoryEntry, IsHistoryOf}
 use Rattle.executor_core.specs.Flows.{history_of, lines_of}
-use Rattle.executor_core.specs.Machine.{Machine, workers_of, Stands, Continues}
+use Rattle.executor_core.specs.Machine.{Machine, room_of, workers_of, Stands, Continues}
 use Rattle.trace_text.specs.Spelling.{IsLine, lines_text}
-use Rattle.trace_text.specs.declared.front.TheConstants.{MOST_EVENT_BYTES}
+use Rattle.trace_text.specs.Reading.{most_event_bytes}
+use Rattle.trace_text.specs.declared.line_text.TheConstants.{LINE_ROOM}
 use Rattle.sched_engine.specs.declared.answering.PieceEnd.{PieceEnd}
 use Rattle.sched_engine.specs.declared.answering.PieceEnd.TheVariants as e
 use Rattle.sched_engine.specs.declared.engine.Turn.{Turn}
@@ -54,9 +55,25 @@ pub record IsAnswered (old new : Machine) (held : List ℕ) (taken : ℕ) (befor
 
 -- why the bytes that are held were not taken further
 abbrev pub IsPieceEnd : PieceEnd → Machine → List ℕ → Type 0
-IsPieceEnd e.Part core rest = IsLine rest × (length rest < MOST_EVENT_BYTES)
+IsPieceEnd e.Part core rest = IsLine rest × (length rest < most_event_bytes)
 IsPieceEnd e.Refused core rest = (0 < length rest) × ((more : List ℕ) → IsRefused (rest ++ more))
 IsPieceEnd e.Full core rest = (core.taken ≡ core.limit) × BeginsWithEvent rest
+
+-- there may be too little room for the lines of the next event and for their text, which comes behind one of this length:
+-- `capacity` lines, and `room` bytes
+abbrev pub IsShort : Machine → ℕ → ℕ → ℕ → Type 0
+IsShort core long capacity room = (capacity < room_of core) ⊎ (room < long + LINE_ROOM * capacity)
+
+-- some events at the front of the bytes that are held were answered, and for the lines of a further one there may be too little room
+pub record WantsRoom (old : Machine) (held before : List ℕ) (capacity room : ℕ) : Type 0 where
+  pub core : Machine
+  pub taken : ℕ
+  pub text : List ℕ
+  pub count : ℕ
+  pub answered : IsAnswered old core held taken before text count
+  pub further : BeginsWithEvent (drop taken held)
+  pub below : core.taken < core.limit
+  pub short : IsShort core (length text) capacity room
 
 -- the core is where some events led it
 pub record IsStanding (core : Machine) : Type 0 where
@@ -110,11 +127,11 @@ pub record IsBetweenTurns (run : Setting) (at : Progress) : Type 0 where
   pub done : Done run at
   pub none : at.text ≡ []
   pub part : IsLine at.held
-  pub short : length at.held < MOST_EVENT_BYTES
+  pub short : length at.held < most_event_bytes
 
 -- falls from turn to turn: each brings an event, or a byte more of a line
 abbrev pub still_to_come : Setting → Progress → ℕ
-still_to_come run at = (run.limit - at.core.taken) * (MOST_EVENT_BYTES + 1) + (MOST_EVENT_BYTES - length at.held)
+still_to_come run at = (run.limit - at.core.taken) * (most_event_bytes + 1) + (most_event_bytes - length at.held)
 
 -- what a turn did: the run goes on, or it ended so
 abbrev pub Turns : Result Turn RunError → Setting → Progress → Progress → Type 0

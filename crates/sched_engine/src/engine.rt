@@ -149,7 +149,7 @@ impl<A: Allocator> Engine<A> {
     /// Answers each event line that is held, and lets go of these lines.
     fn answer_held(&mut self) -> Result<PieceEnd, AllocError>
         requires standing { IsStanding self.old.core }
-        requires few { self.old.count < 2 ^ 33 }
+        requires few { self.old.count < 2 ^ 34 }
         ensures done { OnOk result ((run : Setting) (left contents : Option (List ℕ)) →
             Done run (record { left = left; held = self.old.held; text = self.old.draft.text; contents = contents; core = self.old.core; count = self.old.count }) →
             Done run (record { left = left; held = self.new.held; text = self.new.draft.text; contents = contents; core = self.new.core; count = self.new.count })) }

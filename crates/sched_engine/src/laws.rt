@@ -1,9 +1,10 @@
 //! What holds of each input and of each comparison, over the definitions alone.
 ghost use Rattle.std.specs.Prelude.{◌≡◌, true};
 ghost use Rattle.sched_engine.specs.Inputs.{EventsAreOne, FrontIsOne};
+ghost use Rattle.sched_engine.specs.Running.{piece};
 
 use crate::answering::{Answered, PieceEnd};
-use crate::held::Filled;
+use crate::held::{Filled, PIECE};
 use crate::report::{Report, RunError};
 
 /// A text is the lines of one list of events and of no other.
@@ -16,6 +17,11 @@ pub fn events_are_one()
 /// its input.
 pub fn front_is_one()
     ensures { FrontIsOne }
+{}
+
+/// The size of a piece is the limit of which the contracts speak.
+pub(crate) fn piece_is_the_limit()
+    ensures { PIECE ≡ piece }
 {}
 
 /// Reports that compare equal are equal.

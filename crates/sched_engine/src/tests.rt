@@ -16,6 +16,8 @@ mod ends;
 mod examples;
 mod long_runs;
 mod periodic;
+mod policies;
+mod troubled;
 mod turns;
 
 /// The plan of one delayed task.
@@ -82,6 +84,18 @@ fn answers_with(rt: &(impl AllocGlobal + Abort), row: &Row<'_>, workers: u8) {
         assert!(rt; answer == row.answer, "{events}: {answer:?}");
         assert!(rt; trace.as_slice() == row.trace.as_bytes(), "{events}");
     }
+}
+
+/// Checks the trace of a plan by one worker.
+fn traces(rt: &(impl AllocGlobal + Abort), plan: &str, events: &str, report: Report, trace: &str) {
+    let row = Row {
+        plan,
+        limit: 1_000_000,
+        events,
+        answer: Ok(report),
+        trace,
+    };
+    answers_with(rt, &row, 1)
 }
 
 #[test]
@@ -243,7 +257,7 @@ fn refuses_workers_limits_and_texts(rt: HostRuntime) -> Result<(), Fail> {
 #[test]
 fn refuses_plans(rt: HostRuntime) {
     for plan in [
-        "version = 1\n[[block]]\n[[block.call]]\nop = \"ask\"\n",
+        "version = 1\n[[block]]\n[[block.call]]\nop = \"ask\"\nname = \"a\"\n",
         "version = 1\n[[block]]\n[[block.call]]\nop = \"run\"\nname = \"a\"\ndelay = 5\n",
         "version = 1\n[[block]]\nat = -1\n[[block.call]]\nop = \"schedule\"\nname = \"a\"\ndelay = 5\n",
         "version = 1\n[[block]]\n[[block]]\ntimes = 2\n",
@@ -254,69 +268,6 @@ fn refuses_plans(rt: HostRuntime) {
             "{plan}: {answer:?}"
         );
         assert!(rt; trace.is_empty());
-    }
-}
-
-/// A reader of one clock line that then fails so.
-#[derive(Drop)]
-struct OneLine {
-    is_read: bool,
-    fault: ErrorKind,
-}
-
-impl Read for OneLine {
-    fn read(&mut self, buf: &mut [u8]) -> io::Result<usize> {
-        let line = b"clock 0\n";
-        if self.is_read || buf.len() < line.len() {
-            return Err(io::Error::from(self.fault));
-        }
-        self.is_read = true;
-        buf[..line.len()].copy_from_slice(line.as_slice());
-        Ok(line.len())
-    }
-}
-
-/// A writer that takes nothing, or fails so.
-#[derive(Drop)]
-struct Refusing {
-    fault: Option<ErrorKind>,
-}
-
-impl Write for Refusing {
-    fn write(&mut self, _buf: &[u8]) -> io::Result<usize> {
-        match self.fault {
-            Some(kind) => Err(io::Error::from(kind)),
-            None => Ok(0),
-        }
-    }
-
-    fn flush(&mut self) -> io::Result<()> {
-        Ok(())
-    }
-}
-
-#[test]
-fn tells_faults_of_the_ends(rt: HostRuntime) {
-    let plan = b"version = 1";
-    for fault in [ErrorKind::Interrupted, ErrorKind::Other] {
-        let mut reader = Reading::new(OneLine {
-            is_read: false,
-            fault,
-        });
-        let mut writer = Writing::new(Vec::new(rt.alloc()));
-        let answer = run(rt.alloc(), plan, 1, 9, &mut reader, &mut writer);
-        assert_eq!(rt; answer, Err(RunError::Read));
-        assert!(rt; writer.into_inner().as_slice() == b"0 clock\n".as_slice());
-    }
-    for fault in [
-        Some(ErrorKind::BrokenPipe),
-        Some(ErrorKind::Interrupted),
-        None,
-    ] {
-        let mut reader = Pieces::new(b"clock 0\n", 9);
-        let mut writer = Writing::new(Refusing { fault });
-        let answer = run(rt.alloc(), plan, 1, 9, &mut reader, &mut writer);
-        assert_eq!(rt; answer, Err(RunError::Write));
     }
 }
 

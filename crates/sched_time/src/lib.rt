@@ -20,8 +20,7 @@
 //!
 //! A moment is a number of nanoseconds since a beginning that the caller chooses. Nothing here reads a clock: each moment
 //! is handed in. A moment and a span are 0 to [`LONGEST`] nanoseconds, 2^62, some 146 years; so the sum of two is exact,
-//! and a run is due at most at 2^63. No value is rounded or cut. [`Which`] names the policies of an executor; nothing sets
-//! one yet.
+//! and a run is due at most at 2^63. No value is rounded or cut. [`Which`] names the policies of an executor.
 //!
 //! # Order and ties
 //!

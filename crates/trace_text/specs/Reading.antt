@@ -4,8 +4,11 @@ use Rattle.std.specs.Fmt.{decimal}
 use Rattle.executor_core.specs.declared.Event.{Event}
 use Rattle.trace_text.specs.declared.front.Front.{Front}
 use Rattle.trace_text.specs.declared.front.Front.TheVariants as front
-use Rattle.trace_text.specs.declared.front.TheConstants.{MOST_EVENT_BYTES}
 use Rattle.trace_text.specs.Spelling.{IsLine, event_line, FitsEvent}
+
+-- the greatest number of bytes of an event's line with its newline (this project's limit)
+abbrev pub most_event_bytes : ℕ
+most_event_bytes = 63
 
 -- the spelling of a value that fits stands at the front, and what follows it
 abbrev pub IsRead : {V : Type 0} → (V → List ℕ) → (V → Type 0) → List ℕ → V → List ℕ → Type 0
@@ -27,7 +30,7 @@ Below limit n = n < limit
 -- one; `Refused`: whatever follows, no event's line stands at the front
 abbrev pub IsFront : Front → List ℕ → Type 0
 IsFront (front.Event e n) bytes = IsRead event_line FitsEvent bytes e (drop n bytes) × (0 < n) × (n ≤ length bytes)
-IsFront front.Part bytes = IsLine bytes × (length bytes < MOST_EVENT_BYTES)
+IsFront front.Part bytes = IsLine bytes × (length bytes < most_event_bytes)
 IsFront front.Refused bytes = (0 < length bytes) × ((more : List ℕ) → IsUnread event_line FitsEvent (bytes ++ more))
 
 -- one line spells one event, and no event's line is the front of another's

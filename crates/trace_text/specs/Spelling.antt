@@ -1,11 +1,13 @@
 -- Spelling: the text of events and of the lines of a trace (this project's rule).
 -- Numbers are decimals with no leading zero, one space stands between two words, each line ends with a newline (byte 10),
 -- and a text is grouped to the right.
-use Rattle.std.specs.Prelude.{◌≡◌, ◌≢◌, ℕ, ◌^◌, ◌<◌, List, ◌++◌, All, Option, Some, None, codes, flat_map, slice_index}
+use Rattle.std.specs.Prelude.{◌≡◌, ◌≢◌, ℕ, ◌^◌, ◌<◌, Bool, true, false, List, ◌++◌, All, Option, Some, None, codes, flat_map, slice_index}
 use Rattle.std.specs.Fmt.{decimal}
 use Rattle.std.specs.Int.{IsInRange}
 use Rattle.sched_time.specs.declared.timing.Ending.{Ending}
 use Rattle.sched_time.specs.declared.timing.Ending.TheVariants as ending
+use Rattle.sched_time.specs.declared.policies.Which.{Which}
+use Rattle.sched_time.specs.declared.policies.Which.TheVariants as which
 use Rattle.executor_core.specs.declared.Event.{Event}
 use Rattle.executor_core.specs.declared.Event.TheVariants as event
 use Rattle.executor_core.specs.declared.Kind.{Kind}
@@ -20,6 +22,8 @@ use Rattle.executor_core.specs.declared.Outcome.{Outcome}
 use Rattle.executor_core.specs.declared.Outcome.TheVariants as outcome
 use Rattle.executor_core.specs.declared.Answer.{Answer}
 use Rattle.executor_core.specs.declared.Answer.TheVariants as answer
+use Rattle.executor_core.specs.declared.Message.{Message}
+use Rattle.executor_core.specs.declared.Message.TheVariants as message
 use Rattle.executor_core.specs.declared.Line.{Line}
 
 -- no newline stands among some bytes
@@ -63,6 +67,7 @@ kind_text kind.Fixed = codes "fixed"
 -- why a task was refused, in a word
 abbrev pub refusal_text : Refusal → List ℕ
 refusal_text refusal.Illegal = codes "illegal"
+refusal_text refusal.Rejected = codes "rejected"
 
 -- why an event had no effect, in words
 abbrev pub error_text : EventError → List ℕ
@@ -80,12 +85,29 @@ effect_text effect.Yes = codes "yes"
 effect_text effect.No = codes "no"
 effect_text effect.Absent = codes "none"
 
+-- the word of a policy
+abbrev pub policy_text : Which → List ℕ
+policy_text which.Continue = codes "continue"
+policy_text which.Execute = codes "execute"
+policy_text which.Remove = codes "remove"
+
+-- what a policy is set to, in a word
+abbrev pub truth_text : Bool → List ℕ
+truth_text true = codes "true"
+truth_text false = codes "false"
+
+-- whether something is so, in a word
+abbrev pub whether_text : Bool → List ℕ
+whether_text true = codes "yes"
+whether_text false = codes "no"
+
 -- what a finished run led to, and the newline
 abbrev pub outcome_text : Outcome → List ℕ
 outcome_text (outcome.Done v) = codes " done " ++ (decimal v ++ codes "\n")
 outcome_text (outcome.Failed c) = codes " failed " ++ (decimal c ++ codes "\n")
 outcome_text (outcome.Again d) = codes " again due " ++ (decimal d ++ codes "\n")
 outcome_text outcome.Dropped = codes " dropped\n"
+outcome_text outcome.Ended = codes " ended\n"
 
 -- an answer behind its moment, and the newline
 abbrev pub answer_text : Answer → List ℕ
@@ -93,15 +115,25 @@ answer_text (answer.Submit k kind d) = codes " submit " ++ (decimal k ++ (codes 
 answer_text (answer.Refuse k reason) = codes " refuse " ++ (decimal k ++ (codes " " ++ (refusal_text reason ++ codes "\n")))
 answer_text (answer.Cancel k e) = codes " cancel " ++ (decimal k ++ (codes " " ++ (effect_text e ++ codes "\n")))
 answer_text (answer.Outside k e) = codes " outside " ++ (decimal k ++ (codes " " ++ (effect_text e ++ codes "\n")))
+answer_text (answer.Policy which value) = codes " policy " ++ (policy_text which ++ (codes " " ++ (truth_text value ++ codes "\n")))
+answer_text answer.Shutdown = codes " shutdown\n"
+answer_text answer.ShutdownAgain = codes " shutdown again\n"
+answer_text (answer.Ask q r shut over) =
+    codes " ask queue " ++ (decimal q ++ (codes " running " ++ (decimal r ++ (codes " shutdown " ++ (whether_text shut ++ (codes " terminated " ++ (whether_text over ++ codes "\n")))))))
 answer_text answer.Clock = codes " clock\n"
 answer_text (answer.Start w k n d) = codes " start " ++ (decimal w ++ (codes " task " ++ (decimal k ++ (codes " run " ++ (decimal n ++ (codes " due " ++ (decimal d ++ codes "\n")))))))
 answer_text (answer.Idle w) = codes " start " ++ (decimal w ++ codes " idle\n")
 answer_text (answer.Finish w k n o) = codes " finish " ++ (decimal w ++ (codes " task " ++ (decimal k ++ (codes " run " ++ (decimal n ++ outcome_text o)))))
 answer_text (answer.Error e) = codes " error " ++ (error_text e ++ codes "\n")
 
--- a line of the trace, with its newline: the moment, and the answer
+-- what a line says behind its moment, and the newline: an answer, or that a task ends
+abbrev pub message_text : Message → List ℕ
+message_text (message.Answer given) = answer_text given
+message_text (message.End k) = codes " end " ++ (decimal k ++ codes "\n")
+
+-- a line of the trace, with its newline: the moment, and what is said
 abbrev pub line_text : Line → List ℕ
-line_text line = decimal line.moment ++ answer_text line.answer
+line_text line = decimal line.moment ++ message_text line.message
 
 -- the text of lines, one after another
 abbrev pub lines_text : List Line → List ℕ

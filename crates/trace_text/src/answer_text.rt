@@ -3,12 +3,13 @@
 
 ghost use Rattle.std.specs.Prelude.{◌≡◌, ℕ, ◌+◌, ◌≤◌, ◌<◌, ◌++◌, length, take, codes};
 ghost use Rattle.std.specs.Fmt.{decimal};
-ghost use Rattle.trace_text.specs.Spelling.{kind_text, refusal_text, error_text, effect_text, outcome_text, answer_text};
+ghost use Rattle.trace_text.specs.Spelling.{kind_text, refusal_text, error_text, effect_text, policy_text, truth_text, whether_text, outcome_text, answer_text};
 ghost use Rattle.trace_text.specs.Writing.{Puts};
 ghost use Rattle.executor_core.specs.declared.Answer.TheVariants as a;
 
 use crate::put::{put_number, put_text};
 use executor_core::{Answer, CancelEffect, EventError, Kind, Outcome, Refusal};
+use sched_time::Which;
 
 /// How many bytes there have to be for an answer.
 pub const ANSWER_ROOM: usize = 108;
@@ -31,6 +32,15 @@ pub fn put_answer(buffer: &mut [u8], at: usize, answer: Answer) -> usize
             let at = put_text(buffer, at, *b" outside ");
             put_effect(buffer, at, task, effect)
         }
+        Answer::Policy { which, value } => put_policy(buffer, at, which, value),
+        Answer::Shutdown => put_text(buffer, at, *b" shutdown\n"),
+        Answer::ShutdownAgain => put_text(buffer, at, *b" shutdown again\n"),
+        Answer::Ask {
+            queue,
+            running,
+            shutdown,
+            terminated,
+        } => put_ask(buffer, at, queue, running, shutdown, terminated),
         Answer::Clock => put_text(buffer, at, *b" clock\n"),
         Answer::Start {
             worker,
@@ -86,6 +96,43 @@ fn put_effect(buffer: &mut [u8], at: usize, task: u32, effect: CancelEffect) -> 
     let at = put_number(buffer, at, task as u64);
     let at = put_text(buffer, at, *b" ");
     let at = put_effect_text(buffer, at, effect);
+    put_text(buffer, at, *b"\n")
+}
+
+/// Puts a policy, and what it was set to.
+fn put_policy(buffer: &mut [u8], at: usize, which: Which, value: bool) -> usize
+    requires { at + ANSWER_ROOM ≤ length buffer.old }
+    ensures end { result ≤ at + ANSWER_ROOM }
+    ensures put { Puts (take at buffer.old) (take result buffer.new) (answer_text (a.Policy which value)) }
+{
+    let at = put_text(buffer, at, *b" policy ");
+    let at = put_policy_text(buffer, at, which);
+    let at = put_text(buffer, at, *b" ");
+    let at = put_truth(buffer, at, value);
+    put_text(buffer, at, *b"\n")
+}
+
+/// Puts how far the executor is.
+fn put_ask(
+    buffer: &mut [u8],
+    at: usize,
+    queue: u32,
+    running: u32,
+    shutdown: bool,
+    terminated: bool,
+) -> usize
+    requires { at + ANSWER_ROOM ≤ length buffer.old }
+    ensures end { result ≤ at + ANSWER_ROOM }
+    ensures put { Puts (take at buffer.old) (take result buffer.new) (answer_text (a.Ask queue running shutdown terminated)) }
+{
+    let at = put_text(buffer, at, *b" ask queue ");
+    let at = put_number(buffer, at, queue as u64);
+    let at = put_text(buffer, at, *b" running ");
+    let at = put_number(buffer, at, running as u64);
+    let at = put_text(buffer, at, *b" shutdown ");
+    let at = put_whether(buffer, at, shutdown);
+    let at = put_text(buffer, at, *b" terminated ");
+    let at = put_whether(buffer, at, terminated);
     put_text(buffer, at, *b"\n")
 }
 
@@ -166,6 +213,7 @@ fn put_outcome(buffer: &mut [u8], at: usize, outcome: Outcome) -> usize
             put_text(buffer, at, *b"\n")
         }
         Outcome::Dropped => put_text(buffer, at, *b" dropped\n"),
+        Outcome::Ended => put_text(buffer, at, *b" ended\n"),
     }
 }
 
@@ -204,6 +252,7 @@ fn put_refusal(buffer: &mut [u8], at: usize, refusal: Refusal) -> usize
 {
     match refusal {
         Refusal::Illegal => put_text(buffer, at, *b"illegal"),
+        Refusal::Rejected => put_text(buffer, at, *b"rejected"),
     }
 }
 
@@ -235,5 +284,47 @@ fn put_effect_text(buffer: &mut [u8], at: usize, effect: CancelEffect) -> usize
         CancelEffect::Yes => put_text(buffer, at, *b"yes"),
         CancelEffect::No => put_text(buffer, at, *b"no"),
         CancelEffect::Absent => put_text(buffer, at, *b"none"),
+    }
+}
+
+/// Puts the word of a policy.
+#[inline(always)]
+fn put_policy_text(buffer: &mut [u8], at: usize, which: Which) -> usize
+    requires { at + 10 ≤ length buffer.old }
+    ensures end { result ≤ at + 10 }
+    ensures put { Puts (take at buffer.old) (take result buffer.new) (policy_text which) }
+{
+    match which {
+        Which::Continue => put_text(buffer, at, *b"continue"),
+        Which::Execute => put_text(buffer, at, *b"execute"),
+        Which::Remove => put_text(buffer, at, *b"remove"),
+    }
+}
+
+/// Puts what a policy was set to, in a word.
+#[inline(always)]
+fn put_truth(buffer: &mut [u8], at: usize, value: bool) -> usize
+    requires { at + 10 ≤ length buffer.old }
+    ensures end { result ≤ at + 10 }
+    ensures put { Puts (take at buffer.old) (take result buffer.new) (truth_text value) }
+{
+    if value {
+        put_text(buffer, at, *b"true")
+    } else {
+        put_text(buffer, at, *b"false")
+    }
+}
+
+/// Puts whether something is so, in a word.
+#[inline(always)]
+fn put_whether(buffer: &mut [u8], at: usize, so: bool) -> usize
+    requires { at + 10 ≤ length buffer.old }
+    ensures end { result ≤ at + 10 }
+    ensures put { Puts (take at buffer.old) (take result buffer.new) (whether_text so) }
+{
+    if so {
+        put_text(buffer, at, *b"yes")
+    } else {
+        put_text(buffer, at, *b"no")
     }
 }

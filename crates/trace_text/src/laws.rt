@@ -1,14 +1,19 @@
 //! Laws of the spellings, and of what compares equal. The functions do nothing: what they ensure is the law.
 ghost use Rattle.std.specs.Prelude.{◌≡◌, true};
-ghost use Rattle.trace_text.specs.Reading.{EventLinesAreOne};
+ghost use Rattle.trace_text.specs.Reading.{EventLinesAreOne, most_event_bytes};
 
-use crate::front::Front;
+use crate::front::{Front, MOST_EVENT_BYTES};
 use crate::text_error::TextError;
 
 /// One line spells one event, and no event's line is the front of another's: where the lines of two events stand at the front
 /// of the same bytes, the events are one, and what follows is the same.
 pub fn event_lines_are_one()
     ensures { EventLinesAreOne }
+{}
+
+/// [`MOST_EVENT_BYTES`](crate::MOST_EVENT_BYTES) is the limit of which the contracts speak.
+pub fn most_event_bytes_is_the_limit()
+    ensures { MOST_EVENT_BYTES ≡ most_event_bytes }
 {}
 
 /// Fronts that compare equal are the same.

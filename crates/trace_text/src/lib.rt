@@ -14,7 +14,7 @@
 //! front_event(b"clock 05\n");        // Front::Refused
 //!
 //! let mut text = TextBuffer::new(alloc, 10 * LINE_ROOM)?;
-//! text.write_line(&Line { moment: 5, answer: Answer::Clock })?;
+//! text.write_line(&Line { moment: 5, message: Message::Answer(Answer::Clock) })?;
 //! text.as_slice();                   // b"5 clock\n"
 //! ```
 //!
@@ -22,7 +22,7 @@
 //!
 //! All text is ASCII. A line ends with one newline (byte 10), one space stands between two words, and none elsewhere. Numbers
 //! are decimals with no leading zero and no sign. Moments T and M, due moments D, values V and run numbers N are below 2^64;
-//! tasks K and codes C below 2^32; workers W below 256.
+//! tasks K, codes C and numbers of tasks Q and R below 2^32; workers W below 256.
 //!
 //! | Event | Its line |
 //! |---|---|
@@ -32,17 +32,21 @@
 //! | `Finish(W, Fault(C))` | `finish W fail C` |
 //! | `Cancel(K)` | `cancel K` |
 //!
-//! | Answer, given at the moment M | Its line |
+//! | Answer, given at the moment M, or end of a task then | Its line |
 //! |---|---|
 //! | `Submit` | `M submit K schedule due D`, `M submit K rate due D`, `M submit K fixed due D` |
-//! | `Refuse` | `M refuse K illegal` |
+//! | `Refuse` | `M refuse K illegal`, `M refuse K rejected` |
 //! | `Cancel` | `M cancel K yes`, `M cancel K no`, `M cancel K none` |
 //! | `Outside` | `M outside K yes`, `M outside K no`, `M outside K none` |
+//! | `Policy` | `M policy`, and one of `continue`, `execute`, `remove`, and one of `true`, `false` |
+//! | `Shutdown`, `ShutdownAgain` | `M shutdown`, `M shutdown again` |
+//! | `Ask` | `M ask queue Q running R shutdown yes terminated no`, each of the two words `yes` or `no` |
 //! | `Clock` | `M clock` |
 //! | `Start` | `M start W task K run N due D` |
 //! | `Idle` | `M start W idle` |
-//! | `Finish` | `M finish W task K run N`, and one of `done V`, `failed C`, `again due D`, `dropped` |
+//! | `Finish` | `M finish W task K run N`, and one of `done V`, `failed C`, `again due D`, `dropped`, `ended` |
 //! | `Error` | `M error`, and one of `backward`, `too far`, `no worker`, `busy`, `not running`, `no task` |
+//! | `End(K)` | `M end K` |
 //!
 //! A reader answers an event exactly when the bytes spell it.
 //!
@@ -69,6 +73,7 @@ mod event;
 mod front;
 mod laws;
 mod line_text;
+mod message_text;
 mod put;
 mod scan;
 mod text_buffer;
@@ -76,7 +81,10 @@ mod text_error;
 
 pub use event::{read_event, split_event};
 pub use front::{Front, MOST_EVENT_BYTES, front_event};
-pub use laws::{event_lines_are_one, front_equality_tells, text_error_equality_tells};
+pub use laws::{
+    event_lines_are_one, front_equality_tells, most_event_bytes_is_the_limit,
+    text_error_equality_tells,
+};
 pub use line_text::{LINE_ROOM, put_line, write_line, write_lines};
 pub use text_buffer::TextBuffer;
 pub use text_error::TextError;

@@ -3,7 +3,7 @@ ghost use Rattle.std.specs.Prelude.{◌≡◌, ℕ, ◌+◌, ◌*◌, ◌≤◌,
 ghost use Rattle.trace_text.specs.Spelling.{line_text, lines_text};
 ghost use Rattle.trace_text.specs.Writing.{Puts};
 
-use crate::answer_text::put_answer;
+use crate::message_text::put_message;
 use crate::put::put_number;
 use crate::text_error::TextError;
 use executor_core::Line;
@@ -85,7 +85,7 @@ pub fn put_line(buffer: &mut [u8], at: usize, line: &Line) -> usize
     ensures put { Puts (take at buffer.old) (take result buffer.new) (line_text line.now) }
 {
     let at = put_number(buffer, at, line.moment);
-    put_answer(buffer, at, line.answer)
+    put_message(buffer, at, line.message)
 }
 
 #[cfg(test)]

@@ -1,23 +1,24 @@
 //! The calls of the plan, as a core makes them.
-ghost use Rattle.std.specs.Prelude.{◌≡◌, ◌+◌, ◌-◌, ◌<◌, [], ◌∷◌, length, replicate, Some, slice_get, IsTrue, false, vec_len, vec_capacity};
+ghost use Rattle.std.specs.Prelude.{◌≡◌, ◌+◌, ◌-◌, ◌<◌, ◌≤◌, [], ◌∷◌, length, replicate, Some, slice_get, IsTrue, false, vec_len, vec_capacity};
 ghost use Rattle.executor_core.specs.declared.types.Happening.TheVariants as happening;
 ghost use Rattle.queue_code.specs.declared.call.CodeCall.TheVariants as call;
 ghost use Rattle.executor_core.specs.Answers.{kind_of};
+ghost use Rattle.executor_core.specs.Tasks.{uncancelled_in};
 ghost use Rattle.executor_core.specs.Flows.{reached, ReachesNext, calls_before};
 
 use super::Core;
-use crate::types::{Answer, Event, Kind, Line, Refusal};
+use crate::types::{Answer, Event, Kind, Line, Message, Refusal};
 use delay_queue::Entry;
 use queue_code::CodeCall;
 use sched_time::{LONGEST, Timing};
 use std::alloc::Allocator;
 
 impl<A: Allocator> Core<A> {
-    ghost use Rattle.executor_core.specs.Machine.{Takes, Steps};
+    ghost use Rattle.executor_core.specs.Machine.{Takes, Steps, ContinuesAny, room_of};
 
     /// Makes the calls that are made just before an event.
     pub(super) fn make_calls_before<B: Allocator>(&mut self, event: Event, out: &mut Vec<Line, B>)
-        requires { vec_len out.old + (length self.old.calls - self.old.made) < vec_capacity out.old }
+        requires { vec_len out.old + room_of self.old ≤ vec_capacity out.old }
         ensures steps { Steps self.old self.new out.old.items out.new.items (replicate (calls_before self.old.calls self.old.made self.old.moment event) happening.Call) }
         ensures taken { self.new.taken ≡ self.old.taken }
         ensures room { vec_len out.new < vec_capacity out.new }
@@ -33,7 +34,7 @@ impl<A: Allocator> Core<A> {
 
     /// Makes the calls with a moment of at most this one.
     fn make_calls<B: Allocator>(&mut self, moment: u64, out: &mut Vec<Line, B>)
-        requires { vec_len out.old + (length self.old.calls - self.old.made) < vec_capacity out.old }
+        requires { vec_len out.old + room_of self.old ≤ vec_capacity out.old }
         ensures steps { Steps self.old self.new out.old.items out.new.items (replicate (reached self.old.calls self.old.made moment) happening.Call) }
         ensures taken { self.new.taken ≡ self.old.taken }
         ensures room { vec_len out.new < vec_capacity out.new }
@@ -52,31 +53,23 @@ impl<A: Allocator> Core<A> {
         self.made < self.calls.len() && self.calls[self.made].0 <= moment
     }
 
-    /// Makes the next call.
+    /// Makes the next call: its line is added, and one for each task that it ends.
     fn make_call<B: Allocator>(&mut self, out: &mut Vec<Line, B>)
         requires left { self.old.made < length self.old.calls }
-        requires room { vec_len out.old < vec_capacity out.old }
+        requires room { vec_len out.old + room_of self.old ≤ vec_capacity out.old }
         ensures steps { Steps self.old self.new out.old.items out.new.items (happening.Call ∷ []) }
+        ensures history { ContinuesAny self.old self.new out.old.items out.new.items happening.Call }
         ensures made { self.new.made ≡ self.old.made + 1 }
         ensures taken { self.new.taken ≡ self.old.taken }
-        ensures len { vec_len out.new ≡ vec_len out.old + 1 }
+        ensures room { vec_len out.new + room_of self.new ≤ vec_len out.old + room_of self.old }
         ensures capacity { vec_capacity out.new ≡ vec_capacity out.old }
     {
-        let answer = self.answer_call();
-        out.push_reserved(Line {
-            moment: self.moment,
-            answer,
-        });
-    }
-
-    /// The next call is made.
-    fn answer_call(&mut self) -> Answer
-        requires { self.old.made < length self.old.calls }
-        ensures step { Takes self.old self.new happening.Call result }
-        ensures made { self.new.made ≡ self.old.made + 1 }
-    {
         let (moment, call) = self.calls[self.made];
-        match call {
+        let answer = match call {
+            CodeCall::SetPolicy { which, value } => {
+                return self.set_policy(moment, which, value, out);
+            }
+            CodeCall::Shutdown => return self.shut_down(moment, out),
             CodeCall::Submit {
                 task,
                 timing,
@@ -84,22 +77,32 @@ impl<A: Allocator> Core<A> {
             } => self.submit(moment, task, timing, delay),
             CodeCall::Illegal { task } => self.refuse(moment, task),
             CodeCall::Cancel { task } => self.cancel_by_plan(moment, task),
-        }
+            CodeCall::Ask => self.ask(moment),
+        };
+        out.push_reserved(Line {
+            moment: self.moment,
+            message: Message::Answer(answer),
+        });
     }
 
-    /// The next call submits a task.
+    /// The next call submits a task: it is refused where the executor is shut.
     fn submit(&mut self, moment: u64, task: u32, timing: Timing, delay: u64) -> Answer
         requires { slice_get self.old.calls self.old.made ≡ Some (moment, call.Submit task timing delay) }
         ensures step { Takes self.old self.new happening.Call result }
         ensures made { self.new.made ≡ self.old.made + 1 }
+        ensures uncancelled { uncancelled_in self.new.tasks ≤ uncancelled_in self.old.tasks }
     {
-        let place = task as usize;
-        let kind = kind_of(&timing);
         self.made += 1;
-        let due = moment + delay;
         self.moment = self.moment.max(moment);
-        self.tasks.submit(place, due);
-        self.timings[place] = timing;
+        if self.shut {
+            return Answer::Refuse {
+                task,
+                refusal: Refusal::Rejected,
+            };
+        }
+        let kind = kind_of(&timing);
+        let due = moment + delay;
+        self.tasks.submit(task as usize, timing, due);
         self.queue.insert(Entry { due, task });
         Answer::Submit { task, kind, due }
     }
@@ -109,6 +112,7 @@ impl<A: Allocator> Core<A> {
         requires { slice_get self.old.calls self.old.made ≡ Some (moment, call.Illegal task) }
         ensures step { Takes self.old self.new happening.Call result }
         ensures made { self.new.made ≡ self.old.made + 1 }
+        ensures uncancelled { uncancelled_in self.new.tasks ≤ uncancelled_in self.old.tasks }
     {
         self.made += 1;
         self.moment = self.moment.max(moment);
@@ -123,12 +127,32 @@ impl<A: Allocator> Core<A> {
         requires { slice_get self.old.calls self.old.made ≡ Some (moment, call.Cancel task) }
         ensures step { Takes self.old self.new happening.Call result }
         ensures made { self.new.made ≡ self.old.made + 1 }
+        ensures uncancelled { uncancelled_in self.new.tasks ≤ uncancelled_in self.old.tasks }
     {
         let now = self.moment.max(moment);
         let effect = self.cancel(task);
         self.made += 1;
         self.moment = now;
         Answer::Cancel { task, effect }
+    }
+
+    /// The next call asks how far the executor is.
+    fn ask(&mut self, moment: u64) -> Answer
+        requires { slice_get self.old.calls self.old.made ≡ Some (moment, call.Ask) }
+        ensures step { Takes self.old self.new happening.Call result }
+        ensures made { self.new.made ≡ self.old.made + 1 }
+        ensures uncancelled { uncancelled_in self.new.tasks ≤ uncancelled_in self.old.tasks }
+    {
+        self.made += 1;
+        self.moment = self.moment.max(moment);
+        let queue = self.queue.len() + self.kept.len();
+        let running = self.tasks.running();
+        Answer::Ask {
+            queue: queue as u32,
+            running: running as u32,
+            shutdown: self.shut,
+            terminated: self.shut && queue == 0 && running == 0,
+        }
     }
 }
 

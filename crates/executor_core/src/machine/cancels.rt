@@ -6,10 +6,12 @@ ghost use Rattle.executor_core.specs.declared.task.Phase.TheVariants as ph;
 ghost use Rattle.queue_code.specs.Calls.{Terms, terms_of};
 ghost use Rattle.executor_core.specs.State.{vacant, seen_task};
 ghost use Rattle.executor_core.specs.Answers.{effect_on};
+ghost use Rattle.executor_core.specs.Tasks.{cancelled_task};
 
 use super::Core;
 use crate::task::{Phase, Task};
 use crate::types::{Answer, CancelEffect, EventError};
+use delay_queue::Entry;
 use std::alloc::Allocator;
 
 impl<A: Allocator> Core<A> {
@@ -26,17 +28,27 @@ impl<A: Allocator> Core<A> {
         Answer::Outside { task, effect }
     }
 
-    /// Cancels a task of the plan: one that waits leaves the queue.
+    /// Cancels a task of the plan: one that waits leaves the tasks that wait, and is kept where the policy does not
+    /// say that it leaves the queue.
     pub(super) fn cancel(&mut self, task: u32) -> CancelEffect
         requires { task < length self.old.tasks }
         ensures effect { result ≡ effect_on (seen_task (terms_of self.old.calls task) (slice_index_or self.old.tasks task vacant)) }
-        ensures yes { result ≡ effect.Yes → self.new ≡ record self.old { tasks = slice_set self.old.tasks task (record (slice_index_or self.old.tasks task vacant) { cancelled = true }) } }
+        ensures yes { result ≡ effect.Yes → self.new ≡ record self.old { tasks = slice_set self.old.tasks task (cancelled_task self.old.policies.removes (slice_index_or self.old.tasks task vacant)) } }
         ensures no { result ≢ effect.Yes → self.new ≡ self.old }
     {
-        let effect = effect_on(self.tasks.get(task as usize));
+        let place = task as usize;
+        let before = self.tasks.get(place);
+        let effect = effect_on(before);
         if effect == CancelEffect::Yes {
-            self.tasks.cancel(task as usize);
+            self.tasks.cancel(place);
             self.queue.remove(task);
+            if before.phase == Phase::Waiting && !self.policies.removes {
+                self.tasks.keep(place, true);
+                self.kept.insert(Entry {
+                    due: before.due,
+                    task,
+                });
+            }
         }
         effect
     }

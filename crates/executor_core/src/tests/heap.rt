@@ -1,23 +1,59 @@
 //! Which calls take memory, and what a refusal gives back, over a heap of fixed size.
-use super::{core_of, nanos, periodic, submission};
-use crate::{Core, CoreError, Event};
+use super::{core_of, give, nanos, periodic, submission, submissions};
+use crate::{Core, CoreError, Event, Line};
 use linked_list_allocator::LocalHeap;
 use queue_code::{CodeCall, orderly};
-use sched_time::{Ending, Timing};
+use sched_time::{Ending, Timing, Which};
+use std::alloc::{AllocGlobal, Global};
+use std::process::Abort;
 use std::test::Fail;
+
+/// Gives a core these events, and checks that none takes memory, and that they come to these numbers: the lines, the
+/// moment, the events and the tasks.
+fn events_take_no_memory(
+    rt: &impl Abort,
+    heap: &LocalHeap,
+    core: &mut Core<&LocalHeap>,
+    out: &mut Vec<Line, &LocalHeap>,
+    events: &[Event],
+    wanted: (usize, u64, u32, usize),
+) -> Result<(), Fail> {
+    let room = out.capacity();
+    let used = heap.used();
+    for event in events {
+        core.event(*event, out)?;
+        assert_eq!(rt; heap.used(), used);
+    }
+    let numbers = (out.len(), core.now(), core.taken(), core.tasks());
+    assert_eq!(rt; numbers, wanted);
+    assert_eq!(rt; (out.capacity(), core.words().len()), (room, core.tasks()));
+    assert_eq!(rt; heap.used(), used);
+    Ok(())
+}
+
+/// Gives a core of two workers these events, over a heap of its own, where its list has room for so many lines.
+fn takes_no_memory(
+    rt: &(impl AllocGlobal + Abort),
+    calls: &[(u64, CodeCall)],
+    room: usize,
+    events: &[Event],
+    wanted: (usize, u64, u32, usize),
+) -> Result<(), Fail> {
+    let heap = LocalHeap::new(rt.alloc(), 1 << 16)?;
+    let mut out = Vec::with_capacity(&heap, room)?;
+    let mut core = core_of(rt, &heap, calls, 2, 100)?;
+    assert_eq!(rt; out.capacity(), room);
+    events_take_no_memory(rt, &heap, &mut core, &mut out, events, wanted)
+}
 
 #[test]
 fn events_with_room_take_no_memory(rt: HostRuntime) -> Result<(), Fail> {
-    let heap = LocalHeap::new(rt.alloc(), 1 << 16)?;
     let calls = [
         periodic(0, 0, Timing::Rate(nanos(5)?), 0),
         submission(0, 1, 3),
         (2, CodeCall::Cancel { task: 1 }),
         (4, CodeCall::Illegal { task: 2 }),
     ];
-    let mut core = core_of(&rt, &heap, &calls, 2, 100)?;
-    let mut out = Vec::with_capacity(&heap, 20)?;
-    let used = heap.used();
     let events = [
         Event::Clock(0),
         Event::Start(0),
@@ -29,25 +65,52 @@ fn events_with_room_take_no_memory(rt: HostRuntime) -> Result<(), Fail> {
         Event::Finish(1, Ending::Fault(1)),
         Event::Clock(1),
     ];
-    for event in events {
-        core.event(event, &mut out)?;
-        assert_eq!(rt; heap.used(), used);
-    }
-    assert_eq!(rt; (out.len(), out.capacity()), (13, 20));
-    assert_eq!(rt; (core.now(), core.taken(), core.tasks()), (9, 9, 3));
-    assert_eq!(rt; core.words().len(), 3);
-    assert_eq!(rt; heap.used(), used);
-    Ok(())
+    takes_no_memory(&rt, &calls, 20, &events, (13, 9, 9, 3))
+}
+
+/// Three tasks, and then what ends them all: five calls.
+fn plan_with_shutdown() -> Result<[(u64, CodeCall); 5], Fail> {
+    let execute = CodeCall::SetPolicy {
+        which: Which::Execute,
+        value: false,
+    };
+    Ok([
+        periodic(0, 0, Timing::Rate(nanos(5)?), 1),
+        periodic(0, 1, Timing::Fixed(nanos(5)?), 1),
+        submission(0, 2, 1),
+        (0, execute),
+        (0, CodeCall::Shutdown),
+    ])
+}
+
+/// The clock needs room for its own line, one for each of the five calls, and one for each of the three tasks that end.
+#[test]
+fn a_sweep_with_exactly_its_room_takes_no_memory(rt: HostRuntime) -> Result<(), Fail> {
+    let calls = plan_with_shutdown()?;
+    takes_no_memory(&rt, &calls, 9, &[Event::Clock(0)], (9, 0, 1, 3))
+}
+
+/// Why no core is made of these calls in a heap, and none where one is made; either way all memory is given back.
+fn refusal(
+    rt: &impl Abort,
+    heap: &LocalHeap,
+    calls: &[(u64, CodeCall)],
+    workers: u8,
+    limit: u32,
+) -> Result<Option<CoreError>, Fail> {
+    let none = heap.used();
+    let planned = calls.to_vec(heap)?;
+    assert!(rt; orderly(&planned));
+    assert!(rt; none < heap.used());
+    let refused = Core::new(heap, planned, workers, limit).err();
+    assert_eq!(rt; heap.used(), none);
+    Ok(refused)
 }
 
 #[test]
 fn a_refused_core_gives_its_calls_back(rt: HostRuntime) -> Result<(), Fail> {
     let heap = LocalHeap::new(rt.alloc(), 1 << 11)?;
-    let mut calls = Vec::new(rt.alloc());
-    for task in 0..30 {
-        calls.push(submission(0, task, 0))?;
-    }
-    let none = heap.used();
+    let calls = submissions(rt.alloc(), 30)?;
     let cases = [
         (0, 0, CoreError::Workers),
         (65, 9, CoreError::Workers),
@@ -55,13 +118,56 @@ fn a_refused_core_gives_its_calls_back(rt: HostRuntime) -> Result<(), Fail> {
         (1, 9, CoreError::Memory),
     ];
     for (workers, limit, error) in cases {
-        let planned = calls.to_vec(&heap)?;
-        assert!(rt; orderly(&planned));
-        assert!(rt; none < heap.used());
-        let refused = Core::new(&heap, planned, workers, limit).err();
-        assert_eq!(rt; refused, Some(error));
-        assert_eq!(rt; heap.used(), none);
+        assert_eq!(rt; refusal(&rt, &heap, &calls, workers, limit)?, Some(error));
     }
+    Ok(())
+}
+
+/// Heaps from one that has room for the calls and hardly more, up to one that has room for the core. Each table of the
+/// core takes more than 32 bytes, so that each is the first that is refused in one of them.
+#[test]
+fn a_core_that_lacks_one_table_gives_its_calls_back(rt: HostRuntime) -> Result<(), Fail> {
+    let calls = submissions(rt.alloc(), 30)?;
+    let mut refused = false;
+    let mut made = false;
+    for step in 0..200 {
+        let heap = LocalHeap::new(rt.alloc(), 1_500 + 32 * step)?;
+        match refusal(&rt, &heap, &calls, 64, 9)? {
+            None => made = true,
+            Some(error) => {
+                assert_eq!(rt; (error, made), (CoreError::Memory, false));
+                refused = true;
+            }
+        }
+    }
+    assert!(rt; refused && made);
+    Ok(())
+}
+
+/// Refuses a clock to a core while hardly any of its heap is free.
+fn refuses_without_memory(
+    rt: &impl Abort,
+    heap: &LocalHeap,
+    core: &mut Core<Global>,
+    out: &mut Vec<Line, &LocalHeap>,
+) -> Result<(), Fail> {
+    let _full = Vec::<u8, _>::with_capacity(heap, 440)?;
+    let used = heap.used();
+    assert_eq!(rt; core.event(Event::Clock(0), out), Err(CoreError::Memory));
+    assert_eq!(rt; (core.taken(), out.len(), heap.used()), (0, 0, used));
+    Ok(())
+}
+
+/// Gives a core a clock twice: first without memory, and then with it.
+fn takes_it_with_memory(
+    rt: &impl Abort,
+    heap: &LocalHeap,
+    core: &mut Core<Global>,
+    out: &mut Vec<Line, &LocalHeap>,
+) -> Result<(), Fail> {
+    refuses_without_memory(rt, heap, core, out)?;
+    give(core, &[Event::Clock(0)], out)?;
+    assert_eq!(rt; (core.taken(), out.len()), (1, 2));
     Ok(())
 }
 
@@ -69,16 +175,5 @@ fn a_refused_core_gives_its_calls_back(rt: HostRuntime) -> Result<(), Fail> {
 fn an_event_without_memory_may_be_given_again(rt: HostRuntime) -> Result<(), Fail> {
     let heap = LocalHeap::new(rt.alloc(), 1 << 9)?;
     let mut core = core_of(&rt, rt.alloc(), &[submission(0, 0, 0)], 1, 9)?;
-    let mut out = Vec::new(&heap);
-    let full = Vec::<u8, _>::with_capacity(&heap, 440)?;
-    let used = heap.used();
-    assert_eq!(rt;
-        core.event(Event::Clock(0), &mut out),
-        Err(CoreError::Memory)
-    );
-    assert_eq!(rt; (core.taken(), out.len(), heap.used()), (0, 0, used));
-    drop(full);
-    core.event(Event::Clock(0), &mut out)?;
-    assert_eq!(rt; (core.taken(), out.len()), (1, 2));
-    Ok(())
+    takes_it_with_memory(&rt, &heap, &mut core, &mut Vec::new(&heap))
 }

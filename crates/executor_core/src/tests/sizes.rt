@@ -1,23 +1,27 @@
 //! Cores and lines of several sizes, with ample memory.
-use super::core_of;
-use crate::{Answer, Core, CoreError, Event, Line};
-use queue_code::{CodeCall, MOST_CALLS};
-use sched_time::Timing;
-use std::alloc::Global;
+use super::{core_of, give, lines_after, submissions};
+use crate::{Answer, Core, CoreError, Event, Line, Message};
+use queue_code::MOST_CALLS;
+use std::alloc::Allocator;
+use std::process::Abort;
 use std::test::Fail;
 
-/// `count` submissions, each of them at moment 0.
-fn submissions(alloc: Global, count: u32) -> Result<Vec<(u64, CodeCall)>, Fail> {
-    let mut calls = Vec::new(alloc);
-    for task in 0..count {
-        let call = CodeCall::Submit {
-            task,
-            timing: Timing::Once,
-            delay: 0,
-        };
-        calls.push((0, call))?;
-    }
-    Ok(calls)
+/// Gives a core of 70 tasks and so many workers a clock, a start of its last worker, and one of no worker.
+fn starts_last_worker<A: Allocator>(
+    rt: &impl Abort,
+    core: &mut Core<A>,
+    workers: u8,
+    out: &mut Vec<Line, A>,
+) -> Result<(), Fail> {
+    let events = [
+        Event::Clock(0),
+        Event::Start(workers.saturating_sub(1)),
+        Event::Start(workers),
+    ];
+    give(core, &events, out)?;
+    assert_eq!(rt; out.len(), 73);
+    assert_eq!(rt; (core.tasks(), core.taken(), core.now()), (70, 3, 0));
+    Ok(())
 }
 
 #[test]
@@ -25,76 +29,92 @@ fn cores_of_each_number_of_workers(rt: HostRuntime) -> Result<(), Fail> {
     let calls = submissions(rt.alloc(), 70)?;
     for workers in 1..=64 {
         let mut core = core_of(&rt, rt.alloc(), &calls, workers, u32::MAX)?;
-        let mut out = Vec::new(rt.alloc());
-        core.event(Event::Clock(0), &mut out)?;
-        core.event(Event::Start(workers - 1), &mut out)?;
-        core.event(Event::Start(workers), &mut out)?;
-        assert_eq!(rt; out.len(), 73);
-        assert_eq!(rt; (core.tasks(), core.taken(), core.now()), (70, 3, 0));
+        starts_last_worker(&rt, &mut core, workers, &mut Vec::new(rt.alloc()))?;
     }
     Ok(())
 }
 
 #[test]
 fn a_core_without_calls(rt: HostRuntime) -> Result<(), Fail> {
+    let moment = 9;
+    let lines = [
+        Line {
+            moment,
+            message: Message::Answer(Answer::Clock),
+        },
+        Line {
+            moment,
+            message: Message::Answer(Answer::Idle { worker: 0 }),
+        },
+    ];
     for workers in 1..=64 {
-        let mut core = core_of(&rt, rt.alloc(), &[], workers, u32::MAX)?;
-        let mut out = Vec::new(rt.alloc());
-        core.event(Event::Clock(9), &mut out)?;
-        core.event(Event::Start(0), &mut out)?;
-        let lines = [
-            Line {
-                moment: 9,
-                answer: Answer::Clock,
-            },
-            Line {
-                moment: 9,
-                answer: Answer::Idle { worker: 0 },
-            },
-        ];
+        let out = lines_after(&rt, &[], workers, &[Event::Clock(9), Event::Start(0)])?;
         assert_eq!(rt; out.as_slice(), lines.as_slice());
+    }
+    Ok(())
+}
+
+#[test]
+fn a_core_without_calls_has_no_words(rt: HostRuntime) -> Result<(), Fail> {
+    for workers in 1..=64 {
+        let core = core_of(&rt, rt.alloc(), &[], workers, u32::MAX)?;
         assert_eq!(rt; core.words().len(), 0);
     }
+    Ok(())
+}
+
+/// Gives a core without calls four starts, of which it takes three.
+fn takes_three_starts<A: Allocator>(
+    rt: &impl Abort,
+    core: &mut Core<A>,
+    out: &mut Vec<Line, A>,
+) -> Result<(), Fail> {
+    give(core, &[Event::Start(0); 3], out)?;
+    assert_eq!(rt; core.event(Event::Start(0), out), Err(CoreError::Full));
+    assert_eq!(rt; (core.taken(), out.len()), (3, 3));
     Ok(())
 }
 
 #[test]
 fn a_core_takes_as_many_events_as_its_limit(rt: HostRuntime) -> Result<(), Fail> {
     let mut core = core_of(&rt, rt.alloc(), &[], 1, 3)?;
-    let mut out = Vec::new(rt.alloc());
-    for _ in 0..3 {
-        core.event(Event::Start(0), &mut out)?;
-    }
-    assert_eq!(rt; core.event(Event::Start(0), &mut out), Err(CoreError::Full));
-    assert_eq!(rt; (core.taken(), out.len()), (3, 3));
-    for workers in [0, 65, 255] {
+    takes_three_starts(&rt, &mut core, &mut Vec::new(rt.alloc()))
+}
+
+#[test]
+fn a_core_is_refused_for_its_numbers(rt: HostRuntime) {
+    let cases = [
+        (0, CoreError::Workers),
+        (65, CoreError::Workers),
+        (255, CoreError::Workers),
+        (64, CoreError::Limit),
+    ];
+    for (workers, error) in cases {
         let refused = Core::new(rt.alloc(), Vec::new(rt.alloc()), workers, 0).err();
-        assert_eq!(rt; refused, Some(CoreError::Workers));
+        assert_eq!(rt; refused, Some(error));
     }
-    let refused = Core::new(rt.alloc(), Vec::new(rt.alloc()), 64, 0).err();
-    assert_eq!(rt; refused, Some(CoreError::Limit));
-    Ok(())
 }
 
 #[test]
 fn more_than_65536_lines_stay_in_one_list(rt: HostRuntime) -> Result<(), Fail> {
     let calls = submissions(rt.alloc(), MOST_CALLS as u32)?;
-    let mut core = core_of(&rt, rt.alloc(), &calls, 64, u32::MAX)?;
-    let mut out = Vec::new(rt.alloc());
-    core.event(Event::Clock(1), &mut out)?;
-    assert_eq!(rt; out.len(), 65_537);
+    let mut events = Vec::new(rt.alloc());
+    events.push(Event::Clock(1))?;
+    assert_eq!(rt; lines_after(&rt, &calls, 64, &events)?.len(), 65_537);
     for worker in 0..64 {
-        core.event(Event::Start(worker), &mut out)?;
+        events.push(Event::Start(worker))?;
     }
+    let out = lines_after(&rt, &calls, 64, &events)?;
+    let last = Answer::Start {
+        worker: 63,
+        task: 63,
+        run: 0,
+        due: 0,
+    };
     assert_eq!(rt; out.len(), 65_601);
     assert_eq!(rt;
-        out.get(65_600).map(|line| line.answer),
-        Some(Answer::Start {
-            worker: 63,
-            task: 63,
-            run: 0,
-            due: 0
-        })
+        out.get(65_600).map(|line| line.message),
+        Some(Message::Answer(last))
     );
     Ok(())
 }

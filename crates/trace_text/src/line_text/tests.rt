@@ -1,12 +1,18 @@
 //! Lines of a trace by hand.
 use crate::line_text::write_lines;
-use executor_core::{Answer, CancelEffect, EventError, Kind, Line, Outcome, Refusal};
+use executor_core::{Answer, CancelEffect, EventError, Kind, Line, Message, Outcome, Refusal};
+use sched_time::Which;
 use std::process::Abort;
 
-/// Checks the text of one line.
+/// Checks the text of the line of an answer.
 fn writes(rt: &(impl AllocGlobal + Abort), moment: u64, answer: Answer, text: &str) {
+    writes_message(rt, moment, Message::Answer(answer), text);
+}
+
+/// Checks the text of one line.
+fn writes_message(rt: &(impl AllocGlobal + Abort), moment: u64, message: Message, text: &str) {
     let mut out = Vec::new(rt.alloc());
-    let said = write_lines(&mut out, &[Line { moment, answer }]);
+    let said = write_lines(&mut out, &[Line { moment, message }]);
     assert!(rt; said.is_ok(), "{text}");
     assert!(rt; out.as_slice() == text.as_bytes(), "{text}");
 }
@@ -20,17 +26,27 @@ fn writes_submissions(rt: HostRuntime) {
     ] {
         writes(&rt, 0, Answer::Submit { task: 0, kind, due }, text);
     }
-    let refused = Answer::Refuse {
-        task: 1,
-        refusal: Refusal::Illegal,
-    };
-    writes(&rt, 0, refused, "0 refuse 1 illegal\n");
     let last = Answer::Submit {
         task: u32::MAX,
         kind: Kind::Schedule,
         due: 12,
     };
     writes(&rt, 7, last, "7 submit 4294967295 schedule due 12\n");
+}
+
+#[test]
+fn writes_each_refusal(rt: HostRuntime) {
+    for (task, refusal, text) in [
+        (1, Refusal::Illegal, "0 refuse 1 illegal\n"),
+        (0, Refusal::Rejected, "0 refuse 0 rejected\n"),
+        (
+            u32::MAX,
+            Refusal::Rejected,
+            "0 refuse 4294967295 rejected\n",
+        ),
+    ] {
+        writes(&rt, 0, Answer::Refuse { task, refusal }, text);
+    }
 }
 
 #[test]
@@ -52,6 +68,91 @@ fn writes_cancels(rt: HostRuntime) {
         effect: CancelEffect::Absent,
     };
     writes(&rt, 0, last, "0 outside 4294967295 none\n");
+}
+
+#[test]
+fn writes_policies(rt: HostRuntime) {
+    for (which, value, text) in [
+        (Which::Continue, true, "7 policy continue true\n"),
+        (Which::Continue, false, "7 policy continue false\n"),
+        (Which::Execute, true, "7 policy execute true\n"),
+        (Which::Execute, false, "7 policy execute false\n"),
+        (Which::Remove, true, "7 policy remove true\n"),
+        (Which::Remove, false, "7 policy remove false\n"),
+    ] {
+        writes(&rt, 7, Answer::Policy { which, value }, text);
+    }
+}
+
+#[test]
+fn writes_shutdowns(rt: HostRuntime) {
+    writes(&rt, 0, Answer::Shutdown, "0 shutdown\n");
+    writes(&rt, 9, Answer::ShutdownAgain, "9 shutdown again\n");
+}
+
+#[test]
+fn writes_how_far_the_executor_is(rt: HostRuntime) {
+    for (queue, running, shutdown, terminated, text) in [
+        (
+            0,
+            1,
+            false,
+            false,
+            "3 ask queue 0 running 1 shutdown no terminated no\n",
+        ),
+        (
+            2,
+            0,
+            true,
+            false,
+            "3 ask queue 2 running 0 shutdown yes terminated no\n",
+        ),
+        (
+            0,
+            0,
+            true,
+            true,
+            "3 ask queue 0 running 0 shutdown yes terminated yes\n",
+        ),
+        (
+            u32::MAX,
+            u32::MAX,
+            false,
+            true,
+            "3 ask queue 4294967295 running 4294967295 shutdown no terminated yes\n",
+        ),
+    ] {
+        let ask = Answer::Ask {
+            queue,
+            running,
+            shutdown,
+            terminated,
+        };
+        writes(&rt, 3, ask, text);
+    }
+    let longest = Answer::Ask {
+        queue: u32::MAX,
+        running: u32::MAX,
+        shutdown: true,
+        terminated: true,
+    };
+    writes(
+        &rt,
+        u64::MAX,
+        longest,
+        "18446744073709551615 ask queue 4294967295 running 4294967295 shutdown yes terminated yes\n",
+    );
+}
+
+#[test]
+fn writes_ends(rt: HostRuntime) {
+    writes_message(&rt, 0, Message::End(0), "0 end 0\n");
+    writes_message(
+        &rt,
+        u64::MAX,
+        Message::End(u32::MAX),
+        "18446744073709551615 end 4294967295\n",
+    );
 }
 
 #[test]
@@ -80,6 +181,7 @@ fn writes_each_outcome(rt: HostRuntime) {
             "25 finish 0 task 3 run 1 again due 20\n",
         ),
         (Outcome::Dropped, "25 finish 0 task 3 run 1 dropped\n"),
+        (Outcome::Ended, "25 finish 0 task 3 run 1 ended\n"),
     ] {
         let finish = Answer::Finish {
             worker: 0,

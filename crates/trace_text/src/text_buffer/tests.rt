@@ -1,6 +1,6 @@
 //! Lines of a trace in a buffer.
 use crate::text_buffer::TextBuffer;
-use executor_core::{Answer, Line};
+use executor_core::{Answer, Line, Message};
 
 #[test]
 fn keeps_what_was_written(rt: HostRuntime) {
@@ -8,7 +8,7 @@ fn keeps_what_was_written(rt: HostRuntime) {
         let mut text = TextBuffer::new(rt.alloc(), room).expect(&rt, "room");
         let line = Line {
             moment: 7,
-            answer: Answer::Idle { worker: 2 },
+            message: Message::Answer(Answer::Idle { worker: 2 }),
         };
         text.write_line(&line).expect(&rt, "a line");
         text.write_lines(&[line, line]).expect(&rt, "two lines");
@@ -26,7 +26,7 @@ fn keeps_many_lines(rt: HostRuntime) {
     for moment in 0..10_000 {
         let line = Line {
             moment,
-            answer: Answer::Clock,
+            message: Message::Answer(Answer::Clock),
         };
         text.write_line(&line).expect(&rt, "a line");
     }

@@ -3,6 +3,6 @@ use Rattle.executor_plain.proofs.Plains.{made_le}
 use Rattle.executor_plain.proofs.history.+made.Goals as goal
 
 pub overflow_add-result : goal.overflow_add-result
-overflow_add-result t c =
+overflow_add-result g t c =
     let past = c.args.past.now in
     omega (arith, c.made.ensures, made_le (take (length past - 1) (drop 1 past)), length-take (length past - 1) (drop 1 past), length-drop 1 past)

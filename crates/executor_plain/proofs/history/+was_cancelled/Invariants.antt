@@ -2,4 +2,4 @@ use Rattle.std.proofs.Common.{length}
 use Rattle.executor_plain.proofs.history.+was_cancelled.Given as goal
 
 abbrev pub decreases-was_cancelled : goal.decreases-was_cancelled
-decreases-was_cancelled l = length l.past.now
+decreases-was_cancelled g l = length l.past.now

@@ -1,4 +1,4 @@
 use Rattle.executor_plain.proofs.tasks.+first_enabled.Given as goal
 
 abbrev pub decreases-first_enabled : goal.decreases-first_enabled
-decreases-first_enabled l = l.count
+decreases-first_enabled g l = l.count

@@ -2,7 +2,6 @@ use Rattle.executor_core.specs.declared.types.Event.TheVariants as v
 use Rattle.std.proofs.Common.{[], take, sym, subst}
 use Rattle.std.specs.Prelude.{reverse}
 use Rattle.executor_core.specs.Flows.{flow}
-use Rattle.executor_plain.specs.Plain.{history}
 use Rattle.executor_core.specs.Within.{IsAnswered}
 use Rattle.executor_core.proofs.Within.{answered_from}
 use Rattle.executor_plain.proofs.Plains.{one_event}
@@ -15,5 +14,5 @@ take_event-requires-clause-answered g c =
 
 pub loop-event-preserved : goal.loop-event-preserved
 loop-event-preserved g c =
-    one_event c.args.calls.now c.args.workers c.loop-event.event-index c.args.events.now (v.Clock 0) (history c.loop-event.past.items) (history c.take_event.new.past.items)
+    one_event c.args.calls.now c.args.workers c.loop-event.event-index c.args.events.now (v.Clock 0) c.loop-event.past.items c.take_event.new.past.items
     c.loop-event-test.true c.loop-event.invariant c.in_ok-take_event.ensures

@@ -1,7 +1,6 @@
 use Rattle.std.proofs.Common.{sym, subst}
 use Rattle.std.specs.Prelude.{replicate}
 use Rattle.executor_core.specs.declared.types.Happening.TheVariants as h
-use Rattle.executor_plain.specs.Plain.{history}
 use Rattle.executor_core.specs.Within.{IsAnswered}
 use Rattle.executor_core.proofs.Within.{answered_from}
 use Rattle.executor_plain.proofs.Plains.{one_call}
@@ -10,8 +9,8 @@ use Rattle.executor_plain.proofs.tracing.make_calls.Goals as goal
 pub happen-requires-clause-answered : goal.happen-requires-clause-answered
 happen-requires-clause-answered g c =
     subst (IsAnswered c.args.calls.now c.args.workers) (sym c.loop-made.invariant)
-    (answered_from c.args.calls.now c.args.workers (history c.args.past.now.items) (replicate c.loop-made._made h.Call) c.requires.answered)
+    (answered_from c.args.calls.now c.args.workers c.args.past.now.items (replicate c.loop-made._made h.Call) c.requires.answered)
 
 pub loop-made-preserved : goal.loop-made-preserved
 loop-made-preserved g c =
-    one_call c.args.calls.now c.args.workers c.loop-made._made (history c.args.past.now.items) (history c.loop-made.past.items) (history c.happen.new.past.items) c.loop-made.invariant c.in_ok-happen.ensures
+    one_call c.args.calls.now c.args.workers c.loop-made._made c.args.past.now.items c.loop-made.past.items c.happen.new.past.items c.loop-made.invariant c.in_ok-happen.ensures

@@ -7,14 +7,14 @@ use Rattle.plan_read.proofs.Accepted.{end_from_one_more, made_from_one_more}
 use Rattle.plan_read.proofs.reading.read_blocks.Goals as goal
 
 pub unreachable-requires : goal.unreachable-requires
-unreachable-requires c =
+unreachable-requires g c =
     let none : as_table (view c.value-item.result) ≡ None = sym (rw c.in_default.is at c.as_table.ensures) in
     let some = is_table c.args.tables.now c.loop-value.value-index c.value-item.result c.loop-value-test.true c.requires.tables in
     let e = rw (← c.value-item.is, none) at some in
     cc
 
 pub loop-value-preserved : goal.loop-value-preserved
-loop-value-preserved c =
+loop-value-preserved g c =
     let i = c.loop-value.value-index in
     let vs = c.args.tables.now in
     let earlier = c.loop-value.blocks.items in

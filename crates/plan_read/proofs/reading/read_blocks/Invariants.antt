@@ -7,7 +7,7 @@ use Rattle.plan_read.specs.Values.{tables_in, blocks_after}
 use Rattle.plan_read.proofs.reading.read_blocks.Given as goal
 
 abbrev pub invariant-loop-value : goal.invariant-loop-value
-invariant-loop-value l = record {
+invariant-loop-value g l = record {
   count : length l.blocks.items ≡ l.value-index;
   end : l.end ≡ end_of l.blocks.items;
   made : l.made ≡ made_by l.blocks.items;

@@ -1,4 +1,4 @@
-use Rattle.std.proofs.Common.{◌≡◌, ◌≤◌, ◌+◌, ◌∙◌, ◌∷◌, sym, Some, None, drop, length, arith, rules}
+use Rattle.std.proofs.Common.{◌≡◌, ◌≤◌, ◌+◌, ◌∙◌, ◌∷◌, sym, Some, None, drop, arith, rules}
 use Rattle.toml.specs.Data.{as_table}
 use Rattle.toml.specs.View.{view, table_view, items_view}
 use Rattle.plan_read.specs.Plans.{tasks_after_calls}
@@ -9,14 +9,14 @@ use Rattle.plan_read.proofs.reading.read_calls.Goals as goal
 use Rattle.plan_read.proofs.reading.read_calls.Goals.{then-is_submission, else-is_submission}
 
 pub unreachable-requires : goal.unreachable-requires
-unreachable-requires c =
+unreachable-requires g c =
     let none : as_table (view c.value-item.result) ≡ None = sym (rw c.in_default.is at c.as_table.ensures) in
     let some = is_table c.args.tables.now c.loop-value.value-index c.value-item.result c.loop-value-test.true c.requires.tables in
     let e = rw (← c.value-item.is, none) at some in
     cc
 
 pub loop-value-preserved : goal.loop-value-preserved
-loop-value-preserved c =
+loop-value-preserved g c =
     let i = c.loop-value.value-index in
     let vs = c.args.tables.now in
     let earlier = c.args.earlier.now in

@@ -7,7 +7,7 @@ use Rattle.plan_read.specs.Values.{tables_in, calls_after}
 use Rattle.plan_read.proofs.reading.read_calls.Given as goal
 
 abbrev pub invariant-loop-value : goal.invariant-loop-value
-invariant-loop-value l = record {
+invariant-loop-value g l = record {
   count : length l.calls.items ≡ l.value-index;
   small : l.sub ≤ l.value-index;
   sub : l.sub ≡ tasks_after_calls 0 l.calls.items;

@@ -8,7 +8,7 @@ use Rattle.plan_read.proofs.reading.read_next.Goals as goal
 use Rattle.plan_read.proofs.reading.read_next.Goals.{then-is_submission+in_ok-add_name, else-is_submission}
 
 pub returns-clause-names : goal.returns-clause-names
-returns-clause-names c =
+returns-clause-names g c =
     let ms = table_view c.args.table.now in
     let subs = submissions_before c.args.earlier.now c.args.header c.args.before.now in
     let found : c.copied-found.result ≡ find (name_at ms) subs = c.copied-found.ensures ∙ c.get.ensures.value ∙ rw c.text_or-name.ensures (c.requires.names (name_at ms)) in

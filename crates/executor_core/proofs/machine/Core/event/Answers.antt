@@ -1,26 +1,25 @@
-use Rattle.std.proofs.Common.{◌≡◌, length, sym, subst, [], ◌∷◌, ◌++◌, refl, ap, ◌∙◌}
+use Rattle.std.proofs.Common.{◌≡◌, length, sym, subst, ap, ◌∙◌}
 use Rattle.queue_code.specs.Calls.{task_count}
 use Rattle.executor_core.specs.Machine.{Machine}
-use Rattle.executor_core.specs.Flows.{happening_of, calls_before}
+use Rattle.executor_core.specs.Flows.{calls_before}
 use Rattle.executor_core.proofs.Events.{event_steps, event_taken, event_continues}
 use Rattle.executor_core.proofs.Errors.{error_only_counts}
 use Rattle.executor_core.proofs.machine.Core.event.Goals as goal
 
 pub returns-clause-steps : goal.returns-clause-steps
 returns-clause-steps g c =
-    event_steps c.args.self.now c.make_calls_before.new.self c.count.new.self c.answer-answer.new.self c.answer-answer.new.self c.args.out.now.items c.make_room.new.out.items c.make_calls_before.new.out.items c.push_reserved.new.self.items c.args.event c.answer-answer.result
-    (calls_before c.args.self.now.calls c.args.self.now.made c.args.self.now.moment c.args.event) c.make_room.ensures.items c.make_calls_before.ensures.steps c.count.ensures.same c.answer-answer.ensures refl
-    (c.push_reserved.ensures.items ∙ ap (λ (m : Machine). c.make_calls_before.new.out.items ++ record { moment = m.moment; answer = c.answer-answer.result } ∷ []) c.self-2.view_is)
+    event_steps c.args.self.now c.make_calls_before.new.self c.count.new.self c.happen.new.self c.args.out.now.items c.make_room.new.out.items c.make_calls_before.new.out.items c.happen.new.out.items c.args.event
+    (calls_before c.args.self.now.calls c.args.self.now.made c.args.self.now.moment c.args.event) c.make_room.ensures.items c.make_calls_before.ensures.steps c.count.ensures.same c.happen.ensures.steps
 
 pub returns-clause-history : goal.returns-clause-history
-returns-clause-history g c = event_continues c.args.self.now _ _ c.args.out.now.items c.push_reserved.new.self.items c.args.event c.self.invariant.orderly c.self.view_is (returns-clause-steps g c)
+returns-clause-history g c = event_continues c.args.self.now _ _ c.args.out.now.items c.happen.new.out.items c.args.event c.self.invariant.orderly c.self.view_is (returns-clause-steps g c)
 
 pub returns-clause-errors : goal.returns-clause-errors
 returns-clause-errors g c =
     let old = c.args.self.now in
-    let new = c.answer-answer.new.self in
+    let new = c.happen.new.self in
     let steps = returns-clause-steps g c in
     let count = λ (m : Machine). length m.tasks ≡ task_count m.calls in
-    error_only_counts old new c.args.out.now.items c.push_reserved.new.self.items c.args.event steps
-    (event_taken old c.make_calls_before.new.self c.count.new.self new new (happening_of c.args.event) c.answer-answer.result c.make_calls_before.ensures.taken c.count.ensures.same c.answer-answer.ensures refl)
-    (subst count c.self-2.view_is c.self-2.invariant.count ∙ (ap task_count steps.calls ∙ sym (subst count c.self.view_is c.self.invariant.count)))
+    error_only_counts old new c.args.out.now.items c.happen.new.out.items c.args.event steps
+    (event_taken old c.make_calls_before.new.self c.count.new.self new c.make_calls_before.ensures.taken c.count.ensures.same c.happen.ensures.taken)
+    (c.happen.ensures.tasks ∙ (ap task_count steps.calls ∙ sym (subst count c.self.view_is c.self.invariant.count)))

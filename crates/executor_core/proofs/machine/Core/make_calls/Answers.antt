@@ -1,4 +1,4 @@
-use Rattle.std.proofs.Common.{◌+◌, length, refl, ap, arith, ◌∙◌}
+use Rattle.std.proofs.Common.{◌+◌, refl, arith, ◌∙◌}
 use Rattle.executor_core.proofs.Events.{one_more, reached_after}
 use Rattle.executor_core.proofs.machine.Core.make_calls.Goals as goal
 
@@ -9,7 +9,7 @@ loop-self-preserved g c =
     let call = c.make_call.ensures in
     let next = c.loop-self-test.ensures.next refl in
     record {
-      room = omega (arith, kept.room, call.len, call.capacity, call.made, ap length call.steps.calls, next.0);
+      room = omega (arith, kept.room, call.room, call.capacity);
       capacity = call.capacity ∙ kept.capacity;
       taken = call.taken ∙ kept.taken;
       steps = (

@@ -1,11 +1,11 @@
-use Rattle.std.proofs.Common.{◌≡◌, length, Some, None, ap, ◌∙◌, arith}
+use Rattle.std.proofs.Common.{◌≡◌, ◌+◌, ◌<◌, length, Some, None, ap, ◌∙◌, arith}
 use Rattle.std.specs.Prelude.{slice_get, slice_index_or}
 use Rattle.std.proofs.lemmas.List.{length-map}
 use Rattle.queue_code.specs.declared.call.CodeCall.TheVariants as call
 use Rattle.executor_core.specs.Machine.{queued}
-use Rattle.executor_core.proofs.Tables.{submission}
-use Rattle.executor_core.proofs.WorkerSteps.{queued_at}
-use Rattle.executor_core.proofs.Submits.{submit_keeps_in, submit_steps_in}
+use Rattle.executor_core.proofs.Tables.{submission, queued_at}
+use Rattle.executor_core.proofs.Calling.{passed_kept}
+use Rattle.executor_core.proofs.Submits.{submit_keeps_in, submit_steps_in, submit_fewer}
 use Rattle.executor_core.proofs.machine.Core.submit.Goals as goal
 
 pub overflow_add-due : goal.overflow_add-due
@@ -29,13 +29,6 @@ submit-requires-clause-vacant g c =
     let sub = submission m.calls.items 0 0 m.made c.args.moment c.args.task c.args.timing c.args.delay c.self.invariant.orderly.1 is in
     c.self.invariant.fresh c.args.task (omega (arith, sub.number))
 
-pub index_mut-requires : goal.index_mut-requires
-index_mut-requires g c =
-    let m = c.self.inside in
-    let is : slice_get m.calls.items m.made ≡ Some (c.args.moment, call.Submit c.args.task c.args.timing c.args.delay) = ap (λ x. slice_get x.calls x.made) c.self.view_is ∙ c.requires in
-    let sub = submission m.calls.items 0 0 m.made c.args.moment c.args.task c.args.timing c.args.delay c.self.invariant.orderly.1 is in
-    omega (arith, sub.below, c.self.invariant.timed, m.timings.ok.0)
-
 pub insert-requires-clause-known : goal.insert-requires-clause-known
 insert-requires-clause-known g c =
     let m = c.self.inside in
@@ -54,10 +47,26 @@ pub invariant_of-self : goal.invariant_of-self
 invariant_of-self g c =
     let m = c.self.inside in
     let is : slice_get m.calls.items m.made ≡ Some (c.args.moment, call.Submit c.args.task c.args.timing c.args.delay) = ap (λ x. slice_get x.calls x.made) c.self.view_is ∙ c.requires in
-    submit_keeps_in _ m.queue.entries c.insert.new.self.entries m.timings.items c.max-self-inside.result c.args.moment c.args.task c.args.delay c.args.timing c.submit.new.self c.self.invariant is c.max-self-inside.ensures c.insert.ensures.inserted c.submit.ensures
+    passed_kept _ m.queue.entries m.kept.entries m.searched c.max-self-inside.result c.args.moment (call.Submit c.args.task c.args.timing c.args.delay) c.self.invariant is c.max-self-inside.ensures
+
+pub invariant_of-self-2 : goal.invariant_of-self-2
+invariant_of-self-2 g c =
+    let m = c.self.inside in
+    let is : slice_get m.calls.items m.made ≡ Some (c.args.moment, call.Submit c.args.task c.args.timing c.args.delay) = ap (λ x. slice_get x.calls x.made) c.self.view_is ∙ c.requires in
+    submit_keeps_in _ m.queue.entries c.insert.new.self.entries m.kept.entries m.searched c.max-self-inside.result c.args.moment c.args.task c.args.delay c.args.timing c.submit.new.self
+    c.self.invariant is c.if-self.false c.max-self-inside.ensures c.insert.ensures.inserted c.submit.ensures
 
 pub returns-clause-step : goal.returns-clause-step
 returns-clause-step g c =
     let m = c.self.inside in
     let is : slice_get m.calls.items m.made ≡ Some (c.args.moment, call.Submit c.args.task c.args.timing c.args.delay) = ap (λ x. slice_get x.calls x.made) c.self.view_is ∙ c.requires in
-    submit_steps_in _ c.args.self.now m.queue.entries m.timings.items c.max-self-inside.result c.args.moment c.args.task c.args.delay c.args.timing c.kind_of-kind.result c.submit.new.self c.self.invariant is c.kind_of-kind.ensures c.max-self-inside.ensures c.self.view_is c.submit.ensures
+    submit_steps_in _ c.args.self.now m.queue.entries m.kept.entries m.searched c.max-self-inside.result c.args.moment c.args.task c.args.delay c.args.timing c.kind_of-kind.result c.submit.new.self
+    c.self.invariant is c.if-self.false c.kind_of-kind.ensures c.max-self-inside.ensures c.self.view_is c.submit.ensures
+
+pub returns-clause-uncancelled : goal.returns-clause-uncancelled
+returns-clause-uncancelled g c =
+    let m = c.self.inside in
+    let is : slice_get m.calls.items m.made ≡ Some (c.args.moment, call.Submit c.args.task c.args.timing c.args.delay) = ap (λ x. slice_get x.calls x.made) c.self.view_is ∙ c.requires in
+    let sub = submission m.calls.items 0 0 m.made c.args.moment c.args.task c.args.timing c.args.delay c.self.invariant.orderly.1 is in
+    let low : c.args.task < length m.tasks = omega (arith, sub.below, c.self.invariant.count) in
+    submit_fewer _ c.args.self.now c.args.task (c.args.moment + c.args.delay) c.args.timing c.submit.new.self low (c.self.invariant.fresh c.args.task (omega (arith, sub.number))) c.self.view_is c.submit.ensures

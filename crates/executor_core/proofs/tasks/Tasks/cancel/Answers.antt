@@ -1,7 +1,9 @@
-use Rattle.std.proofs.Common.{arith}
+use Rattle.std.proofs.Common.{true, ap, arith, refl, sym, ◌∙◌}
+use Rattle.std.specs.Prelude.{slice_set}
+use Rattle.executor_core.specs.declared.task.Task.{Task}
 use Rattle.executor_core.proofs.Pairs.{is_in, cancel_sets}
 use Rattle.std.proofs.lemmas.List.{length-set}
-use Rattle.executor_core.proofs.Counting.{some_uncancelled, tables_fewer}
+use Rattle.executor_core.proofs.Counting.{tables_count, tables_recounted}
 use Rattle.executor_core.proofs.tasks.Tasks.cancel.Goals as goal
 
 pub index-requires : goal.index-requires
@@ -19,14 +21,13 @@ returns g c =
     let m = c.self.inside in
     cancel_sets m.words.items m.details.items c.args.self.now c.args.task c.index.result.now c.with_cancel_bit.result c.self.invariant.paired c.self.view_is c.requires.known c.index.ensures c.with_cancel_bit.ensures
 
-pub overflow_sub-self : goal.overflow_sub-self
-overflow_sub-self g c =
+pub recount-self-inside-requires : goal.recount-self-inside-requires
+recount-self-inside-requires g c =
     let m = c.self.inside in
-    some_uncancelled m.words.items m.details.items c.args.self.now m.uncancelled c.args.task c.self.invariant c.self.view_is c.requires.known c.requires.live
+    tables_count m.words.items m.details.items c.args.self.now m.tallies c.args.task c.get-before.result c.self.invariant c.self.view_is c.requires.known c.get-before.ensures
 
 pub invariant_of-self : goal.invariant_of-self
 invariant_of-self g c =
     let m = c.self.inside in
-    tables_fewer m.words.items _ m.details.items c.args.self.now m.uncancelled c.args.task c.self.invariant c.self.view_is (length-set m.words.items c.args.task c.with_cancel_bit.result)
-    (cancel_sets m.words.items m.details.items c.args.self.now c.args.task c.index.result.now c.with_cancel_bit.result c.self.invariant.paired c.self.view_is c.requires.known c.index.ensures c.with_cancel_bit.ensures)
-    c.requires.known c.requires.live
+    tables_recounted m.words.items _ m.details.items m.details.items c.args.self.now m.tallies c.recount-self-inside.result c.args.task c.get-before.result _ c.self.invariant c.self.view_is (length-set m.words.items c.args.task c.with_cancel_bit.result) refl
+    (returns g c ∙ ap (λ (t : Task). slice_set c.args.self.now c.args.task (record t { cancelled = true })) (sym c.get-before.ensures)) c.requires.known c.get-before.ensures c.recount-self-inside.ensures

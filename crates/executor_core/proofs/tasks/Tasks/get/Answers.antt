@@ -20,4 +20,4 @@ returns g c =
     let detail = c.index-detail.result.now in
     let phase = c.phase_in.ensures ∙ ap (λ p. phase_in p detail.over) c.phase.ensures in
     let task = task_read m.words.items m.details.items c.args.self.now c.args.task word detail c.self.invariant.paired c.self.view_is c.requires c.index-word.ensures in
-    (λ i. record { phase = phase i; run = c.run.ensures.value i; due = detail.due; cancelled = c.is_marked.ensures i }) ∙ (ap (task_of word) c.index-detail.ensures ∙ sym task)
+    (λ i. record { phase = phase i; run = c.run.ensures.value i; due = detail.due; timing = detail.timing; cancelled = c.is_marked.ensures i; kept = detail.kept }) ∙ (ap (task_of word) c.index-detail.ensures ∙ sym task)

@@ -11,5 +11,5 @@ pub invariant_of-result : goal.invariant_of-result
 invariant_of-result g c =
     let words : c.in_ok-from_elem.field-0.items ≡ replicate c.args.count c.vacant.result = c.in_ok-from_elem.ensures.items_if_clones_equal (search rules) in
     let details : c.in_ok-from_elem-2.field-0.items ≡ replicate c.args.count blank = c.in_ok-from_elem-2.ensures.items_if_clones_equal (search rules) in
-    vacant_counted c.args.count c.in_ok-from_elem.field-0.items c.in_ok-from_elem-2.field-0.items (omega (arith, ap length words, ap length details, length-replicate c.args.count c.vacant.result, length-replicate c.args.count blank))
-    (vacant_tables c.args.count c.vacant.result c.in_ok-from_elem.field-0.items c.in_ok-from_elem-2.field-0.items c.vacant.ensures words details)
+    vacant_counted c.args.count c.in_ok-from_elem.field-0.items c.in_ok-from_elem-2.field-0.items c.of_vacant.result (omega (arith, ap length words, ap length details, length-replicate c.args.count c.vacant.result, length-replicate c.args.count blank)) (omega (arith, c.ranges.count.fits))
+    (vacant_tables c.args.count c.vacant.result c.in_ok-from_elem.field-0.items c.in_ok-from_elem-2.field-0.items c.vacant.ensures words details) c.of_vacant.ensures

@@ -1,8 +1,11 @@
-use Rattle.std.proofs.Common.{ap, arith, sym}
+use Rattle.std.proofs.Common.{◌≡◌, ap, arith, sym, ◌∙◌}
+use Rattle.std.specs.Prelude.{slice_set}
+use Rattle.executor_core.specs.State.{vacant}
+use Rattle.executor_core.specs.declared.task.Phase.TheVariants as ph
 use Rattle.executor_core.specs.declared.task.Task.{Task}
 use Rattle.executor_core.proofs.Pairs.{is_in, word_vacant, submit_sets}
 use Rattle.std.proofs.lemmas.List.{length-set}
-use Rattle.executor_core.proofs.Counting.{tables_same}
+use Rattle.executor_core.proofs.Counting.{tables_count, tables_recounted}
 use Rattle.executor_core.proofs.tasks.Tasks.submit.Goals as goal
 
 pub index-requires : goal.index-requires
@@ -28,11 +31,17 @@ index_mut-requires-2 g c =
 pub returns : goal.returns
 returns g c =
     let m = c.self.inside in
-    submit_sets m.words.items m.details.items c.args.self.now c.args.task c.args.due c.index.result.now c.submitted.result c.self.invariant.paired c.self.view_is c.submitted.ensures
+    submit_sets m.words.items m.details.items c.args.self.now c.args.task c.args.timing c.args.due c.index.result.now c.submitted.result c.self.invariant.paired c.self.view_is c.submitted.ensures
+
+pub recount-self-inside-requires : goal.recount-self-inside-requires
+recount-self-inside-requires g c =
+    let m = c.self.inside in
+    tables_count m.words.items m.details.items c.args.self.now m.tallies c.args.task c.get-before.result c.self.invariant c.self.view_is c.requires.known c.get-before.ensures
 
 pub invariant_of-self : goal.invariant_of-self
 invariant_of-self g c =
     let m = c.self.inside in
-    tables_same m.words.items _ m.details.items _ c.args.self.now m.uncancelled c.args.task _ c.self.invariant c.self.view_is (length-set m.words.items c.args.task c.submitted.result) (length-set m.details.items c.args.task _)
-    (submit_sets m.words.items m.details.items c.args.self.now c.args.task c.args.due c.index.result.now c.submitted.result c.self.invariant.paired c.self.view_is c.submitted.ensures)
-    c.requires.known (sym (ap (λ (t : Task). t.cancelled) c.requires.vacant))
+    let vacant : c.get-before.result ≡ vacant = c.get-before.ensures ∙ c.requires.vacant in
+    tables_recounted m.words.items _ m.details.items _ c.args.self.now m.tallies c.recount-self-inside.result c.args.task c.get-before.result _ c.self.invariant c.self.view_is (length-set m.words.items c.args.task c.submitted.result) (length-set m.details.items c.args.task _)
+    (returns g c ∙ ap (λ (t : Task). slice_set c.args.self.now c.args.task (record t { phase = ph.Waiting; timing = c.args.timing; due = c.args.due })) (sym vacant))
+    c.requires.known c.get-before.ensures c.recount-self-inside.ensures

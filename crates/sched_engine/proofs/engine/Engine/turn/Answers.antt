@@ -1,11 +1,10 @@
 use Rattle.std.proofs.Common.{◌≡◌, ℕ, ◌+◌, ◌≤◌, List, Result, Err, length, take, refl, sym, subst, arith, rules}
 use Rattle.std.specs.Io.KnownBytes.{Appends}
-use Rattle.sched_engine.specs.declared.held.TheConstants.{PIECE}
 use Rattle.sched_engine.specs.declared.answering.PieceEnd.{PieceEnd}
 use Rattle.sched_engine.specs.declared.report.RunError.{RunError}
 use Rattle.sched_engine.specs.declared.report.RunError.TheVariants.{Memory}
 use Rattle.sched_engine.specs.declared.engine.Turn.{Turn}
-use Rattle.sched_engine.specs.Running.{Runs}
+use Rattle.sched_engine.specs.Running.{Runs, piece}
 use Rattle.sched_engine.specs.Turns.{IsPieceEnd, Progress, Turns}
 use Rattle.sched_engine.proofs.Turns.{at_the_end, faulted, few_lines, filled, full, out_of_memory, refused, smaller, unwritten, wrote}
 use Rattle.sched_engine.proofs.engine.Engine.turn.Goals as goal
@@ -58,7 +57,7 @@ returns-then-not-write_text-clause-turns g c = λ run between.
     let ok = c.in_ok-end.ensures in
     let done = ok.done run reader writer read in
     let answered : Progress = record { left = reader; held = new.held; text = new.draft.text; contents = writer; core = new.core; count = new.count } in
-    let near : length new.held ≤ PIECE = omega (arith, ok.fewer, c.fill.ensures.few) in
+    let near : length new.held ≤ piece = omega (arith, ok.fewer, c.fill.ensures.few) in
     let after = g.W.Sink.contents c.write_text.new.sink in
     let written = c.if-not-write_text.ensures.bytes in
     unwritten run answered after written.0 done near (subst (λ (l : List ℕ). Appends writer after (take written.0 l)) c.bytes.ensures written.2)
@@ -75,7 +74,7 @@ returns-in-Part-clause-turns g c = λ run between.
     let ok = c.in_ok-end.ensures in
     let done = ok.done run reader writer read in
     let answered : Progress = record { left = reader; held = new.held; text = new.draft.text; contents = writer; core = new.core; count = new.count } in
-    let near : length new.held ≤ PIECE = omega (arith, ok.fewer, c.fill.ensures.few) in
+    let near : length new.held ≤ piece = omega (arith, ok.fewer, c.fill.ensures.few) in
     let after = g.W.Sink.contents c.write_text.new.sink in
     let finished = wrote run answered after c.clear.new.self.text done (subst (Appends writer after) c.bytes.ensures c.if-not-write_text.ensures.bytes) c.clear.ensures.text in
     let here : Progress = record { left = reader; held = new.held; text = c.clear.new.self.text; contents = after; core = new.core; count = new.count } in
@@ -96,7 +95,7 @@ returns-in-Refused-clause-turns g c = λ run between.
     let ok = c.in_ok-end.ensures in
     let done = ok.done run reader writer read in
     let answered : Progress = record { left = reader; held = new.held; text = new.draft.text; contents = writer; core = new.core; count = new.count } in
-    let near : length new.held ≤ PIECE = omega (arith, ok.fewer, c.fill.ensures.few) in
+    let near : length new.held ≤ piece = omega (arith, ok.fewer, c.fill.ensures.few) in
     let after = g.W.Sink.contents c.write_text.new.sink in
     let finished = wrote run answered after c.clear.new.self.text done (subst (Appends writer after) c.bytes.ensures c.if-not-write_text.ensures.bytes) c.clear.ensures.text in
     let here : Progress = record { left = reader; held = new.held; text = c.clear.new.self.text; contents = after; core = new.core; count = new.count } in
@@ -115,7 +114,7 @@ returns-in-Full-clause-turns g c = λ run between.
     let ok = c.in_ok-end.ensures in
     let done = ok.done run reader writer read in
     let answered : Progress = record { left = reader; held = new.held; text = new.draft.text; contents = writer; core = new.core; count = new.count } in
-    let near : length new.held ≤ PIECE = omega (arith, ok.fewer, c.fill.ensures.few) in
+    let near : length new.held ≤ piece = omega (arith, ok.fewer, c.fill.ensures.few) in
     let after = g.W.Sink.contents c.write_text.new.sink in
     let finished = wrote run answered after c.clear.new.self.text done (subst (Appends writer after) c.bytes.ensures c.if-not-write_text.ensures.bytes) c.clear.ensures.text in
     let here : Progress = record { left = reader; held = new.held; text = c.clear.new.self.text; contents = after; core = new.core; count = new.count } in

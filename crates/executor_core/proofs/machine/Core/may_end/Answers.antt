@@ -1,0 +1,32 @@
+use Rattle.std.proofs.Common.{◌≡◌, ℕ, nat_lt, ◌⊎◌, inl, inr, true, false, sym, ◌∙◌, arith, subst}
+use Rattle.std.proofs.lemmas.Bool.Decides.{nat_tests}
+use Rattle.executor_core.specs.Tasks.{periodic_in}
+use Rattle.executor_core.specs.Machine.{Machine}
+use Rattle.executor_core.proofs.Sweeping.{sweeps_at, none_swept, not_false}
+use Rattle.executor_core.proofs.machine.Core.may_end.Goals as goal
+use Rattle.executor_core.proofs.machine.Core.may_end.Goals.{then-not-self, else-not-self}
+
+none_above : (n : ℕ) → nat_lt 0 n ≡ false → n ≡ 0
+none_above n q = grind (arith, nat_tests, q)
+
+pub returns-then-not-self-2 : goal.returns-then-not-self-2
+returns-then-not-self-2 g c = λ sought.
+    let m = c.self.inside in
+    let periodic : (m.policies.continues ≡ true) ⊎ (periodic_in m.tasks ≡ 0) = elim c.if-not-self.branch [
+      | then-not-self w ↦ inr (sym w.periodic.ensures ∙ none_above w.periodic.result (sym w.value-is ∙ c.if-periodic-gt0.false))
+      | else-not-self w ↦ inl w.if-not-self.false
+    ]
+    in
+    subst (λ (x : Machine). (k : ℕ) → sweeps_at x k ≡ false) c.self.view_is
+    (none_swept _ m.queue.entries m.kept.entries m.searched c.self.invariant periodic (inr (not_false m.searched sought)))
+
+pub returns-else-not-self-2 : goal.returns-else-not-self-2
+returns-else-not-self-2 g c = λ runs.
+    let m = c.self.inside in
+    let periodic : (m.policies.continues ≡ true) ⊎ (periodic_in m.tasks ≡ 0) = elim c.if-not-self.branch [
+      | then-not-self w ↦ inr (sym w.periodic.ensures ∙ none_above w.periodic.result (sym w.value-is ∙ c.if-periodic-gt0.false))
+      | else-not-self w ↦ inl w.if-not-self.false
+    ]
+    in
+    subst (λ (x : Machine). (k : ℕ) → sweeps_at x k ≡ false) c.self.view_is
+    (none_swept _ m.queue.entries m.kept.entries m.searched c.self.invariant periodic (inl c.if-not-self-2.false))

@@ -1,0 +1,73 @@
+//! How many tasks are of some sorts. The numbers are kept beside the tasks, so that no call has to count.
+ghost use Rattle.std.specs.Prelude.{◌≡◌};
+ghost use Rattle.executor_core.specs.Tasks.{Count, IsRecount, is_periodic, is_running_phase, one, waits_again};
+
+use crate::task::{Phase, Task};
+use sched_time::Timing;
+
+/// How many tasks are of some sorts.
+#[derive(Clone, Copy)]
+pub(crate) struct Tallies {
+    /// How many are not cancelled.
+    pub(crate) uncancelled: usize,
+    /// How many have a run under way.
+    pub(crate) running: usize,
+    /// How many periodic ones wait for a run.
+    pub(crate) periodic: usize,
+}
+
+impl Tallies {
+    /// The numbers of `count` vacant tasks.
+    pub(crate) fn of_vacant(count: usize) -> Tallies
+        ensures { result ≡ record { uncancelled = count; running = 0; periodic = 0 } }
+    {
+        Tallies {
+            uncancelled: count,
+            running: 0,
+            periodic: 0,
+        }
+    }
+
+    /// The numbers once the task `after` stands for `before`.
+    pub(crate) fn recount(self, before: Task, after: Task) -> Tallies
+        requires { Count self before }
+        ensures { IsRecount self result before after }
+    {
+        Tallies {
+            uncancelled: self.uncancelled + one(!after.cancelled) - one(!before.cancelled),
+            running: self.running + one(is_running(after.phase)) - one(is_running(before.phase)),
+            periodic: self.periodic + one(waits_again(after)) - one(waits_again(before)),
+        }
+    }
+}
+
+/// One where a test passes.
+fn one(test: bool) -> usize
+    ensures { result ≡ one test }
+{
+    if test { 1 } else { 0 }
+}
+
+/// Whether a run is under way in this phase.
+fn is_running(phase: Phase) -> bool
+    ensures { result ≡ is_running_phase phase }
+{
+    matches!(phase, Phase::Running)
+}
+
+/// Whether a periodic task waits for a run.
+fn waits_again(task: Task) -> bool
+    ensures { result ≡ waits_again task }
+{
+    matches!(task.phase, Phase::Waiting) && !task.cancelled && is_periodic(task.timing)
+}
+
+/// Whether a task of this timing has more runs than one.
+pub(crate) fn is_periodic(timing: Timing) -> bool
+    ensures { result ≡ is_periodic timing }
+{
+    match timing {
+        Timing::Once => false,
+        Timing::Rate(_) | Timing::Fixed(_) => true,
+    }
+}

@@ -1,0 +1,99 @@
+//! What the words of the tasks say after each event.
+use super::{core_of, nanos, periodic, submission};
+use crate::{Core, Event, Line};
+use queue_code::CodeCall;
+use sched_time::{Ending, Timing, Which};
+use std::alloc::{AllocGlobal, Allocator, Global};
+use std::process::Abort;
+use std::test::Fail;
+use task_word::Word;
+
+/// What the words say: of each its phase, its run, and a mark where it is cancelled.
+fn text_of_words(alloc: Global, words: &[Word]) -> Result<String, Fail> {
+    let mut text = String::new(alloc);
+    for word in words {
+        let mark = if word.is_cancelled() {
+            " cancelled"
+        } else {
+            ""
+        };
+        write!(text, "{:?} {}{mark};", word.phase(), word.run())?;
+    }
+    Ok(text)
+}
+
+/// Checks what the words of a core say after each of these events.
+fn words_say_after<A: Allocator>(
+    rt: &(impl AllocGlobal + Abort),
+    core: &mut Core<A>,
+    out: &mut Vec<Line>,
+    steps: &[(Event, &str)],
+) -> Result<(), Fail> {
+    for (event, said) in steps {
+        core.event(*event, out)?;
+        let text = text_of_words(rt.alloc(), core.words())?;
+        assert_eq!(rt; text.as_str(), *said, "after {event:?}");
+    }
+    Ok(())
+}
+
+/// Checks what the words of a core of one worker say before any event, and after each of these.
+fn words_say(
+    rt: &(impl AllocGlobal + Abort),
+    calls: &[(u64, CodeCall)],
+    opening: &str,
+    steps: &[(Event, &str)],
+) -> Result<(), Fail> {
+    let mut core = core_of(rt, rt.alloc(), calls, 1, 100)?;
+    let text = text_of_words(rt.alloc(), core.words())?;
+    assert_eq!(rt; text.as_str(), opening);
+    words_say_after(rt, &mut core, &mut Vec::new(rt.alloc()), steps)
+}
+
+#[test]
+fn words_tell_how_far_each_task_has_come(rt: HostRuntime) -> Result<(), Fail> {
+    let calls = [
+        periodic(0, 0, Timing::Rate(nanos(5)?), 0),
+        submission(0, 1, 0),
+        submission(9, 2, 0),
+    ];
+    let end = Event::Finish(0, Ending::Value(1));
+    let steps = [
+        (Event::Clock(0), "New 0;New 0;Vacant 0;"),
+        (Event::Start(0), "Running 0;New 0;Vacant 0;"),
+        (end, "New 1;New 0;Vacant 0;"),
+        (Event::Start(0), "New 1;Running 0;Vacant 0;"),
+        (Event::Cancel(1), "New 1;Running 0 cancelled;Vacant 0;"),
+        (end, "New 1;Running 0 cancelled;Vacant 0;"),
+    ];
+    words_say(&rt, &calls, "Vacant 0;Vacant 0;Vacant 0;", &steps)
+}
+
+/// A sweep that a shutdown makes ends a periodic task that waits, one that a policy makes later ends a delayed one, and
+/// the periodic task that runs meanwhile ends at its finish.
+#[test]
+fn words_tell_which_tasks_were_ended(rt: HostRuntime) -> Result<(), Fail> {
+    let execute = CodeCall::SetPolicy {
+        which: Which::Execute,
+        value: false,
+    };
+    let calls = [
+        periodic(0, 0, Timing::Rate(nanos(5)?), 0),
+        periodic(0, 1, Timing::Fixed(nanos(5)?), 3),
+        submission(0, 2, 9),
+        (2, CodeCall::Shutdown),
+        (4, execute),
+    ];
+    let end = Event::Finish(0, Ending::Value(1));
+    let steps = [
+        (Event::Clock(0), "New 0;New 0;New 0;"),
+        (Event::Start(0), "Running 0;New 0;New 0;"),
+        (Event::Clock(2), "Running 0;New 0 cancelled;New 0;"),
+        (
+            Event::Clock(4),
+            "Running 0;New 0 cancelled;New 0 cancelled;",
+        ),
+        (end, "Running 0 cancelled;New 0 cancelled;New 0 cancelled;"),
+    ];
+    words_say(&rt, &calls, "Vacant 0;Vacant 0;Vacant 0;", &steps)
+}

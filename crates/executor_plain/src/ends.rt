@@ -1,0 +1,104 @@
+ghost use Rattle.std.specs.Prelude.{◌≡◌, IfOk};
+ghost use Rattle.queue_code.specs.Calls.{IsOrderly};
+ghost use Rattle.executor_core.specs.Answers as answers;
+ghost use Rattle.executor_core.specs.Histories as histories;
+ghost use Rattle.executor_core.specs.Within.{IsAnswered};
+ghost use Rattle.executor_plain.specs.Plain.{IsAnsweredBySome};
+
+use crate::history::{Past, call_at, made, now_of, policies_of, was_shut};
+use crate::policies::{is_ended_by, set_policy, setting_sweeps};
+use crate::tasks::{count_tasks, due_of, is_waiting, timing_of};
+use executor_core::{Happening, Policies};
+use queue_code::CodeCall;
+use std::alloc::{AllocError, Allocator};
+
+/// The numbers of the tasks that the answer to a happening ends, ascending; the newest entry of the
+/// history comes first.
+///
+/// Each answer of the history has to be that of [`answer_after`](crate::answer_after), and each of
+/// its lists of tasks this one, for what stands before it. A growth that is refused for want of
+/// memory is the only error. Only a call of the plan ends tasks: the first shutdown, and, where the
+/// executor is shut, one that sets the continue or the execute policy to false (this project's rule).
+pub fn ends_after<A: Allocator>(
+    alloc: A,
+    calls: &[(u64, CodeCall)],
+    workers: u8,
+    past: &[Past<A>],
+    happening: Happening,
+) -> Result<Vec<u32, A>, AllocError>
+    requires orderly { IsOrderly calls.now }
+    requires answered { IsAnswered calls.now workers past.now }
+    ensures { IfOk result (λ ends. ends.items ≡ (histories.answer calls.now workers past.now happening).ends) }
+{
+    match happening {
+        Happening::Call => match call_at(calls, made(past)) {
+            Some((moment, call)) => {
+                let now = now_of(calls, past).max(moment);
+                ends_of_call(alloc, calls, past, now, call)
+            }
+            None => Ok(Vec::new(alloc)),
+        },
+        Happening::Clock(_) | Happening::Start(_) | Happening::Finish(..) | Happening::Cancel(_) =>
+            { Ok(Vec::new(alloc)) }
+    }
+}
+
+/// The tasks that a call ends, which is made at the moment `now`.
+fn ends_of_call<A: Allocator>(
+    alloc: A,
+    calls: &[(u64, CodeCall)],
+    past: &[Past<A>],
+    now: u64,
+    call: CodeCall,
+) -> Result<Vec<u32, A>, AllocError>
+    requires orderly { IsOrderly calls.now }
+    requires answered { IsAnsweredBySome calls.now past.now }
+    ensures { IfOk result (λ ends. ends.items ≡ (answers.called calls.now (record (histories.view_of_history calls.now past.now) { moment = now }) call).ends) }
+{
+    let shut = was_shut(past);
+    let policies = policies_of(past);
+    match call {
+        CodeCall::SetPolicy { which, value } if setting_sweeps(shut, which, value) => {
+            swept(alloc, calls, past, now, set_policy(which, value, policies))
+        }
+        CodeCall::Shutdown if !shut => swept(alloc, calls, past, now, policies),
+        _ => Ok(Vec::new(alloc)),
+    }
+}
+
+/// The tasks that a sweep under these policies ends, at the moment `now`.
+fn swept<A: Allocator>(
+    alloc: A,
+    calls: &[(u64, CodeCall)],
+    past: &[Past<A>],
+    now: u64,
+    policies: Policies,
+) -> Result<Vec<u32, A>, AllocError>
+    requires orderly { IsOrderly calls.now }
+    requires answered { IsAnsweredBySome calls.now past.now }
+    ensures { IfOk result (λ ends. ends.items ≡ answers.swept calls.now (record (histories.view_of_history calls.now past.now) { moment = now }) policies) }
+{
+    let mut ends = Vec::new(alloc);
+    for k in 0..count_tasks(calls) {
+        if is_swept(calls, past, now, policies, k) {
+            ends.push(k)?;
+        }
+    }
+    Ok(ends)
+}
+
+/// Whether a sweep under these policies ends a task, at the moment `now`.
+fn is_swept<A: Allocator>(
+    calls: &[(u64, CodeCall)],
+    past: &[Past<A>],
+    now: u64,
+    policies: Policies,
+    k: u32,
+) -> bool
+    requires orderly { IsOrderly calls.now }
+    requires answered { IsAnsweredBySome calls.now past.now }
+    ensures { result ≡ answers.is_swept calls.now (record (histories.view_of_history calls.now past.now) { moment = now }) policies k }
+{
+    is_waiting(calls, past, k)
+        && is_ended_by(policies, now, timing_of(calls, k), due_of(calls, past, k))
+}

@@ -1,0 +1,84 @@
+-- LineCounts: how many lines a history has.
+use Rattle.std.proofs.Common.{ℕ, ◌+◌, ◌*◌, ◌≤◌, Bool, true, false, cond, List, [], ◌∷◌, length, Option, Some, None, ap, arith, length-append}
+use Rattle.std.specs.Prelude.{slice_get, max}
+use Rattle.std.specs.Option.{option_map_or}
+use Rattle.std.proofs.lemmas.List.{length-map}
+use Rattle.std.proofs.lemmas.List.FromFn.{length-range_with_len}
+use Rattle.std.proofs.lemmas.List.Sums.{length-filter, count_by-le-length}
+use Rattle.queue_code.specs.declared.CodeCall.{CodeCall}
+use Rattle.queue_code.specs.declared.CodeCall.TheVariants as c
+use Rattle.queue_code.specs.Calls.{Planned, IsOrderly, task_count, numbers}
+use Rattle.executor_core.specs.declared.Policies.{Policies}
+use Rattle.executor_core.specs.declared.Happening.{Happening}
+use Rattle.executor_core.specs.declared.Happening.TheVariants as h
+use Rattle.executor_core.specs.declared.Answer.TheVariants as a
+use Rattle.executor_core.specs.View.{View}
+use Rattle.executor_core.specs.Answers.{Reply, plain, is_swept, swept, setting_sweeps, set_policy, called, reply}
+use Rattle.executor_core.specs.Histories.{HistoryEntry, happenings, made, now_of, is_call, view_of_history, IsHistoryOf}
+use Rattle.executor_core.specs.Flows.{end_line, lines_at, lines_of, reply_in}
+
+-- there are no more tasks than calls
+tasks_few : (calls : List Planned) → task_count calls ≤ length calls
+tasks_few [] = omega arith
+tasks_few ((moment, c.Submit task timing delay) ∷ calls) = omega (arith, tasks_few calls)
+tasks_few ((moment, c.Illegal task) ∷ calls) = omega (arith, tasks_few calls)
+tasks_few ((moment, c.Cancel task) ∷ calls) = omega (arith, tasks_few calls)
+tasks_few ((moment, c.SetPolicy which value) ∷ calls) = omega (arith, tasks_few calls)
+tasks_few ((moment, c.Shutdown) ∷ calls) = omega (arith, tasks_few calls)
+tasks_few ((moment, c.Ask) ∷ calls) = omega (arith, tasks_few calls)
+
+-- a sweep ends a task once at most
+swept_few : (calls : List Planned) (v : View) (policies : Policies) → length (swept calls v policies) ≤ task_count calls
+swept_few calls v policies =
+    let ends = is_swept calls v policies in
+    omega (arith, length-filter ends (numbers calls), count_by-le-length ends (numbers calls), length-range_with_len 0 (task_count calls))
+
+-- a call ends no more tasks than there are
+called_few : (calls : List Planned) (v : View) (call : CodeCall) → length (called calls v call).ends ≤ task_count calls
+called_few calls v (c.Submit task timing delay) = omega arith
+called_few calls v (c.Illegal task) = omega arith
+called_few calls v (c.Cancel task) = omega arith
+called_few calls v c.Ask = omega arith
+called_few calls v (c.SetPolicy which value) = by (setting_sweeps v.shut which value)
+  where
+    by : (sweeps : Bool) → length (cond sweeps (swept calls v (set_policy which value v.policies)) []) ≤ task_count calls
+    by true = swept_few calls v (set_policy which value v.policies)
+    by false = omega arith
+called_few calls v c.Shutdown = by v.shut
+  where
+    by : (shut : Bool) → length (let r : Reply = cond shut (plain a.ShutdownAgain) (record { answer = a.Shutdown; ends = swept calls v v.policies }) in r.ends) ≤ task_count calls
+    by true = omega arith
+    by false = swept_few calls v v.policies
+
+-- a reply to a call ends no more tasks than there are, and one to an event ends none
+reply_few : (calls : List Planned) (workers : ℕ) (v : View) (happening : Happening) → length (reply calls workers v happening).ends ≤ cond (is_call happening) (task_count calls) 0
+reply_few calls workers v h.Call = by (slice_get calls v.made)
+  where
+    by : (found : Option Planned) → length (option_map_or (λ p. called calls (record v { moment = max v.moment p.0 }) p.1) found (plain a.Clock)).ends ≤ task_count calls
+    by (Some p) = called_few calls (record v { moment = max v.moment p.0 }) p.1
+    by None = omega arith
+reply_few calls workers v (h.Clock moment) = omega arith
+reply_few calls workers v (h.Start w) = omega arith
+reply_few calls workers v (h.Finish w ending) = omega arith
+reply_few calls workers v (h.Cancel k) = omega arith
+
+-- a happening more, and what it ends
+ends_more : (calls : List Planned) (happening : Happening) (past : List Happening) (n : ℕ) → task_count calls ≤ 65536 → n ≤ cond (is_call happening) (task_count calls) 0 → n + made past * 65536 ≤ made (happening ∷ past) * 65536
+ends_more calls h.Call past n few l = omega (arith, few, l)
+ends_more calls (h.Clock moment) past n few l = omega (arith, l)
+ends_more calls (h.Start w) past n few l = omega (arith, l)
+ends_more calls (h.Finish w ending) past n few l = omega (arith, l)
+ends_more calls (h.Cancel k) past n few l = omega (arith, l)
+
+-- a history has a line for each happening, and for each call at most one for each task
+pub lines_by_calls : (calls : List Planned) (workers : ℕ) (past : List HistoryEntry) → IsOrderly calls → IsHistoryOf calls workers past → length (lines_of calls past) ≤ length past + made (happenings past) * 65536
+lines_by_calls calls workers [] o means = omega arith
+lines_by_calls calls workers (e ∷ past) o means =
+    let now = now_of calls (happenings (e ∷ past)) in
+    omega (
+      arith,
+      lines_by_calls calls workers past o means.0,
+      length-append (lines_of calls past) (lines_at now (reply_in e)),
+      length-map e.ends (end_line now),
+      ends_more calls e.happening (happenings past) (length e.ends) (omega (arith, tasks_few calls, o.0)) (omega (arith, ap length means.3, reply_few calls workers (view_of_history calls past) e.happening)),
+    )
