@@ -159,6 +159,12 @@ cancelled_fewer removes tasks k f.Yes low = uncancelled_set tasks k (cancelled_t
 cancelled_fewer removes tasks k f.No low = omega arith
 cancelled_fewer removes tasks k f.Absent low = omega arith
 
+-- a cancel leaves the size of the table
+pub cancelled_size : (removes : Bool) (tasks : List Task) (k : ℕ) (effect : CancelEffect) → length (cancelled_tasks removes tasks k effect) ≡ length tasks
+cancelled_size removes tasks k f.Yes = length-set tasks k (cancelled_task removes (slice_index_or tasks k vacant))
+cancelled_size removes tasks k f.No = refl
+cancelled_size removes tasks k f.Absent = refl
+
 -- a cancel from outside
 
 outside_state : (m : Machine) (k : ℕ) (effect : CancelEffect) → IsSound (state_of m) → k < length m.tasks → effect ≡ effect_on (seen_task (terms_of m.calls k) (slice_index_or m.tasks k vacant)) →

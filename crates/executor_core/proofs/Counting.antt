@@ -40,6 +40,10 @@ counted_in test [] k low = absurd (omega (arith, low))
 counted_in test (x ∷ tasks) zero low = omega (arith, counted_first test x tasks)
 counted_in test (x ∷ tasks) (suc k) low = omega (arith, counted_first test x tasks, counted_in test tasks k (omega (arith, low)))
 
+-- where a task is cancelled, one less is not
+pub cancelled_once : (tasks : List Task) (k : ℕ) (t : Task) → k < length tasks → (slice_index_or tasks k vacant).cancelled ≡ false → t.cancelled ≡ true → uncancelled_in (set tasks k t) + 1 ≡ uncancelled_in tasks
+cancelled_once tasks k t low live over = omega (arith, counted_set alive tasks k t low, ap (λ b. one (not b)) live, ap (λ b. one (not b)) over)
+
 one_le : (b : Bool) → one b ≤ 1
 one_le true = omega arith
 one_le false = omega arith

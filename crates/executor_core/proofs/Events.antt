@@ -1,16 +1,18 @@
 -- The steps of an event.
-use Rattle.std.proofs.Common.{suc, ◌≡◌, ℕ, ◌+◌, List, [], ◌∷◌, ◌++◌, sym, ap, ◌∙◌, arith, subst}
+use Rattle.std.proofs.Common.{suc, cond, true, false, Bool, refl, ◌≡◌, ℕ, ◌+◌, List, [], ◌∷◌, ◌++◌, sym, ap, ◌∙◌, arith, subst}
 use Rattle.std.specs.Prelude.{replicate}
 use Rattle.executor_core.specs.declared.types.Event.{Event}
+use Rattle.executor_core.specs.declared.types.Event.TheVariants as v
+use Rattle.executor_core.specs.Answers.{is_accepted}
 use Rattle.executor_core.specs.declared.types.Happening.{Happening}
 use Rattle.executor_core.specs.declared.types.Happening.TheVariants as h
 use Rattle.executor_core.specs.declared.types.Answer.{Answer}
 use Rattle.executor_core.specs.declared.types.Line.{Line}
 use Rattle.queue_code.specs.Calls.{IsOrderly}
 use Rattle.executor_core.specs.Histories.{HistoryEntry, IsHistoryOf}
-use Rattle.executor_core.specs.Flows.{happening_of, part_of, reached, ReachesNext, answer_line, lines_at}
-use Rattle.executor_core.specs.Machine.{Machine, workers_of, Takes, Counts, Steps, Stands, Continues}
-use Rattle.executor_core.proofs.Flowing.{steps_then, core_continues}
+use Rattle.executor_core.specs.Flows.{calls_before, happening_of, part_of, reached, ReachesNext, answer_line, lines_at}
+use Rattle.executor_core.specs.Machine.{Machine, NoneIsLeft, workers_of, Takes, Counts, Steps, Stands, Continues}
+use Rattle.executor_core.proofs.Flowing.{all_reached, steps_then, core_continues}
 
 -- one step with its line
 pub one_step : (old new : Machine) (before lines : List Line) (happening : Happening) (answer : Answer) → Takes old new happening answer → lines ≡ before ++ answer_line new.moment answer ∷ [] →
@@ -50,6 +52,21 @@ pub one_more : (first old new : Machine) (a b c : List Line) (n moment : ℕ) �
 one_more first old new a b c n moment before one =
     let same : n + 1 ≡ suc n = omega arith in
     subst (λ k. Steps first new a c (replicate k h.Call)) (sym same) (steps_then first old new a b c (replicate n h.Call) (h.Call ∷ []) before one)
+
+-- before an event that no call is made before, none is left
+pub none_is_left : (m : Machine) (event : Event) → IsOrderly m.calls → calls_before m.calls m.made m.moment event ≡ 0 → NoneIsLeft m event
+none_is_left m (v.Clock t) orderly none = λ accepted n p is l.
+    let zero : reached m.calls m.made t ≡ 0 = sym (ap (λ b. cond b (reached m.calls m.made t) 0) accepted) ∙ none in
+    omega (arith, zero, all_reached 0 0 t m.calls m.made n p orderly.1 is l)
+none_is_left m (v.Start w) orderly none = tt
+none_is_left m (v.Finish w ending) orderly none = tt
+none_is_left m (v.Cancel k) orderly none = tt
+
+-- where no call is reached, none is made before a clock
+pub none_before_clock : (m : Machine) (t : ℕ) → reached m.calls m.made t ≡ 0 → calls_before m.calls m.made m.moment (v.Clock t) ≡ 0
+none_before_clock m t none =
+    let pick : (b : Bool) → cond b (reached m.calls m.made t) 0 ≡ 0 = elim [ true ↦ none | false ↦ refl ] in
+    pick (is_accepted m.moment t)
 
 -- the number of calls that are reached, after one of them was made
 pub reached_after : (first old new : Machine) (n moment : ℕ) → ReachesNext old.calls old.made moment → new.calls ≡ old.calls → new.made ≡ old.made + 1 →

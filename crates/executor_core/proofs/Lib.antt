@@ -1,3 +1,4 @@
+pub mod Agendas
 pub mod Keeping
 pub mod Moves
 pub mod Views
@@ -17,6 +18,9 @@ pub mod RunSteps
 pub mod Cancels
 pub mod Asking
 pub mod Opens
+pub mod Rooms
+pub mod WordMoves
+pub mod Needing
 pub mod Events
 pub mod Errors
 pub mod Within

@@ -1,6 +1,7 @@
 -- The core before anything happened, and which calls a moment reaches.
-use Rattle.std.proofs.Common.{zero, suc, ◌≡◌, ℕ, ◌+◌, ◌<◌, ◌≤◌, nat_le, true, false, cond, inl, inr, List, [], ◌∷◌, length, map, Option, None, refl, sym, ap, ◌∙◌, arith, subst}
-use Rattle.std.specs.Prelude.{slice_index_or, replicate, IsTrue}
+use Rattle.std.proofs.Common.{zero, suc, ◌≡◌, ℕ, ◌+◌, ◌<◌, ◌≤◌, nat_le, true, false, cond, inl, inr, List, [], ◌∷◌, length, map, Option, Some, None, refl, sym, ap, ◌∙◌, arith, subst}
+use Rattle.std.specs.Prelude.{slice_get, slice_index_or, replicate, IsTrue}
+use Rattle.std.proofs.lemmas.Option.{none-some, slice_get_within, get_or_from_slice_get}
 use Rattle.std.proofs.lemmas.Bool.{false≢true, le-leb, leb-true, cases_lt}
 use Rattle.std.proofs.lemmas.Bool.Decides.{nat_tests}
 use Rattle.std.proofs.lemmas.List.{length-replicate}
@@ -97,19 +98,22 @@ next_reached count moment t (x ∷ calls) (suc n) p d o l is =
     (λ yes. rest.0 yes ∙ ap (λ k. 1 + reached (x ∷ calls) k t) (sym one), rest.1)
 
 -- past the last call none is reached
-pub end_reached : (calls : List Planned) (n t : ℕ) → length calls ≤ n → reached calls n t ≡ 0
-end_reached [] zero t l = refl
-end_reached [] (suc n) t l = refl
-end_reached (x ∷ calls) zero t l = absurd (omega arith)
-end_reached (x ∷ calls) (suc n) t l = end_reached calls n t (omega arith)
+pub end_reached : (calls : List Planned) (n t : ℕ) → slice_get calls n ≡ None → reached calls n t ≡ 0
+end_reached [] zero t is = refl
+end_reached [] (suc n) t is = refl
+end_reached (x ∷ calls) zero t is = absurd (none-some x (sym is))
+end_reached (x ∷ calls) (suc n) t is = end_reached calls n t is
 
 -- ---- the test of the next call's moment tells whether some call is reached
 
 -- a next call whose moment is at most that of a clock is reached
-pub tells_next : (calls : List Planned) (n moment : ℕ) (p : Planned) → IsOrderly calls → n < length calls → p ≡ slice_index_or calls n p → IsTrue (nat_le p.0 moment) → ReachesNext calls n moment
-tells_next calls n moment p o low is test = (low, (next_reached 0 0 moment calls n p p o.1 low is).0 (leb-true p.0 moment test))
+pub tells_next : (calls : List Planned) (n moment : ℕ) (p : Planned) → IsOrderly calls → slice_get calls n ≡ Some p → IsTrue (nat_le p.0 moment) → ReachesNext calls n moment
+tells_next calls n moment p o is test =
+    let low = slice_get_within calls n p is in
+    (low, (next_reached 0 0 moment calls n p p o.1 low (sym (get_or_from_slice_get calls n p p is))).0 (leb-true p.0 moment test))
 
 -- a next call whose moment is above that of a clock is not reached, nor any behind it
-pub tells_none : (calls : List Planned) (n moment : ℕ) (p : Planned) → IsOrderly calls → n < length calls → p ≡ slice_index_or calls n p → nat_le p.0 moment ≡ false → reached calls n moment ≡ 0
-tells_none calls n moment p o low is test =
-    (next_reached 0 0 moment calls n p p o.1 low is).1 (elim (cases_lt moment p.0) [ inl beyond ↦ beyond | inr within ↦ absurd (false≢true (sym test ∙ le-leb p.0 moment within)) ])
+pub tells_none : (calls : List Planned) (n moment : ℕ) (p : Planned) → IsOrderly calls → slice_get calls n ≡ Some p → nat_le p.0 moment ≡ false → reached calls n moment ≡ 0
+tells_none calls n moment p o is test =
+    (next_reached 0 0 moment calls n p p o.1 (slice_get_within calls n p is) (sym (get_or_from_slice_get calls n p p is))).1
+    (elim (cases_lt moment p.0) [ inl beyond ↦ beyond | inr within ↦ absurd (false≢true (sym test ∙ le-leb p.0 moment within)) ])

@@ -22,8 +22,10 @@ use Rattle.delay_queue.specs.declared.entry.Entry.{Entry}
 use Rattle.delay_queue.specs.Queues as queues
 use Rattle.queue_code.specs.Calls.{terms_of, task_count}
 use Rattle.executor_core.specs.Answers.{plain, outcome_in, stops_periodic}
+use Rattle.executor_core.specs.declared.types.Need.TheVariants as n
+use Rattle.executor_core.specs.Needs.{need_of, need_of_answer}
 use Rattle.executor_core.specs.State.{vacant, view_of_state, reply_of, state_after, end_task, due_past}
-use Rattle.executor_core.specs.Machine.{Machine, workers_of, state_of, Takes, IsWellFormedCore, IsSound, IsDue, IsCounted, LeavesMet, queued, queued_phase, queued_again, finished_task, held}
+use Rattle.executor_core.specs.Machine.{Machine, workers_of, state_of, Takes, IsWellFormedCore, IsSound, IsDue, LeavesMet, queued, queued_phase, queued_again, finished_task, held}
 use Rattle.executor_core.proofs.Agree.{next_sound, next_due_is, still_true}
 use Rattle.executor_core.proofs.Tables.{at_set, runs_set}
 use Rattle.executor_core.proofs.Meeting.{sound_apart, due_apart}
@@ -115,6 +117,11 @@ start_reply : (m : Machine) (entries keeps : List (Option ℕ)) (searched : Bool
     reply_of m.calls (workers_of m) (state_of m) (h.Start w) ≡ plain (a.Start w e.task (slice_index_or m.tasks e.task vacant).run e.due)
 start_reply m entries keeps searched w e kept gets = task_starts m w e.task e.due gets.worker gets.free kept.sound kept.count (subst (λ q. queues.IsLeast q e.due e.task) kept.queue gets.least) gets.due
 
+-- and what it moves
+pub start_needs : (m : Machine) (entries keeps : List (Option ℕ)) (searched : Bool) (w : ℕ) (e : Entry) → IsWellFormedCore m entries keeps searched → Gets m entries w e →
+    need_of m.calls (workers_of m) (state_of m) (h.Start w) ≡ n.Start e.task
+start_needs m entries keeps searched w e kept gets = ap (λ r. need_of_answer m.shut r.answer) (start_reply m entries keeps searched w e kept gets)
+
 -- a core takes the step of a start that gets a task
 pub start_takes : (m new : Machine) (entries keeps : List (Option ℕ)) (searched : Bool) (w n : ℕ) (e : Entry) (tasks : List Task) → IsWellFormedCore m entries keeps searched → Gets m entries w e →
     tasks ≡ started_in m e.task → n ≡ (slice_index_or m.tasks e.task vacant).run → new ≡ started m w e.task new.tasks → LeavesMet m.moment (Some e) tasks new.tasks → Takes m new (h.Start w) (a.Start w e.task n e.due)
@@ -154,7 +161,7 @@ started_delayed m k j low old =
     by false waits live once = old waits live once
 
 -- a core stays well formed where a worker starts a task, and no kept task has left yet
-start_kept : (m : Machine) (entries keeps : List (Option ℕ)) (searched : Bool) (w : ℕ) (e : Entry) → IsWellFormedCore m entries keeps searched → Gets m entries w e → IsCounted m →
+start_kept : (m : Machine) (entries keeps : List (Option ℕ)) (searched : Bool) (w : ℕ) (e : Entry) → IsWellFormedCore m entries keeps searched → Gets m entries w e → (slice_index_or m.tasks e.task vacant).run < m.taken →
     IsWellFormedCore (started m w e.task (started_in m e.task)) (set entries e.task None) keeps searched
 start_kept m entries keeps searched w e kept gets counted =
     let k = e.task in
@@ -185,11 +192,11 @@ start_kept m entries keeps searched w e kept gets counted =
           (λ j. started_kept m w k task.run e.due j kept.sound low waits.2);
       due = due_apart m.calls after new apart
           (subst (λ r. IsDue m.calls (view_of_state m.calls (state_after m.calls s (h.Start w) r))) reply (next_due_is m.calls (workers_of m) s (h.Start w) kept.sound kept.due));
-      runs = runs_set m.taken m.tasks k (running task) low kept.runs (omega (arith, counted k)) (λ q. counted k);
+      runs = runs_set m.taken m.tasks k (running task) low kept.runs (omega (arith, counted)) (λ q. counted);
     }
 
 -- the same, with the tables as the calls leave them
-pub start_keeps : (m : Machine) (entries keeps left : List (Option ℕ)) (searched : Bool) (w : ℕ) (e : Entry) (tasks : List Task) → IsWellFormedCore m entries keeps searched → Gets m entries w e → IsCounted m →
+pub start_keeps : (m : Machine) (entries keeps left : List (Option ℕ)) (searched : Bool) (w : ℕ) (e : Entry) (tasks : List Task) → IsWellFormedCore m entries keeps searched → Gets m entries w e → (slice_index_or m.tasks e.task vacant).run < m.taken →
     tasks ≡ started_in m e.task → left ≡ set entries e.task None → IsWellFormedCore (started m w e.task tasks) left keeps searched
 start_keeps m entries keeps left searched w e tasks kept gets counted written gone =
     subst (λ x. IsWellFormedCore (started m w e.task x) left keeps searched) (sym written)
@@ -297,9 +304,9 @@ unheld : (task : Task) → task.kept ≡ false → held task ≡ None
 unheld task q = ap (λ b. cond b (Some task.due) None) q
 
 -- a core stays well formed where a worker finishes a task
-finish_kept : (m : Machine) (entries keeps left : List (Option ℕ)) (searched : Bool) (w k due : ℕ) (ending : Ending) (outcome : Outcome) (task : Task) → IsWellFormedCore m entries keeps searched → Ran m w k ending outcome due task → IsCounted m →
+finish_kept : (m : Machine) (entries keeps left : List (Option ℕ)) (searched : Bool) (w k due : ℕ) (ending : Ending) (outcome : Outcome) (task : Task) → IsWellFormedCore m entries keeps searched → Ran m w k ending outcome due task →
     left ≡ set entries k (queued_again outcome) → IsWellFormedCore (finished m w (finished_in m k outcome due)) left keeps searched
-finish_kept m entries keeps left searched w k due ending outcome task kept ran counted put =
+finish_kept m entries keeps left searched w k due ending outcome task kept ran put =
     let x : Task = slice_index_or m.tasks k vacant in
     let new = finished_task outcome due x in
     let stops = stops_periodic m.shut m.policies in
@@ -326,11 +333,11 @@ finish_kept m entries keeps left searched w k due ending outcome task kept ran c
       fresh = fresh_stays m entries keeps searched k new kept low used;
       sound = still.sound;
       due = still.due;
-      runs = runs_set m.taken m.tasks k new low kept.runs (finish_run due m.taken outcome x (counted k)) (λ q. absurd (no_run_left due outcome x q));
+      runs = runs_set m.taken m.tasks k new low kept.runs (finish_run due m.taken outcome x (kept.runs.begun k (at_work m entries keeps searched w k kept ran.busy))) (λ q. absurd (no_run_left due outcome x q));
     }
 
 -- the same, with the tasks as the calls leave them
-pub finish_keeps : (m : Machine) (entries keeps left : List (Option ℕ)) (searched : Bool) (w k due : ℕ) (ending : Ending) (outcome : Outcome) (task : Task) (tasks : List Task) → IsWellFormedCore m entries keeps searched → Ran m w k ending outcome due task → IsCounted m →
+pub finish_keeps : (m : Machine) (entries keeps left : List (Option ℕ)) (searched : Bool) (w k due : ℕ) (ending : Ending) (outcome : Outcome) (task : Task) (tasks : List Task) → IsWellFormedCore m entries keeps searched → Ran m w k ending outcome due task →
     tasks ≡ finished_in m k outcome due → left ≡ set entries k (queued_again outcome) → IsWellFormedCore (finished m w tasks) left keeps searched
-finish_keeps m entries keeps left searched w k due ending outcome task tasks kept ran counted written put =
-    subst (λ l. IsWellFormedCore (finished m w l) left keeps searched) (sym written) (finish_kept m entries keeps left searched w k due ending outcome task kept ran counted put)
+finish_keeps m entries keeps left searched w k due ending outcome task tasks kept ran written put =
+    subst (λ l. IsWellFormedCore (finished m w l) left keeps searched) (sym written) (finish_kept m entries keeps left searched w k due ending outcome task kept ran put)

@@ -253,22 +253,25 @@ waits_phase t waits = phase_waits t.phase (and_left (is_waiting_phase t.phase) _
 abbrev pub sweeps_at : Machine → ℕ → Bool
 sweeps_at m k = is_swept m.calls (view_of_state m.calls (state_of m)) m.policies k
 
--- a sweep ends the tasks that wait and that the policies do not let run
-pub swept_is : (m : Machine) (entries keeps : List (Option ℕ)) (searched : Bool) (k : ℕ) → IsWellFormedCore m entries keeps searched →
-    sweeps_at m k ≡ (waits_with (slice_index_or m.tasks k vacant) && is_ended_by m.policies m.moment (slice_index_or m.tasks k vacant).timing (slice_index_or m.tasks k vacant).due)
-swept_is m entries keeps searched k kept =
-    let t = slice_index_or m.tasks k vacant in
-    let terms = terms_of m.calls k in
-    let pick : (b : Bool) → waits_with t ≡ b → (b && is_ended_by m.policies m.moment terms.timing (due_seen terms t.phase t.due)) ≡ (b && is_ended_by m.policies m.moment t.timing t.due) =
+-- a sweep under some policies, at some moment, ends a task that waits and that the policies do not let run
+pub swept_under : (terms : Terms) (t : Task) (policies : Policies) (moment : ℕ) → (t.phase ≡ ph.Dropped → t.cancelled ≡ true) → (t.phase ≢ ph.Vacant → t.timing ≡ terms.timing) →
+    (is_waiting (seen_task terms t) && is_ended_by policies moment terms.timing (seen_task terms t).due) ≡ (waits_with t && is_ended_by policies moment t.timing t.due)
+swept_under terms t policies moment over timing =
+    let pick : (b : Bool) → waits_with t ≡ b → (b && is_ended_by policies moment terms.timing (due_seen terms t.phase t.due)) ≡ (b && is_ended_by policies moment t.timing t.due) =
     elim [
       | true ↦ λ waits.
           let phase = waits_phase t waits in
           let used : t.phase ≢ ph.Vacant = λ q. let clash : ph.Waiting ≡ ph.Vacant = sym phase ∙ q in absurd cc in
-          (λ i. is_ended_by m.policies m.moment (sym (kept.timing k used) i) (due_seen terms (phase i) t.due))
+          (λ i. is_ended_by policies moment (sym (timing used) i) (due_seen terms (phase i) t.due))
       | false ↦ λ idle. refl
     ]
     in
-    ap (λ b. b && is_ended_by m.policies m.moment terms.timing (due_seen terms t.phase t.due)) (seen_waiting terms t (kept.sound.over k)) ∙ pick (waits_with t) refl
+    ap (λ b. b && is_ended_by policies moment terms.timing (due_seen terms t.phase t.due)) (seen_waiting terms t over) ∙ pick (waits_with t) refl
+
+-- a sweep ends the tasks that wait and that the policies do not let run
+pub swept_is : (m : Machine) (entries keeps : List (Option ℕ)) (searched : Bool) (k : ℕ) → IsWellFormedCore m entries keeps searched →
+    sweeps_at m k ≡ (waits_with (slice_index_or m.tasks k vacant) && is_ended_by m.policies m.moment (slice_index_or m.tasks k vacant).timing (slice_index_or m.tasks k vacant).due)
+swept_is m entries keeps searched k kept = swept_under (terms_of m.calls k) (slice_index_or m.tasks k vacant) m.policies m.moment (kept.sound.over k) (kept.timing k)
 
 -- what waits on a sweep
 

@@ -1,6 +1,6 @@
 -- Which happenings some events make, and the lines of a history.
 -- All of it is this project's rule.
-use Rattle.std.specs.Prelude.{◌≡◌, ℕ, ◌+◌, ◌<◌, length, nat_le, if◌then◌else◌, List, [], ◌∷◌, ◌++◌, replicate, map, drop}
+use Rattle.std.specs.Prelude.{◌≡◌, ℕ, ◌+◌, ◌<◌, ◌≤◌, Some, slice_get, length, nat_le, if◌then◌else◌, List, [], ◌∷◌, ◌++◌, replicate, map, drop}
 use Rattle.executor_core.specs.declared.types.Event.{Event}
 use Rattle.executor_core.specs.declared.types.Event.TheVariants as v
 use Rattle.executor_core.specs.declared.types.Happening.{Happening}
@@ -28,6 +28,10 @@ reached calls made moment = how_many (λ p. nat_le p.0 moment) (drop made calls)
 -- the next call is reached, and is one of them
 abbrev pub ReachesNext : List Planned → ℕ → ℕ → Type 0
 ReachesNext calls made moment = (made < length calls) × (reached calls made moment ≡ 1 + reached calls (made + 1) moment)
+
+-- each call with a moment of at most this one was made
+abbrev pub AreMade : List Planned → ℕ → ℕ → Type 0
+AreMade calls made moment = (n : ℕ) (p : Planned) → slice_get calls n ≡ Some p → p.0 ≤ moment → n < made
 
 -- how many calls are made just before an event: those that an accepted clock reaches
 -- (this project's rule: before an accepted clock all calls with a moment of at most its own are made,

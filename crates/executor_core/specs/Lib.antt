@@ -2,6 +2,8 @@ pub use Rattle.sched_time.specs.Times
 pub use Rattle.sched_time.specs.Dues
 pub use Rattle.task_word.specs.Words
 pub use Rattle.queue_code.specs.Calls
+pub use Rattle.queue_code.specs.Codes
+pub mod Agendas
 pub mod Counts
 pub mod View
 pub mod Answers
@@ -11,3 +13,4 @@ pub mod Tasks
 pub mod Flows
 pub mod Within
 pub mod Machine
+pub mod Needs

@@ -6,6 +6,7 @@ use Rattle.sched_time.specs.Times.{longest}
 use Rattle.sched_time.specs.declared.timing.Timing.TheVariants as t
 use Rattle.executor_core.specs.declared.policies.Policies.{Policies}
 use Rattle.executor_core.specs.declared.types.Event.{Event}
+use Rattle.executor_core.specs.declared.types.Event.TheVariants as v
 use Rattle.executor_core.specs.declared.types.Happening.{Happening}
 use Rattle.executor_core.specs.declared.types.Line.{Line}
 use Rattle.executor_core.specs.declared.types.EventError.{EventError}
@@ -20,11 +21,11 @@ use Rattle.delay_queue.specs.declared.entry.Entry.{Entry}
 use Rattle.queue_code.specs.Calls.{Planned, IsOrderly, task_count, terms_of, due_at}
 use Rattle.executor_core.specs.Counts.{most_workers}
 use Rattle.executor_core.specs.View.{View, comes_before}
-use Rattle.executor_core.specs.Answers.{plain, is_swept, swept}
+use Rattle.executor_core.specs.Answers.{plain, is_accepted, is_swept, swept}
 use Rattle.executor_core.specs.Histories.{HistoryEntry, happenings, is_ended, IsHistoryOf, MayCome}
 use Rattle.executor_core.specs.State.{State, view_of_state, vacant, end_task, after, after_from, next, reply_of}
 use Rattle.executor_core.specs.Tasks.{uncancelled_in}
-use Rattle.executor_core.specs.Flows.{happening_of, part_of, history_from, answer_line, end_line, lines_of, lines_from}
+use Rattle.executor_core.specs.Flows.{AreMade, happening_of, part_of, history_from, answer_line, end_line, lines_of, lines_from}
 
 -- what contracts see of a core: its plan's calls, how many of them it made, the moment, its two tables, its policies,
 -- and whether it is shut
@@ -119,6 +120,11 @@ Continues old new before after_lines event past = ContinuesWith old new before a
 abbrev pub ContinuesAny : Machine → Machine → List Line → List Line → Happening → Type 0
 ContinuesAny old new before after_lines happening = (past : List HistoryEntry) → IsHistoryOf old.calls (workers_of old) past → Stands old past
     → MayCome old.calls (happenings past) happening → ContinuesWith old new before after_lines (happening ∷ []) past
+
+-- no call is left that is made before an event: where it is an accepted clock, each one that it reaches was made
+abbrev pub NoneIsLeft : Machine → Event → Type 0
+NoneIsLeft m (v.Clock moment) = is_accepted m.moment moment ≡ true → AreMade m.calls m.made moment
+NoneIsLeft m _ = Unit {0}
 
 -- what leaves the queue of kept tasks
 

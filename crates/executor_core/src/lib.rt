@@ -2,16 +2,14 @@
 //!
 //! # Usage
 //!
-//! A [`Core`] is made of the calls of a plan, each with its moment. [`event`](Core::event) hands it what happens
-//! outside: the clock shows a moment, a worker asks for work, a worker's run has ended, a task is to be cancelled.
+//! A [`Core`] is made of a [`Code`](queue_code::Code), which makes the calls of a plan, each at its moment.
+//! [`event`](Core::event) hands it what happens outside: the clock shows a moment, a worker asks for work, a worker's run has ended, a task is to be cancelled.
 //! Each answer is a [`Line`] at the end of a list. The core reads no clock, runs no task and starts no thread.
 //!
 //! ```rust
 //! // At moment 0 task 0 is submitted, for one run 5 nanoseconds later.
-//! let timer = CodeCall::Submit { task: 0, timing: Timing::Once, delay: 5 };
-//! let calls = vec![in alloc; (0, timer)]?;
-//! assert!(rt; orderly(&calls));
-//! let mut core = Core::new(alloc, calls, 1, 100)?;
+//! let instrs = vec![in alloc; Instr::Submit(0, Timing::Once, 5), Instr::Halt]?;
+//! let mut core = Core::new(alloc, Code::check(alloc, instrs)?, 1, 100)?;
 //! let mut lines = Vec::new(alloc);
 //! for event in [Event::Clock(5), Event::Start(0), Event::Finish(0, Ending::Value(7))] {
 //!     core.event(event, &mut lines)?;
@@ -24,6 +22,33 @@
 //! // 5 Answer(Start { worker: 0, task: 0, run: 0, due: 5 })
 //! // 5 Answer(Finish { worker: 0, task: 0, run: 0, outcome: Done(7) })
 //! ```
+//!
+//! # Single happenings
+//!
+//! A layer that decides itself what happens next, as a pool of workers or a checker of traces, takes an event apart:
+//! [`count`](Core::count) takes it, unless the core is [`full`](Core::full), and [`make_call`](Core::make_call),
+//! [`move_clock`](Core::move_clock), [`start`](Core::start), [`finish`](Core::finish) and [`cancel`](Core::cancel) are one
+//! happening each. None of them fails or takes memory: the list has [`room`](Core::room) lines free. What has to hold
+//! before each can be asked.
+//!
+//! ```rust
+//! lines.reserve(core.room())?;
+//! assert!(rt; core.call_need(9).is_some());
+//! core.make_call(&mut lines);
+//! assert!(rt; !core.full());
+//! core.count();
+//! lines.reserve(core.room())?;
+//! assert!(rt; core.call_need(9).is_none());
+//! core.move_clock(9, &mut lines);
+//! // Whether the due moment of a task is reached, and what a start would move of the words.
+//! assert!(rt; core.ripe());
+//! assert_eq!(rt; core.start_need(0), Need::Start(0));
+//! ```
+//!
+//! [`call_need`](Core::call_need), [`start_need`](Core::start_need) and [`finish_need`](Core::finish_need) name what the step
+//! that would follow moves of the [`words`](Core::words), so that a layer can move words of its own first;
+//! [`sweeps`](Core::sweeps) tells whom a sweep would end. A cancel moves the word of its task exactly where it is answered by
+//! [`CancelEffect::Yes`].
 //!
 //! # Behaviour
 //!
@@ -55,8 +80,9 @@
 //!
 //! # Memory and cost
 //!
-//! `Core::new` takes all memory that the core needs for itself: for each task some 80 bytes beside its call, and
-//! 8 for each worker. `event` takes memory for lines alone, and none where the list has room for one line, one for
+//! `Core::new` takes all memory that the core needs for itself: for each task some 80 bytes, and 8 for each worker. It
+//! keeps the code, and fetches the calls from it one after the other: however often a loop of the code is made, its
+//! calls take no memory. `event` takes memory for lines alone, and none where the list has room for one line, one for
 //! each call that is left and one for each task that is not cancelled. A clock costs what the calls that it reaches
 //! cost; a submission, a start, a finish and a cancel cost what the queue of waiting tasks does
 //! (see [`DelayQueue`](delay_queue::DelayQueue)), and a start also what the kept tasks that leave cost. Setting a policy
@@ -65,6 +91,7 @@
 //! the kept tasks that leave.
 #![tactic(auto)]
 
+mod agenda;
 mod error;
 mod limits;
 mod machine;
@@ -81,5 +108,5 @@ pub use machine::Core;
 pub use policies::Policies;
 pub use task::{Phase, Task};
 pub use types::{
-    Answer, CancelEffect, Event, EventError, Happening, Kind, Line, Message, Outcome, Refusal,
+    Answer, CancelEffect, Event, EventError, Happening, Kind, Line, Message, Need, Outcome, Refusal,
 };

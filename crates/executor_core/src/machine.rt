@@ -1,25 +1,29 @@
-ghost use Rattle.std.specs.Prelude.{◌≡◌, ◌+◌, ◌-◌, ◌<◌, ◌≤◌, ◌↔◌, ◌⊎◌, List, [], ◌∷◌, true, length, map, None, Option, OnOk, OnErr, IsOk, IfOk, IfErr, IsErrOf, false, vec_len, vec_capacity};
+ghost use Rattle.std.specs.Prelude.{◌≡◌, ◌+◌, ◌-◌, ◌<◌, ◌≤◌, ◌↔◌, ◌⊎◌, List, [], ◌∷◌, true, length, map, None, Option, OnOk, OnErr, IsOk, IfOk, IfErr, IsErrOf, IsTrue, false, vec_len, vec_capacity};
 ghost use Rattle.executor_core.specs.declared.types.Happening.TheVariants as happening;
 ghost use Rattle.queue_code.specs.declared.call.CodeCall.TheVariants as call;
-ghost use Rattle.queue_code.specs.Calls.{IsOrderly, most_calls, task_count, is_submission};
+ghost use Rattle.queue_code.specs.Calls.{task_count};
+ghost use Rattle.queue_code.specs.Codes.{calls_of};
 ghost use Rattle.executor_core.specs.Histories as histories;
 ghost use Rattle.sched_time.specs.Times.{longest};
 ghost use Rattle.executor_core.specs.Tasks.{word_of};
 ghost use Rattle.executor_core.specs.Counts.{IsWorkerCount};
-ghost use Rattle.executor_core.specs.Flows.{happening_of, part_of};
+ghost use Rattle.executor_core.specs.Answers.{is_accepted};
+ghost use Rattle.executor_core.specs.Flows.{happening_of, part_of, AreMade};
 
 mod calls;
 mod cancels;
+mod needs;
 mod sweeps;
 mod workers;
 
+use crate::agenda::Agenda;
 use crate::error::CoreError;
 use crate::limits::MOST_WORKERS;
 use crate::policies::Policies;
 use crate::tasks::Tasks;
 use crate::types::{Answer, Event, EventError, Line, Message};
 use delay_queue::DelayQueue;
-use queue_code::CodeCall;
+use queue_code::Code;
 use sched_time::LONGEST;
 use std::alloc::{AllocError, Allocator};
 use std::marker::Model;
@@ -28,9 +32,7 @@ use task_word::Word;
 /// An executor of the calls of a plan.
 #[derive(Drop)]
 pub struct Core<A: Allocator> {
-    calls: Vec<(u64, CodeCall), A>,
-    /// How many calls were made.
-    made: usize,
+    calls: Agenda<A>,
     moment: u64,
     tasks: Tasks<A>,
     /// The task of each worker.
@@ -53,31 +55,24 @@ impl<A: Allocator> Model for Core<A> {
 
     ghost Value = { Machine };
 
-    ghost view = { λ c. record { calls = c.calls.items; limit = c.limit; taken = c.taken; made = c.made; moment = c.moment; tasks = c.tasks; work = c.work.items; policies = c.policies; shut = c.shut } };
+    ghost view = { λ c. record { calls = c.calls.items; limit = c.limit; taken = c.taken; made = c.calls.made; moment = c.moment; tasks = c.tasks; work = c.work.items; policies = c.policies; shut = c.shut } };
 
-    ghost invariant = { λ c. IsWellFormedCore (record { calls = c.calls.items; limit = c.limit; taken = c.taken; made = c.made; moment = c.moment; tasks = c.tasks; work = c.work.items; policies = c.policies; shut = c.shut }) c.queue.entries c.kept.entries c.searched };
+    ghost invariant = { λ c. IsWellFormedCore (record { calls = c.calls.items; limit = c.limit; taken = c.taken; made = c.calls.made; moment = c.moment; tasks = c.tasks; work = c.work.items; policies = c.policies; shut = c.shut }) c.queue.entries c.kept.entries c.searched };
 }
 
 impl<A: Allocator> Core<A> {
-    ghost use Rattle.executor_core.specs.Machine.{workers_of, room_of, Takes, Counts, IsCounted, Steps, Stands, Continues, ContinuesAny, ErrorOnlyCounts, IsOpening};
+    ghost use Rattle.executor_core.specs.Machine.{workers_of, room_of, Takes, Counts, IsCounted, NoneIsLeft, Steps, Stands, Continues, ContinuesAny, ErrorOnlyCounts, IsOpening};
 
-    /// A core before anything happened, for these calls.
+    /// A core before anything happened, for the calls of a code.
     ///
     /// `workers` is the number of workers, 1 to 64, and `limit` the number of events that it
-    /// takes, 1 to 4,294,967,295. The calls have to be in order; [`orderly`](queue_code::orderly)
-    /// tells. What is out of range is found in this order: the workers, then the limit. The
-    /// calls are dropped on a refusal. All memory that the core ever needs for itself is taken
-    /// here.
-    pub fn new(
-        alloc: A,
-        calls: Vec<(u64, CodeCall), A>,
-        workers: u8,
-        limit: u32,
-    ) -> Result<Core<A>, CoreError>
+    /// takes, 1 to 4,294,967,295. What is out of range is found in this order: the workers, then
+    /// the limit. The code is dropped on a refusal. All memory that the core ever needs for
+    /// itself is taken here.
+    pub fn new(alloc: A, code: Code<A>, workers: u8, limit: u32) -> Result<Core<A>, CoreError>
     where
         A: Copy,
-        requires { IsOrderly calls.items }
-        ensures opening { IfOk result (λ core. IsOpening core calls.items workers limit) }
+        ensures opening { IfOk result (λ core. IsOpening core (calls_of code) workers limit) }
         ensures workers { IsErrOf result CoreError.Workers ↔ ¬ IsWorkerCount workers }
         ensures limit { IsErrOf result CoreError.Limit ↔ (IsWorkerCount workers × (limit ≡ 0)) }
         ensures full { IsErrOf result CoreError.Full → ⊥ }
@@ -88,8 +83,7 @@ impl<A: Allocator> Core<A> {
         if limit == 0 {
             return Err(CoreError::Limit);
         }
-        let count = count_tasks(&calls);
-        Core::with_tables(alloc, calls, count, workers, limit).map_err(|_| CoreError::Memory)
+        Core::with_tables(alloc, code, workers, limit).map_err(|_| CoreError::Memory)
     }
 
     /// The moment, 0 to 2^62 nanoseconds: the greatest of the accepted clocks and the calls made.
@@ -133,6 +127,7 @@ impl<A: Allocator> Core<A> {
     /// be given again. `out` never loses capacity.
     ///
     /// An event that is answered by [`Answer::Error`] changes nothing but the number of events taken.
+    #[inline(always)]
     pub fn event<B: Allocator>(
         &mut self,
         event: Event,
@@ -162,8 +157,18 @@ impl<A: Allocator> Core<A> {
         Ok(())
     }
 
-    /// Counts an event as taken.
-    fn count(&mut self)
+    /// Whether as many events were taken as the limit allows.
+    pub fn full(&self) -> bool
+        ensures full { IsTrue result ↔ (self.now.taken ≡ self.now.limit) }
+        ensures room { result ≡ false → self.now.taken < self.now.limit }
+    {
+        self.taken == self.limit
+    }
+
+    /// Takes one event: the run in [`words`](Core::words) of each task is then below [`taken`](Core::taken).
+    ///
+    /// The limit may not be reached, as [`full`](Core::full) tells.
+    pub fn count(&mut self)
         requires { self.old.taken < self.old.limit }
         ensures same { Counts self.old self.new }
         ensures runs { IsCounted self.new }
@@ -171,46 +176,59 @@ impl<A: Allocator> Core<A> {
         self.taken += 1;
     }
 
-    /// How many lines the next event adds at most.
-    fn room(&self) -> usize
+    /// How many lines the next event adds at most: one, one for each call that is left, and one for each task that is not
+    /// cancelled. No single happening adds more, and none makes it greater.
+    pub fn room(&self) -> usize
         ensures { result ≡ room_of self.now }
     {
-        1 + (self.calls.len() - self.made) + self.tasks.uncancelled()
+        1 + self.calls.left() + self.tasks.uncancelled()
     }
 
-    /// An event happens, once the calls before it were made and it was counted: the line of its answer is added.
+    /// An event happens, once the calls before it were made and it was counted.
+    #[inline(always)]
     fn happen<B: Allocator>(&mut self, event: Event, out: &mut Vec<Line, B>)
         requires counted { IsCounted self.old }
-        requires room { vec_len out.old < vec_capacity out.old }
+        requires calls { NoneIsLeft self.old event }
+        requires room { vec_len out.old + room_of self.old ≤ vec_capacity out.old }
         ensures steps { Steps self.old self.new out.old.items out.new.items (happening_of event ∷ []) }
-        ensures history { ContinuesAny self.old self.new out.old.items out.new.items (happening_of event) }
         ensures tasks { length self.new.tasks ≡ task_count self.new.calls }
         ensures taken { self.new.taken ≡ self.old.taken }
         ensures capacity { vec_capacity out.new ≡ vec_capacity out.old }
     {
-        let answer = self.answer(event);
+        match event {
+            Event::Clock(moment) => self.move_clock(moment, out),
+            Event::Start(worker) => self.start(worker, out),
+            Event::Finish(worker, ending) => self.finish(worker, ending, out),
+            Event::Cancel(task) => self.cancel(task, out),
+        }
+    }
+
+    /// The clock shows a moment, in nanoseconds: it is moved there, unless it would go back or pass 2^62. Its line is
+    /// added, for which `out` has room.
+    ///
+    /// Where the clock is moved, no call with a moment of at most this one may be left.
+    #[inline(always)]
+    pub fn move_clock<B: Allocator>(&mut self, moment: u64, out: &mut Vec<Line, B>)
+        requires calls { is_accepted self.old.moment moment ≡ true → AreMade self.old.calls self.old.made moment }
+        requires room { vec_len out.old + room_of self.old ≤ vec_capacity out.old }
+        ensures steps { Steps self.old self.new out.old.items out.new.items (happening.Clock moment ∷ []) }
+        ensures history { ContinuesAny self.old self.new out.old.items out.new.items (happening.Clock moment) }
+        ensures tasks { length self.new.tasks ≡ task_count self.new.calls }
+        ensures taken { self.new.taken ≡ self.old.taken }
+        ensures room { (room_of self.new ≤ room_of self.old) × (vec_len out.new ≤ vec_len out.old + room_of self.old) }
+        ensures capacity { vec_capacity out.new ≡ vec_capacity out.old }
+    {
+        let answer = self.answer_clock(moment);
         out.push_reserved(Line {
             moment: self.moment,
             message: Message::Answer(answer),
         });
     }
 
-    /// What an event is answered.
-    fn answer(&mut self, event: Event) -> Answer
-        requires { IsCounted self.old }
-        ensures { Takes self.old self.new (happening_of event) result }
-    {
-        match event {
-            Event::Clock(moment) => self.answer_clock(moment),
-            Event::Start(worker) => self.answer_start(worker),
-            Event::Finish(worker, ending) => self.answer_finish(worker, ending),
-            Event::Cancel(task) => self.answer_cancel(task),
-        }
-    }
-
     /// The clock shows a moment.
     fn answer_clock(&mut self, moment: u64) -> Answer
-        ensures { Takes self.old self.new (happening.Clock moment) result }
+        ensures step { Takes self.old self.new (happening.Clock moment) result }
+        ensures size { length self.new.tasks ≡ length self.old.tasks }
     {
         if moment < self.moment {
             return Answer::Error(EventError::Backward);
@@ -222,28 +240,21 @@ impl<A: Allocator> Core<A> {
         Answer::Clock
     }
 
-    /// A core with tables of this size.
-    fn with_tables(
-        alloc: A,
-        calls: Vec<(u64, CodeCall), A>,
-        count: u32,
-        workers: u8,
-        limit: u32,
-    ) -> Result<Core<A>, AllocError>
+    /// A core with tables for the tasks of a code and so many workers.
+    fn with_tables(alloc: A, code: Code<A>, workers: u8, limit: u32) -> Result<Core<A>, AllocError>
     where
         A: Copy,
-        requires orderly { IsOrderly calls.items }
-        requires count { count ≡ task_count calls.items }
-        requires workers { IsWorkerCount workers }
-        ensures { IfOk result (λ core. IsOpening core calls.items workers limit) }
+        requires { IsWorkerCount workers }
+        ensures { IfOk result (λ core. IsOpening core (calls_of code) workers limit) }
     {
+        let count = code.tasks();
         let tasks = Tasks::new(alloc, count)?;
         let work = Vec::from_elem(alloc, None, workers as usize)?;
         let queue = DelayQueue::new(alloc, count).map_err(|_| AllocError)?;
         let kept = DelayQueue::new(alloc, count).map_err(|_| AllocError)?;
+        let calls = Agenda::new(code);
         Ok(Core {
             calls,
-            made: 0,
             moment: 0,
             tasks,
             work,
@@ -271,29 +282,4 @@ fn make_room<B: Allocator>(out: &mut Vec<Line, B>, lines: usize) -> Result<(), A
         return Ok(());
     }
     out.reserve(lines)
-}
-
-/// How many tasks the calls submit.
-fn count_tasks(calls: &[(u64, CodeCall)]) -> u32
-    requires { length calls.now ≤ most_calls }
-    ensures { result ≡ task_count calls.now }
-{
-    let mut count = 0;
-    for planned in calls {
-        if is_submission(&planned.1) {
-            count += 1;
-        }
-    }
-    count
-}
-
-/// Whether a call submits a task.
-fn is_submission(call: &CodeCall) -> bool
-    ensures { result ≡ is_submission call.now }
-{
-    match call {
-        CodeCall::Submit { .. } | CodeCall::Illegal { .. } => true,
-        CodeCall::Cancel { .. } | CodeCall::SetPolicy { .. } | CodeCall::Shutdown | CodeCall::Ask =>
-            false,
-    }
 }

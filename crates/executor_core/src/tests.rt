@@ -1,10 +1,12 @@
 mod heap;
+mod loops;
+mod singles;
 mod sizes;
 mod sweeps;
 mod words;
 
 use super::*;
-use queue_code::{CodeCall, orderly};
+use queue_code::{Code, Instr};
 use sched_time::{Ending, Span, Timing, Unit, span};
 use std::alloc::{AllocGlobal, Allocator, Global};
 use std::process::Abort;
@@ -15,48 +17,33 @@ fn nanos(value: i64) -> Result<Span, Fail> {
     Ok(span(value, Unit::Ns)?)
 }
 
-/// A call that submits a task with one run.
-fn submission(moment: u64, task: u32, delay: u64) -> (u64, CodeCall) {
-    periodic(moment, task, Timing::Once, delay)
-}
-
-/// A call that submits a task that is timed so.
-fn periodic(moment: u64, task: u32, timing: Timing, delay: u64) -> (u64, CodeCall) {
-    (
-        moment,
-        CodeCall::Submit {
-            task,
-            timing,
-            delay,
-        },
-    )
+/// A submission of a task with one run.
+fn submission(moment: u64, delay: u64) -> Instr {
+    Instr::Submit(moment, Timing::Once, delay)
 }
 
 /// `count` submissions, each of them at moment 0.
-fn submissions(alloc: Global, count: u32) -> Result<Vec<(u64, CodeCall)>, Fail> {
-    let mut calls = Vec::new(alloc);
-    for task in 0..count {
-        let call = CodeCall::Submit {
-            task,
-            timing: Timing::Once,
-            delay: 0,
-        };
-        calls.push((0, call))?;
-    }
-    Ok(calls)
+fn submissions(alloc: Global, count: u32) -> Result<Vec<Instr>, Fail> {
+    let task = Instr::Submit(0, Timing::Once, 0);
+    Ok(Vec::from_elem(alloc, task, count as usize)?)
 }
 
-/// A core of these calls, which are in order.
+/// The code of these instructions and a halt.
+fn code_of<A: Allocator + Copy>(alloc: A, instrs: &[Instr]) -> Result<Code<A>, Fail> {
+    let mut list = Vec::with_capacity(alloc, instrs.len() + 1)?;
+    list.extend_from_slice(instrs)?;
+    list.push(Instr::Halt)?;
+    Ok(Code::check(alloc, list)?)
+}
+
+/// A core of the code of these instructions and a halt.
 fn core_of<A: Allocator + Copy>(
-    rt: &impl Abort,
     alloc: A,
-    calls: &[(u64, CodeCall)],
+    instrs: &[Instr],
     workers: u8,
     limit: u32,
 ) -> Result<Core<A>, Fail> {
-    let planned = calls.to_vec(alloc)?;
-    assert!(rt; orderly(&planned));
-    Ok(Core::new(alloc, planned, workers, limit)?)
+    Ok(Core::new(alloc, code_of(alloc, instrs)?, workers, limit)?)
 }
 
 /// Gives a core these events, which it takes.
@@ -71,14 +58,14 @@ fn give<A: Allocator, B: Allocator>(
     Ok(())
 }
 
-/// The lines with which a core of these calls answers these events, which it takes.
+/// The lines with which a core of these instructions answers these events, which it takes.
 fn lines_after(
     rt: &(impl AllocGlobal + Abort),
-    calls: &[(u64, CodeCall)],
+    instrs: &[Instr],
     workers: u8,
     events: &[Event],
 ) -> Result<Vec<Line>, Fail> {
-    let mut core = core_of(rt, rt.alloc(), calls, workers, u32::MAX)?;
+    let mut core = core_of(rt.alloc(), instrs, workers, u32::MAX)?;
     let mut out = Vec::new(rt.alloc());
     give(&mut core, events, &mut out)?;
     assert_eq!(rt; core.taken() as usize, events.len());
@@ -100,16 +87,9 @@ fn each_error_says_what_is_wrong(rt: HostRuntime) -> Result<(), Fail> {
 }
 
 /// The lines of code at the head of this crate's documentation.
-fn example(rt: &(impl AllocGlobal + Abort)) -> Result<Vec<Line>, Fail> {
-    let alloc = rt.alloc();
-    let timer = CodeCall::Submit {
-        task: 0,
-        timing: Timing::Once,
-        delay: 5,
-    };
-    let calls = vec![in alloc; (0, timer)]?;
-    assert!(rt; orderly(&calls));
-    let mut core = Core::new(alloc, calls, 1, 100)?;
+fn example(alloc: Global) -> Result<Vec<Line>, Fail> {
+    let instrs = vec![in alloc; Instr::Submit(0, Timing::Once, 5), Instr::Halt]?;
+    let mut core = Core::new(alloc, Code::check(alloc, instrs)?, 1, 100)?;
     let mut lines = Vec::new(alloc);
     for event in [
         Event::Clock(5),
@@ -124,7 +104,7 @@ fn example(rt: &(impl AllocGlobal + Abort)) -> Result<Vec<Line>, Fail> {
 #[test]
 fn a_task_runs_once_its_delay_has_passed(rt: HostRuntime) -> Result<(), Fail> {
     let mut text = String::new(rt.alloc());
-    for line in &example(&rt)? {
+    for line in &example(rt.alloc())? {
         writeln!(text, "{} {:?}", line.moment, line.message)?;
     }
     assert_eq!(rt;

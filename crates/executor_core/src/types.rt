@@ -179,3 +179,24 @@ pub struct Line {
     pub moment: u64,
     pub message: Message,
 }
+
+/// The word moves of the step that would follow.
+#[derive(Clone, Copy, Debug, PartialEq, Eq)]
+pub enum Need {
+    /// No word moves.
+    Nothing,
+    /// The word of this task goes from vacant to new, with run 0.
+    Submit(u32),
+    /// The word of this task goes from new to running.
+    Start(u32),
+    /// The word of this task goes from running to done.
+    Done(u32),
+    /// The word of this task goes from running to failed.
+    Fail(u32),
+    /// The word of this task goes from running to new, with the next run.
+    Rearm(u32),
+    /// The word of this task, which is new or running, gets its cancel bit.
+    Cancel(u32),
+    /// The word of each task that [`Core::sweeps`](crate::Core::sweeps) names, which is new, gets its cancel bit.
+    Sweep,
+}

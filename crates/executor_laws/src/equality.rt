@@ -2,8 +2,8 @@
 ghost use Rattle.std.specs.Prelude.{◌≡◌, true};
 
 use executor_core::{
-    Answer, CancelEffect, CoreError, Event, EventError, Happening, Kind, Line, Message, Outcome,
-    Phase, Policies, Refusal, Task,
+    Answer, CancelEffect, CoreError, Event, EventError, Happening, Kind, Line, Message, Need,
+    Outcome, Phase, Policies, Refusal, Task,
 };
 
 /// `==` of two CoreErrors says that they are equal.
@@ -49,6 +49,11 @@ pub fn event_error_equality_tells()
 /// `==` of two CancelEffects says that they are equal.
 pub fn cancel_effect_equality_tells()
     ensures { (a b : CancelEffect) → ⟦<CancelEffect as PartialEq>⟧.eq a b ≡ true → a ≡ b }
+{}
+
+/// `==` of two Needs says that they are equal.
+pub fn need_equality_tells()
+    ensures { (a b : Need) → ⟦<Need as PartialEq>⟧.eq a b ≡ true → a ≡ b }
 {}
 
 /// `==` of two Outcomes says that they are equal.

@@ -11,7 +11,7 @@
 //! The first group says what a client of the executor may rely on: due moments, order, ties, overlap, failures, cancels.
 //! The second one says what the definitions, which count and recur over a history, say of the positions in it. The
 //! third one is on states: what the words of the tasks say of the history, that no answer lowers the rank of a word or
-//! changes a cancelled one, and that an error changes nothing. The fourth one is on policies, the shutdown, sweeps and kept
+//! changes a cancelled one, that an error changes nothing, and that a need names what a step moves. The fourth one is on policies, the shutdown, sweeps and kept
 //! tasks. The last one says that `==` of the executor's types leaves no field out.
 //!
 //! # Order and ties
@@ -33,8 +33,9 @@ mod sweeps;
 pub use equality::{
     answer_equality_tells, cancel_effect_equality_tells, core_error_equality_tells,
     event_equality_tells, event_error_equality_tells, happening_equality_tells,
-    kind_equality_tells, line_equality_tells, message_equality_tells, outcome_equality_tells,
-    phase_equality_tells, policies_equality_tells, refusal_equality_tells, task_equality_tells,
+    kind_equality_tells, line_equality_tells, message_equality_tells, need_equality_tells,
+    outcome_equality_tells, phase_equality_tells, policies_equality_tells, refusal_equality_tells,
+    task_equality_tells,
 };
 pub use laws::{
     again_is_due, answers_by_position, cancels_have_one_effect, fixed_runs_are_due,
@@ -50,7 +51,8 @@ pub use positions::{
     terms_are_its_own, waiting_is_a_task, waiting_is_due_in_time, work_is_the_last_start,
 };
 pub use states::{
-    cancelled_words_stay, errors_change_nothing, ranks_do_not_fall, words_tell_the_history,
+    cancelled_words_stay, errors_change_nothing, needs_move_words, ranks_do_not_fall,
+    words_tell_the_history,
 };
 pub use sweeps::{
     kept_by_positions, nothing_is_accepted_once_shut, nothing_starts_after_an_end,

@@ -1,5 +1,5 @@
 //! What holds of the states that a history leads to, and of the words of its tasks.
-ghost use Rattle.executor_laws.specs.TaskWords.{WordsTellTheHistory, RanksDoNotFall, CancelledWordsStay, ErrorsChangeNothing};
+ghost use Rattle.executor_laws.specs.TaskWords.{WordsTellTheHistory, RanksDoNotFall, CancelledWordsStay, ErrorsChangeNothing, NeedsMoveWords};
 
 /// The word of each task says what the history shows: it is vacant exactly when the task was not
 /// accepted, done exactly when it is done, failed exactly when it has failed, cancelled exactly when
@@ -22,4 +22,10 @@ pub fn cancelled_words_stay()
 /// A happening that is answered by an error leaves the state as it is.
 pub fn errors_change_nothing()
     ensures { ErrorsChangeNothing }
+{}
+
+/// The words after a step are those before it, but for the moves that its need names: each task's, and at a
+/// sweep those of the tasks that it ends.
+pub fn needs_move_words()
+    ensures { NeedsMoveWords }
 {}

@@ -7,7 +7,7 @@ mod shutdown;
 
 use crate::trace;
 use executor_core::{Answer, CancelEffect, Core, Event, Kind, Line, Message, Outcome, Refusal};
-use queue_code::{CodeCall, orderly};
+use queue_code::{Code, CodeCall, Instr, orderly};
 use sched_time::{Span, Timing, Unit, Which, span};
 use std::alloc::Allocator;
 use std::process::Abort;
@@ -141,6 +141,29 @@ fn shut(queue: u32, running: u32, terminated: bool) -> Answer {
     }
 }
 
+/// The instruction that makes a call.
+fn instr_of(planned: &(u64, CodeCall)) -> Instr {
+    let moment = planned.0;
+    match planned.1 {
+        CodeCall::Submit { timing, delay, .. } => Instr::Submit(moment, timing, delay),
+        CodeCall::Illegal { .. } => Instr::Illegal(moment),
+        CodeCall::Cancel { task } => Instr::CancelFixed(moment, task),
+        CodeCall::SetPolicy { which, value } => Instr::SetPolicy(moment, which, value),
+        CodeCall::Shutdown => Instr::Shutdown(moment),
+        CodeCall::Ask => Instr::Ask(moment),
+    }
+}
+
+/// The code that makes these calls.
+fn code_of<A: Allocator + Copy>(alloc: A, calls: &[(u64, CodeCall)]) -> Result<Code<A>, Fail> {
+    let mut instrs = Vec::new(alloc);
+    for planned in calls {
+        instrs.push(instr_of(planned))?;
+    }
+    instrs.push(Instr::Halt)?;
+    Ok(Code::check(alloc, instrs)?)
+}
+
 /// A core with one worker and the plain program both give these lines.
 fn compare<A: Allocator + Copy>(
     rt: &impl Abort,
@@ -164,9 +187,7 @@ fn compare_with<A: Allocator + Copy>(
     assert!(rt; orderly(calls));
     let plain = trace(alloc, calls, workers, events)?;
     assert_eq!(rt; plain.as_slice(), lines);
-    let planned = calls.to_vec(alloc)?;
-    assert!(rt; orderly(&planned));
-    let mut core = Core::new(alloc, planned, workers, 100)?;
+    let mut core = Core::new(alloc, code_of(alloc, calls)?, workers, 100)?;
     let mut out = Vec::new(alloc);
     for event in events {
         core.event(*event, &mut out)?;

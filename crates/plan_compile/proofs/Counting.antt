@@ -1,8 +1,6 @@
 -- How many submissions and calls there are.
-use Rattle.std.proofs.Common.{◌≡◌, ◌⊎◌, ℕ, zero, suc, ◌+◌, ◌*◌, ◌≤◌, ◌<◌, ◌==◌, List, [], ◌∷◌, ◌++◌, length, Option, Some, None, is_some, if◌then◌else◌, true, false, refl, sym, ◌∙◌, ap, inl, inr, arith, length-append, add-one}
-use Rattle.std.proofs.lemmas.Nat.{mul-le}
+use Rattle.std.proofs.Common.{◌≡◌, ◌⊎◌, ℕ, zero, suc, ◌+◌, ◌*◌, ◌≤◌, List, [], ◌∷◌, ◌++◌, length, Option, Some, None, refl, ap, inl, inr, arith, length-append, add-one}
 use Rattle.std.proofs.lemmas.Bool.{cases_Bool}
-use Rattle.std.proofs.lemmas.Bool.Decides.{nat_tests}
 use Rattle.plan_read.specs.declared.plans.Call.{Call}
 use Rattle.plan_read.specs.declared.plans.Op.{Op}
 use Rattle.plan_read.specs.Plans.{BlockTree, PlanTree, is_submission, name_of, names_of, tasks_after, tasks_after_calls, made_from}
@@ -83,19 +81,6 @@ length-calls_from firsts first made (b ∷ bs) =
 -- the submissions of some iterations are no more than their calls
 pub tasks_of-le : (b : BlockTree) → tasks_of b ≤ length b.calls
 tasks_of-le b = omega (arith, tasks_after_calls-le 0 b.calls)
-
--- there is room for one more iteration
-pub room_left : (first r times tasks calls : ℕ) → r < times → tasks ≤ calls → first + times * calls ≤ 65536 → first + r * tasks + calls ≤ 65536
-room_left first r times tasks calls within few room =
-    omega (arith, times-suc r calls, mul-le (suc r) calls times calls (omega arith) (omega arith), mul-le r tasks r calls (omega arith) few)
-
--- a list without items
-pub none_left : (n : ℕ) → true ≡ (n == 0) → n ≡ 0
-none_left n h = grind (arith, nat_tests)
-
--- a list with items
-pub some_left : (n : ℕ) → false ≡ (n == 0) → 1 ≤ n
-some_left n h = grind (arith, nat_tests)
 
 -- one more iteration
 pub iterations-more : (firsts : List ℕ) (first : ℕ) (b : BlockTree) (r : ℕ) → iterations firsts first b (r + 1) ≡ iterations firsts first b r ++ iteration firsts first b r

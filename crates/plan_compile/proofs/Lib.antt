@@ -1,4 +1,6 @@
 pub mod Counting
 pub mod Runs
 pub mod Ordering
-pub mod Listing
+pub mod CodeCalls
+pub mod NoFault
+pub mod Emission

@@ -1,20 +1,20 @@
 -- The calls of a plan are in order.
-use Rattle.std.proofs.Common.{◌≡◌, ◌⊎◌, ℕ, zero, suc, ◌+◌, ◌-◌, ◌*◌, ◌^◌, ◌≤◌, ◌<◌, List, [], ◌∷◌, ◌++◌, length, Option, Some, None, is_some, true, false, refl, sym, ◌∙◌, ap, subst, inl, inr, arith, length-append}
-use Rattle.std.specs.Prelude.{slice_get, unwrap_or}
+use Rattle.std.proofs.Common.{◌≡◌, ◌⊎◌, ℕ, zero, suc, ◌+◌, ◌-◌, ◌*◌, ◌^◌, ◌≤◌, ◌<◌, List, [], ◌∷◌, ◌++◌, length, Some, None, refl, sym, subst, inl, inr, arith, length-append}
+use Rattle.std.specs.Prelude.{slice_get}
 use Rattle.std.proofs.lemmas.Bool.{cases_Bool}
 use Rattle.std.proofs.lemmas.Nat.{mul-le}
 use Rattle.std.proofs.lemmas.Option.{slice_get_within, slice_get_past}
-use Rattle.sched_time.specs.Times.{longest}
 use Rattle.queue_code.specs.Calls.{count_after, IsOrderlyCall, IsOrderly}
 use Rattle.plan_read.specs.declared.plans.Call.{Call}
 use Rattle.plan_read.specs.declared.plans.Header.{Header}
 use Rattle.plan_read.specs.declared.plans.Op.{Op}
 use Rattle.plan_read.specs.declared.plans.Op.TheVariants as ops
 use Rattle.plan_read.specs.declared.plans.Target.{Target}
-use Rattle.plan_read.specs.Plans.{BlockTree, PlanTree, is_submission, names_of, tasks_after, tasks_after_calls, last_offset, last_offset_from, last_moment, end_of, end_of_block, made_by, made_from, IsWithinLimits, StandsBefore, IsAimed, IsCallAfter, AreCallsAfter, IsBlockAfter, AreBlocksAfter, IsOrdered}
+use Rattle.plan_read.specs.Plans.{BlockTree, PlanTree, is_submission, names_of, tasks_after, tasks_after_calls, last_offset, last_offset_from, end_of, end_of_block, made_by, made_from, IsWithinLimits, StandsBefore, IsAimed, AreCallsAfter, IsBlockAfter, AreBlocksAfter, IsOrdered}
 use Rattle.plan_read.proofs.Accepted.{end_from_one_more, made_from_one_more}
 use Rattle.plan_read.proofs.Naming.{tasks_after-one_more}
 use Rattle.plan_compile.specs.PlanCalls.{number_of, code_call, calls_at, tasks_of, iteration, iterations, calls_from, calls_of}
+use Rattle.plan_compile.specs.PlanCode.{IsBelow}
 use Rattle.plan_compile.proofs.Counting.{tasks_after_calls-from, length-names_of, length-calls_from, times-suc}
 use Rattle.plan_compile.proofs.Runs.{Runs, runs_orderly, runs_earlier, runs_later, runs_append}
 
@@ -71,16 +71,6 @@ firsts_next earlier firsts first b least a =
 
 -- ---- one call
 
--- the number of a cancel's target is below those that come
-abbrev IsBelow : List ℕ → ℕ → ℕ → Op → Type 0
-IsBelow firsts start task (ops.Schedule name delay) = Unit {0}
-IsBelow firsts start task (ops.Rate name first period) = Unit {0}
-IsBelow firsts start task (ops.Fixed name first delay) = Unit {0}
-IsBelow firsts start task (ops.Cancel target) = number_of firsts start target < task
-IsBelow firsts start task (ops.Policy which value) = Unit {0}
-IsBelow firsts start task ops.Shutdown = Unit {0}
-IsBelow firsts start task ops.Ask = Unit {0}
-
 target_below : (earlier : PlanTree) (firsts : List ℕ) (start : ℕ) (before : List Call) (name : List ℕ) (target : Target) → AreFirsts earlier firsts start
     → StandsBefore earlier before name target → number_of firsts start target < start + tasks_after_calls 0 before
 target_below earlier firsts start before name target a (inl here) =
@@ -92,7 +82,7 @@ target_below earlier firsts start before name target a (inr there) =
     let within = slice_get_within (names_of there.0.calls) target.sub name there.3 in
     rw r.1 (omega (arith, r.2, within, length-names_of 0 there.0.calls))
 
-op_below : (earlier : PlanTree) (firsts : List ℕ) (start task : ℕ) (before : List Call) (op : Op) → AreFirsts earlier firsts start → task ≡ start + tasks_after_calls 0 before
+pub op_below : (earlier : PlanTree) (firsts : List ℕ) (start task : ℕ) (before : List Call) (op : Op) → AreFirsts earlier firsts start → task ≡ start + tasks_after_calls 0 before
     → IsAimed earlier before op → IsBelow firsts start task op
 op_below earlier firsts start task before (ops.Schedule name delay) a is aimed = tt
 op_below earlier firsts start task before (ops.Rate name first period) a is aimed = tt
@@ -115,7 +105,7 @@ call_orderly firsts start task ops.Shutdown limits below = tt
 call_orderly firsts start task ops.Ask limits below = tt
 
 -- a call counts the task that its operation submits
-pub call_counts : (firsts : List ℕ) (start task : ℕ) (op : Op) → count_after task (code_call firsts start task op) ≡ tasks_after task op
+call_counts : (firsts : List ℕ) (start task : ℕ) (op : Op) → count_after task (code_call firsts start task op) ≡ tasks_after task op
 call_counts firsts start task (ops.Schedule name delay) = refl
 call_counts firsts start task (ops.Rate name first (Some period)) = refl
 call_counts firsts start task (ops.Rate name first None) = refl
@@ -128,12 +118,16 @@ call_counts firsts start task ops.Ask = refl
 
 -- ---- one iteration
 
-last_offset-one_more : (offset : ℕ) (cs : List Call) (c : Call) → last_offset_from offset (cs ++ c ∷ []) ≡ c.at
+pub last_offset-one_more : (offset : ℕ) (cs : List Call) (c : Call) → last_offset_from offset (cs ++ c ∷ []) ≡ c.at
 last_offset-one_more offset [] c = refl
 last_offset-one_more offset (d ∷ cs) c = last_offset-one_more d.at cs c
 
 tasks_after-shifted : (start n : ℕ) (op : Op) → tasks_after (start + n) op ≡ start + tasks_after n op
 tasks_after-shifted start n op = elim (cases_Bool (is_submission op)) [ inl t ↦ rw t (omega arith) | inr f ↦ rw f refl ]
+
+-- how many submissions stand before the next call
+pub count_next : (first task : ℕ) (before : List Call) (c : Call) → task ≡ first + tasks_after_calls 0 before → tasks_after task c.op ≡ first + tasks_after_calls 0 (before ++ c ∷ [])
+count_next first task before c is = rw (is, tasks_after-one_more 0 before c) (tasks_after-shifted first (tasks_after_calls 0 before) c.op)
 
 calls_run : (earlier : PlanTree) (h : Header) (firsts : List ℕ) (base start : ℕ) (before cs : List Call) (task offset : ℕ)
     → AreCallsAfter earlier h before cs → AreFirsts earlier firsts start → base ≤ h.at + (h.times - 1) * h.every
@@ -145,15 +139,14 @@ calls_run earlier h firsts base start before (c ∷ cs) task offset ordered a re
     let short : base + c.at ≤ 2 ^ 62 = omega (arith, reach, one.last) in
     let forward : base + offset ≤ base + c.at = omega (arith, last, one.order) in
     let below = op_below earlier firsts start task before c.op a is one.aimed in
-    let count : tasks_after task c.op ≡ start + tasks_after_calls 0 (before ++ c ∷ []) =
-    rw (is, tasks_after-one_more 0 before c) (tasks_after-shifted start (tasks_after_calls 0 before) c.op) in
+    let count = count_next start task before c is in
     let rest = calls_run earlier h firsts base start (before ++ c ∷ []) cs (tasks_after task c.op) c.at ordered.1 a reach count (sym (last_offset-one_more 0 before c)) in
     let end = base + last_offset_from c.at cs in
     let counted = sym (call_counts firsts start task c.op) in
     let behind = subst (λ (n : ℕ). Runs n (base + c.at) (calls_at firsts base start (tasks_after task c.op) cs) (tasks_after_calls task (c ∷ cs)) end) counted rest in
     (forward, short, call_orderly firsts start task c.op one.limits below, behind)
 
-offset_within : (h : Header) (offset : ℕ) → 1 < h.times → (h.times ≤ 1) ⊎ (offset ≤ h.every) → offset ≤ h.every
+pub offset_within : (h : Header) (offset : ℕ) → 1 < h.times → (h.times ≤ 1) ⊎ (offset ≤ h.every) → offset ≤ h.every
 offset_within h offset many (inl once) = absurd (omega (arith, many, once))
 offset_within h offset many (inr within) = within
 
@@ -163,11 +156,11 @@ last_within earlier h before [] offset ordered many le = le
 last_within earlier h before (c ∷ cs) offset ordered many le = last_within earlier h (before ++ c ∷ []) cs c.at ordered.1 many (offset_within h c.at many ordered.0.within)
 
 -- an iteration begins no later than the last
-pub base_reach : (h : Header) (r : ℕ) → r < h.times → h.at + r * h.every ≤ h.at + (h.times - 1) * h.every
+base_reach : (h : Header) (r : ℕ) → r < h.times → h.at + r * h.every ≤ h.at + (h.times - 1) * h.every
 base_reach h r within = omega (arith, mul-le r h.every (h.times - 1) h.every (omega arith) (omega arith))
 
 -- the calls of an iteration lead from its first number and its beginning to the numbers and the moment of its last call
-pub iteration_runs : (earlier : PlanTree) (firsts : List ℕ) (first : ℕ) (b : BlockTree) (r : ℕ) → IsBlockAfter earlier b → AreFirsts earlier firsts first → r < b.header.times
+iteration_runs : (earlier : PlanTree) (firsts : List ℕ) (first : ℕ) (b : BlockTree) (r : ℕ) → IsBlockAfter earlier b → AreFirsts earlier firsts first → r < b.header.times
     → Runs (first + r * tasks_of b) (b.header.at + r * b.header.every) (iteration firsts first b r) (first + suc r * tasks_of b) (b.header.at + r * b.header.every + last_offset b.calls)
 iteration_runs earlier firsts first b r block a within =
     let start = first + r * tasks_of b in

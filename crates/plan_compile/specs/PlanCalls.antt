@@ -1,9 +1,7 @@
 -- The calls that a plan makes, with their moments.
 -- All of it is this project's rule.
-use Rattle.std.specs.Prelude.{ℕ, zero, suc, ◌≤◌, ◌+◌, ◌*◌, List, [], ◌∷◌, ◌++◌, Some, None, unwrap_or, slice_get}
+use Rattle.std.specs.Prelude.{ℕ, zero, suc, ◌+◌, ◌*◌, List, [], ◌∷◌, ◌++◌, Some, None, unwrap_or, slice_get}
 use Rattle.sched_time.specs.declared.timing.Timing.TheVariants as t
-use Rattle.sched_time.specs.Times.{longest}
-use Rattle.queue_code.specs.Calls.{IsOrderlyFrom}
 use Rattle.queue_code.specs.declared.call.CodeCall.{CodeCall}
 use Rattle.queue_code.specs.declared.call.CodeCall.TheVariants as made
 use Rattle.plan_read.specs.declared.plans.Call.{Call}
@@ -61,9 +59,3 @@ calls_from firsts first (b ∷ bs) =
 -- the calls of a plan with their moments: block by block, iteration by iteration, call by call
 abbrev pub calls_of : PlanTree → List (ℕ × CodeCall)
 calls_of blocks = calls_from [] 0 blocks
-
--- the calls of an iteration can be written out: it begins within the limit, and its calls are in order
-pub record CanWrite (firsts : List ℕ) (first : ℕ) (b : BlockTree) (r : ℕ) : Type 0 where
-  pub base : b.header.at + r * b.header.every ≤ longest
-  pub moment : ℕ
-  pub ordered : IsOrderlyFrom (first + r * tasks_of b) moment (iteration firsts first b r)

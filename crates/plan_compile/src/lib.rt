@@ -1,43 +1,69 @@
-//! The calls of a plan, written out with their moments.
+//! The code of a plan: instructions that make the plan's calls, each at its moment.
 //!
 //! # Usage
 //!
 //! ```rust
 //! let plan = read_plan(alloc, text)?;
-//! let calls = written_out(alloc, &plan)?; // [(0, Submit { task: 0, .. }), (4, Cancel { task: 0 }), ..]
+//! let code = compile(alloc, &plan)?;
+//! listing(alloc, &code)?; // "0 loop 3 every 10\n1 submit 100 schedule 50\n2 cancel 104 here 0\n3 endloop\n4 halt\n"
+//! let mut cursor = Cursor::new(&code);
+//! cursor.fetch(&code); // Some((100, CodeCall::Submit { task: 0, timing: Timing::Once, delay: 50 }))
 //! ```
+//!
+//! That is the code of a block at 100 with `times = 3` and `every = 10`, in which a `schedule` has the offset 0 and its
+//! `cancel` the offset 4.
 //!
 //! # Behaviour
 //!
-//! The call with offset `o` in iteration `r` of a block, counted from 0, is made at `at + r * every + o`.
-//! Submissions are numbered 0, 1, .. in this list, those with an illegal period or fixed delay among them. A
-//! cancel has the number of its target: of the submission of the same iteration in its own block, or of that
-//! in an earlier block, which is made once.
+//! The calls of the code are those of the plan, with the same moments and numbers. The call with offset `o` in
+//! iteration `r` of a block, counted from 0, is made at `at + r * every + o`. Submissions are numbered 0, 1, .. as
+//! their calls come, those with an illegal period or fixed delay among them. A cancel has the number of its target: of
+//! the submission of the same iteration in its own block, or of that in an earlier block, which is made once.
 //!
-//! The list is one that the executor takes: at most 65,536 calls, whose moments do not fall and are at most
-//! 2^62 nanoseconds, and whose cancels name earlier submissions.
+//! The code has an instruction for each call that the text writes, at `at + o`:
+//!
+//! | In the plan | In the code |
+//! |---|---|
+//! | a block without calls | nothing |
+//! | a block that is made once | its calls; its `every` is not used |
+//! | a block that is repeated | `Loop(times, every)`, its calls, `EndLoop` |
+//! | `schedule`, `rate`, `fixed` | `Submit`, with a delay below 0 as 0; `Illegal` where the period or the fixed delay is illegal |
+//! | `cancel` in a repeated block, of a submission of that block | `CancelHere`, with how many submissions of the iteration stand before that one |
+//! | every other `cancel` | `CancelFixed`, with the submission's number in the whole plan |
+//! | `policy`, `shutdown`, `ask` | `SetPolicy`, `Shutdown`, `Ask` |
+//! | the end | `Halt` |
+//!
+//! Contracts have this list as `instrs_of` (`specs/PlanCode.antt`), and the calls of a plan, each iteration written
+//! out, as `calls_of` (`specs/PlanCalls.antt`). [`compile`] ensures both: the code is that list, and its calls are
+//! the plan's.
 //!
 //! # Order and ties
 //!
-//! The calls stand block by block, iteration by iteration, in the order of the text, and so do those of one
-//! moment.
+//! Calls are made block by block, iteration by iteration, in the order of the text, and so are those of one moment.
+//! They are in order, as the executor takes them: at most 65,536 calls, whose moments do not fall and are at most 2^62
+//! nanoseconds, and whose cancels name earlier submissions. [`calls_are_in_order`] is that law.
 //!
 //! # Errors
 //!
-//! [`written_out`] fails only where there is no memory. A list that was begun is dropped then.
+//! [`CompileFault::Memory`] is the only error of [`compile`]: the code of a plan passes all checks of
+//! [`Code::check`](queue_code::Code::check). What was begun is dropped then.
 //!
 //! # Memory and cost
 //!
-//! [`written_out`] takes memory for the list and for one number a block. It goes over each iteration's
-//! calls once; a cancel looks its target's block up in the table of numbers.
+//! [`compile`] takes memory for the instructions and for one number a block, and what `Code::check` takes. Memory and
+//! time follow the length of the plan's text, and not how often its blocks are repeated: each call of the text is met
+//! a few times, and a cancel looks its target's block up in the table of numbers.
 #![tactic(auto)]
 
-mod calls;
+#[cfg(test)]
+mod code_tests;
+mod compiling;
+mod emitting;
+mod fault;
+mod instrs;
 mod laws;
 mod numbers;
-#[cfg(test)]
-mod tests;
-mod writing;
 
+pub use compiling::compile;
+pub use fault::CompileFault;
 pub use laws::calls_are_in_order;
-pub use writing::written_out;

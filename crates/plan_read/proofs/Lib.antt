@@ -13,3 +13,4 @@ pub mod NameLaw
 pub mod NameText
 pub mod Found
 pub mod OrderLaw
+pub mod CallKeysLaw

@@ -1,5 +1,5 @@
 -- The submissions before a call, and one more.
-use Rattle.std.proofs.Common.{subst, ◌≡◌, ℕ, ◌+◌, true, false, List, [], ◌∷◌, ◌++◌, length, Option, Some, None, is_some, bytes_eq, if◌then◌else◌, append_assoc, refl, sym, ◌∙◌, ap, inl, inr, arith}
+use Rattle.std.proofs.Common.{subst, ◌≡◌, ℕ, ◌+◌, true, false, List, [], ◌∷◌, ◌++◌, length, Option, Some, None, is_some, Result, Ok, Err, IfOk, ◌&&◌, bytes_eq, if◌then◌else◌, append_assoc, refl, sym, ◌∙◌, ap, inl, inr, arith}
 use Rattle.std.proofs.lemmas.Bool.{cases_Bool}
 use Rattle.std.proofs.lemmas.List.{append-nil}
 use Rattle.std.proofs.lemmas.Slice.Eq.{bytes_eq-Decides}
@@ -8,6 +8,7 @@ use Rattle.std.specs.BTreeMap.{BTreeMap}
 use Rattle.toml.specs.Data.{Members}
 use Rattle.sched_time.specs.declared.unit.Unit.{Unit as TimeUnit}
 use Rattle.plan_read.specs.declared.faults.Place.{Place}
+use Rattle.plan_read.specs.declared.faults.Refusal.{Refusal}
 use Rattle.plan_read.specs.declared.plans.Call.{Call}
 use Rattle.plan_read.specs.declared.plans.Header.{Header}
 use Rattle.plan_read.specs.declared.sites.Site.{Site}
@@ -15,8 +16,8 @@ use Rattle.plan_read.specs.declared.verbs.Verb.{Verb}
 use Rattle.plan_read.specs.declared.verbs.Verb.TheVariants as verbs
 use Rattle.plan_read.specs.Checks.{first_failing, call_checks, verb_checks, key_checks, new_name_checks, name_checks, time_checks}
 use Rattle.plan_read.specs.Plans.{BlockTree, PlanTree, name_of, is_submission, tasks_after, tasks_after_calls, named, site, submissions_of, submissions_from, submissions_before, find}
-use Rattle.plan_read.specs.Reads.{found_in, Knows}
-use Rattle.plan_read.specs.Values.{verb_at, op_of, call_of, name_at}
+use Rattle.plan_read.specs.Reads.{found_in, Knows, Reads}
+use Rattle.plan_read.specs.Values.{verb_at, submits, op_of, call_of, name_at}
 use Rattle.plan_read.proofs.Failing.{all_pass, parts}
 
 -- ---- finding a name
@@ -122,6 +123,34 @@ knows-named names new earlier h cs c name s known e none is added q = rw (added 
 pub knows-unnamed : (names : BTreeMap (Bor (List ℕ)) Site) (earlier : PlanTree) (h : Header) (cs : List Call) (c : Call)
     → Knows names (submissions_before earlier h cs) → is_submission c.op ≡ false → Knows names (submissions_before earlier h (cs ++ c ∷ []))
 knows-unnamed names earlier h cs c known e q = known q ∙ sym (unnamed-one_more earlier h cs c q e)
+
+submits-op : (verb : Verb) (found : Option Site) (unit : TimeUnit) (ms : Members) → is_submission (op_of verb found unit ms) ≡ submits verb
+unfolding op_of
+submits-op verbs.Schedule found unit ms = refl
+submits-op verbs.Rate found unit ms = refl
+submits-op verbs.Fixed found unit ms = refl
+submits-op verbs.Cancel found unit ms = refl
+submits-op verbs.Policy found unit ms = refl
+submits-op verbs.Shutdown found unit ms = refl
+submits-op verbs.Ask found unit ms = refl
+
+-- after a call that was read, whose name was added where it submits
+pub knows-read : (names new : BTreeMap (Bor (List ℕ)) Site) (earlier : PlanTree) (h : Header) (cs : List Call) (s : Site) (found : Option Site) (p : Place) (last : ℕ) (ms : Members) (r : Result Call Refusal)
+    → Knows names (submissions_before earlier h cs) → found ≡ find (name_at ms) (submissions_before earlier h cs) → s ≡ site (length earlier) h (tasks_after_calls 0 cs)
+    → ((q : List ℕ) → found_in new q ≡ (if submits (verb_at ms) && bytes_eq (name_at ms) q then Some s else found_in names q))
+    → Reads (λ (c : Call). c) r (first_failing p (call_checks found (length earlier) h last ms)) (call_of found h ms)
+    → IfOk r (λ c. Knows new (submissions_before earlier h (cs ++ c ∷ [])))
+knows-read names new earlier h cs s found p last ms (Err e) known is place added reads = tt
+knows-read names new earlier h cs s found p last ms (Ok c) known is place added reads =
+    let op : is_submission c.op ≡ submits (verb_at ms) = subst (λ (k : Call). is_submission k.op ≡ submits (verb_at ms)) (sym reads.1) (submits-op (verb_at ms) found h.unit ms) in
+    elim (cases_Bool (submits (verb_at ms))) [
+      | inl t ↦ (
+          let n = fresh p found (length earlier) h last ms c reads.0 reads.1 (op ∙ t) in
+          knows-named names new earlier h cs c (name_at ms) s known n.0 (sym is ∙ n.1) place (λ q. rw t at (added q)))
+      | inr f ↦ (
+          let same : Knows names (submissions_before earlier h (cs ++ c ∷ [])) = knows-unnamed names earlier h cs c known (op ∙ f) in
+          λ q. (rw f at (added q)) ∙ same q)
+    ]
 
 -- a block's submissions are those before the next block
 pub submissions_from-one_more : (block : ℕ) (bs : PlanTree) (b : BlockTree)

@@ -8,3 +8,4 @@ pub mod Writes
 pub mod Texts
 pub mod Reads
 pub mod Laws
+pub mod CallKeys

@@ -1,6 +1,6 @@
 -- What stands at the keys of a plan's tables, with a default where there is none; a later check refuses what has no other value.
 -- All of it is this project's rule.
-use Rattle.std.specs.Prelude.{ℕ, ℤ, pos, Bool, false, List, [], ◌∷◌, ◌++◌, Option, Some, None, option_and_then, unwrap_or, codes, int_lt}
+use Rattle.std.specs.Prelude.{ℕ, ℤ, pos, Bool, true, false, List, [], ◌∷◌, ◌++◌, Option, Some, None, option_and_then, unwrap_or, codes, int_lt}
 use Rattle.toml.specs.Data.{Data, table, Items, no_items, item, Members, no_members, get_member, as_integer, as_bool, as_str, as_array}
 use Rattle.sched_time.specs.Times.{span_of, period_of, delay_units}
 use Rattle.sched_time.specs.declared.policies.Which.{Which}
@@ -82,6 +82,16 @@ header_of ms = record {
 -- its operation
 unfoldable pub verb_at : Members → Verb
 verb_at ms = unwrap_or (verb_of_word (text_or [] (codes "op") ms)) verbs.Ask
+
+-- an operation submits a task, also an illegal one
+abbrev pub submits : Verb → Bool
+submits verbs.Schedule = true
+submits verbs.Rate = true
+submits verbs.Fixed = true
+submits verbs.Cancel = false
+submits verbs.Policy = false
+submits verbs.Shutdown = false
+submits verbs.Ask = false
 
 -- its name
 abbrev pub name_at : Members → List ℕ

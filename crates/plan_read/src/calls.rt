@@ -1,24 +1,35 @@
 //! The calls of a block.
 
 ghost use Rattle.std.specs.Prelude.{◌≡◌, ◌≤◌, nat_le, None, [], ◌∷◌};
-ghost use Rattle.toml.specs.View.{table_view};
 ghost use Rattle.sched_time.specs.Times.{longest, span_of, period_of};
+ghost use Rattle.toml.specs.View.{table_view};
 ghost use Rattle.plan_read.specs.Checks.{◌unless◌, first_failing, verb_checks, key_checks, new_name_checks, known_name_checks, name_checks, time_checks, call_checks, are_spans_short};
 ghost use Rattle.plan_read.specs.Reads.{Reads};
-ghost use Rattle.plan_read.specs.Values.{verb_at, op_of, timed_call, call_of, which_at};
+ghost use Rattle.plan_read.specs.Values.{verb_at, submits, op_of, timed_call, call_of, which_at};
 ghost use Rattle.plan_read.specs.declared.faults.PlanFaultKind.TheVariants as kinds;
 
+use crate::call_keys::CallKey;
+use crate::call_tables::CallTable;
 use crate::faults::{Place, PlanFaultKind, Refusal};
 use crate::headers::{last_moment, read_span};
 use crate::keys::{has_only_call_keys, has_required_keys, is_typed_call};
 use crate::names::{Name, is_name};
 use crate::plans::{Call, Header, Op};
 use crate::sites::Site;
-use crate::tables::{has, integer_or, text_or, truth_at};
 use crate::units::which_of_word;
 use crate::verbs::Verb;
 use sched_time::{LONGEST, Span, Unit, Which, period};
-use toml::Table;
+
+/// Whether a table asks for a submission.
+#[tactic(auto, unfolding(crate::specs::Values::verb_at))]
+pub fn submits(table: &CallTable) -> bool
+    ensures { result ≡ submits (verb_at (table_view table.now.table.now)) }
+{
+    matches!(
+        Verb::of_word(table.text_or_empty(CallKey::Op)),
+        Some(Verb::Schedule | Verb::Rate | Verb::Fixed)
+    )
+}
 
 /// The call that a table writes, where `found` is the submission of its name that stands before it, and
 /// the call before it in its block has the offset `last`.
@@ -28,10 +39,10 @@ pub fn read_call(
     block: usize,
     header: Header,
     last: u64,
-    table: &Table,
+    table: &CallTable,
 ) -> Result<Call, Refusal>
     requires { 1 ≤ header.times }
-    ensures { Reads (λ c. c) result (first_failing place (call_checks found block header last (table_view table.now))) (call_of found header (table_view table.now)) }
+    ensures { Reads (λ c. c) result (first_failing place (call_checks found block header last (table_view table.now.table.now))) (call_of found header (table_view table.now.table.now)) }
 {
     let verb = read_verb(place, table)?;
     check_keys(place, verb, table)?;
@@ -41,13 +52,13 @@ pub fn read_call(
 
 /// The operation of a call.
 #[tactic(auto, unfolding(crate::specs::Checks::verb_checks, crate::specs::Values::verb_at))]
-fn read_verb(place: Place, table: &Table) -> Result<Verb, Refusal>
-    ensures { Reads (λ v. v) result (first_failing place (verb_checks (table_view table.now))) (verb_at (table_view table.now)) }
+fn read_verb(place: Place, table: &CallTable) -> Result<Verb, Refusal>
+    ensures { Reads (λ v. v) result (first_failing place (verb_checks (table_view table.now.table.now))) (verb_at (table_view table.now.table.now)) }
 {
-    if !has(table, "op") {
+    if !table.has(CallKey::Op) {
         return Err(place.fault(PlanFaultKind::Missing));
     }
-    match Verb::of_word(text_or("", "op", table)) {
+    match Verb::of_word(table.text_or_empty(CallKey::Op)) {
         Some(verb) => Ok(verb),
         None => Err(place.fault(PlanFaultKind::WrongType)),
     }
@@ -55,10 +66,10 @@ fn read_verb(place: Place, table: &Table) -> Result<Verb, Refusal>
 
 /// That the keys of a call are those of its operation.
 #[tactic(auto, unfolding(crate::specs::Checks::key_checks))]
-fn check_keys(place: Place, verb: Verb, table: &Table) -> Result<(), Refusal>
-    ensures { Reads (λ u. u) result (first_failing place (key_checks verb (table_view table.now))) tt }
+fn check_keys(place: Place, verb: Verb, table: &CallTable) -> Result<(), Refusal>
+    ensures { Reads (λ u. u) result (first_failing place (key_checks verb (table_view table.now.table.now))) tt }
 {
-    if !has_only_call_keys(verb, table) {
+    if !has_only_call_keys(verb, table.table) {
         return Err(place.fault(PlanFaultKind::UnknownKey));
     }
     if !has_required_keys(verb, table) {
@@ -78,9 +89,9 @@ fn check_name(
     verb: Verb,
     found: Option<Site>,
     block: usize,
-    table: &Table,
+    table: &CallTable,
 ) -> Result<(), Refusal>
-    ensures { Reads (λ u. u) result (first_failing place (name_checks verb found block (table_view table.now))) tt }
+    ensures { Reads (λ u. u) result (first_failing place (name_checks verb found block (table_view table.now.table.now))) tt }
 {
     match verb {
         Verb::Schedule | Verb::Rate | Verb::Fixed => check_new_name(place, found, table),
@@ -90,10 +101,10 @@ fn check_name(
 }
 
 /// That the name is one that a submission can have.
-fn check_new_name(place: Place, found: Option<Site>, table: &Table) -> Result<(), Refusal>
-    ensures { Reads (λ u. u) result (first_failing place (new_name_checks found (table_view table.now))) tt }
+fn check_new_name(place: Place, found: Option<Site>, table: &CallTable) -> Result<(), Refusal>
+    ensures { Reads (λ u. u) result (first_failing place (new_name_checks found (table_view table.now.table.now))) tt }
 {
-    if !is_name(text_or("", "name", table)) {
+    if !is_name(table.text_or_empty(CallKey::Name)) {
         return Err(place.fault(PlanFaultKind::BadName));
     }
     match found {
@@ -107,11 +118,11 @@ fn check_known_name(
     place: Place,
     found: Option<Site>,
     block: usize,
-    table: &Table,
+    table: &CallTable,
 ) -> Result<(), Refusal>
-    ensures { Reads (λ u. u) result (first_failing place (known_name_checks found block (table_view table.now))) tt }
+    ensures { Reads (λ u. u) result (first_failing place (known_name_checks found block (table_view table.now.table.now))) tt }
 {
-    if !is_name(text_or("", "name", table)) {
+    if !is_name(table.text_or_empty(CallKey::Name)) {
         return Err(place.fault(PlanFaultKind::BadName));
     }
     match found {
@@ -132,13 +143,13 @@ fn read_timed(
     block: usize,
     header: Header,
     last: u64,
-    table: &Table,
+    table: &CallTable,
 ) -> Result<Call, Refusal>
     requires times { 1 ≤ header.times }
-    requires name { first_failing place (name_checks verb found block (table_view table.now)) ≡ None }
-    ensures { Reads (λ c. c) result (first_failing place (time_checks verb header last (table_view table.now))) (timed_call verb found header (table_view table.now)) }
+    requires name { first_failing place (name_checks verb found block (table_view table.now.table.now)) ≡ None }
+    ensures { Reads (λ c. c) result (first_failing place (time_checks verb header last (table_view table.now.table.now))) (timed_call verb found header (table_view table.now.table.now)) }
 {
-    let at = integer_or(0, "at", table);
+    let at = table.integer_or(0, CallKey::At);
     if at < 0 {
         return Err(place.fault(PlanFaultKind::Negative));
     }
@@ -161,21 +172,21 @@ fn read_op(
     found: Option<Site>,
     block: usize,
     unit: Unit,
-    table: &Table,
+    table: &CallTable,
 ) -> Result<Op, Refusal>
-    requires { first_failing place (name_checks verb found block (table_view table.now)) ≡ None }
-    ensures { Reads (λ o. o) result (first_failing place ((kinds.TooLarge unless are_spans_short verb unit (table_view table.now)) ∷ [])) (op_of verb found unit (table_view table.now)) }
+    requires { first_failing place (name_checks verb found block (table_view table.now.table.now)) ≡ None }
+    ensures { Reads (λ o. o) result (first_failing place ((kinds.TooLarge unless are_spans_short verb unit (table_view table.now.table.now)) ∷ [])) (op_of verb found unit (table_view table.now.table.now)) }
 {
     match verb {
         Verb::Schedule => {
-            let name = Name::new(text_or("", "name", table));
-            let delay = read_span(place, integer_or(0, "delay", table), unit)?;
+            let name = Name::new(table.text_or_empty(CallKey::Name));
+            let delay = read_span(place, table.integer_or(0, CallKey::Delay), unit)?;
             Ok(Op::Schedule { name, delay })
         }
         Verb::Rate => {
-            let name = Name::new(text_or("", "name", table));
-            let first = read_span(place, integer_or(0, "first", table), unit)?;
-            let period = read_period(place, integer_or(0, "period", table), unit)?;
+            let name = Name::new(table.text_or_empty(CallKey::Name));
+            let first = read_span(place, table.integer_or(0, CallKey::First), unit)?;
+            let period = read_period(place, table.integer_or(0, CallKey::Period), unit)?;
             Ok(Op::Rate {
                 name,
                 first,
@@ -183,9 +194,9 @@ fn read_op(
             })
         }
         Verb::Fixed => {
-            let name = Name::new(text_or("", "name", table));
-            let first = read_span(place, integer_or(0, "first", table), unit)?;
-            let delay = read_period(place, integer_or(0, "delay", table), unit)?;
+            let name = Name::new(table.text_or_empty(CallKey::Name));
+            let first = read_span(place, table.integer_or(0, CallKey::First), unit)?;
+            let delay = read_period(place, table.integer_or(0, CallKey::Delay), unit)?;
             Ok(Op::Fixed { name, first, delay })
         }
         Verb::Cancel => match found {
@@ -194,7 +205,7 @@ fn read_op(
         },
         Verb::Policy => Ok(Op::Policy {
             which: which_at(table),
-            value: truth_at("value", table),
+            value: table.truth_at(CallKey::Value),
         }),
         Verb::Shutdown => Ok(Op::Shutdown),
         Verb::Ask => Ok(Op::Ask),
@@ -212,8 +223,8 @@ fn read_period(place: Place, value: i64, unit: Unit) -> Result<Option<Span>, Ref
 }
 
 /// The policy that a table names, `continue` where it names none.
-fn which_at(table: &Table) -> Which
-    ensures { result ≡ which_at (table_view table.now) }
+fn which_at(table: &CallTable) -> Which
+    ensures { result ≡ which_at (table_view table.now.table.now) }
 {
-    which_of_word(text_or("", "which", table)).unwrap_or(Which::Continue)
+    which_of_word(table.text_or_empty(CallKey::Which)).unwrap_or(Which::Continue)
 }

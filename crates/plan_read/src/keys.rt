@@ -6,7 +6,9 @@ ghost use Rattle.std.specs.Prelude.{◌≡◌, string_bytes};
 ghost use Rattle.toml.specs.View.{table_view};
 ghost use Rattle.plan_read.specs.Keys.{top_keys, header_keys, call_keys, own_keys, is_key, has_only, has_required, are_typed};
 
-use crate::tables::{fits_integer, fits_policy, fits_tables, fits_text, fits_truth, has};
+use crate::call_keys::CallKey;
+use crate::call_tables::CallTable;
+use crate::tables::{fits_integer, fits_tables, fits_text};
 use crate::verbs::Verb;
 use toml::Table;
 
@@ -93,43 +95,49 @@ fn is_call_key(verb: Verb, key: &str) -> bool
 }
 
 /// Whether a call has the keys that its operation needs.
-pub fn has_required_keys(verb: Verb, table: &Table) -> bool
-    ensures { result ≡ has_required (call_keys verb) (table_view table.now) }
+pub fn has_required_keys(verb: Verb, table: &CallTable) -> bool
+    ensures { result ≡ has_required (call_keys verb) (table_view table.now.table.now) }
 {
-    has(table, "op")
+    table.has(CallKey::Op)
         && match verb {
-            Verb::Schedule => has(table, "name") && has(table, "delay"),
-            Verb::Rate => has(table, "name") && has(table, "first") && has(table, "period"),
-            Verb::Fixed => has(table, "name") && has(table, "first") && has(table, "delay"),
-            Verb::Cancel => has(table, "name"),
-            Verb::Policy => has(table, "which") && has(table, "value"),
+            Verb::Schedule => table.has(CallKey::Name) && table.has(CallKey::Delay),
+            Verb::Rate => table.has(CallKey::Name)
+                && table.has(CallKey::First)
+                && table.has(CallKey::Period),
+            Verb::Fixed => table.has(CallKey::Name)
+                && table.has(CallKey::First)
+                && table.has(CallKey::Delay),
+            Verb::Cancel => table.has(CallKey::Name),
+            Verb::Policy => table.has(CallKey::Which) && table.has(CallKey::Value),
             Verb::Shutdown | Verb::Ask => true,
         }
 }
 
 /// Whether the values of a call are of the types that its operation needs.
-pub fn is_typed_call(verb: Verb, table: &Table) -> bool
-    ensures { result ≡ are_typed (call_keys verb) (table_view table.now) }
+pub fn is_typed_call(verb: Verb, table: &CallTable) -> bool
+    ensures { result ≡ are_typed (call_keys verb) (table_view table.now.table.now) }
 {
-    fits_text("op", table) && fits_integer("at", table) && has_typed_values(verb, table)
+    table.fits_text(CallKey::Op) && table.fits_integer(CallKey::At) && has_typed_values(verb, table)
 }
 
 /// Whether the values of an operation's own keys are of the types that it needs.
-fn has_typed_values(verb: Verb, table: &Table) -> bool
-    ensures { result ≡ are_typed (own_keys verb) (table_view table.now) }
+fn has_typed_values(verb: Verb, table: &CallTable) -> bool
+    ensures { result ≡ are_typed (own_keys verb) (table_view table.now.table.now) }
 {
     match verb {
-        Verb::Schedule => fits_text("name", table) && fits_integer("delay", table),
+        Verb::Schedule => table.fits_text(CallKey::Name) && table.fits_integer(CallKey::Delay),
         Verb::Rate => {
-            fits_text("name", table)
-                && fits_integer("first", table)
-                && fits_integer("period", table)
+            table.fits_text(CallKey::Name)
+                && table.fits_integer(CallKey::First)
+                && table.fits_integer(CallKey::Period)
         }
         Verb::Fixed => {
-            fits_text("name", table) && fits_integer("first", table) && fits_integer("delay", table)
+            table.fits_text(CallKey::Name)
+                && table.fits_integer(CallKey::First)
+                && table.fits_integer(CallKey::Delay)
         }
-        Verb::Cancel => fits_text("name", table),
-        Verb::Policy => fits_policy("which", table) && fits_truth("value", table),
+        Verb::Cancel => table.fits_text(CallKey::Name),
+        Verb::Policy => table.fits_policy(CallKey::Which) && table.fits_truth(CallKey::Value),
         Verb::Shutdown | Verb::Ask => true,
     }
 }

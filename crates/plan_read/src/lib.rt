@@ -88,6 +88,8 @@
 //! the map once, and each table is read once. What a call needs of those before it is handed on.
 #![tactic(auto)]
 
+mod call_keys;
+mod call_tables;
 mod calls;
 mod faults;
 mod headers;

@@ -9,14 +9,16 @@ ghost use Rattle.plan_read.specs.Reads.{Reads, Knows, out_of_memory};
 ghost use Rattle.plan_read.specs.Texts.{toml_checks, tree_at, fault_of_text, plan_of_text, TextWrites};
 ghost use Rattle.plan_read.specs.Values.{tables_in, next_call, calls_after, block_of, blocks_after, plan_of};
 
-use crate::calls::read_call;
+use crate::call_keys::CallKey;
+use crate::call_tables::CallTable;
+use crate::calls::{read_call, submits};
 use crate::faults::{Place, PlanFault, PlanFaultKind, Refusal};
 use crate::headers::{last_moment, read_header, read_top};
 use crate::limits::LONGEST_TEXT;
 use crate::plans::{Block, Call, Header, Op, Plan, Target};
 use crate::room::Room;
-use crate::sites::{Site, add_name};
-use crate::tables::{tables_at, text_or};
+use crate::sites::{Site, find_or_add};
+use crate::tables::tables_at;
 use std::alloc::{Allocator, Global};
 use std::collections::BTreeMap;
 use toml::{Table, Value};
@@ -84,7 +86,7 @@ fn read_blocks<A: Allocator + Copy>(alloc: A, tables: &[Value]) -> Result<Vec<Bl
     requires few { length tables.now ≤ 256 }
     ensures { Reads (λ v. v.items) result (blocks_fault [] (tables_in (items_view tables.now))) (blocks_after [] (tables_in (items_view tables.now))) }
 {
-    let mut blocks = Vec::new(alloc);
+    let mut blocks = Vec::with_capacity(alloc, tables.len())?;
     let mut names = BTreeMap::new(alloc);
     let mut end = 0;
     let mut made = 0;
@@ -158,7 +160,7 @@ fn read_calls<'a, A: Allocator + Copy>(
     ensures names { IfOk result (λ v. Knows names.new (submissions_before earlier.now header v.items)) }
     ensures count { IfOk result (λ v. length v.items ≡ length tables.now) }
 {
-    let mut calls = Vec::new(alloc);
+    let mut calls = Vec::with_capacity(alloc, tables.len())?;
     let mut sub = 0;
     for value in tables {
         let Some(table) = value.as_table() else {
@@ -196,16 +198,15 @@ fn read_next<'a, A: Allocator + Copy>(
         block: block as u32 + 1,
         call: before.len() as u32 + 1,
     };
-    let name = text_or("", "name", table);
-    let found = names.get(name).copied();
+    let table = CallTable::new(table);
+    let site = Site {
+        target: Target { block, sub },
+        repeated: header.times > 1,
+    };
+    let name = table.text_or_empty(CallKey::Name);
+    let found = find_or_add(names, name, submits(&table), site)?;
     let last = last_offset(before);
-    let call = read_call(place, found, block, header, last, table)?;
-    if call.op.is_submission() {
-        let target = Target { block, sub };
-        let repeated = header.times > 1;
-        add_name(names, name, Site { target, repeated })?;
-    }
-    Ok(call)
+    read_call(place, found, block, header, last, &table)
 }
 
 /// The offset of the last call, 0 where there is none.

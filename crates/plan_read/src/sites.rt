@@ -1,6 +1,6 @@
 //! Submissions by their names.
 
-ghost use Rattle.std.specs.Prelude.{◌≡◌, ℕ, List, IfErr, OnOk, Some, if◌then◌else◌, bytes_eq};
+ghost use Rattle.std.specs.Prelude.{◌≡◌, ℕ, List, IfErr, IfOk, OnOk, Some, ◌&&◌, if◌then◌else◌, bytes_eq};
 ghost use Rattle.plan_read.specs.declared.faults.Refusal.TheVariants as refusals;
 ghost use Rattle.plan_read.specs.Reads.{found_in};
 
@@ -18,15 +18,19 @@ pub struct Site {
     pub repeated: bool,
 }
 
-/// Adds a submission of a name that has none.
-pub fn add_name<'a, A: Allocator + Copy>(
+/// The submission of a name, if there is one; where the call submits, the name is then that of `site`.
+pub fn find_or_add<'a, A: Allocator + Copy>(
     names: &mut BTreeMap<&'a str, Site, A>,
     name: &'a str,
+    submits: bool,
     site: Site,
-) -> Result<(), Refusal>
-    ensures added { OnOk result ((q : List ℕ) → found_in names.new q ≡ if bytes_eq name.now q then Some site else found_in names.old q) }
+) -> Result<Option<Site>, Refusal>
+    ensures found { IfOk result (λ found. found ≡ found_in names.old name.now) }
+    ensures added { OnOk result ((q : List ℕ) → found_in names.new q ≡ if submits && bytes_eq name.now q then Some site else found_in names.old q) }
     ensures memory { IfErr result (λ e. e ≡ refusals.Memory) }
 {
-    names.insert(name, site)?;
-    Ok(())
+    if submits {
+        return Ok(names.insert(name, site)?);
+    }
+    Ok(names.get(name).copied())
 }

@@ -1,11 +1,11 @@
 //! What a TOML table holds at its keys.
 
 ghost use Rattle.std.specs.List.{list_all};
-ghost use Rattle.std.specs.Prelude.{◌≡◌, true, length, option_map, is_some};
-ghost use Rattle.toml.specs.Data.{get_member, as_table};
+ghost use Rattle.std.specs.Prelude.{◌≡◌, true, false, length, option_map, option_and_then, unwrap_or, is_some};
+ghost use Rattle.toml.specs.Data.{get_member, as_bool, as_integer, as_str, as_table};
 ghost use Rattle.toml.specs.View.{view, table_view, items_view};
 ghost use Rattle.plan_read.specs.Keys.{fits, Text, Integer, Truth, Policy, Tables, are_tables};
-ghost use Rattle.plan_read.specs.Values.{integer_or, text_or, truth_at, tables_in, tables_at};
+ghost use Rattle.plan_read.specs.Values.{integer_or, text_or, tables_in, tables_at};
 
 use crate::units::which_of_word;
 use toml::{Table, Value};
@@ -24,13 +24,33 @@ pub fn has(table: &Table, key: &str) -> bool
     member(table, key).is_some()
 }
 
+/// The integer that a value is, and a default where there is none.
+pub fn integer_of(default: i64, value: Option<&Value>) -> i64
+    ensures { result ≡ unwrap_or (option_and_then as_integer (option_map (λ v. view v.now) value.entry)) default }
+{
+    match value {
+        Some(value) => match value.as_integer() {
+            Some(number) => number,
+            None => default,
+        },
+        None => default,
+    }
+}
+
 /// The integer at a key, and a default where there is none.
 pub fn integer_or(default: i64, key: &str, table: &Table) -> i64
     ensures { result ≡ integer_or default key.now (table_view table.now) }
 {
-    match member(table, key) {
-        Some(value) => match value.as_integer() {
-            Some(number) => number,
+    integer_of(default, member(table, key))
+}
+
+/// The text that a value is, and a default where there is none.
+pub fn text_of<'a>(default: &'a str, value: Option<&'a Value>) -> &'a str
+    ensures { result.now ≡ unwrap_or (option_and_then as_str (option_map (λ v. view v.now) value.entry)) default.now }
+{
+    match value {
+        Some(value) => match value.as_str() {
+            Some(text) => text,
             None => default,
         },
         None => default,
@@ -41,20 +61,14 @@ pub fn integer_or(default: i64, key: &str, table: &Table) -> i64
 pub fn text_or<'a>(default: &'a str, key: &str, table: &'a Table) -> &'a str
     ensures { result.now ≡ text_or default.now key.now (table_view table.now) }
 {
-    match member(table, key) {
-        Some(value) => match value.as_str() {
-            Some(text) => text,
-            None => default,
-        },
-        None => default,
-    }
+    text_of(default, member(table, key))
 }
 
-/// The truth value at a key, and false where there is none.
-pub fn truth_at(key: &str, table: &Table) -> bool
-    ensures { result ≡ truth_at key.now (table_view table.now) }
+/// The truth value that a value is, and false where there is none.
+pub fn truth_of(value: Option<&Value>) -> bool
+    ensures { result ≡ unwrap_or (option_and_then as_bool (option_map (λ v. view v.now) value.entry)) false }
 {
-    match member(table, key) {
+    match value {
         Some(value) => match value.as_bool() {
             Some(truth) => truth,
             None => false,
@@ -79,12 +93,29 @@ pub fn tables_at<'a>(key: &str, table: &'a Table) -> &'a [Value]
     }
 }
 
+/// Whether there is no value, or a text.
+pub fn is_text_or_none(value: Option<&Value>) -> bool
+    ensures { result ≡ fits Text (option_map (λ v. view v.now) value.entry) }
+{
+    match value {
+        Some(value) => value.as_str().is_some(),
+        None => true,
+    }
+}
+
 /// Whether there is no value at a key, or a text.
 pub fn fits_text(key: &str, table: &Table) -> bool
     ensures { result ≡ fits Text (get_member key.now (table_view table.now)) }
 {
-    match member(table, key) {
-        Some(value) => value.as_str().is_some(),
+    is_text_or_none(member(table, key))
+}
+
+/// Whether there is no value, or an integer.
+pub fn is_integer_or_none(value: Option<&Value>) -> bool
+    ensures { result ≡ fits Integer (option_map (λ v. view v.now) value.entry) }
+{
+    match value {
+        Some(value) => value.as_integer().is_some(),
         None => true,
     }
 }
@@ -93,27 +124,24 @@ pub fn fits_text(key: &str, table: &Table) -> bool
 pub fn fits_integer(key: &str, table: &Table) -> bool
     ensures { result ≡ fits Integer (get_member key.now (table_view table.now)) }
 {
-    match member(table, key) {
-        Some(value) => value.as_integer().is_some(),
-        None => true,
-    }
+    is_integer_or_none(member(table, key))
 }
 
-/// Whether there is no value at a key, or a truth value.
-pub fn fits_truth(key: &str, table: &Table) -> bool
-    ensures { result ≡ fits Truth (get_member key.now (table_view table.now)) }
+/// Whether there is no value, or a truth value.
+pub fn is_truth_or_none(value: Option<&Value>) -> bool
+    ensures { result ≡ fits Truth (option_map (λ v. view v.now) value.entry) }
 {
-    match member(table, key) {
+    match value {
         Some(value) => value.as_bool().is_some(),
         None => true,
     }
 }
 
-/// Whether there is no value at a key, or the word of a policy.
-pub fn fits_policy(key: &str, table: &Table) -> bool
-    ensures { result ≡ fits Policy (get_member key.now (table_view table.now)) }
+/// Whether there is no value, or the word of a policy.
+pub fn is_policy_or_none(value: Option<&Value>) -> bool
+    ensures { result ≡ fits Policy (option_map (λ v. view v.now) value.entry) }
 {
-    match member(table, key) {
+    match value {
         Some(value) => match value.as_str() {
             Some(word) => which_of_word(word).is_some(),
             None => false,

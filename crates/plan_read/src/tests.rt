@@ -633,10 +633,7 @@ fn with_calls(rt: &impl AllocGlobal, blocks: u32, calls: u32) -> Result<String, 
     for block in 0..blocks {
         text.push_str("[[block]]\ncall=[")?;
         for call in 0..calls {
-            let call = format!(in rt.alloc();
-                "{{op=\"schedule\",name=\"{block}-{call}\",delay=0}},"
-            )?;
-            text.push_str(call.as_str())?;
+            write!(text, "{{op=\"schedule\",name=\"{block}-{call}\",delay=0}},")?;
         }
         text.push_str("]\n")?;
     }

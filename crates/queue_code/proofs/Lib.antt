@@ -7,3 +7,4 @@ pub mod Soundness
 pub mod Sizes
 pub mod Counting
 pub mod LeastFault
+pub mod Accepting

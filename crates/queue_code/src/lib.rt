@@ -1,18 +1,10 @@
-//! The calls that a plan makes, as the executor takes them: each with the moment at which it is made. And codes: lists
-//! of instructions with loops that make such calls.
+//! The calls that a plan makes, each with the moment at which it is made, and codes: lists of instructions with loops
+//! that make such calls. The executor takes a code.
 //!
 //! # Usage
 //!
-//! [`orderly`] tells whether the executor takes a list of calls.
-//!
-//! ```text
-//! let calls = [(0, CodeCall::Submit { task: 0, timing: Timing::Once, delay: 5 }), (2, CodeCall::Cancel { task: 0 })];
-//! orderly(&calls) // true: moments do not fall, and the cancel names a submission before it
-//! ```
-//!
-//! A [`Code`] is a list of instructions that makes such calls, in which a block that is repeated stands once, as a
-//! loop. A [`Cursor`] fetches its calls one after the other, and [`listing`] is its text. The executor takes no codes
-//! yet.
+//! A [`Code`] is a list of instructions in which a block that is repeated stands once, as a loop. A [`Cursor`] fetches
+//! its calls one after the other, and [`listing`] is its text.
 //!
 //! ```rust
 //! let instrs = vec![in alloc;
@@ -27,6 +19,13 @@
 //! cursor.fetch(&code); // Some((100, CodeCall::Submit { task: 0, timing: Timing::Once, delay: 50 }))
 //! cursor.next_moment(&code); // Some(104): the cancel of task 0; then 110 and 114, 120 and 124
 //! listing(alloc, &code)?; // "0 loop 3 every 10\n1 submit 100 schedule 50\n2 cancel 104 here 0\n3 endloop\n4 halt\n"
+//! ```
+//!
+//! [`orderly`] tells of a list of calls that is written out whether it is in order, as the calls of each code are.
+//!
+//! ```text
+//! let calls = [(0, CodeCall::Submit { task: 0, timing: Timing::Once, delay: 5 }), (2, CodeCall::Cancel { task: 0 })];
+//! orderly(&calls) // true: moments do not fall, and the cancel names a submission before it
 //! ```
 //!
 //! # Behaviour
@@ -73,7 +72,7 @@
 //!
 //! # Memory and cost
 //!
-//! [`orderly`] goes over the calls once, and takes no memory. [`Code::check`] goes over the list once. It keeps the
+//! [`orderly`] goes over the calls once, and takes no memory. [`Code::check`] goes over the list twice. It keeps the
 //! list, and takes a table with a number for each instruction, by which an `EndLoop` finds its loop. [`listing`]
 //! takes its text. No other call takes memory, and each costs the same whatever the code: a cursor is six numbers,
 //! and no list of calls is ever made, however often a loop is repeated.

@@ -1,14 +1,14 @@
--- Arguments: what `sched run` is asked for.
+-- Arguments: what a command line asks for.
 -- All of it is this project's rule, in the words that clap has for what a command line holds.
-use Rattle.std.specs.Prelude.{◌≡◌, ℕ, ◌^◌, ◌<◌, List, [], Option, Some, None, option_map, unwrap_or, codes}
+use Rattle.std.specs.Prelude.{◌≡◌, ◌≢◌, ℕ, ◌^◌, ◌<◌, List, [], Option, Some, None, unwrap_or, codes}
 use Rattle.std.specs.Str.Parse.{IsNumeral, digits_value, without_leading_plus}
 use Rattle.clap.specs.Words.{Row, Text, first_of, one_of, subcommand_of}
 use Rattle.sched.specs.Commands.{sched_app}
 use Rattle.sched.specs.declared.arguments.RunArguments.{RunArguments}
-
--- what a command line holds for the arguments of `run`
-abbrev pub rows_of_run : List Text → List Row
-rows_of_run arguments = unwrap_or (option_map (λ p. p.1) (subcommand_of sched_app arguments)) []
+use Rattle.sched.specs.declared.arguments.CodeArguments.{CodeArguments}
+use Rattle.sched.specs.declared.arguments.CheckArguments.{CheckArguments}
+use Rattle.sched.specs.declared.arguments.Asked.{Asked}
+use Rattle.sched.specs.declared.arguments.Asked.TheVariants.{Run, Code, Check}
 
 -- a text writes, in decimal digits, a number that fits `bits` bits
 abbrev pub WritesNumber : ℕ → Text → Type 0
@@ -21,7 +21,28 @@ IsNumberOf bits (Some text) n =
     (WritesNumber bits text → n ≡ digits_value 10 (without_leading_plus text)) × (¬ (WritesNumber bits text) → n ≡ 0)
 
 -- the name and the two numbers are the values of `run`'s arguments
-pub record AsksFor (rows : List Row) (asked : RunArguments) : Type 0 where
+pub record AsksForRun (rows : List Row) (asked : RunArguments) : Type 0 where
   pub plan : asked.path.now ≡ unwrap_or (first_of (codes "plan") rows) []
   pub workers : IsNumberOf 8 (one_of (codes "workers") rows) asked.workers
   pub limit : IsNumberOf 32 (one_of (codes "limit") rows) asked.limit
+
+-- the name is the value of `code`'s argument
+abbrev pub AsksForCode : List Row → CodeArguments → Type 0
+AsksForCode rows asked = asked.path.now ≡ unwrap_or (first_of (codes "plan") rows) []
+
+-- the two names and the number are the values of `check`'s arguments
+pub record AsksForCheck (rows : List Row) (asked : CheckArguments) : Type 0 where
+  pub plan : asked.path.now ≡ unwrap_or (first_of (codes "plan") rows) []
+  pub trace : asked.trace.now ≡ unwrap_or (first_of (codes "trace") rows) []
+  pub workers : IsNumberOf 8 (one_of (codes "workers") rows) asked.workers
+
+-- what is asked for, by the command that is named, with what a command line holds for its arguments: a listing by `code`, a
+-- check by `check`, and a run by any other one, which is `run`
+abbrev pub AsksIn : Option (Text × List Row) → Asked → Type 0
+AsksIn named (Code c) = (rows : List Row) × (named ≡ Some (codes "code", rows)) × AsksForCode rows c
+AsksIn named (Check c) = (rows : List Row) × (named ≡ Some (codes "check", rows)) × AsksForCheck rows c
+AsksIn named (Run r) = (name : Text) × (rows : List Row) × (named ≡ Some (name, rows)) × (name ≢ codes "code") × (name ≢ codes "check") × AsksForRun rows r
+
+-- what the arguments of a command line ask for
+abbrev pub Asks : List Text → Asked → Type 0
+Asks arguments asked = AsksIn (subcommand_of sched_app arguments) asked

@@ -1,7 +1,8 @@
--- Commands: the command line that the program takes: `sched run PLAN --workers N [--limit N]`.
+-- Commands: the command lines that the program takes: `sched run PLAN --workers N [--limit N]`, `sched code PLAN`
+-- and `sched check PLAN TRACE --workers N`.
 -- All of it is this project's rule, in the words that clap has for arguments and commands. The texts of help are no part of it.
 use Rattle.std.specs.Prelude.{◌≡◌, ◌≢◌, ◌⊎◌, ℕ, List, [], ◌∷◌, Some, Ok, Err, Result, MatchResult, true, false, pos, codes}
-use Rattle.clap.specs.Words.{App, Rule, IsAmong, fault_of, new_rule}
+use Rattle.clap.specs.Words.{App, Row, Rule, IsAmong, fault_of, new_rule, subcommand_of}
 use Rattle.clap.specs.Simple.{new_shape}
 use Rattle.clap.specs.declared.builder.action.ArgAction.TheVariants.{Set}
 use Rattle.clap.specs.declared.builder.value_parser.ValueParser.TheVariants.{Signed}
@@ -15,6 +16,10 @@ use Rattle.sched.specs.Faults.{status_of}
 -- PLAN: a text, which has to be there
 abbrev pub plan_rule : Rule
 plan_rule = record (new_rule (codes "plan")) { value_names = 1; required = true; action = Some Set }
+
+-- TRACE: a text, which has to be there
+abbrev pub trace_rule : Rule
+trace_rule = record (new_rule (codes "trace")) { value_names = 1; required = true; action = Some Set }
 
 -- --workers N: 1 to 64, which has to be there
 abbrev pub workers_rule : Rule
@@ -43,11 +48,25 @@ run_app = record {
   subs = [];
 }
 
--- the program, of which a command has to be named: `run`, beside clap's own `help`
+-- `code` with its argument
+abbrev pub code_app : App
+code_app = record {
+  top = record (new_shape (codes "code")) { rules = plan_rule ∷ [] };
+  subs = [];
+}
+
+-- `check` with its three arguments
+abbrev pub check_app : App
+check_app = record {
+  top = record (new_shape (codes "check")) { rules = plan_rule ∷ trace_rule ∷ workers_rule ∷ [] };
+  subs = [];
+}
+
+-- the program, of which a command has to be named, beside clap's own `help`
 abbrev pub sched_app : App
 sched_app = record {
   top = record (new_shape (codes "sched")) { is_leaf = false; subcommand_required = true };
-  subs = run_app.top ∷ [];
+  subs = run_app.top ∷ code_app.top ∷ check_app.top ∷ [];
 }
 
 -- ---- what the program answers to the arguments of a command line
@@ -67,6 +86,11 @@ abbrev pub IsRefusal : List (List ℕ) → Result ℕ Fault → Type 0
 IsRefusal arguments result = fault_of sched_app arguments ≢ []
     → (kind : ErrorKind) × ((kind ≡ k.OutOfMemory) ⊎ IsAmong kind (fault_of sched_app arguments)) × IsShown kind result
 
--- arguments that it takes end with 0, or with a fault whose exit status is 1
+-- the arguments name the command `check`
+abbrev pub NamesCheck : List (List ℕ) → Type 0
+NamesCheck arguments = (rows : List Row) × (subcommand_of sched_app arguments ≡ Some (codes "check", rows))
+
+-- arguments that it takes end with 0, with 1 where a check found that a trace breaks, or with a fault whose exit status is 1
 abbrev pub IsTaken : List (List ℕ) → Result ℕ Fault → Type 0
-IsTaken arguments result = fault_of sched_app arguments ≡ [] → MatchResult result (λ s. s ≡ 0) (λ e. status_of e ≡ 1)
+IsTaken arguments result = fault_of sched_app arguments ≡ []
+    → MatchResult result (λ s. (s ≡ 0) ⊎ ((s ≡ 1) × NamesCheck arguments)) (λ e. status_of e ≡ 1)

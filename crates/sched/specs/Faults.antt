@@ -14,6 +14,8 @@ use Rattle.sched_engine.specs.declared.report.RunError.TheVariants as x
 abbrev pub status_of : Fault → ℕ
 status_of f.Arguments = 2
 status_of f.PlanFile = 1
+status_of f.TraceFile = 1
+status_of f.TraceTooLong = 1
 status_of (f.Run e) = 1
 
 -- why a run ended is the program's fault; want of memory while the plan is read is want of memory, and says nothing of the plan

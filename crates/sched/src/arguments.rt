@@ -3,11 +3,22 @@
 ghost use Rattle.std.specs.Prelude.{◌≡◌, map, string_bytes, IfOk};
 ghost use Rattle.clap.specs.Words.{FailsBy, fault_of, found_of, rows_of};
 ghost use Rattle.sched.specs.Commands.{sched_app};
-ghost use Rattle.sched.specs.Arguments.{AsksFor, rows_of_run};
+ghost use Rattle.sched.specs.Arguments.{Asks, AsksForCheck, AsksForCode, AsksForRun};
 
 use crate::command::command;
 use clap::{ArgMatches, Error};
 use std::alloc::Global;
+
+/// What a command line asks for.
+#[derive(Clone, Copy, Debug)]
+pub enum Asked<'a> {
+    /// A run of a plan over the events on standard input.
+    Run(RunArguments<'a>),
+    /// The listing of a plan's code.
+    Code(CodeArguments<'a>),
+    /// The check of a trace against a plan.
+    Check(CheckArguments<'a>),
+}
 
 /// What `sched run` is asked for.
 #[derive(Clone, Copy, Debug)]
@@ -20,29 +31,79 @@ pub struct RunArguments<'a> {
     pub limit: u32,
 }
 
-impl<'a> RunArguments<'a> {
+/// What `sched code` is asked for.
+#[derive(Clone, Copy, Debug)]
+pub struct CodeArguments<'a> {
+    /// The name of the plan's file.
+    pub path: &'a str,
+}
+
+/// What `sched check` is asked for.
+#[derive(Clone, Copy, Debug)]
+pub struct CheckArguments<'a> {
+    /// The name of the plan's file.
+    pub path: &'a str,
+    /// The name of the trace's file.
+    pub trace: &'a str,
+    /// How many workers there are: 1 to 64.
+    pub workers: u8,
+}
+
+impl<'a> Asked<'a> {
     /// What the arguments of a command line ask for, the program's name first. `Err` is help, a
     /// fault of the command line, or want of memory.
-    pub fn parse(alloc: Global, arguments: &'a [String]) -> Result<RunArguments<'a>, Error>
-        ensures asked { IfOk result (AsksFor (rows_of_run (map string_bytes arguments.now))) }
+    pub fn parse(alloc: Global, arguments: &'a [String]) -> Result<Asked<'a>, Error>
+        ensures asked { IfOk result (Asks (map string_bytes arguments.now)) }
         ensures fails { FailsBy (fault_of sched_app (map string_bytes arguments.now)) result }
     {
         let matches = command(alloc)?.try_get_matches_from(arguments)?;
+        if let Some(code) = matches.subcommand_matches("code") {
+            return Ok(Asked::Code(CodeArguments::of_matches(code)));
+        }
+        if let Some(check) = matches.subcommand_matches("check") {
+            return Ok(Asked::Check(CheckArguments::of_matches(check)));
+        }
         match matches.subcommand() {
-            Some((_, run)) => Ok(RunArguments::of_matches(run)),
+            Some((_, run)) => Ok(Asked::Run(RunArguments::of_matches(run))),
             None => unreachable!(),
         }
     }
+}
 
+impl<'a> RunArguments<'a> {
     /// What was found for the arguments of `run`. A value that is missing, which the command line
     /// does not let through, is no name, no worker and no event.
     fn of_matches(run: &ArgMatches<'a>) -> RunArguments<'a>
-        ensures { AsksFor (rows_of (found_of run.now)) result }
+        ensures { AsksForRun (rows_of (found_of run.now)) result }
     {
         RunArguments {
             path: run.get_str("plan").unwrap_or(""),
             workers: run.get_one::<u8>("workers").unwrap_or(0),
             limit: run.get_one::<u32>("limit").unwrap_or(0),
+        }
+    }
+}
+
+impl<'a> CodeArguments<'a> {
+    /// What was found for the argument of `code`, as [`RunArguments`] has it.
+    fn of_matches(code: &ArgMatches<'a>) -> CodeArguments<'a>
+        ensures { AsksForCode (rows_of (found_of code.now)) result }
+    {
+        CodeArguments {
+            path: code.get_str("plan").unwrap_or(""),
+        }
+    }
+}
+
+impl<'a> CheckArguments<'a> {
+    /// What was found for the arguments of `check`, as [`RunArguments`] has it.
+    fn of_matches(check: &ArgMatches<'a>) -> CheckArguments<'a>
+        ensures { AsksForCheck (rows_of (found_of check.now)) result }
+    {
+        CheckArguments {
+            path: check.get_str("plan").unwrap_or(""),
+            trace: check.get_str("trace").unwrap_or(""),
+            workers: check.get_one::<u8>("workers").unwrap_or(0),
         }
     }
 }

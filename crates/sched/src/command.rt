@@ -2,7 +2,7 @@
 
 ghost use Rattle.std.specs.Prelude.{◌≡◌, false, IfOk};
 ghost use Rattle.clap.specs.Words.{app_of, rule_of};
-ghost use Rattle.sched.specs.Commands.{limit_rule, plan_rule, run_app, sched_app, workers_rule};
+ghost use Rattle.sched.specs.Commands.{check_app, code_app, limit_rule, plan_rule, run_app, sched_app, trace_rule, workers_rule};
 
 use clap::{Arg, ArgAction, Command, value_parser};
 use std::alloc::{AllocError, Global};
@@ -13,7 +13,7 @@ const STATUSES: &str = "\
 
 Exit status:
   0  done
-  1  a fault, told by a line on standard error
+  1  a fault, told by a line on standard error, or a trace that breaks
   2  a fault of the command line";
 
 /// What the help of `run` says below the options: what a plan, an event and a trace look like, and
@@ -100,7 +100,61 @@ Exit status:
      The events before a bad line, the limit or a read fault were answered.
   2  a fault of the command line";
 
-/// The command line of the program: `sched run PLAN --workers N [--limit N]`. `Err` where memory ran out.
+/// What the help of `code` says below the options: what the lines of a listing look like, and the exit
+/// statuses.
+const CODE: &str = "\
+A listing has a line for each instruction, with its index in front:
+  submit O schedule D     submits a task that is due D after the call
+  submit O rate F P       submits a task that is due F after the call, and then
+                          each P
+  submit O fixed F D      submits a task that is due F after the call, and then
+                          D after each of its runs
+  illegal O               submits a task that is refused
+  cancel O task K         cancels task K
+  cancel O here J         cancels the task that has J tasks of the same
+                          iteration before it
+  policy O WHICH VALUE    sets a policy
+  shutdown O              shuts the executor
+  ask O                   asks how many tasks are queued and run
+  loop N every E          begins a loop of N iterations, each E after the other
+  endloop                 ends the loop
+  halt                    ends the code
+All times are nanoseconds. A call is made at O, and in a loop at O after the
+iteration begins.
+
+Exit status:
+  0  the listing was printed
+  1  a fault, told by one of these lines on standard error:
+       sched: plan file not read
+       sched: plan: KIND block B call C   no plan; KIND tells what is wrong
+       sched: write fault
+       sched: out of memory
+  2  a fault of the command line";
+
+/// What the help of `check` says below the options: what is found, and the exit statuses.
+const FINDINGS: &str = "\
+What is found is printed on a line to standard output:
+  conforms  the trace is that of some events: each line is what the plan's
+            calls and these events are answered
+  breaks N  it is none: lines 1 to N - 1 may begin such a trace, and with line
+            N they may not, or the trace ends before line N, which has to come
+The end of a trace may be missing, but for the lines of the tasks that its last
+call ends. Calls of the plan may stand with no clock behind them.
+
+Exit status:
+  0  the trace conforms
+  1  it breaks, or there was a fault, told by one of these lines on standard
+     error:
+       sched: plan file not read
+       sched: plan: KIND block B call C   no plan; KIND tells what is wrong
+       sched: trace file not read
+       sched: trace file too long
+       sched: write fault
+       sched: out of memory
+  2  a fault of the command line";
+
+/// The command lines of the program: `sched run PLAN --workers N [--limit N]`, `sched code PLAN` and
+/// `sched check PLAN TRACE --workers N`. `Err` where memory ran out.
 pub fn command<'a>(alloc: Global) -> Result<Command<'a>, AllocError>
     ensures app { IfOk result (λ c. app_of c ≡ sched_app) }
 {
@@ -110,7 +164,9 @@ pub fn command<'a>(alloc: Global) -> Result<Command<'a>, AllocError>
             .about("Runs plans of scheduled tasks over lines of events, and writes what happens.")
             .after_help(STATUSES)
             .subcommand_required(true)
-            .subcommand(run_command(alloc)?)?,
+            .subcommand(run_command(alloc)?)?
+            .subcommand(code_command(alloc)?)?
+            .subcommand(check_command(alloc)?)?,
     )
 }
 
@@ -130,6 +186,32 @@ fn run_command<'a>(alloc: Global) -> Result<Command<'a>, AllocError>
     )
 }
 
+/// `code`, with its argument. `Err` where memory ran out.
+fn code_command<'a>(alloc: Global) -> Result<Command<'a>, AllocError>
+    ensures app { IfOk result (λ c. app_of c ≡ code_app) }
+{
+    Ok(
+        Command::new(alloc, "code")
+            .about("Prints the queue code of a plan to standard output.")
+            .after_help(CODE)
+            .arg(plan(alloc))?,
+    )
+}
+
+/// `check`, with its three arguments. `Err` where memory ran out.
+fn check_command<'a>(alloc: Global) -> Result<Command<'a>, AllocError>
+    ensures app { IfOk result (λ c. app_of c ≡ check_app) }
+{
+    Ok(
+        Command::new(alloc, "check")
+            .about("Checks that a trace is one that a plan allows.")
+            .after_help(FINDINGS)
+            .arg(plan(alloc))?
+            .arg(trace(alloc))?
+            .arg(workers(alloc))?,
+    )
+}
+
 /// `PLAN`, which has to be there.
 fn plan<'a>(alloc: Global) -> Arg<'a>
     ensures rule { rule_of result ≡ plan_rule }
@@ -138,6 +220,18 @@ fn plan<'a>(alloc: Global) -> Arg<'a>
     Arg::new(alloc, "plan")
         .value_name("PLAN")
         .help("The file of the plan: which tasks are submitted, and when")
+        .required(true)
+        .action(ArgAction::Set)
+}
+
+/// `TRACE`, which has to be there.
+fn trace<'a>(alloc: Global) -> Arg<'a>
+    ensures rule { rule_of result ≡ trace_rule }
+    ensures local { result.global ≡ false }
+{
+    Arg::new(alloc, "trace")
+        .value_name("TRACE")
+        .help("The file of the trace: at most 67,108,864 bytes")
         .required(true)
         .action(ArgAction::Set)
 }

@@ -3,7 +3,7 @@
 ghost use Rattle.std.specs.Prelude.{◌≡◌};
 ghost use Rattle.std.specs.Process.{exit_status};
 ghost use Rattle.sched.specs.Answers.{exit_status_of};
-ghost use Rattle.sched.specs.Faults.{status_of, IsToldAs, IsOfSystem};
+ghost use Rattle.sched.specs.Faults.{status_of, IsToldAs, IsOfSystem, IsOrMemory};
 ghost use Rattle.sched.specs.declared.fault_lines.Fault.TheVariants.{Run};
 ghost use Rattle.sched_engine.specs.declared.report.RunError.TheVariants.{Memory};
 
@@ -25,6 +25,12 @@ pub enum Fault {
     /// The plan file can't be read.
     #[error("plan file not read")]
     PlanFile,
+    /// The trace file can't be read.
+    #[error("trace file not read")]
+    TraceFile,
+    /// The trace file is over 67,108,864 bytes.
+    #[error("trace file too long")]
+    TraceTooLong,
     /// The run, or what the program did besides, ended so.
     #[error("{0}")]
     Run(RunError),
@@ -51,13 +57,14 @@ impl Fault {
     {
         match self {
             Fault::Arguments => 2,
-            Fault::PlanFile | Fault::Run(_) => 1,
+            Fault::PlanFile | Fault::TraceFile | Fault::TraceTooLong | Fault::Run(_) => 1,
         }
     }
 
     /// What a fault of the system comes to: memory where memory ran out, else `other`.
     pub fn of_system(error: io::Error, other: Fault) -> Fault
-        ensures { IsOfSystem error other result }
+        ensures kind { IsOfSystem error other result }
+        ensures either { IsOrMemory other result }
     {
         if error.kind() == ErrorKind::OutOfMemory {
             Fault::Run(RunError::Memory)

@@ -1,20 +1,25 @@
-//! Runs a plan of scheduled tasks over lines of events, and writes the trace of what happens.
+//! Runs a plan of scheduled tasks over lines of events, prints its code, and checks traces of it.
 //!
 //! # Usage
 //!
 //! ```text
 //! sched run PLAN --workers N [--limit N]
+//! sched code PLAN
+//! sched check PLAN TRACE --workers N
 //! ```
 //!
-//! PLAN is the file of the plan. There are 1 to 64 workers, and at most 1 to 4,294,967,295 events are taken, 1,000,000
-//! where the limit is left out. Events come on standard input, and the trace goes to standard output. `sched run --help`
-//! has the forms of all three.
+//! PLAN is the file of the plan, and TRACE that of a trace. There are 1 to 64 workers, and a run takes at most 1 to
+//! 4,294,967,295 events, 1,000,000 where the limit is left out. Events come on standard input, and the trace goes to
+//! standard output. `sched run --help` has the forms of all three, `sched code --help` that of a listing, and
+//! `sched check --help` what a check finds.
 //!
 //! # Behaviour
 //!
-//! The words of the command line become one value, `RunArguments`, before anything is opened. Then at most 1,048,577
+//! The words of the command line become one value, `Asked`, before anything is opened. Then at most 1,048,577
 //! bytes of the plan file are read, and [`run`](sched_engine::run) does the rest: it answers all that it read before it
-//! reads more. No clock of the machine is read.
+//! reads more. `code` writes the listing of the plan's code instead ([`write_listing`](sched_engine::write_listing)).
+//! `check` reads the plan, then at most 67,108,865 bytes of the trace file, and writes `conforms`, or `breaks N` with the
+//! number of a line from 1 ([`check`](trace_check::check)). No clock of the machine is read.
 //!
 //! # Order and ties
 //!
@@ -23,21 +28,24 @@
 //!
 //! # Errors
 //!
-//! The first fault ends the program: one of the command line, with status 2, then one of the plan file, of the plan, and
-//! of the run, each with status 1 and told by one line on standard error. What was answered before is written. Where
-//! standard error is closed, the status alone tells the fault.
+//! The first fault ends the program: one of the command line, with status 2, then one of the plan file, of the plan, of
+//! the trace file, and of the run or the writing, each with status 1 and told by one line on standard error. What was
+//! answered before is written. A trace that breaks is status 1 too, with nothing on standard error. Where standard error
+//! is closed, the status alone tells the fault.
 //!
 //! # Memory and cost
 //!
-//! The program takes what a run takes, the text of the plan, and while the plan is read its tree. Its memory does not
-//! grow with the number of events.
+//! A run takes what a run takes, the text of the plan, and while the plan is read its tree. Its memory does not grow with
+//! the number of events, nor with the calls that a repeated block makes, but for the tables of its tasks. A check takes the
+//! text of the trace, and what a core takes.
 #![tactic(auto)]
 
 mod arguments;
 mod command;
 mod fault_lines;
+mod files;
+mod finding;
 mod laws;
-mod plan_file;
 mod program;
 #[cfg(test)]
 mod tests;

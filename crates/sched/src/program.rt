@@ -3,32 +3,34 @@
 ghost use Rattle.std.specs.Prelude.{◌≡◌, ◌≤◌, ◌⊎◌, map, string_bytes, IfErr, IfOk, MatchResult};
 ghost use Rattle.std.specs.Process.{exit_status};
 ghost use Rattle.clap.specs.Words.{kind_of};
-ghost use Rattle.sched.specs.Answers.{RanAsAsked};
+ghost use Rattle.sched.specs.Answers.{ListedAsAsked, RanAsAsked};
 ghost use Rattle.sched.specs.Commands.{IsRefusal, IsShown, IsTaken};
 ghost use Rattle.sched.specs.Faults.{IsOrMemory, status_of};
 ghost use Rattle.sched.specs.declared.fault_lines.Fault.TheVariants.{Arguments};
 
-use crate::arguments::RunArguments;
+use crate::arguments::{Asked, CheckArguments, CodeArguments, RunArguments};
 use crate::fault_lines::{Fault, told};
-use crate::plan_file::plan_text;
+use crate::files::{plan_text, trace_text};
+use crate::finding::write_finding;
 use clap::Error;
 use clap::error::ErrorKind;
-use sched_engine::{Reading, Room, RunError, Sink, Source, Writing, run};
+use plan_read::read_plan;
+use sched_engine::{Reading, Room, RunError, Sink, Source, Writing, run, write_listing};
 use std::process::ExitCode;
 use std::rt::{Env, Files};
 use std::{env, io};
 
 /// Does what the command line says, and answers the exit status: 0, 1 after a fault that a line
-/// on standard error tells, or 2 for a fault of the command line.
+/// on standard error tells or where a trace breaks, or 2 for a fault of the command line.
 pub fn program<R: Env + Files + Input + Print + Eprint + AllocGlobal>(rt: &R) -> ExitCode
     ensures status { exit_status result ≤ 2 }
 {
     told(rt, answer(rt))
 }
 
-/// Does what the command line says. `Ok` is the exit status, 0 or 2.
+/// Does what the command line says. `Ok` is the exit status, 0, 1 or 2.
 fn answer<R: Env + Files + Input + Print + Eprint + AllocGlobal>(rt: &R) -> Result<u8, Fault>
-    ensures status { IfOk result (λ s. (s ≡ 0) ⊎ (s ≡ 2)) }
+    ensures status { IfOk result (λ s. s ≤ 2) }
 {
     let arguments = arguments(rt)?;
     answer_arguments(rt, &arguments)
@@ -46,17 +48,20 @@ fn arguments<R: Env + AllocGlobal>(rt: &R) -> Result<Vec<String>, Fault>
 }
 
 /// Does what the arguments of a command line say, the program's name first. `Ok` is the exit
-/// status: 0 where a run was done or help was printed, 2 where the program does not take them.
+/// status: 0 where what they ask for was done or help was printed, 1 where a trace breaks, 2 where the program does
+/// not take them.
 fn answer_arguments<R: Files + Input + Print + Eprint + AllocGlobal>(
     rt: &R,
     arguments: &[String],
 ) -> Result<u8, Fault>
-    ensures status { IfOk result (λ s. (s ≡ 0) ⊎ (s ≡ 2)) }
+    ensures status { IfOk result (λ s. s ≤ 2) }
     ensures refused { IsRefusal (map string_bytes arguments.now) result }
     ensures taken { IsTaken (map string_bytes arguments.now) result }
 {
-    match RunArguments::parse(rt.alloc(), arguments) {
-        Ok(asked) => run_plan(rt, &asked),
+    match Asked::parse(rt.alloc(), arguments) {
+        Ok(Asked::Run(asked)) => run_plan(rt, &asked),
+        Ok(Asked::Code(asked)) => list_plan(rt, &asked),
+        Ok(Asked::Check(asked)) => check_trace(rt, &asked),
         Err(error) => show(rt, &error),
     }
 }
@@ -110,4 +115,37 @@ fn run_text<A: Room, S: Source, W: Sink>(
 {
     run(alloc, text, asked.workers, asked.limit, reader, writer)?;
     Ok(0)
+}
+
+/// `sched code`: opens the plan file and standard output, and writes the listing.
+fn list_plan<R: Files + Print + AllocGlobal>(rt: &R, asked: &CodeArguments<'_>) -> Result<u8, Fault>
+    ensures status { MatchResult result (λ s. s ≡ 0) (λ e. status_of e ≡ 1) }
+{
+    let text = plan_text(rt, asked.path)?;
+    let mut writer = Writing::new(io::writer(rt));
+    list_text(rt.alloc(), &text, &mut writer)
+}
+
+/// Writes the listing of a plan's text. `Ok` is the exit status, 0.
+fn list_text<A: Room, W: Sink>(alloc: A, text: &[u8], writer: &mut W) -> Result<u8, Fault>
+    ensures listed { ListedAsAsked result text.now (W.contents writer.old) (W.contents writer.new) }
+    ensures status { MatchResult result (λ s. s ≡ 0) (λ e. status_of e ≡ 1) }
+{
+    write_listing(alloc, text, writer)?;
+    Ok(0)
+}
+
+/// `sched check`: opens the plan file, the trace file where the plan is one, and standard output, and checks. `Ok` is the
+/// exit status: 0 where the trace conforms, 1 where it breaks.
+fn check_trace<R: Files + Print + AllocGlobal>(
+    rt: &R,
+    asked: &CheckArguments<'_>,
+) -> Result<u8, Fault>
+    ensures status { MatchResult result (λ s. s ≤ 1) (λ e. status_of e ≡ 1) }
+{
+    let text = plan_text(rt, asked.path)?;
+    let plan = read_plan(rt.alloc(), &text).map_err(RunError::Plan)?;
+    let trace = trace_text(rt, asked.trace)?;
+    let mut writer = Writing::new(io::writer(rt));
+    write_finding(rt.alloc(), &plan, asked.workers, &trace, &mut writer)
 }

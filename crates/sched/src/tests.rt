@@ -1,13 +1,13 @@
 mod command_line;
 mod fault_lines;
+mod files;
 mod help;
-mod plan_files;
 mod programs;
 mod world;
 
 use std::alloc::Global;
 use std::process::{Abort, ExitCode};
-use world::{Ended, Given, PlanFile, run_in};
+use world::{Ended, Given, GivenFile, run_in};
 
 /// The plan of one delayed task, in the file `plan.toml`.
 const ONE_DELAY: &str =
@@ -18,8 +18,12 @@ fn given<'a>(arguments: &'a [&'a [u8]], events: &'a str) -> Given<'a> {
     Given {
         arguments,
         name: "plan.toml",
-        plan: PlanFile {
+        plan: GivenFile {
             rest: ONE_DELAY.as_bytes(),
+            is_broken: false,
+        },
+        trace: GivenFile {
+            rest: b"",
             is_broken: false,
         },
         events: events.as_bytes(),

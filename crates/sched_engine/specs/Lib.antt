@@ -1,4 +1,6 @@
 pub use Rattle.queue_code.specs.Calls
+pub use Rattle.queue_code.specs.Codes
+pub use Rattle.queue_code.specs.Listings
 pub use Rattle.executor_core.specs.Histories
 pub use Rattle.executor_core.specs.Flows
 pub use Rattle.executor_core.specs.Machine
@@ -6,8 +8,10 @@ pub use Rattle.plan_read.specs.Plans
 pub use Rattle.plan_read.specs.Reads
 pub use Rattle.plan_read.specs.Texts
 pub use Rattle.plan_compile.specs.PlanCalls
+pub use Rattle.plan_compile.specs.PlanCode
 pub use Rattle.trace_text.specs.Spelling
 pub use Rattle.trace_text.specs.Reading
+pub mod CodeTexts
 pub mod Ends
 pub mod Inputs
 pub mod Pieces

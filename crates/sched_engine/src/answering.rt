@@ -1,12 +1,15 @@
 //! The answering: events in, the text of the lines that answer them out. It knows of no reader and no writer.
-ghost use Rattle.std.specs.Prelude.{◌≡◌, ◌<◌, ◌≤◌, ◌↔◌, ◌⊎◌, IfErr, IfOk, IsErrOf, OnErr, drop, length, vec_capacity};
-ghost use Rattle.executor_core.specs.Machine.{room_of};
+ghost use Rattle.std.specs.Prelude.{◌≡◌, ◌+◌, ◌<◌, ◌≤◌, ◌↔◌, ◌⊎◌, IfErr, IfOk, IsErrOf, IsOk, List, OnErr, OnOk, drop, length, vec_capacity, vec_len};
+ghost use Rattle.executor_core.specs.Flows.{part_of};
+ghost use Rattle.executor_core.specs.Histories.{HistoryEntry, IsHistoryOf};
+ghost use Rattle.executor_core.specs.Machine.{Machine, Continues, Stands, Steps, room_of, workers_of};
+ghost use Rattle.sched_engine.specs.Inputs.{IsRefused};
 ghost use Rattle.sched_engine.specs.Turns.{IsAnswered, IsPieceEnd, IsShort, IsStanding, TakesEvent, WantsRoom};
 
 use crate::draft::Draft;
 use executor_core::{Core, CoreError, Event, Line};
 use std::alloc::{AllocError, Allocator};
-use trace_text::{Front, front_event};
+use trace_text::{Front, front_event, split_event};
 
 /// Why no further event was taken of the bytes at hand.
 #[derive(Clone, Copy, Debug, PartialEq, Eq)]
@@ -53,7 +56,7 @@ pub fn answer_event<A: Allocator>(
     ensures keeps { draft.old.room ≤ draft.new.room }
 {
     lines.clear();
-    core.event(event, lines)?;
+    take_event(core, event, lines)?;
     if draft.put_lines(lines).is_err() {
         return Err(CoreError::Memory);
     }
@@ -61,6 +64,32 @@ pub fn answer_event<A: Allocator>(
         unreachable!();
     };
     Ok(count)
+}
+
+/// Gives an event to the core, as [`Core::event`] takes it. The kinds of events are told apart here,
+/// so that each is answered by code that was made for it alone.
+#[inline(always)]
+fn take_event<A: Allocator>(
+    core: &mut Core<A>,
+    event: Event,
+    lines: &mut Vec<Line, A>,
+) -> Result<(), CoreError>
+    ensures full { IsErrOf result CoreError.Full ↔ (core.old.taken ≡ core.old.limit) }
+    ensures others { IfErr result (λ e. (e ≡ CoreError.Full) ⊎ (e ≡ CoreError.Memory)) }
+    ensures room { vec_len lines.old + room_of core.old ≤ vec_capacity lines.old → core.old.taken < core.old.limit → IsOk result }
+    ensures capacity { vec_len lines.old + room_of core.old ≤ vec_capacity lines.old → vec_capacity lines.new ≡ vec_capacity lines.old }
+    ensures refused { OnErr result (core.new ≡ core.old) }
+    ensures taken { OnOk result (core.new.taken ≡ core.old.taken + 1) }
+    ensures steps { OnOk result (Steps core.old core.new lines.old.items lines.new.items (part_of core.old.calls core.old.made core.old.moment event)) }
+    ensures history { OnOk result ((past : List HistoryEntry) → IsHistoryOf core.old.calls (workers_of core.old) past → Stands core.old past
+        → Continues core.old core.new lines.old.items lines.new.items event past) }
+{
+    match event {
+        Event::Clock(moment) => core.event(Event::Clock(moment), lines),
+        Event::Start(worker) => core.event(Event::Start(worker), lines),
+        Event::Finish(worker, ending) => core.event(Event::Finish(worker, ending), lines),
+        Event::Cancel(task) => core.event(Event::Cancel(task), lines),
+    }
 }
 
 /// Answers the events whose lines stand at the front of the bytes that are held, up to the
@@ -82,24 +111,38 @@ pub fn answer_events<A: Allocator>(
 {
     let mut rest = held;
     let mut count = 0;
-    loop {
-        let end = match front_event(rest) {
-            Front::Event(event, size) => match answer_event(core, event, lines, draft) {
-                Ok(more) => {
-                    rest = rest.split_at(size).1;
-                    count += more;
-                    continue;
-                }
-                Err(CoreError::Full) => PieceEnd::Full,
-                Err(_) => return Err(AllocError),
-            },
-            Front::Part => PieceEnd::Part,
-            Front::Refused => PieceEnd::Refused,
-        };
-        return Ok(Answered {
-            bytes: held.len() - rest.len(),
-            lines: count,
-            end,
-        });
+    while let Some((event, behind)) = split_event(rest) {
+        match answer_event(core, event, lines, draft) {
+            Ok(more) => {
+                rest = behind;
+                count += more;
+            }
+            Err(CoreError::Full) => {
+                return Ok(Answered {
+                    bytes: held.len() - rest.len(),
+                    lines: count,
+                    end: PieceEnd::Full,
+                });
+            }
+            Err(_) => return Err(AllocError),
+        }
+    }
+    Ok(Answered {
+        bytes: held.len() - rest.len(),
+        lines: count,
+        end: end_of(rest),
+    })
+}
+
+/// Why no further event is taken of bytes that do not begin with the line of one.
+#[cold]
+fn end_of(rest: &[u8]) -> PieceEnd
+    requires { IsRefused rest.now }
+    ensures { (core : Machine) → IsPieceEnd result core rest.now }
+{
+    match front_event(rest) {
+        Front::Event(..) => unreachable!(),
+        Front::Part => PieceEnd::Part,
+        Front::Refused => PieceEnd::Refused,
     }
 }

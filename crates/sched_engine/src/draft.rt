@@ -56,30 +56,11 @@ impl<A: Allocator> Draft<A> {
 
     /// Appends the text of lines, each with its newline. An `Err` leaves the text of a front of
     /// them, and does not come where there is room for [`LINE_ROOM`] bytes a line.
-    ///
-    /// Most events are answered by one line, which is put with no loop around it.
     #[inline]
     pub fn put_lines(&mut self, lines: &[Line]) -> Result<(), AllocError>
         ensures ok { OnOk result (self.new.text ≡ self.old.text ++ lines_text lines.now) }
         ensures room { length self.old.text + LINE_ROOM * length lines.now ≤ self.old.room → IsOk result }
         ensures keeps { self.old.room ≤ self.new.room }
-    {
-        let Some((last, before)) = lines.split_last() else {
-            return Ok(());
-        };
-        if !before.is_empty() {
-            self.put_each(before)?;
-        }
-        self.put(last)
-    }
-
-    /// Appends the text of lines, one after the other, as [`Draft::put_lines`].
-    #[cold]
-    fn put_each(&mut self, lines: &[Line]) -> Result<(), AllocError>
-        ensures ok { OnOk result (self.new.text ≡ self.old.text ++ lines_text lines.now) }
-        ensures room { length self.old.text + LINE_ROOM * length lines.now ≤ self.old.room → IsOk result }
-        ensures keeps { self.old.room ≤ self.new.room }
-        ensures len { OnOk result (length self.new.text ≤ length self.old.text + LINE_ROOM * length lines.now) }
     {
         for line in lines {
             self.put(line)?;

@@ -1,6 +1,7 @@
 //! The engine: it reads a piece, answers it and writes the answers, turn by turn.
 ghost use Rattle.std.specs.Prelude.{◌≡◌, ℕ, ◌+◌, ◌^◌, ◌<◌, ◌≤◌, List, [], Option, IfOk, IfErr, MatchResult, OnOk, length};
 ghost use Rattle.sched_engine.specs.Running.{Refuses, Ran, CountsReader, CountsWriter};
+ghost use Rattle.sched_engine.specs.CodeTexts.{IsCodeOfText, RefusesText};
 ghost use Rattle.sched_engine.specs.Turns.{Done, IsBetweenTurns, IsPieceEnd, IsStanding, Opens, Progress, Setting, Turns};
 ghost use Rattle.sched_engine.specs.declared.engine.Turn.TheVariants as t;
 
@@ -9,10 +10,10 @@ use crate::draft::Draft;
 use crate::ends::{Sink, Source, write_text};
 use crate::held::{Filled, Held};
 use crate::report::{Report, RunError};
-use crate::room::Room;
 use executor_core::{Core, CoreError, Line};
-use plan_compile::written_out;
-use plan_read::read_plan;
+use plan_compile::{CompileFault, compile};
+use plan_read::{Room, read_plan};
+use queue_code::Code;
 use std::alloc::{AllocError, Allocator};
 
 /// Runs a plan over the event lines of the reader, and writes its trace.
@@ -48,6 +49,21 @@ pub fn run<A: Room, S: Source, W: Sink>(
     }
 }
 
+/// The code of the plan that a text writes.
+pub(crate) fn code_of<A: Room>(alloc: A, plan_text: &[u8]) -> Result<Code<A>, RunError>
+    ensures code { IfOk result (IsCodeOfText plan_text.now) }
+    ensures refuses { IfErr result (RefusesText plan_text.now) }
+{
+    let plan = match read_plan(alloc, plan_text) {
+        Ok(plan) => plan,
+        Err(fault) => return Err(RunError::Plan(fault)),
+    };
+    match compile(alloc, &plan) {
+        Ok(code) => Ok(code),
+        Err(CompileFault::Memory) => Err(RunError::Memory),
+    }
+}
+
 /// The core of the plan that a text writes.
 fn core_of<A: Room>(
     alloc: A,
@@ -58,12 +74,8 @@ fn core_of<A: Room>(
     ensures opens { IfOk result (λ core. Opens core plan_text.now workers limit) }
     ensures refuses { IfErr result (λ e. Refuses e plan_text.now workers limit) }
 {
-    let plan = match read_plan(alloc.heap(), plan_text) {
-        Ok(plan) => plan,
-        Err(fault) => return Err(RunError::Plan(fault)),
-    };
-    let calls = written_out(alloc, &plan)?;
-    match Core::new(alloc, calls, workers, limit) {
+    let code = code_of(alloc, plan_text)?;
+    match Core::new(alloc, code, workers, limit) {
         Ok(core) => Ok(core),
         Err(CoreError::Workers) => Err(RunError::Workers),
         Err(CoreError::Limit) => Err(RunError::Limit),

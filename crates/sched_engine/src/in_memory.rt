@@ -5,8 +5,8 @@ use crate::engine::run;
 use crate::held::PIECE;
 use crate::memory::Pieces;
 use crate::report::{Report, RunError};
-use crate::room::Room;
 use crate::writers::Writing;
+use plan_read::Room;
 
 /// Runs a plan over the event lines `input`, and gives what [`run`] answers and the trace that it
 /// wrote, in memory of `alloc`.

@@ -8,6 +8,8 @@
 //! let mut reader = Reading::new(rt.reader());
 //! let mut writer = Writing::new(io::writer(&rt));
 //! let report = run(rt.alloc(), plan, workers, limit, &mut reader, &mut writer)?;
+//!
+//! write_listing(rt.alloc(), plan, &mut writer)?; // "0 submit 0 schedule 5\n1 halt\n"
 //! ```
 //!
 //! [`run`] takes any [`Source`] and any [`Sink`]: [`Reading`] and [`Writing`] make them of std's
@@ -16,7 +18,8 @@
 //!
 //! # Behaviour
 //!
-//! A run goes in turns. A turn reads once, at most 64 KiB; then it answers each event line that
+//! The plan is read and compiled to a queue code, from which the core of the run is made, and of which
+//! [`write_listing`] writes the text. A run goes in turns. A turn reads once, at most 64 KiB; then it answers each event line that
 //! has come whole, and writes the answers. So between two reads every event that was read has its
 //! answer written, and at most a part of one line is held. An event line has at most 63 bytes with
 //! its newline.
@@ -37,6 +40,9 @@
 //! | [`RunError::Write`] | the writer was at fault, or took nothing | a front of some events' answers |
 //! | [`RunError::Memory`] | memory was refused | the answers to some of the first events |
 //!
+//! [`write_listing`] answers [`RunError::Plan`] and [`RunError::Memory`] with nothing written, and
+//! [`RunError::Write`] with a front of the listing written.
+//!
 //! A fault of an end is told at once, `Interrupted` too, and that end is not called again. At most
 //! one piece, 64 KiB, is read behind the last event that was taken.
 //!
@@ -55,10 +61,10 @@ mod engine;
 mod held;
 mod in_memory;
 mod laws;
+mod listing;
 mod memory;
 mod readers;
 mod report;
-mod room;
 #[cfg(test)]
 mod tests;
 mod writers;
@@ -67,8 +73,9 @@ pub use ends::{Sink, Source, read_some, write_some, write_text};
 pub use engine::run;
 pub use in_memory::run_in_memory;
 pub use laws::{events_are_one, front_is_one, report_equality_tells, run_error_equality_tells};
+pub use listing::write_listing;
 pub use memory::Pieces;
+pub use plan_read::Room;
 pub use readers::Reading;
 pub use report::{Report, RunError};
-pub use room::Room;
 pub use writers::Writing;

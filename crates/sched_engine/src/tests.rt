@@ -14,6 +14,7 @@ use std::test::Fail;
 mod cancels;
 mod ends;
 mod examples;
+mod listings;
 mod long_runs;
 mod periodic;
 mod policies;

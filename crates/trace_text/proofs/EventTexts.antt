@@ -118,10 +118,12 @@ pub record IsEnded (line : List ℕ) : Type 0 where
 pub number_is_line : (n : ℕ) → n < 2 ^ 64 → IsLine (decimal n)
 number_is_line n h = All-from_get_or (λ b. b ≢ 10) (decimal n) 0 (λ i l e. let r = digit_at (decimal n) i (digits_decimal numerals n h) l in absurd (omega (arith, r, e)))
 
-ended_number : (n : ℕ) → n < 2 ^ 64 → IsEnded (decimal n ++ codes "\n")
+-- a number and a newline
+pub ended_number : (n : ℕ) → n < 2 ^ 64 → IsEnded (decimal n ++ codes "\n")
 ended_number n fits = record { front = decimal n; is = refl; plain = number_is_line n fits }
 
-ended_behind : (word line : List ℕ) → IsLine word → IsEnded line → IsEnded (word ++ line)
+-- a word with no newline, before what has one at its end
+pub ended_behind : (word line : List ℕ) → IsLine word → IsEnded line → IsEnded (word ++ line)
 ended_behind word line plain end = record {
   front = word ++ end.front;
   is = ap (λ l. word ++ l) end.is ∙ sym (append_assoc word end.front (10 ∷ []));

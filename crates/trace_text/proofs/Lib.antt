@@ -3,6 +3,9 @@ pub mod Digits
 pub mod OnePass
 pub mod Choice
 pub mod Clashes
+pub mod Parts
+pub mod LineForms
+pub mod LineTexts
 pub mod Texts
 pub mod Fours
 pub mod EventTexts

@@ -1,10 +1,11 @@
 -- Reading: what stands at the front of some bytes (this project's rule).
-use Rattle.std.specs.Prelude.{◌≡◌, ◌≢◌, ℕ, ◌<◌, ◌≤◌, List, ◌++◌, drop, length}
+use Rattle.std.specs.Prelude.{◌≡◌, ◌≢◌, ℕ, ◌<◌, ◌≤◌, List, ◌++◌, drop, length, codes}
 use Rattle.std.specs.Fmt.{decimal}
 use Rattle.executor_core.specs.declared.Event.{Event}
+use Rattle.executor_core.specs.declared.Line.{Line}
 use Rattle.trace_text.specs.declared.front.Front.{Front}
 use Rattle.trace_text.specs.declared.front.Front.TheVariants as front
-use Rattle.trace_text.specs.Spelling.{IsLine, event_line, FitsEvent}
+use Rattle.trace_text.specs.Spelling.{IsLine, event_line, FitsEvent, line_text, FitsLine}
 
 -- the greatest number of bytes of an event's line with its newline (this project's limit)
 abbrev pub most_event_bytes : ℕ
@@ -22,9 +23,17 @@ IsUnread {V} spell fits bytes = (v : V) (rest : List ℕ) → fits v → bytes �
 abbrev pub number_then : List ℕ → ℕ → List ℕ
 number_then word n = decimal n ++ word
 
+-- what is said of a value, and a word behind it
+abbrev pub text_then : {V : Type 0} → (V → List ℕ) → List ℕ → V → List ℕ
+text_then text word v = text v ++ word
+
 -- below a limit
 abbrev pub Below : ℕ → ℕ → Type 0
 Below limit n = n < limit
+
+-- each value fits
+abbrev pub Any : {V : Type 0} → V → Type 0
+Any v = Unit {0}
 
 -- `Event e n`: the line of the event e stands at the front, n bytes with its newline; `Part`: no newline yet, and room for
 -- one; `Refused`: whatever follows, no event's line stands at the front
@@ -36,3 +45,11 @@ IsFront front.Refused bytes = (0 < length bytes) × ((more : List ℕ) → IsUnr
 -- one line spells one event, and no event's line is the front of another's
 abbrev pub EventLinesAreOne : Type 0
 EventLinesAreOne = (e f : Event) (rest tail : List ℕ) → FitsEvent e → FitsEvent f → event_line e ++ rest ≡ event_line f ++ tail → (e ≡ f) × (rest ≡ tail)
+
+-- one text spells one line, and no line's text is the front of another's
+abbrev pub LinesAreOne : Type 0
+LinesAreOne = (a b : Line) (rest tail : List ℕ) → FitsLine a → FitsLine b → line_text a ++ rest ≡ line_text b ++ tail → (a ≡ b) × (rest ≡ tail)
+
+-- a line has one newline, and it is its last byte
+abbrev pub LinesEndOnce : Type 0
+LinesEndOnce = (line : Line) → FitsLine line → (front : List ℕ) × IsLine front × (line_text line ≡ front ++ codes "\n")

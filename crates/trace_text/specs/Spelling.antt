@@ -143,3 +143,41 @@ lines_text lines = flat_map line_text lines
 abbrev pub Spells : List ℕ → Option Event → Type 0
 Spells line (Some e) = (line ≡ event_line e) × FitsEvent e
 Spells line None = (e : Event) → FitsEvent e → line ≢ event_line e
+
+-- a value and a due moment below 2^64, a code below 2^32
+abbrev pub FitsOutcome : Outcome → Type 0
+FitsOutcome (outcome.Done v) = v < 2 ^ 64
+FitsOutcome (outcome.Failed c) = c < 2 ^ 32
+FitsOutcome (outcome.Again d) = d < 2 ^ 64
+FitsOutcome outcome.Dropped = Unit {0}
+FitsOutcome outcome.Ended = Unit {0}
+
+-- a due moment and the number of a run below 2^64, a task and a number of tasks below 2^32, a worker below 256
+abbrev pub FitsAnswer : Answer → Type 0
+FitsAnswer (answer.Submit k kind d) = (k < 2 ^ 32) × (d < 2 ^ 64)
+FitsAnswer (answer.Refuse k reason) = k < 2 ^ 32
+FitsAnswer (answer.Cancel k e) = k < 2 ^ 32
+FitsAnswer (answer.Outside k e) = k < 2 ^ 32
+FitsAnswer (answer.Policy which value) = Unit {0}
+FitsAnswer answer.Shutdown = Unit {0}
+FitsAnswer answer.ShutdownAgain = Unit {0}
+FitsAnswer (answer.Ask q r shut over) = (q < 2 ^ 32) × (r < 2 ^ 32)
+FitsAnswer answer.Clock = Unit {0}
+FitsAnswer (answer.Start w k n d) = (w < 2 ^ 8) × (k < 2 ^ 32) × (n < 2 ^ 64) × (d < 2 ^ 64)
+FitsAnswer (answer.Idle w) = w < 2 ^ 8
+FitsAnswer (answer.Finish w k n o) = (w < 2 ^ 8) × (k < 2 ^ 32) × (n < 2 ^ 64) × FitsOutcome o
+FitsAnswer (answer.Error e) = Unit {0}
+
+-- an answer that fits, or a task below 2^32
+abbrev pub FitsMessage : Message → Type 0
+FitsMessage (message.Answer given) = FitsAnswer given
+FitsMessage (message.End k) = k < 2 ^ 32
+
+-- a moment below 2^64, and what is said fits
+abbrev pub FitsLine : Line → Type 0
+FitsLine line = (line.moment < 2 ^ 64) × FitsMessage line.message
+
+-- what some bytes, with their newline, spell: `Some line`: this line, which fits; `None`: no line that fits
+abbrev pub SpellsLine : List ℕ → Option Line → Type 0
+SpellsLine bytes (Some line) = (bytes ≡ line_text line) × FitsLine line
+SpellsLine bytes None = (line : Line) → FitsLine line → bytes ≢ line_text line

@@ -75,6 +75,7 @@ fn put_submit(buffer: &mut [u8], at: usize, task: u32, kind: Kind, due: u64) -> 
 }
 
 /// Puts a task that was not accepted.
+#[cold]
 fn put_refuse(buffer: &mut [u8], at: usize, task: u32, refusal: Refusal) -> usize
     requires { at + ANSWER_ROOM ≤ length buffer.old }
     ensures end { result ≤ at + ANSWER_ROOM }
@@ -100,6 +101,7 @@ fn put_effect(buffer: &mut [u8], at: usize, task: u32, effect: CancelEffect) -> 
 }
 
 /// Puts a policy, and what it was set to.
+#[cold]
 fn put_policy(buffer: &mut [u8], at: usize, which: Which, value: bool) -> usize
     requires { at + ANSWER_ROOM ≤ length buffer.old }
     ensures end { result ≤ at + ANSWER_ROOM }
@@ -113,6 +115,7 @@ fn put_policy(buffer: &mut [u8], at: usize, which: Which, value: bool) -> usize
 }
 
 /// Puts how far the executor is.
+#[cold]
 fn put_ask(
     buffer: &mut [u8],
     at: usize,

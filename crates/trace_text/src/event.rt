@@ -23,7 +23,7 @@ pub fn read_event(line: &[u8]) -> Option<Event>
 
 /// The event whose line stands at the front of some bytes, and what follows its newline. `None` exactly when no event's line
 /// stands there; the limits of its numbers are those of [`read_event`].
-#[inline]
+#[inline(always)]
 pub fn split_event(bytes: &[u8]) -> Option<(Event, &[u8])>
     ensures { MatchOption result (IsUnread event_line FitsEvent bytes.now) (λ r. IsRead event_line FitsEvent bytes.now r.0 r.1.now) }
 {

@@ -1,6 +1,6 @@
 //! Laws of the spellings, and of what compares equal. The functions do nothing: what they ensure is the law.
 ghost use Rattle.std.specs.Prelude.{◌≡◌, true};
-ghost use Rattle.trace_text.specs.Reading.{EventLinesAreOne, most_event_bytes};
+ghost use Rattle.trace_text.specs.Reading.{EventLinesAreOne, LinesAreOne, LinesEndOnce, most_event_bytes};
 
 use crate::front::{Front, MOST_EVENT_BYTES};
 use crate::text_error::TextError;
@@ -9,6 +9,17 @@ use crate::text_error::TextError;
 /// of the same bytes, the events are one, and what follows is the same.
 pub fn event_lines_are_one()
     ensures { EventLinesAreOne }
+{}
+
+/// One text spells one line of a trace, and no line's text is the front of another's: where the texts of two lines stand at the
+/// front of the same bytes, the lines are one, and what follows is the same.
+pub fn lines_are_one()
+    ensures { LinesAreOne }
+{}
+
+/// A line of a trace has one newline, and it is its last byte.
+pub fn lines_end_once()
+    ensures { LinesEndOnce }
 {}
 
 /// [`MOST_EVENT_BYTES`](crate::MOST_EVENT_BYTES) is the limit of which the contracts speak.

@@ -1,9 +1,11 @@
-//! The text of events and of traces: events are read, lines are written.
+//! The text of events and of traces: events are read, lines are written and read back.
 //!
 //! # Usage
 //!
 //! - [`read_event`] reads one line of input, with its newline. [`front_event`] reads at the front of bytes that come piece by
 //!   piece, in one pass, and tells a part of a line from one that is refused. [`split_event`] also gives what follows.
+//! - [`read_line`] reads one line of a trace, with its newline. [`split_line`] reads at the front of a trace, and also gives what
+//!   follows, so that a trace is read line by line with no search for newlines.
 //! - [`write_line`] and [`write_lines`] append to a `Vec<u8>`. A [`TextBuffer`] does the same in a buffer that keeps its bytes,
 //!   so that none is cleared before it is written: the faster of the two. [`put_line`] writes at a place of any slice.
 //!
@@ -12,6 +14,11 @@
 //! front_event(b"clock 5\nstart");    // Front::Event(Event::Clock(5), 8): the first 8 bytes
 //! front_event(b"start");             // Front::Part
 //! front_event(b"clock 05\n");        // Front::Refused
+//!
+//! read_line(b"5 end 3\n");           // Some(Line { moment: 5, message: Message::End(3) })
+//! read_line(b"5 end 03\n");          // None
+//! let trace = b"5 clock\n5 start 0 idle\n";
+//! split_line(trace);                 // Some((the line of the clock, b"5 start 0 idle\n"))
 //!
 //! let mut text = TextBuffer::new(alloc, 10 * LINE_ROOM)?;
 //! text.write_line(&Line { moment: 5, message: Message::Answer(Answer::Clock) })?;
@@ -48,12 +55,15 @@
 //! | `Error` | `M error`, and one of `backward`, `too far`, `no worker`, `busy`, `not running`, `no task` |
 //! | `End(K)` | `M end K` |
 //!
-//! A reader answers an event exactly when the bytes spell it.
+//! A reader answers an event, or a line of a trace, exactly when the bytes spell it and its numbers are in these ranges. So
+//! [`read_line`] gives back each line that [`write_line`] writes, and takes no other text; it asks for nothing else, as that
+//! moments do not fall.
 //!
 //! # Order and ties
 //!
 //! Lines are written in the order in which they are given. One line spells one event, and no event's line is the front of
-//! another's ([`event_lines_are_one`]): so bytes are read in one way.
+//! another's ([`event_lines_are_one`]); so it is with the lines of a trace ([`lines_are_one`]), of which each has one newline, its
+//! last byte ([`lines_end_once`]): so bytes are read in one way.
 //!
 //! # Errors
 //!
@@ -63,28 +73,34 @@
 //!
 //! # Memory and cost
 //!
-//! Readers take no memory, and look at each byte of a line once, or twice at the front of a word. Writers write each byte where it
-//! stays, and take memory only where there is less room than [`LINE_ROOM`] bytes; a capacity never falls. The longest event's
-//! line has 35 bytes, the longest line of a trace 104.
+//! Readers take no memory, and look at each byte of a line once, or twice at the front of a word. The first word of a trace's
+//! line is looked for among twelve, those that are most frequent first. Writers write each byte where it stays, and take memory
+//! only where there is less room than [`LINE_ROOM`] bytes; a capacity never falls. The longest event's line has 35 bytes, the
+//! longest line of a trace 104.
 #![tactic(auto)]
 
+mod answer;
 mod answer_text;
 mod event;
 mod front;
 mod laws;
+mod line;
 mod line_text;
+mod message;
 mod message_text;
 mod put;
 mod scan;
 mod text_buffer;
 mod text_error;
+mod words;
 
 pub use event::{read_event, split_event};
 pub use front::{Front, MOST_EVENT_BYTES, front_event};
 pub use laws::{
-    event_lines_are_one, front_equality_tells, most_event_bytes_is_the_limit,
-    text_error_equality_tells,
+    event_lines_are_one, front_equality_tells, lines_are_one, lines_end_once,
+    most_event_bytes_is_the_limit, text_error_equality_tells,
 };
+pub use line::{read_line, split_line};
 pub use line_text::{LINE_ROOM, put_line, write_line, write_lines};
 pub use text_buffer::TextBuffer;
 pub use text_error::TextError;

@@ -23,6 +23,7 @@ pub fn put_message(buffer: &mut [u8], at: usize, message: Message) -> usize
 }
 
 /// Puts a task that ends.
+#[cold]
 fn put_end(buffer: &mut [u8], at: usize, task: u32) -> usize
     requires { at + ANSWER_ROOM ≤ length buffer.old }
     ensures end { result ≤ at + ANSWER_ROOM }

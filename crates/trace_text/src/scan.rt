@@ -89,6 +89,7 @@ fn number_up_to(bytes: &[u8], end: usize, value: u64) -> Option<(u64, &[u8])>
 
 /// The number of the 20 digits at the front, below 2^64, where the first 19 have the value `value`. `None` where it is greater,
 /// and where a further digit follows.
+#[cold]
 fn twenty_digits(bytes: &[u8], value: u64) -> Option<u64>
     requires within { 20 ≤ length bytes.now }
     requires digits { AllDigits 10 (take 20 bytes.now) }

@@ -2,6 +2,7 @@
 ghost use Rattle.std.specs.Prelude.{◌≡◌, ◌+◌, ◌-◌, ◌<◌, ◌≤◌, [], ◌∷◌, length, replicate, Some, slice_get, IsTrue, false, vec_len, vec_capacity};
 ghost use Rattle.executor_core.specs.declared.types.Happening.TheVariants as happening;
 ghost use Rattle.queue_code.specs.declared.call.CodeCall.TheVariants as call;
+ghost use Rattle.queue_code.specs.Calls.{IsOrderly};
 ghost use Rattle.executor_core.specs.Answers.{kind_of};
 ghost use Rattle.executor_core.specs.Tasks.{uncancelled_in};
 ghost use Rattle.executor_core.specs.Flows.{reached, ReachesNext, calls_before};
@@ -17,11 +18,13 @@ impl<A: Allocator> Core<A> {
     ghost use Rattle.executor_core.specs.Machine.{Takes, Steps, ContinuesAny, room_of};
 
     /// Makes the calls that are made just before an event.
+    #[inline(always)]
     pub(super) fn make_calls_before<B: Allocator>(&mut self, event: Event, out: &mut Vec<Line, B>)
         requires { vec_len out.old + room_of self.old ≤ vec_capacity out.old }
         ensures steps { Steps self.old self.new out.old.items out.new.items (replicate (calls_before self.old.calls self.old.made self.old.moment event) happening.Call) }
+        ensures calls { calls_before self.new.calls self.new.made self.new.moment event ≡ 0 }
         ensures taken { self.new.taken ≡ self.old.taken }
-        ensures room { vec_len out.new < vec_capacity out.new }
+        ensures room { vec_len out.new + room_of self.new ≤ vec_capacity out.new }
         ensures capacity { vec_capacity out.new ≡ vec_capacity out.old }
     {
         let Event::Clock(moment) = event else {
@@ -36,8 +39,9 @@ impl<A: Allocator> Core<A> {
     fn make_calls<B: Allocator>(&mut self, moment: u64, out: &mut Vec<Line, B>)
         requires { vec_len out.old + room_of self.old ≤ vec_capacity out.old }
         ensures steps { Steps self.old self.new out.old.items out.new.items (replicate (reached self.old.calls self.old.made moment) happening.Call) }
+        ensures none { reached self.new.calls self.new.made moment ≡ 0 }
         ensures taken { self.new.taken ≡ self.old.taken }
-        ensures room { vec_len out.new < vec_capacity out.new }
+        ensures room { vec_len out.new + room_of self.new ≤ vec_capacity out.new }
         ensures capacity { vec_capacity out.new ≡ vec_capacity out.old }
     {
         while self.reaches(moment) {
@@ -45,16 +49,29 @@ impl<A: Allocator> Core<A> {
         }
     }
 
+    /// The next call with its moment, and none after the last one.
+    pub(super) fn next_call(&self) -> Option<(u64, CodeCall)>
+        ensures call { result ≡ slice_get self.now.calls self.now.made }
+        ensures orderly { IsOrderly self.now.calls }
+    {
+        self.calls.next()
+    }
+
     /// Whether the next call has a moment of at most this one.
     fn reaches(&self, moment: u64) -> bool
         ensures next { IsTrue result → ReachesNext self.now.calls self.now.made moment }
         ensures none { result ≡ false → reached self.now.calls self.now.made moment ≡ 0 }
     {
-        self.made < self.calls.len() && self.calls[self.made].0 <= moment
+        match self.calls.next() {
+            Some((next, _)) => next <= moment,
+            None => false,
+        }
     }
 
-    /// Makes the next call: its line is added, and one for each task that it ends.
-    fn make_call<B: Allocator>(&mut self, out: &mut Vec<Line, B>)
+    /// Makes the next call: its line is added, and one for each task that it ends, for which `out` has room.
+    ///
+    /// A call has to be left, as [`call_need`](Core::call_need) tells at `u64::MAX`.
+    pub fn make_call<B: Allocator>(&mut self, out: &mut Vec<Line, B>)
         requires left { self.old.made < length self.old.calls }
         requires room { vec_len out.old + room_of self.old ≤ vec_capacity out.old }
         ensures steps { Steps self.old self.new out.old.items out.new.items (happening.Call ∷ []) }
@@ -62,9 +79,12 @@ impl<A: Allocator> Core<A> {
         ensures made { self.new.made ≡ self.old.made + 1 }
         ensures taken { self.new.taken ≡ self.old.taken }
         ensures room { vec_len out.new + room_of self.new ≤ vec_len out.old + room_of self.old }
+        ensures less { room_of self.new ≤ room_of self.old }
         ensures capacity { vec_capacity out.new ≡ vec_capacity out.old }
     {
-        let (moment, call) = self.calls[self.made];
+        let Some((moment, call)) = self.calls.next() else {
+            unreachable!()
+        };
         let answer = match call {
             CodeCall::SetPolicy { which, value } => {
                 return self.set_policy(moment, which, value, out);
@@ -92,7 +112,7 @@ impl<A: Allocator> Core<A> {
         ensures made { self.new.made ≡ self.old.made + 1 }
         ensures uncancelled { uncancelled_in self.new.tasks ≤ uncancelled_in self.old.tasks }
     {
-        self.made += 1;
+        self.calls.pass();
         self.moment = self.moment.max(moment);
         if self.shut {
             return Answer::Refuse {
@@ -114,7 +134,7 @@ impl<A: Allocator> Core<A> {
         ensures made { self.new.made ≡ self.old.made + 1 }
         ensures uncancelled { uncancelled_in self.new.tasks ≤ uncancelled_in self.old.tasks }
     {
-        self.made += 1;
+        self.calls.pass();
         self.moment = self.moment.max(moment);
         Answer::Refuse {
             task,
@@ -130,8 +150,8 @@ impl<A: Allocator> Core<A> {
         ensures uncancelled { uncancelled_in self.new.tasks ≤ uncancelled_in self.old.tasks }
     {
         let now = self.moment.max(moment);
-        let effect = self.cancel(task);
-        self.made += 1;
+        let effect = self.cancel_task(task);
+        self.calls.pass();
         self.moment = now;
         Answer::Cancel { task, effect }
     }
@@ -143,7 +163,7 @@ impl<A: Allocator> Core<A> {
         ensures made { self.new.made ≡ self.old.made + 1 }
         ensures uncancelled { uncancelled_in self.new.tasks ≤ uncancelled_in self.old.tasks }
     {
-        self.made += 1;
+        self.calls.pass();
         self.moment = self.moment.max(moment);
         let queue = self.queue.len() + self.kept.len();
         let running = self.tasks.running();

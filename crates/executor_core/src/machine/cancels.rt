@@ -1,36 +1,59 @@
 //! Cancels, of the plan and from outside.
-ghost use Rattle.std.specs.Prelude.{◌≡◌, ◌≢◌, ◌-◌, ◌<◌, true, length, slice_set, slice_index_or};
+ghost use Rattle.std.specs.Prelude.{◌≡◌, ◌≢◌, ◌+◌, ◌-◌, ◌<◌, ◌≤◌, [], ◌∷◌, true, length, slice_set, slice_index_or, vec_len, vec_capacity};
 ghost use Rattle.executor_core.specs.declared.types.Happening.TheVariants as happening;
+ghost use Rattle.executor_core.specs.declared.types.Answer.TheVariants as answer;
 ghost use Rattle.executor_core.specs.declared.types.CancelEffect.TheVariants as effect;
 ghost use Rattle.executor_core.specs.declared.task.Phase.TheVariants as ph;
-ghost use Rattle.queue_code.specs.Calls.{Terms, terms_of};
-ghost use Rattle.executor_core.specs.State.{vacant, seen_task};
+ghost use Rattle.queue_code.specs.Calls.{Terms, terms_of, task_count};
+ghost use Rattle.executor_core.specs.State.{vacant, seen_task, reply_of};
 ghost use Rattle.executor_core.specs.Answers.{effect_on};
-ghost use Rattle.executor_core.specs.Tasks.{cancelled_task};
+ghost use Rattle.executor_core.specs.Tasks.{cancelled_task, uncancelled_in};
 
 use super::Core;
 use crate::task::{Phase, Task};
-use crate::types::{Answer, CancelEffect, EventError};
+use crate::types::{Answer, CancelEffect, EventError, Line, Message};
 use delay_queue::Entry;
 use std::alloc::Allocator;
 
 impl<A: Allocator> Core<A> {
-    ghost use Rattle.executor_core.specs.Machine.{Takes};
+    ghost use Rattle.executor_core.specs.Machine.{Takes, Steps, ContinuesAny, room_of, workers_of, state_of};
 
-    /// A task is cancelled from outside the plan.
-    pub(super) fn answer_cancel(&mut self, task: u32) -> Answer
-        ensures { Takes self.old self.new (happening.Cancel task) result }
+    /// A task is cancelled from outside the plan. The line is added, for which `out` has room.
+    #[inline(always)]
+    pub fn cancel<B: Allocator>(&mut self, task: u32, out: &mut Vec<Line, B>)
+        requires { vec_len out.old + room_of self.old ≤ vec_capacity out.old }
+        ensures steps { Steps self.old self.new out.old.items out.new.items (happening.Cancel task ∷ []) }
+        ensures history { ContinuesAny self.old self.new out.old.items out.new.items (happening.Cancel task) }
+        ensures tasks { length self.new.tasks ≡ task_count self.new.calls }
+        ensures taken { self.new.taken ≡ self.old.taken }
+        ensures room { (room_of self.new ≤ room_of self.old) × (vec_len out.new ≤ vec_len out.old + room_of self.old) }
+        ensures effective { (reply_of self.old.calls (workers_of self.old) (state_of self.old) (happening.Cancel task)).answer ≡ answer.Outside task effect.Yes
+            → vec_len out.new + room_of self.new ≤ vec_len out.old + room_of self.old }
+        ensures capacity { vec_capacity out.new ≡ vec_capacity out.old }
+    {
+        let answer = self.answer_cancel(task);
+        out.push_reserved(Line {
+            moment: self.moment,
+            message: Message::Answer(answer),
+        });
+    }
+
+    /// What a cancel from outside the plan is answered.
+    fn answer_cancel(&mut self, task: u32) -> Answer
+        ensures step { Takes self.old self.new (happening.Cancel task) result }
+        ensures size { length self.new.tasks ≡ length self.old.tasks }
+        ensures fewer { result ≡ answer.Outside task effect.Yes → uncancelled_in self.new.tasks + 1 ≡ uncancelled_in self.old.tasks }
     {
         if !self.tasks.has(task) {
             return Answer::Error(EventError::NoTask);
         }
-        let effect = self.cancel(task);
+        let effect = self.cancel_task(task);
         Answer::Outside { task, effect }
     }
 
     /// Cancels a task of the plan: one that waits leaves the tasks that wait, and is kept where the policy does not
     /// say that it leaves the queue.
-    pub(super) fn cancel(&mut self, task: u32) -> CancelEffect
+    pub(super) fn cancel_task(&mut self, task: u32) -> CancelEffect
         requires { task < length self.old.tasks }
         ensures effect { result ≡ effect_on (seen_task (terms_of self.old.calls task) (slice_index_or self.old.tasks task vacant)) }
         ensures yes { result ≡ effect.Yes → self.new ≡ record self.old { tasks = slice_set self.old.tasks task (cancelled_task self.old.policies.removes (slice_index_or self.old.tasks task vacant)) } }
@@ -55,7 +78,7 @@ impl<A: Allocator> Core<A> {
 }
 
 /// What a cancel does to a task.
-fn effect_on(task: Task) -> CancelEffect
+pub(super) fn effect_on(task: Task) -> CancelEffect
     requires { task.phase ≡ ph.Dropped → task.cancelled ≡ true }
     ensures { (terms : Terms) → result ≡ effect_on (seen_task terms task) }
 {

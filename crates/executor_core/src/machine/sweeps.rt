@@ -2,7 +2,8 @@
 ghost use Rattle.std.specs.Prelude.{◌≡◌, ◌+◌, ◌<◌, ◌≤◌, ℕ, [], ◌∷◌, ◌++◌, length, Some, slice_get, slice_set, slice_index_or, true, false, vec_len, vec_capacity};
 ghost use Rattle.executor_core.specs.declared.types.Happening.TheVariants as happening;
 ghost use Rattle.queue_code.specs.declared.call.CodeCall.TheVariants as call;
-ghost use Rattle.executor_core.specs.Answers.{is_swept, is_ended_by, setting_sweeps};
+ghost use Rattle.executor_core.specs.Answers.{is_swept, is_ended_by, setting_sweeps, swept};
+ghost use Rattle.executor_core.specs.Histories.{is_end};
 ghost use Rattle.executor_core.specs.Flows.{end_line};
 ghost use Rattle.executor_core.specs.State.{vacant, view_of_state};
 ghost use Rattle.executor_core.specs.Tasks.{uncancelled_in, waits_with};
@@ -18,6 +19,7 @@ impl<A: Allocator> Core<A> {
     ghost use Rattle.executor_core.specs.Machine.{Steps, Sweeps, Ends, Drops, room_of, state_of};
 
     /// The next call sets a policy.
+    #[cold]
     pub(super) fn set_policy<B: Allocator>(
         &mut self,
         moment: u64,
@@ -33,7 +35,7 @@ impl<A: Allocator> Core<A> {
         ensures room { vec_len out.new + room_of self.new ≤ vec_len out.old + room_of self.old }
         ensures capacity { vec_capacity out.new ≡ vec_capacity out.old }
     {
-        self.made += 1;
+        self.calls.pass();
         self.moment = self.moment.max(moment);
         self.policies = self.policies.with(which, value);
         out.push_reserved(Line {
@@ -46,6 +48,7 @@ impl<A: Allocator> Core<A> {
     }
 
     /// The next call is a shutdown.
+    #[cold]
     pub(super) fn shut_down<B: Allocator>(&mut self, moment: u64, out: &mut Vec<Line, B>)
         requires call { slice_get self.old.calls self.old.made ≡ Some (moment, call.Shutdown) }
         requires room { vec_len out.old + room_of self.old ≤ vec_capacity out.old }
@@ -55,7 +58,7 @@ impl<A: Allocator> Core<A> {
         ensures room { vec_len out.new + room_of self.new ≤ vec_len out.old + room_of self.old }
         ensures capacity { vec_capacity out.new ≡ vec_capacity out.old }
     {
-        self.made += 1;
+        self.calls.pass();
         self.moment = self.moment.max(moment);
         if self.shut {
             out.push_reserved(Line {
@@ -122,6 +125,17 @@ impl<A: Allocator> Core<A> {
         waits(&task) && is_ended_by(self.policies, self.moment, task.timing, task.due)
     }
 
+    /// Whether a sweep under these policies, at the moment `now`, ends a task.
+    pub(super) fn ends_under(&self, task: u32, policies: Policies, now: u64) -> bool
+        ensures { result ≡ is_end task (swept self.now.calls (record (view_of_state self.now.calls (state_of self.now)) { moment = now }) policies) }
+    {
+        if !self.tasks.has(task) {
+            return false;
+        }
+        let task = self.tasks.get(task as usize);
+        waits(&task) && is_ended_by(policies, now, task.timing, task.due)
+    }
+
     /// Ends a task that waits.
     fn end<B: Allocator>(&mut self, task: usize, out: &mut Vec<Line, B>)
         requires waits { waits_with (slice_index_or self.old.tasks task vacant) ≡ true }
@@ -152,7 +166,7 @@ impl<A: Allocator> Core<A> {
 }
 
 /// Whether there is a sweep where a policy is set, and the executor is shut or not.
-fn setting_sweeps(shut: bool, which: Which, value: bool) -> bool
+pub(super) fn setting_sweeps(shut: bool, which: Which, value: bool) -> bool
     ensures { result ≡ setting_sweeps shut which value }
 {
     shut && !value && !matches!(which, Which::Remove)

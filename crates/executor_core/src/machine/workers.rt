@@ -1,9 +1,11 @@
 //! Starts and finishes: what a core answers to its workers.
-ghost use Rattle.std.specs.Prelude.{◌≡◌, ◌≢◌, ℕ, ◌+◌, ◌^◌, ◌<◌, false, length, None, slice_set, slice_index_or};
+ghost use Rattle.std.specs.Prelude.{◌≡◌, ◌≢◌, ℕ, ◌+◌, ◌^◌, ◌<◌, ◌≤◌, [], ◌∷◌, false, length, None, slice_set, slice_index_or, vec_len, vec_capacity};
 ghost use Rattle.executor_core.specs.declared.task.Phase.TheVariants as ph;
 ghost use Rattle.executor_core.specs.declared.types.Outcome.TheVariants as o;
 ghost use Rattle.executor_core.specs.declared.types.Happening.TheVariants as happening;
 ghost use Rattle.sched_time.specs.Dues.{next_due};
+ghost use Rattle.queue_code.specs.Calls.{task_count};
+ghost use Rattle.executor_core.specs.Needs.{need_of};
 ghost use Rattle.executor_core.specs.State.{due_past, vacant};
 ghost use Rattle.executor_core.specs.Machine.{finished_task, queued_again, is_met};
 ghost use Rattle.sched_time.specs.declared.timing.Timing.{Timing};
@@ -11,18 +13,42 @@ ghost use Rattle.executor_core.specs.Answers.{outcome_in};
 
 use super::Core;
 use crate::tasks::Tasks;
-use crate::types::{Answer, EventError, Outcome};
+use crate::types::{Answer, EventError, Line, Message, Outcome};
 use delay_queue::{DelayQueue, Entry};
 use sched_time::{Ending, next_due};
 use std::alloc::Allocator;
 
 impl<A: Allocator> Core<A> {
-    ghost use Rattle.executor_core.specs.Machine.{Takes, IsCounted, LeavesMet};
+    ghost use Rattle.executor_core.specs.Machine.{Takes, Steps, ContinuesAny, LeavesMet, room_of, workers_of, state_of};
+    ghost use Rattle.executor_core.specs.Needs.{RunsBelowTaken};
 
-    /// A worker asks for work.
-    pub(super) fn answer_start(&mut self, worker: u8) -> Answer
-        requires { IsCounted self.old }
-        ensures { Takes self.old self.new (happening.Start worker) result }
+    /// A worker asks for work: it gets the first task that is due, or none. The line is added, for which `out` has room.
+    ///
+    /// The task that it gets, which [`start_need`](Core::start_need) names, has in [`words`](Core::words) a run below
+    /// [`taken`](Core::taken).
+    #[inline(always)]
+    pub fn start<B: Allocator>(&mut self, worker: u8, out: &mut Vec<Line, B>)
+        requires counted { RunsBelowTaken self.old (need_of self.old.calls (workers_of self.old) (state_of self.old) (happening.Start worker)) }
+        requires room { vec_len out.old + room_of self.old ≤ vec_capacity out.old }
+        ensures steps { Steps self.old self.new out.old.items out.new.items (happening.Start worker ∷ []) }
+        ensures history { ContinuesAny self.old self.new out.old.items out.new.items (happening.Start worker) }
+        ensures tasks { length self.new.tasks ≡ task_count self.new.calls }
+        ensures taken { self.new.taken ≡ self.old.taken }
+        ensures room { (room_of self.new ≤ room_of self.old) × (vec_len out.new ≤ vec_len out.old + room_of self.old) }
+        ensures capacity { vec_capacity out.new ≡ vec_capacity out.old }
+    {
+        let answer = self.answer_start(worker);
+        out.push_reserved(Line {
+            moment: self.moment,
+            message: Message::Answer(answer),
+        });
+    }
+
+    /// What a worker that asks for work is answered.
+    fn answer_start(&mut self, worker: u8) -> Answer
+        requires { RunsBelowTaken self.old (need_of self.old.calls (workers_of self.old) (state_of self.old) (happening.Start worker)) }
+        ensures step { Takes self.old self.new (happening.Start worker) result }
+        ensures size { length self.new.tasks ≡ length self.old.tasks }
     {
         let place = worker as usize;
         if place >= self.work.len() {
@@ -49,6 +75,7 @@ impl<A: Allocator> Core<A> {
 
     /// Drops the kept tasks that a start which gets this entry, or none, meets: those that are due, and come before
     /// it.
+    #[inline(always)]
     fn drop_met(&mut self, first: Option<Entry>)
         ensures rest { self.new ≡ record self.old { tasks = self.new.tasks } }
         ensures tasks { LeavesMet self.old.moment first self.old.tasks self.new.tasks }
@@ -62,10 +89,28 @@ impl<A: Allocator> Core<A> {
         }
     }
 
-    /// The run of a worker ended.
-    pub(super) fn answer_finish(&mut self, worker: u8, ending: Ending) -> Answer
-        requires { IsCounted self.old }
-        ensures { Takes self.old self.new (happening.Finish worker ending) result }
+    /// The run of a worker ended. The line is added, for which `out` has room.
+    #[inline(always)]
+    pub fn finish<B: Allocator>(&mut self, worker: u8, ending: Ending, out: &mut Vec<Line, B>)
+        requires { vec_len out.old + room_of self.old ≤ vec_capacity out.old }
+        ensures steps { Steps self.old self.new out.old.items out.new.items (happening.Finish worker ending ∷ []) }
+        ensures history { ContinuesAny self.old self.new out.old.items out.new.items (happening.Finish worker ending) }
+        ensures tasks { length self.new.tasks ≡ task_count self.new.calls }
+        ensures taken { self.new.taken ≡ self.old.taken }
+        ensures room { (room_of self.new ≤ room_of self.old) × (vec_len out.new ≤ vec_len out.old + room_of self.old) }
+        ensures capacity { vec_capacity out.new ≡ vec_capacity out.old }
+    {
+        let answer = self.answer_finish(worker, ending);
+        out.push_reserved(Line {
+            moment: self.moment,
+            message: Message::Answer(answer),
+        });
+    }
+
+    /// What a worker whose run ended is answered.
+    fn answer_finish(&mut self, worker: u8, ending: Ending) -> Answer
+        ensures step { Takes self.old self.new (happening.Finish worker ending) result }
+        ensures size { length self.new.tasks ≡ length self.old.tasks }
     {
         let place = worker as usize;
         if place >= self.work.len() {
@@ -93,7 +138,7 @@ impl<A: Allocator> Core<A> {
 
 /// What the end of a run leads to, where the run after it would be due at `next`, and periodic tasks maybe do not go
 /// on: of a task that was cancelled the outcome does not count.
-fn outcome_in(cancelled: bool, stops: bool, next: Option<u64>, ending: Ending) -> Outcome
+pub(super) fn outcome_in(cancelled: bool, stops: bool, next: Option<u64>, ending: Ending) -> Outcome
     ensures { (timing : Timing) (due now : ℕ) → next ≡ next_due timing due now → result ≡ outcome_in cancelled stops timing (due_past timing due now) ending }
 {
     match (ending, next) {

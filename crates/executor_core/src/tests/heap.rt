@@ -1,8 +1,8 @@
 //! Which calls take memory, and what a refusal gives back, over a heap of fixed size.
-use super::{core_of, give, nanos, periodic, submission, submissions};
+use super::{code_of, core_of, give, nanos, submission, submissions};
 use crate::{Core, CoreError, Event, Line};
 use linked_list_allocator::LocalHeap;
-use queue_code::{CodeCall, orderly};
+use queue_code::Instr;
 use sched_time::{Ending, Timing, Which};
 use std::alloc::{AllocGlobal, Global};
 use std::process::Abort;
@@ -34,25 +34,25 @@ fn events_take_no_memory(
 /// Gives a core of two workers these events, over a heap of its own, where its list has room for so many lines.
 fn takes_no_memory(
     rt: &(impl AllocGlobal + Abort),
-    calls: &[(u64, CodeCall)],
+    instrs: &[Instr],
     room: usize,
     events: &[Event],
     wanted: (usize, u64, u32, usize),
 ) -> Result<(), Fail> {
     let heap = LocalHeap::new(rt.alloc(), 1 << 16)?;
     let mut out = Vec::with_capacity(&heap, room)?;
-    let mut core = core_of(rt, &heap, calls, 2, 100)?;
+    let mut core = core_of(&heap, instrs, 2, 100)?;
     assert_eq!(rt; out.capacity(), room);
     events_take_no_memory(rt, &heap, &mut core, &mut out, events, wanted)
 }
 
 #[test]
 fn events_with_room_take_no_memory(rt: HostRuntime) -> Result<(), Fail> {
-    let calls = [
-        periodic(0, 0, Timing::Rate(nanos(5)?), 0),
-        submission(0, 1, 3),
-        (2, CodeCall::Cancel { task: 1 }),
-        (4, CodeCall::Illegal { task: 2 }),
+    let instrs = [
+        Instr::Submit(0, Timing::Rate(nanos(5)?), 0),
+        submission(0, 3),
+        Instr::CancelFixed(2, 1),
+        Instr::Illegal(4),
     ];
     let events = [
         Event::Clock(0),
@@ -65,52 +65,48 @@ fn events_with_room_take_no_memory(rt: HostRuntime) -> Result<(), Fail> {
         Event::Finish(1, Ending::Fault(1)),
         Event::Clock(1),
     ];
-    takes_no_memory(&rt, &calls, 20, &events, (13, 9, 9, 3))
+    takes_no_memory(&rt, &instrs, 20, &events, (13, 9, 9, 3))
 }
 
 /// Three tasks, and then what ends them all: five calls.
-fn plan_with_shutdown() -> Result<[(u64, CodeCall); 5], Fail> {
-    let execute = CodeCall::SetPolicy {
-        which: Which::Execute,
-        value: false,
-    };
+fn plan_with_shutdown() -> Result<[Instr; 5], Fail> {
     Ok([
-        periodic(0, 0, Timing::Rate(nanos(5)?), 1),
-        periodic(0, 1, Timing::Fixed(nanos(5)?), 1),
-        submission(0, 2, 1),
-        (0, execute),
-        (0, CodeCall::Shutdown),
+        Instr::Submit(0, Timing::Rate(nanos(5)?), 1),
+        Instr::Submit(0, Timing::Fixed(nanos(5)?), 1),
+        submission(0, 1),
+        Instr::SetPolicy(0, Which::Execute, false),
+        Instr::Shutdown(0),
     ])
 }
 
 /// The clock needs room for its own line, one for each of the five calls, and one for each of the three tasks that end.
 #[test]
 fn a_sweep_with_exactly_its_room_takes_no_memory(rt: HostRuntime) -> Result<(), Fail> {
-    let calls = plan_with_shutdown()?;
-    takes_no_memory(&rt, &calls, 9, &[Event::Clock(0)], (9, 0, 1, 3))
+    let instrs = plan_with_shutdown()?;
+    takes_no_memory(&rt, &instrs, 9, &[Event::Clock(0)], (9, 0, 1, 3))
 }
 
-/// Why no core is made of these calls in a heap, and none where one is made; either way all memory is given back.
+/// Why no core is made of these instructions in a heap, and none where one is made; either way all memory is given
+/// back.
 fn refusal(
     rt: &impl Abort,
     heap: &LocalHeap,
-    calls: &[(u64, CodeCall)],
+    instrs: &[Instr],
     workers: u8,
     limit: u32,
 ) -> Result<Option<CoreError>, Fail> {
     let none = heap.used();
-    let planned = calls.to_vec(heap)?;
-    assert!(rt; orderly(&planned));
+    let code = code_of(heap, instrs)?;
     assert!(rt; none < heap.used());
-    let refused = Core::new(heap, planned, workers, limit).err();
+    let refused = Core::new(heap, code, workers, limit).err();
     assert_eq!(rt; heap.used(), none);
     Ok(refused)
 }
 
 #[test]
-fn a_refused_core_gives_its_calls_back(rt: HostRuntime) -> Result<(), Fail> {
+fn a_refused_core_gives_its_code_back(rt: HostRuntime) -> Result<(), Fail> {
     let heap = LocalHeap::new(rt.alloc(), 1 << 11)?;
-    let calls = submissions(rt.alloc(), 30)?;
+    let instrs = submissions(rt.alloc(), 30)?;
     let cases = [
         (0, 0, CoreError::Workers),
         (65, 9, CoreError::Workers),
@@ -118,21 +114,21 @@ fn a_refused_core_gives_its_calls_back(rt: HostRuntime) -> Result<(), Fail> {
         (1, 9, CoreError::Memory),
     ];
     for (workers, limit, error) in cases {
-        assert_eq!(rt; refusal(&rt, &heap, &calls, workers, limit)?, Some(error));
+        assert_eq!(rt; refusal(&rt, &heap, &instrs, workers, limit)?, Some(error));
     }
     Ok(())
 }
 
-/// Heaps from one that has room for the calls and hardly more, up to one that has room for the core. Each table of the
+/// Heaps from one that has room for the code and hardly more, up to one that has room for the core. Each table of the
 /// core takes more than 32 bytes, so that each is the first that is refused in one of them.
 #[test]
-fn a_core_that_lacks_one_table_gives_its_calls_back(rt: HostRuntime) -> Result<(), Fail> {
-    let calls = submissions(rt.alloc(), 30)?;
+fn a_core_that_lacks_one_table_gives_its_code_back(rt: HostRuntime) -> Result<(), Fail> {
+    let instrs = submissions(rt.alloc(), 30)?;
     let mut refused = false;
     let mut made = false;
     for step in 0..200 {
         let heap = LocalHeap::new(rt.alloc(), 1_500 + 32 * step)?;
-        match refusal(&rt, &heap, &calls, 64, 9)? {
+        match refusal(&rt, &heap, &instrs, 64, 9)? {
             None => made = true,
             Some(error) => {
                 assert_eq!(rt; (error, made), (CoreError::Memory, false));
@@ -174,6 +170,6 @@ fn takes_it_with_memory(
 #[test]
 fn an_event_without_memory_may_be_given_again(rt: HostRuntime) -> Result<(), Fail> {
     let heap = LocalHeap::new(rt.alloc(), 1 << 9)?;
-    let mut core = core_of(&rt, rt.alloc(), &[submission(0, 0, 0)], 1, 9)?;
+    let mut core = core_of(rt.alloc(), &[submission(0, 0)], 1, 9)?;
     takes_it_with_memory(&rt, &heap, &mut core, &mut Vec::new(&heap))
 }

@@ -1,5 +1,5 @@
 //! Cores and lines of several sizes, with ample memory.
-use super::{core_of, give, lines_after, submissions};
+use super::{code_of, core_of, give, lines_after, submissions};
 use crate::{Answer, Core, CoreError, Event, Line, Message};
 use queue_code::MOST_CALLS;
 use std::alloc::Allocator;
@@ -26,9 +26,9 @@ fn starts_last_worker<A: Allocator>(
 
 #[test]
 fn cores_of_each_number_of_workers(rt: HostRuntime) -> Result<(), Fail> {
-    let calls = submissions(rt.alloc(), 70)?;
+    let instrs = submissions(rt.alloc(), 70)?;
     for workers in 1..=64 {
-        let mut core = core_of(&rt, rt.alloc(), &calls, workers, u32::MAX)?;
+        let mut core = core_of(rt.alloc(), &instrs, workers, u32::MAX)?;
         starts_last_worker(&rt, &mut core, workers, &mut Vec::new(rt.alloc()))?;
     }
     Ok(())
@@ -57,7 +57,7 @@ fn a_core_without_calls(rt: HostRuntime) -> Result<(), Fail> {
 #[test]
 fn a_core_without_calls_has_no_words(rt: HostRuntime) -> Result<(), Fail> {
     for workers in 1..=64 {
-        let core = core_of(&rt, rt.alloc(), &[], workers, u32::MAX)?;
+        let core = core_of(rt.alloc(), &[], workers, u32::MAX)?;
         assert_eq!(rt; core.words().len(), 0);
     }
     Ok(())
@@ -77,12 +77,12 @@ fn takes_three_starts<A: Allocator>(
 
 #[test]
 fn a_core_takes_as_many_events_as_its_limit(rt: HostRuntime) -> Result<(), Fail> {
-    let mut core = core_of(&rt, rt.alloc(), &[], 1, 3)?;
+    let mut core = core_of(rt.alloc(), &[], 1, 3)?;
     takes_three_starts(&rt, &mut core, &mut Vec::new(rt.alloc()))
 }
 
 #[test]
-fn a_core_is_refused_for_its_numbers(rt: HostRuntime) {
+fn a_core_is_refused_for_its_numbers(rt: HostRuntime) -> Result<(), Fail> {
     let cases = [
         (0, CoreError::Workers),
         (65, CoreError::Workers),
@@ -90,21 +90,23 @@ fn a_core_is_refused_for_its_numbers(rt: HostRuntime) {
         (64, CoreError::Limit),
     ];
     for (workers, error) in cases {
-        let refused = Core::new(rt.alloc(), Vec::new(rt.alloc()), workers, 0).err();
+        let code = code_of(rt.alloc(), &[])?;
+        let refused = Core::new(rt.alloc(), code, workers, 0).err();
         assert_eq!(rt; refused, Some(error));
     }
+    Ok(())
 }
 
 #[test]
 fn more_than_65536_lines_stay_in_one_list(rt: HostRuntime) -> Result<(), Fail> {
-    let calls = submissions(rt.alloc(), MOST_CALLS as u32)?;
+    let instrs = submissions(rt.alloc(), MOST_CALLS as u32)?;
     let mut events = Vec::new(rt.alloc());
     events.push(Event::Clock(1))?;
-    assert_eq!(rt; lines_after(&rt, &calls, 64, &events)?.len(), 65_537);
+    assert_eq!(rt; lines_after(&rt, &instrs, 64, &events)?.len(), 65_537);
     for worker in 0..64 {
         events.push(Event::Start(worker))?;
     }
-    let out = lines_after(&rt, &calls, 64, &events)?;
+    let out = lines_after(&rt, &instrs, 64, &events)?;
     let last = Answer::Start {
         worker: 63,
         task: 63,

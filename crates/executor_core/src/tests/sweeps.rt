@@ -1,22 +1,19 @@
 //! The lines of the tasks that a shutdown ends.
-use super::{lines_after, nanos, periodic};
+use super::{lines_after, nanos};
 use crate::{Answer, Event, Line, Message};
-use queue_code::CodeCall;
+use queue_code::Instr;
 use sched_time::Timing;
 use std::alloc::Global;
 use std::process::Abort;
 use std::test::Fail;
 
 /// A plan of 1,000 tasks at a fixed rate, then a shutdown, and then a question.
-fn plan_with_shutdown(alloc: Global) -> Result<Vec<(u64, CodeCall)>, Fail> {
-    let timing = Timing::Rate(nanos(5)?);
-    let mut calls = Vec::new(alloc);
-    for task in 0..1_000 {
-        calls.push(periodic(0, task, timing, 9))?;
-    }
-    calls.push((3, CodeCall::Shutdown))?;
-    calls.push((3, CodeCall::Ask))?;
-    Ok(calls)
+fn plan_with_shutdown(alloc: Global) -> Result<Vec<Instr>, Fail> {
+    let task = Instr::Submit(0, Timing::Rate(nanos(5)?), 9);
+    let mut instrs = Vec::from_elem(alloc, task, 1_000)?;
+    instrs.push(Instr::Shutdown(3))?;
+    instrs.push(Instr::Ask(3))?;
+    Ok(instrs)
 }
 
 /// Checks what a line says, which was said at moment 3.
@@ -27,8 +24,8 @@ fn line_says(rt: &impl Abort, line: Option<&Line>, message: Message) {
 
 #[test]
 fn one_clock_ends_a_thousand_tasks(rt: HostRuntime) -> Result<(), Fail> {
-    let calls = plan_with_shutdown(rt.alloc())?;
-    let out = lines_after(&rt, &calls, 1, &[Event::Clock(3)])?;
+    let instrs = plan_with_shutdown(rt.alloc())?;
+    let out = lines_after(&rt, &instrs, 1, &[Event::Clock(3)])?;
     let asked = Answer::Ask {
         queue: 0,
         running: 0,

@@ -1,7 +1,7 @@
 //! What the words of the tasks say after each event.
-use super::{core_of, nanos, periodic, submission};
+use super::{core_of, nanos, submission};
 use crate::{Core, Event, Line};
-use queue_code::CodeCall;
+use queue_code::Instr;
 use sched_time::{Ending, Timing, Which};
 use std::alloc::{AllocGlobal, Allocator, Global};
 use std::process::Abort;
@@ -40,11 +40,11 @@ fn words_say_after<A: Allocator>(
 /// Checks what the words of a core of one worker say before any event, and after each of these.
 fn words_say(
     rt: &(impl AllocGlobal + Abort),
-    calls: &[(u64, CodeCall)],
+    instrs: &[Instr],
     opening: &str,
     steps: &[(Event, &str)],
 ) -> Result<(), Fail> {
-    let mut core = core_of(rt, rt.alloc(), calls, 1, 100)?;
+    let mut core = core_of(rt.alloc(), instrs, 1, 100)?;
     let text = text_of_words(rt.alloc(), core.words())?;
     assert_eq!(rt; text.as_str(), opening);
     words_say_after(rt, &mut core, &mut Vec::new(rt.alloc()), steps)
@@ -52,10 +52,10 @@ fn words_say(
 
 #[test]
 fn words_tell_how_far_each_task_has_come(rt: HostRuntime) -> Result<(), Fail> {
-    let calls = [
-        periodic(0, 0, Timing::Rate(nanos(5)?), 0),
-        submission(0, 1, 0),
-        submission(9, 2, 0),
+    let instrs = [
+        Instr::Submit(0, Timing::Rate(nanos(5)?), 0),
+        submission(0, 0),
+        submission(9, 0),
     ];
     let end = Event::Finish(0, Ending::Value(1));
     let steps = [
@@ -66,23 +66,19 @@ fn words_tell_how_far_each_task_has_come(rt: HostRuntime) -> Result<(), Fail> {
         (Event::Cancel(1), "New 1;Running 0 cancelled;Vacant 0;"),
         (end, "New 1;Running 0 cancelled;Vacant 0;"),
     ];
-    words_say(&rt, &calls, "Vacant 0;Vacant 0;Vacant 0;", &steps)
+    words_say(&rt, &instrs, "Vacant 0;Vacant 0;Vacant 0;", &steps)
 }
 
 /// A sweep that a shutdown makes ends a periodic task that waits, one that a policy makes later ends a delayed one, and
 /// the periodic task that runs meanwhile ends at its finish.
 #[test]
 fn words_tell_which_tasks_were_ended(rt: HostRuntime) -> Result<(), Fail> {
-    let execute = CodeCall::SetPolicy {
-        which: Which::Execute,
-        value: false,
-    };
-    let calls = [
-        periodic(0, 0, Timing::Rate(nanos(5)?), 0),
-        periodic(0, 1, Timing::Fixed(nanos(5)?), 3),
-        submission(0, 2, 9),
-        (2, CodeCall::Shutdown),
-        (4, execute),
+    let instrs = [
+        Instr::Submit(0, Timing::Rate(nanos(5)?), 0),
+        Instr::Submit(0, Timing::Fixed(nanos(5)?), 3),
+        submission(0, 9),
+        Instr::Shutdown(2),
+        Instr::SetPolicy(4, Which::Execute, false),
     ];
     let end = Event::Finish(0, Ending::Value(1));
     let steps = [
@@ -95,5 +91,5 @@ fn words_tell_which_tasks_were_ended(rt: HostRuntime) -> Result<(), Fail> {
         ),
         (end, "Running 0 cancelled;New 0 cancelled;New 0 cancelled;"),
     ];
-    words_say(&rt, &calls, "Vacant 0;Vacant 0;Vacant 0;", &steps)
+    words_say(&rt, &instrs, "Vacant 0;Vacant 0;Vacant 0;", &steps)
 }

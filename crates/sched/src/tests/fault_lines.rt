@@ -80,6 +80,8 @@ fn tells_each_end_of_a_run(rt: HostRuntime) {
 #[test]
 fn tells_faults_of_the_plan_file_and_of_the_arguments(rt: HostRuntime) {
     is_told(&rt, Fault::PlanFile, 1, "sched: plan file not read\n");
+    is_told(&rt, Fault::TraceFile, 1, "sched: trace file not read\n");
+    is_told(&rt, Fault::TraceTooLong, 1, "sched: trace file too long\n");
     is_told(&rt, Fault::Arguments, 2, "sched: command line not UTF-8\n");
 }
 

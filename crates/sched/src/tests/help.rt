@@ -33,11 +33,55 @@ fn help_names_the_command_and_the_statuses(rt: HostRuntime) {
         0,
         &[
             "Usage: sched <COMMAND>\n",
-            "  run   Runs a plan over the events on standard input",
+            "  run    Runs a plan over the events on standard input",
+            "  code   Prints the queue code of a plan to standard output",
+            "  check  Checks that a trace is one that a plan allows",
             "'sched run --help' tells what a plan, an event and a trace look like.\n",
             "  0  done\n",
-            "  1  a fault, told by a line on standard error\n",
+            "  1  a fault, told by a line on standard error, or a trace that breaks\n",
             "  2  a fault of the command line\n",
+        ],
+    );
+}
+
+#[test]
+fn help_of_code_names_each_instruction(rt: HostRuntime) {
+    shows(
+        &rt,
+        &[b"sched", b"code", b"--help"],
+        0,
+        &[
+            "Usage: sched code <PLAN>\n",
+            "submit O schedule D",
+            "submit O rate F P",
+            "submit O fixed F D",
+            "illegal O",
+            "cancel O task K",
+            "cancel O here J",
+            "policy O WHICH VALUE",
+            "shutdown O",
+            "ask O",
+            "loop N every E",
+            "endloop",
+            "halt",
+            "  1  a fault, told by one of these lines",
+        ],
+    );
+}
+
+#[test]
+fn help_of_check_names_what_is_found(rt: HostRuntime) {
+    shows(
+        &rt,
+        &[b"sched", b"check", b"--help"],
+        0,
+        &[
+            "Usage: sched check --workers <N> <PLAN> <TRACE>\n",
+            "at most 67,108,864 bytes",
+            "  conforms  the trace is that of some events",
+            "  breaks N  it is none",
+            "sched: trace file not read",
+            "sched: trace file too long",
         ],
     );
 }

@@ -1,5 +1,6 @@
 //! The whole program, in a world in memory.
 
+use super::world::{Given, GivenFile};
 use super::{ends_given, given};
 
 #[test]
@@ -72,4 +73,95 @@ fn tells_arguments_that_are_not_utf_8(rt: HostRuntime) {
         "",
         "sched: command line not UTF-8\n",
     );
+}
+
+/// A file of these bytes.
+fn file(rest: &[u8]) -> GivenFile<'_> {
+    GivenFile {
+        rest,
+        is_broken: false,
+    }
+}
+
+#[test]
+fn prints_the_code_of_the_plan(rt: HostRuntime) {
+    let mut code = given(&[b"sched", b"code", b"plan.toml"], "");
+    ends_given(&rt, code, 0, "0 submit 0 schedule 5\n1 halt\n", "");
+    code.is_closed = true;
+    ends_given(&rt, code, 1, "", "sched: write fault\n");
+    let other = given(&[b"sched", b"code", b"other.toml"], "");
+    ends_given(&rt, other, 1, "", "sched: plan file not read\n");
+    let wrong = Given {
+        plan: file(b"version = 2\n"),
+        ..given(&[b"sched", b"code", b"plan.toml"], "")
+    };
+    ends_given(&rt, wrong, 1, "", "sched: plan: Version block 0 call 0\n");
+}
+
+/// The command line of a check of `trace.txt`.
+const CHECK: [&[u8]; 6] = [
+    b"sched",
+    b"check",
+    b"plan.toml",
+    b"trace.txt",
+    b"--workers",
+    b"1",
+];
+
+#[test]
+fn checks_a_trace(rt: HostRuntime) {
+    let rows: [(&[u8], u8, &str); 3] = [
+        (b"", 0, "conforms\n"),
+        (
+            b"0 submit 0 schedule due 5\n5 clock\n5 start 0 task 0 run 0 due 5\n",
+            0,
+            "conforms\n",
+        ),
+        (
+            b"0 submit 0 schedule due 5\n5 clock\n5 start 0 task 0 run 0 due 6\n",
+            1,
+            "breaks 3\n",
+        ),
+    ];
+    for (trace, status, finding) in rows {
+        let check = Given {
+            trace: file(trace),
+            ..given(&CHECK, "")
+        };
+        ends_given(&rt, check, status, finding, "");
+    }
+}
+
+#[test]
+fn tells_faults_of_a_check(rt: HostRuntime) {
+    let mut closed = given(&CHECK, "");
+    closed.is_closed = true;
+    ends_given(&rt, closed, 1, "", "sched: write fault\n");
+    let trace = GivenFile {
+        rest: b"0 clock\n",
+        is_broken: true,
+    };
+    let broken = Given {
+        trace,
+        ..given(&CHECK, "")
+    };
+    ends_given(&rt, broken, 1, "", "sched: trace file not read\n");
+    let wrong = Given {
+        plan: file(b"version = 2\n"),
+        trace,
+        ..given(&CHECK, "")
+    };
+    ends_given(&rt, wrong, 1, "", "sched: plan: Version block 0 call 0\n");
+    let missing = given(
+        &[
+            b"sched",
+            b"check",
+            b"plan.toml",
+            b"trace",
+            b"--workers",
+            b"1",
+        ],
+        "",
+    );
+    ends_given(&rt, missing, 1, "", "sched: trace file not read\n");
 }

@@ -13,20 +13,21 @@ use std::io::{BufRead, ErrorKind, Lines, Read, Seek, SeekFrom, Write};
 use std::process::ExitCode;
 use std::rt::{Env, Files};
 
-/// A plan file: its bytes, and whether it is at fault after them.
+/// A file: its bytes, and whether it is at fault after them.
 #[derive(Clone, Copy)]
-pub struct PlanFile<'a> {
+pub struct GivenFile<'a> {
     pub rest: &'a [u8],
     pub is_broken: bool,
 }
 
-/// The command line, the plan file with its name, standard input, and whether standard output is
-/// closed.
+/// The command line, the plan file with its name, the file `trace.txt`, standard input, and whether
+/// standard output is closed.
 #[derive(Clone, Copy)]
 pub struct Given<'a> {
     pub arguments: &'a [&'a [u8]],
     pub name: &'a str,
-    pub plan: PlanFile<'a>,
+    pub plan: GivenFile<'a>,
+    pub trace: GivenFile<'a>,
     pub events: &'a [u8],
     pub is_closed: bool,
 }
@@ -162,11 +163,14 @@ impl<'a> Input for World<'a> {
 }
 
 impl<'a> Files for World<'a> {
-    type File = PlanFile<'a>;
+    type File = GivenFile<'a>;
 
     type Dir = &'a [u8];
 
-    fn open_file(&self, _how: &OpenOptions, path: &str) -> io::Result<PlanFile<'a>> {
+    fn open_file(&self, _how: &OpenOptions, path: &str) -> io::Result<GivenFile<'a>> {
+        if path == "trace.txt" {
+            return Ok(self.given.trace);
+        }
         if path != self.given.name {
             return Err(io::Error::from(ErrorKind::NotFound));
         }
@@ -210,7 +214,7 @@ impl<'a> Files for World<'a> {
     }
 }
 
-impl Read for PlanFile<'_> {
+impl Read for GivenFile<'_> {
     fn read(&mut self, buf: &mut [u8]) -> io::Result<usize> {
         if self.rest.is_empty() && self.is_broken {
             return unsupported();
@@ -219,7 +223,7 @@ impl Read for PlanFile<'_> {
     }
 }
 
-impl Write for PlanFile<'_> {
+impl Write for GivenFile<'_> {
     fn write(&mut self, _buf: &[u8]) -> io::Result<usize> {
         unsupported()
     }
@@ -229,13 +233,13 @@ impl Write for PlanFile<'_> {
     }
 }
 
-impl Seek for PlanFile<'_> {
+impl Seek for GivenFile<'_> {
     fn seek(&mut self, _to: SeekFrom) -> io::Result<u64> {
         unsupported()
     }
 }
 
-impl OpenFile for PlanFile<'_> {
+impl OpenFile for GivenFile<'_> {
     fn metadata(&self) -> io::Result<Metadata> {
         unsupported()
     }

@@ -8,6 +8,14 @@ returns c =
     let own = new_app (codes "sched") in
     let bare : app_of c.subcommand_required.result ≡ record own { top = record own.top { subcommand_required = true } } = search rules in
     let run = c.in_ok-run_command.ensures.app in
-    let plain = ap (λ (a : App). a.top.is_plain) run in
-    let local = not-true _ (and_parts _ _ (and_parts _ _ (and_parts _ _ plain).1).1).0 in
-    record { app = c.in_ok-subcommand.ensures.shape local ∙ ap₂ with_subcommand bare (ap (λ (a : App). a.top) run) }
+    let run_plain = ap (λ (a : App). a.top.is_plain) run in
+    let run_local = not-true _ (and_parts _ _ (and_parts _ _ (and_parts _ _ run_plain).1).1).0 in
+    let code = c.in_ok-code_command.ensures.app in
+    let code_plain = ap (λ (a : App). a.top.is_plain) code in
+    let code_local = not-true _ (and_parts _ _ (and_parts _ _ (and_parts _ _ code_plain).1).1).0 in
+    let check = c.in_ok-check_command.ensures.app in
+    let check_plain = ap (λ (a : App). a.top.is_plain) check in
+    let check_local = not-true _ (and_parts _ _ (and_parts _ _ (and_parts _ _ check_plain).1).1).0 in
+    let one = c.in_ok-subcommand.ensures.shape run_local ∙ ap₂ with_subcommand bare (ap (λ (a : App). a.top) run) in
+    let two = c.in_ok-subcommand-2.ensures.shape code_local ∙ ap₂ with_subcommand one (ap (λ (a : App). a.top) code) in
+    record { app = c.in_ok-subcommand-3.ensures.shape check_local ∙ ap₂ with_subcommand two (ap (λ (a : App). a.top) check) }

@@ -1,4 +1,4 @@
-use Rattle.std.proofs.Common.{◌≡◌, ℕ, ◌+◌, ◌-◌, ◌<◌, ◌≤◌, ◌++◌, length, drop, inl, refl, ap, subst, sym, Result, Ok, Err, ◌∙◌, arith}
+use Rattle.std.proofs.Common.{◌≡◌, ℕ, ◌+◌, ◌-◌, ◌<◌, ◌≤◌, ◌++◌, length, drop, inl, refl, ap, subst, Result, Ok, Err, arith}
 use Rattle.std.specs.Prelude.{vec_capacity}
 use Rattle.executor_core.specs.declared.CoreError.{CoreError}
 use Rattle.executor_core.specs.declared.CoreError.TheVariants.{Full}
@@ -43,14 +43,14 @@ pub overflow_add-count : goal.overflow_add-count
 overflow_add-count g c =
     let held = c.args.held.now in
     let rest = c.loop-event.rest.now in
-    let next = drop c.in-Event.size rest in
+    let next = c.in-Some.behind.now in
     let kept = c.loop-event.invariant in
     let mid = c.loop-event.core in
     let new = c.answer_event.new.core in
-    let front = c.in-Event.ensures in
+    let front = c.in-Some.ensures in
     let taken = c.in-Ok.ensures.ok in
-    let after = answered_on c.args.core.now mid new held rest next c.args.draft.now.text c.loop-event.draft.text c.answer_event.new.draft.text c.loop-event.count c.in-Ok.more c.in-Event.event
-    kept.answered kept.behind kept.bound front.0.0 front.0.1 taken in
+    let after = answered_on c.args.core.now mid new held rest next c.args.draft.now.text c.loop-event.draft.text c.answer_event.new.draft.text c.loop-event.count c.in-Ok.more c.in-Some.event
+    kept.answered kept.behind kept.bound front.0 front.1 taken in
     let below = below_limit mid.taken mid.limit kept.within (λ e. not_err c.in-Ok.more Full (c.in-Ok.ensures.full.1 e)) in
     omega (arith, count_fits c.args.core.now new held c.args.draft.now.text c.answer_event.new.draft.text (length held - length next) (c.loop-event.count + c.in-Ok.more) c.requires after (within_still mid.taken mid.limit new.taken new.limit below taken.taken taken.limit))
 
@@ -58,13 +58,13 @@ pub loop-event-preserved : goal.loop-event-preserved
 loop-event-preserved g c =
     let held = c.args.held.now in
     let rest = c.loop-event.rest.now in
-    let next = c.split_at.result.1.now in
+    let next = c.in-Some.behind.now in
     let kept = c.loop-event.invariant in
     let mid = c.loop-event.core in
     let new = c.answer_event.new.core in
-    let event = c.in-Event.event in
-    let fits = c.in-Event.ensures.0.0 in
-    let front : rest ≡ event_line event ++ next = c.in-Event.ensures.0.1 ∙ ap (λ l. event_line event ++ l) (sym c.split_at.ensures.back) in
+    let event = c.in-Some.event in
+    let fits = c.in-Some.ensures.0 in
+    let front : rest ≡ event_line event ++ next = c.in-Some.ensures.1 in
     let taken = c.in-Ok.ensures.ok in
     let below = below_limit mid.taken mid.limit kept.within (λ e. not_err c.in-Ok.more Full (c.in-Ok.ensures.full.1 e)) in
     let begins = subst BeginsWithEvent kept.behind (event, next, fits, front) in

@@ -1,8 +1,9 @@
-use Rattle.std.proofs.Common.{◌≡◌, ◌<◌, length, None, Some, ap, ◌∙◌, sym, arith, subst, rules}
+use Rattle.std.proofs.Common.{◌≡◌, ◌<◌, length, None, Some, ap, ◌∙◌, sym, arith, rules}
 use Rattle.std.specs.Prelude.{slice_index_or}
+use Rattle.std.proofs.lemmas.List.{length-map}
+use Rattle.executor_core.specs.Machine.{queued}
 use Rattle.executor_core.specs.Answers.{outcome_in, stops_periodic}
 use Rattle.executor_core.specs.State.{due_past}
-use Rattle.executor_core.specs.Machine.{IsCounted}
 use Rattle.executor_core.proofs.Tables.{read_at}
 use Rattle.executor_core.proofs.RunSteps.{of_view, work_within, run_unqueued, finish_takes, finish_keeps}
 use Rattle.executor_core.proofs.machine.Core.answer_finish.Goals.{then-self, else-self}
@@ -24,6 +25,14 @@ end_run-requires-clause-known g c =
     let busy : slice_index_or m.work.items c.args.worker None ≡ Some k = sym (read_at m.work.items c.args.worker c.index.result.now None l c.index.ensures) ∙ c.in-Some.is in
     work_within _ m.queue.entries m.kept.entries m.searched c.args.worker k c.self.invariant busy
 
+pub queue_if_again-requires-clause-known : goal.queue_if_again-requires-clause-known
+queue_if_again-requires-clause-known g c =
+    let m = c.self.inside in
+    let k = c.in-Some.number in
+    let l : c.args.worker < length m.work.items = omega (arith, c.if-place-len.false, c.len.ensures, m.work.ok.0) in
+    let busy : slice_index_or m.work.items c.args.worker None ≡ Some k = sym (read_at m.work.items c.args.worker c.index.result.now None l c.index.ensures) ∙ c.in-Some.is in
+    omega (arith, work_within _ m.queue.entries m.kept.entries m.searched c.args.worker k c.self.invariant busy, ap length c.self.invariant.queue ∙ length-map m.tasks queued)
+
 pub queue_if_again-requires-clause-absent : goal.queue_if_again-requires-clause-absent
 queue_if_again-requires-clause-absent g c =
     let m = c.self.inside in
@@ -43,10 +52,10 @@ invariant_of-self g c =
     let next : c.unwrap_or-due.result ≡ due_past task.timing task.due m.moment = search rules in
     let out = c.outcome_in-outcome.ensures task.timing task.due m.moment c.next_due-next.ensures ∙ ap (λ b. outcome_in task.cancelled b task.timing (due_past task.timing task.due m.moment) c.args.ending) stops in
     finish_keeps _ m.queue.entries m.kept.entries c.queue_if_again.new.queue.entries m.searched c.args.worker k c.unwrap_or-due.result c.args.ending c.outcome_in-outcome.result task c.end_run.new.tasks c.self.invariant
-    (record { worker = l; busy = busy; is = c.get-task.ensures; out = out; next = next }) (subst IsCounted (sym c.self.view_is) c.requires) c.end_run.ensures c.queue_if_again.ensures
+    (record { worker = l; busy = busy; is = c.get-task.ensures; out = out; next = next }) c.end_run.ensures c.queue_if_again.ensures
 
-pub returns : goal.returns
-returns g c =
+pub returns-clause-step : goal.returns-clause-step
+returns-clause-step g c =
     let m = c.self.inside in
     let k = c.in-Some.number in
     let l : c.args.worker < length m.work.items = omega (arith, c.if-place-len.false, c.len.ensures, m.work.ok.0) in

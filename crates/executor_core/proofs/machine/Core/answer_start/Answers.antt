@@ -1,13 +1,15 @@
 use Rattle.std.proofs.Common.{◌≡◌, ◌<◌, length, None, ◌∙◌, sym, ap, arith, subst}
 use Rattle.std.specs.Prelude.{slice_index_or}
 use Rattle.executor_core.specs.declared.task.Task.{Task}
-use Rattle.executor_core.specs.Machine.{IsCounted}
+use Rattle.executor_core.specs.declared.types.Happening.TheVariants as h
+use Rattle.executor_core.specs.Machine.{Machine, workers_of, state_of}
+use Rattle.executor_core.specs.Needs.{RunsBelowTaken, need_of}
 use Rattle.executor_core.proofs.Tables.{read_at, none_of}
-use Rattle.executor_core.proofs.RunSteps.{of_view, start_idles, start_takes, start_keeps}
+use Rattle.executor_core.proofs.RunSteps.{Gets, of_view, start_idles, start_needs, start_takes, start_keeps}
 use Rattle.executor_core.proofs.machine.Core.answer_start.Goals as goal
 
-pub returns-in_default : goal.returns-in_default
-returns-in_default g c =
+pub returns-in_default-clause-step : goal.returns-in_default-clause-step
+returns-in_default-clause-step g c =
     let m = c.self.inside in
     let l : c.args.worker < length m.work.items = omega (arith, c.if-place-len.false, c.len.ensures, m.work.ok.0) in
     let read = read_at m.work.items c.args.worker c.index.result.now None l c.index.ensures in
@@ -22,11 +24,14 @@ invariant_of-self-2 g c =
     let read = read_at m.work.items c.args.worker c.index.result.now None l c.index.ensures in
     let free : slice_index_or m.work.items c.args.worker None ≡ None = sym read ∙ none_of c.index.result.now c.if-is_some.ensures in
     let poll = c.in-Some.ensures in
-    start_keeps _ m.queue.entries m.kept.entries c.poll.new.self.entries m.searched c.args.worker c.in-Some.entry c.start.new.self c.self.invariant (record { worker = l; free = free; least = poll.least; due = poll.due })
-    (subst IsCounted (sym c.self.view_is) c.requires) c.start.ensures poll.removed
+    let gets : Gets _ m.queue.entries c.args.worker c.in-Some.entry = record { worker = l; free = free; least = poll.least; due = poll.due } in
+    let low = subst (λ (x : Machine). RunsBelowTaken x (need_of x.calls (workers_of x) (state_of x) (h.Start c.args.worker))) (sym c.self.view_is) c.requires in
+    let counted = low c.in-Some.entry.task (start_needs _ m.queue.entries m.kept.entries m.searched c.args.worker c.in-Some.entry c.self.invariant gets) in
+    start_keeps _ m.queue.entries m.kept.entries c.poll.new.self.entries m.searched c.args.worker c.in-Some.entry c.start.new.self c.self.invariant gets
+    counted c.start.ensures poll.removed
 
-pub returns : goal.returns
-returns g c =
+pub returns-clause-step : goal.returns-clause-step
+returns-clause-step g c =
     let m = c.self.inside in
     let l : c.args.worker < length m.work.items = omega (arith, c.if-place-len.false, c.len.ensures, m.work.ok.0) in
     let read = read_at m.work.items c.args.worker c.index.result.now None l c.index.ensures in

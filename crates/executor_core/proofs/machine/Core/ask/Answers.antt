@@ -25,13 +25,13 @@ overflow_cast-result-2 g c =
 pub invariant_of-self : goal.invariant_of-self
 invariant_of-self g c =
     let m = c.self.inside in
-    let is : slice_get m.calls.items m.made ≡ Some (c.args.moment, call.Ask) = ap (λ x. slice_get x.calls x.made) c.self.view_is ∙ c.requires in
-    passed_kept _ m.queue.entries m.kept.entries m.searched c.max-self-inside.result c.args.moment call.Ask c.self.invariant is c.max-self-inside.ensures
+    let is : slice_get m.calls.items m.calls.made ≡ Some (c.args.moment, call.Ask) = ap (λ x. slice_get x.calls x.made) c.self.view_is ∙ c.requires in
+    rw c.pass.ensures (passed_kept _ m.queue.entries m.kept.entries m.searched c.max-self-inside.result c.args.moment call.Ask c.self.invariant is c.max-self-inside.ensures)
 
 pub returns-clause-step : goal.returns-clause-step
 returns-clause-step g c =
     let m = c.self.inside in
-    let is : slice_get m.calls.items m.made ≡ Some (c.args.moment, call.Ask) = ap (λ x. slice_get x.calls x.made) c.self.view_is ∙ c.requires in
+    let is : slice_get m.calls.items m.calls.made ≡ Some (c.args.moment, call.Ask) = ap (λ x. slice_get x.calls x.made) c.self.view_is ∙ c.requires in
     let ends : c.if-queue-eq0.result ≡ is_terminated m.shut (c.len.result + c.len-2.result) c.running-running.result = grind (arith, nat_tests, c.if-queue-eq0.branch, c.if-self.branch) in
-    ask_steps _ c.args.self.now m.queue.entries m.kept.entries m.searched c.max-self-inside.result c.args.moment (c.len.result + c.len-2.result) c.running-running.result c.if-queue-eq0.result c.self.invariant is
-    (λ i. c.len.ensures i + c.len-2.ensures i) c.running-running.ensures ends c.max-self-inside.ensures c.self.view_is
+    rw c.pass.ensures (ask_steps _ c.args.self.now m.queue.entries m.kept.entries m.searched c.max-self-inside.result c.args.moment (c.len.result + c.len-2.result) c.running-running.result c.if-queue-eq0.result c.self.invariant is
+    (λ i. c.len.ensures i + c.len-2.ensures i) c.running-running.ensures ends c.max-self-inside.ensures c.self.view_is)

@@ -1,10 +1,22 @@
-use Rattle.std.proofs.Common.{◌≡◌, length, sym, subst, ap, ◌∙◌}
-use Rattle.queue_code.specs.Calls.{task_count}
-use Rattle.executor_core.specs.Machine.{Machine}
+use Rattle.std.proofs.Common.{◌≡◌, ◌+◌, ◌≤◌, length, sym, subst, ap, ◌∙◌}
+use Rattle.std.specs.Prelude.{vec_len, vec_capacity}
+use Rattle.queue_code.specs.Calls.{IsOrderly, task_count}
+use Rattle.executor_core.specs.Machine.{Machine, NoneIsLeft, room_of}
 use Rattle.executor_core.specs.Flows.{calls_before}
-use Rattle.executor_core.proofs.Events.{event_steps, event_taken, event_continues}
+use Rattle.executor_core.proofs.Events.{none_is_left, event_steps, event_taken, event_continues}
 use Rattle.executor_core.proofs.Errors.{error_only_counts}
 use Rattle.executor_core.proofs.machine.Core.event.Goals as goal
+
+pub happen-requires-clause-calls : goal.happen-requires-clause-calls
+happen-requires-clause-calls g c =
+    let mid = c.make_calls_before.new.self in
+    let orderly = subst (λ (m : Machine). IsOrderly m.calls) c.self.view_is c.self.invariant.orderly in
+    subst (λ (m : Machine). NoneIsLeft m c.args.event) (sym c.count.ensures.same)
+    (none_is_left mid c.args.event (subst IsOrderly (sym c.make_calls_before.ensures.steps.calls) orderly) c.make_calls_before.ensures.calls)
+
+pub happen-requires-clause-room : goal.happen-requires-clause-room
+happen-requires-clause-room g c =
+    subst (λ (m : Machine). vec_len c.make_calls_before.new.out + room_of m ≤ vec_capacity c.make_calls_before.new.out) (sym c.count.ensures.same) c.make_calls_before.ensures.room
 
 pub returns-clause-steps : goal.returns-clause-steps
 returns-clause-steps g c =

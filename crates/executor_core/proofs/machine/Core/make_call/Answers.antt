@@ -1,9 +1,10 @@
-use Rattle.std.proofs.Common.{◌≡◌, [], ◌∷◌, ◌++◌, sym, ap, ◌∙◌, subst}
+use Rattle.std.proofs.Common.{◌≡◌, [], ◌∷◌, ◌++◌, sym, ap, ◌∙◌, arith, subst}
 use Rattle.executor_core.specs.declared.types.Happening.TheVariants as happening
 use Rattle.executor_core.specs.declared.types.Answer.{Answer}
 use Rattle.executor_core.specs.Flows.{answer_line}
 use Rattle.executor_core.specs.Machine.{Machine, Takes}
 use Rattle.executor_core.proofs.Events.{one_step}
+use Rattle.executor_core.proofs.Rooms.{room_less}
 use Rattle.executor_core.proofs.Flowing.{step_continues}
 use Rattle.executor_core.proofs.machine.Core.make_call.Goals as goal
 use Rattle.executor_core.proofs.machine.Core.make_call.Goals.{in-Submit, in-Illegal, in-Cancel, in-Ask}
@@ -35,3 +36,13 @@ returns-in-SetPolicy-clause-history g c = step_continues c.args.self.now c.set_p
 
 pub returns-in-Shutdown-clause-history : goal.returns-in-Shutdown-clause-history
 returns-in-Shutdown-clause-history g c = step_continues c.args.self.now c.shut_down.new.self c.args.out.now.items c.shut_down.new.out.items happening.Call c.shut_down.ensures.steps
+
+pub returns-in-SetPolicy-clause-less : goal.returns-in-SetPolicy-clause-less
+returns-in-SetPolicy-clause-less g c =
+    room_less c.args.self.now c.set_policy.new.self c.args.out.now.items c.set_policy.new.out.items (happening.Call ∷ []) c.set_policy.ensures.steps
+    (omega (arith, c.set_policy.ensures.room, c.set_policy.new.out.ok.0, c.args.out.now.ok.0))
+
+pub returns-in-Shutdown-clause-less : goal.returns-in-Shutdown-clause-less
+returns-in-Shutdown-clause-less g c =
+    room_less c.args.self.now c.shut_down.new.self c.args.out.now.items c.shut_down.new.out.items (happening.Call ∷ []) c.shut_down.ensures.steps
+    (omega (arith, c.shut_down.ensures.room, c.shut_down.new.out.ok.0, c.args.out.now.ok.0))

@@ -8,4 +8,4 @@ pub overflow_add-result-2 : goal.overflow_add-result-2
 overflow_add-result-2 g c =
     let m = c.self.inside in
     let few = c.self.invariant.orderly.0 in
-    omega (arith, c.len.ensures, m.calls.ok.0, few, c.uncancelled.ensures, uncancelled_le m.tasks, c.self.invariant.count, how_many-le (λ (p : Planned). is_submission p.1) m.calls.items)
+    omega (arith, c.left.ensures, few, c.uncancelled.ensures, uncancelled_le m.tasks, c.self.invariant.count, how_many-le (λ (p : Planned). is_submission p.1) m.calls.items)

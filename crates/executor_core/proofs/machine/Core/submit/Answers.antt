@@ -11,62 +11,62 @@ use Rattle.executor_core.proofs.machine.Core.submit.Goals as goal
 pub overflow_add-due : goal.overflow_add-due
 overflow_add-due g c =
     let m = c.self.inside in
-    let is : slice_get m.calls.items m.made ≡ Some (c.args.moment, call.Submit c.args.task c.args.timing c.args.delay) = ap (λ x. slice_get x.calls x.made) c.self.view_is ∙ c.requires in
-    let sub = submission m.calls.items 0 0 m.made c.args.moment c.args.task c.args.timing c.args.delay c.self.invariant.orderly.1 is in
+    let is : slice_get m.calls.items m.calls.made ≡ Some (c.args.moment, call.Submit c.args.task c.args.timing c.args.delay) = ap (λ x. slice_get x.calls x.made) c.self.view_is ∙ c.requires in
+    let sub = submission m.calls.items 0 0 m.calls.made c.args.moment c.args.task c.args.timing c.args.delay c.self.invariant.orderly.1 is in
     omega (arith, sub.moment, sub.within)
 
 pub submit-requires-clause-known : goal.submit-requires-clause-known
 submit-requires-clause-known g c =
     let m = c.self.inside in
-    let is : slice_get m.calls.items m.made ≡ Some (c.args.moment, call.Submit c.args.task c.args.timing c.args.delay) = ap (λ x. slice_get x.calls x.made) c.self.view_is ∙ c.requires in
-    let sub = submission m.calls.items 0 0 m.made c.args.moment c.args.task c.args.timing c.args.delay c.self.invariant.orderly.1 is in
+    let is : slice_get m.calls.items m.calls.made ≡ Some (c.args.moment, call.Submit c.args.task c.args.timing c.args.delay) = ap (λ x. slice_get x.calls x.made) c.self.view_is ∙ c.requires in
+    let sub = submission m.calls.items 0 0 m.calls.made c.args.moment c.args.task c.args.timing c.args.delay c.self.invariant.orderly.1 is in
     omega (arith, sub.below, c.self.invariant.count)
 
 pub submit-requires-clause-vacant : goal.submit-requires-clause-vacant
 submit-requires-clause-vacant g c =
     let m = c.self.inside in
-    let is : slice_get m.calls.items m.made ≡ Some (c.args.moment, call.Submit c.args.task c.args.timing c.args.delay) = ap (λ x. slice_get x.calls x.made) c.self.view_is ∙ c.requires in
-    let sub = submission m.calls.items 0 0 m.made c.args.moment c.args.task c.args.timing c.args.delay c.self.invariant.orderly.1 is in
+    let is : slice_get m.calls.items m.calls.made ≡ Some (c.args.moment, call.Submit c.args.task c.args.timing c.args.delay) = ap (λ x. slice_get x.calls x.made) c.self.view_is ∙ c.requires in
+    let sub = submission m.calls.items 0 0 m.calls.made c.args.moment c.args.task c.args.timing c.args.delay c.self.invariant.orderly.1 is in
     c.self.invariant.fresh c.args.task (omega (arith, sub.number))
 
 pub insert-requires-clause-known : goal.insert-requires-clause-known
 insert-requires-clause-known g c =
     let m = c.self.inside in
-    let is : slice_get m.calls.items m.made ≡ Some (c.args.moment, call.Submit c.args.task c.args.timing c.args.delay) = ap (λ x. slice_get x.calls x.made) c.self.view_is ∙ c.requires in
-    let sub = submission m.calls.items 0 0 m.made c.args.moment c.args.task c.args.timing c.args.delay c.self.invariant.orderly.1 is in
+    let is : slice_get m.calls.items m.calls.made ≡ Some (c.args.moment, call.Submit c.args.task c.args.timing c.args.delay) = ap (λ x. slice_get x.calls x.made) c.self.view_is ∙ c.requires in
+    let sub = submission m.calls.items 0 0 m.calls.made c.args.moment c.args.task c.args.timing c.args.delay c.self.invariant.orderly.1 is in
     omega (arith, sub.below, c.self.invariant.count, ap length c.self.invariant.queue ∙ length-map m.tasks queued)
 
 pub insert-requires-clause-absent : goal.insert-requires-clause-absent
 insert-requires-clause-absent g c =
     let m = c.self.inside in
-    let is : slice_get m.calls.items m.made ≡ Some (c.args.moment, call.Submit c.args.task c.args.timing c.args.delay) = ap (λ x. slice_get x.calls x.made) c.self.view_is ∙ c.requires in
-    let sub = submission m.calls.items 0 0 m.made c.args.moment c.args.task c.args.timing c.args.delay c.self.invariant.orderly.1 is in
+    let is : slice_get m.calls.items m.calls.made ≡ Some (c.args.moment, call.Submit c.args.task c.args.timing c.args.delay) = ap (λ x. slice_get x.calls x.made) c.self.view_is ∙ c.requires in
+    let sub = submission m.calls.items 0 0 m.calls.made c.args.moment c.args.task c.args.timing c.args.delay c.self.invariant.orderly.1 is in
     ap (λ q. slice_index_or q c.args.task None) c.self.invariant.queue ∙ (queued_at m.tasks c.args.task ∙ ap queued (c.self.invariant.fresh c.args.task (omega (arith, sub.number))))
 
 pub invariant_of-self : goal.invariant_of-self
 invariant_of-self g c =
     let m = c.self.inside in
-    let is : slice_get m.calls.items m.made ≡ Some (c.args.moment, call.Submit c.args.task c.args.timing c.args.delay) = ap (λ x. slice_get x.calls x.made) c.self.view_is ∙ c.requires in
-    passed_kept _ m.queue.entries m.kept.entries m.searched c.max-self-inside.result c.args.moment (call.Submit c.args.task c.args.timing c.args.delay) c.self.invariant is c.max-self-inside.ensures
+    let is : slice_get m.calls.items m.calls.made ≡ Some (c.args.moment, call.Submit c.args.task c.args.timing c.args.delay) = ap (λ x. slice_get x.calls x.made) c.self.view_is ∙ c.requires in
+    rw c.pass.ensures (passed_kept _ m.queue.entries m.kept.entries m.searched c.max-self-inside.result c.args.moment (call.Submit c.args.task c.args.timing c.args.delay) c.self.invariant is c.max-self-inside.ensures)
 
 pub invariant_of-self-2 : goal.invariant_of-self-2
 invariant_of-self-2 g c =
     let m = c.self.inside in
-    let is : slice_get m.calls.items m.made ≡ Some (c.args.moment, call.Submit c.args.task c.args.timing c.args.delay) = ap (λ x. slice_get x.calls x.made) c.self.view_is ∙ c.requires in
-    submit_keeps_in _ m.queue.entries c.insert.new.self.entries m.kept.entries m.searched c.max-self-inside.result c.args.moment c.args.task c.args.delay c.args.timing c.submit.new.self
-    c.self.invariant is c.if-self.false c.max-self-inside.ensures c.insert.ensures.inserted c.submit.ensures
+    let is : slice_get m.calls.items m.calls.made ≡ Some (c.args.moment, call.Submit c.args.task c.args.timing c.args.delay) = ap (λ x. slice_get x.calls x.made) c.self.view_is ∙ c.requires in
+    rw c.pass.ensures (submit_keeps_in _ m.queue.entries c.insert.new.self.entries m.kept.entries m.searched c.max-self-inside.result c.args.moment c.args.task c.args.delay c.args.timing c.submit.new.self
+    c.self.invariant is c.if-self.false c.max-self-inside.ensures c.insert.ensures.inserted c.submit.ensures)
 
 pub returns-clause-step : goal.returns-clause-step
 returns-clause-step g c =
     let m = c.self.inside in
-    let is : slice_get m.calls.items m.made ≡ Some (c.args.moment, call.Submit c.args.task c.args.timing c.args.delay) = ap (λ x. slice_get x.calls x.made) c.self.view_is ∙ c.requires in
-    submit_steps_in _ c.args.self.now m.queue.entries m.kept.entries m.searched c.max-self-inside.result c.args.moment c.args.task c.args.delay c.args.timing c.kind_of-kind.result c.submit.new.self
-    c.self.invariant is c.if-self.false c.kind_of-kind.ensures c.max-self-inside.ensures c.self.view_is c.submit.ensures
+    let is : slice_get m.calls.items m.calls.made ≡ Some (c.args.moment, call.Submit c.args.task c.args.timing c.args.delay) = ap (λ x. slice_get x.calls x.made) c.self.view_is ∙ c.requires in
+    rw c.pass.ensures (submit_steps_in _ c.args.self.now m.queue.entries m.kept.entries m.searched c.max-self-inside.result c.args.moment c.args.task c.args.delay c.args.timing c.kind_of-kind.result c.submit.new.self
+    c.self.invariant is c.if-self.false c.kind_of-kind.ensures c.max-self-inside.ensures c.self.view_is c.submit.ensures)
 
 pub returns-clause-uncancelled : goal.returns-clause-uncancelled
 returns-clause-uncancelled g c =
     let m = c.self.inside in
-    let is : slice_get m.calls.items m.made ≡ Some (c.args.moment, call.Submit c.args.task c.args.timing c.args.delay) = ap (λ x. slice_get x.calls x.made) c.self.view_is ∙ c.requires in
-    let sub = submission m.calls.items 0 0 m.made c.args.moment c.args.task c.args.timing c.args.delay c.self.invariant.orderly.1 is in
+    let is : slice_get m.calls.items m.calls.made ≡ Some (c.args.moment, call.Submit c.args.task c.args.timing c.args.delay) = ap (λ x. slice_get x.calls x.made) c.self.view_is ∙ c.requires in
+    let sub = submission m.calls.items 0 0 m.calls.made c.args.moment c.args.task c.args.timing c.args.delay c.self.invariant.orderly.1 is in
     let low : c.args.task < length m.tasks = omega (arith, sub.below, c.self.invariant.count) in
     submit_fewer _ c.args.self.now c.args.task (c.args.moment + c.args.delay) c.args.timing c.submit.new.self low (c.self.invariant.fresh c.args.task (omega (arith, sub.number))) c.self.view_is c.submit.ensures

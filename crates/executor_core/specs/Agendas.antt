@@ -1,0 +1,27 @@
+-- What contracts see of the calls of a code that are made one after the other. All of it is this project's rule.
+use Rattle.std.specs.Prelude.{◌≡◌, ℕ, ◌+◌, ◌-◌, ◌≤◌, List, Option, length, drop, slice_get}
+use Rattle.queue_code.specs.declared.instr.Instr.{Instr}
+use Rattle.queue_code.specs.declared.cursor.Cursor.{Cursor}
+use Rattle.queue_code.specs.Calls.{Planned}
+use Rattle.queue_code.specs.Codes.{calls_of}
+use Rattle.queue_code.specs.Cursors.{IsCursorOf, calls_left}
+
+-- some calls, and how many of them were made
+pub record Course : Type 0 where
+  pub items : List Planned
+  pub made : ℕ
+
+-- how many calls of a code were made, where so many are left
+abbrev pub made_of : List Instr → ℕ → ℕ
+made_of code left = length (calls_of code) - left
+
+-- the calls of a code, of which so many are left
+abbrev pub course_of : List Instr → ℕ → Course
+course_of code left = record { items = calls_of code; made = made_of code left }
+
+-- so many calls of a code are left, this is the next one, and the cursor is behind it
+pub record IsAhead (code : List Instr) (c : Cursor) (next : Option Planned) (left : ℕ) : Type 0 where
+  pub cursor : IsCursorOf code c
+  pub within : left ≤ length (calls_of code)
+  pub first : next ≡ slice_get (calls_of code) (made_of code left)
+  pub behind : calls_left code c ≡ drop (made_of code left + 1) (calls_of code)

@@ -1,0 +1,71 @@
+//! The calls of a code, as a core makes them one after the other.
+ghost use Rattle.std.specs.Prelude.{◌≡◌, ◌+◌, ◌-◌, ◌<◌, length, slice_get};
+ghost use Rattle.queue_code.specs.Calls.{IsOrderly};
+ghost use Rattle.queue_code.specs.Codes.{calls_of};
+
+use queue_code::{Code, CodeCall, Cursor};
+use std::alloc::Allocator;
+use std::marker::Model;
+
+/// The calls of a code, and how many of them were made. No list of them is ever made.
+#[derive(Drop)]
+pub(crate) struct Agenda<A: Allocator> {
+    code: Code<A>,
+    /// Behind the next call.
+    cursor: Cursor,
+    /// The next call with its moment.
+    next: Option<(u64, CodeCall)>,
+    /// How many calls are left, the next one among them.
+    left: usize,
+}
+
+impl<A: Allocator> Model for Agenda<A> {
+    ghost use Rattle.executor_core.specs.Agendas.{Course, course_of, IsAhead};
+
+    ghost Value = { Course };
+
+    ghost view = { λ a. course_of a.code a.left };
+
+    ghost invariant = { λ a. IsAhead a.code a.cursor a.next a.left };
+}
+
+impl<A: Allocator> Agenda<A> {
+    /// The calls of a code before the first of them.
+    pub(crate) fn new(code: Code<A>) -> Agenda<A>
+        ensures start { result ≡ record { items = calls_of code; made = 0 } }
+        ensures orderly { IsOrderly (calls_of code) }
+    {
+        let left = code.calls() as usize;
+        let mut cursor = Cursor::new(&code);
+        let next = cursor.fetch(&code);
+        Agenda {
+            code,
+            cursor,
+            next,
+            left,
+        }
+    }
+
+    /// The next call with its moment, and none after the last.
+    pub(crate) fn next(&self) -> Option<(u64, CodeCall)>
+        ensures { result ≡ slice_get self.now.items self.now.made }
+    {
+        self.next
+    }
+
+    /// How many calls are left.
+    pub(crate) fn left(&self) -> usize
+        ensures { result ≡ length self.now.items - self.now.made }
+    {
+        self.left
+    }
+
+    /// The next call is made.
+    pub(crate) fn pass(&mut self)
+        requires { self.old.made < length self.old.items }
+        ensures { self.new ≡ record self.old { made = self.old.made + 1 } }
+    {
+        self.next = self.cursor.fetch(&self.code);
+        self.left -= 1;
+    }
+}

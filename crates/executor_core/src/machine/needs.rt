@@ -1,0 +1,169 @@
+//! What a step would move of the words, before it is taken, and whether a task is due.
+ghost use Rattle.std.specs.Prelude.{◌≡◌, ℕ, Some, slice_get, ◌<◌, ◌≤◌, ◌↔◌, IsTrue, IfSome, IfNone, length, None, vec_len};
+ghost use Rattle.executor_core.specs.declared.types.Happening.TheVariants as happening;
+ghost use Rattle.sched_time.specs.Times.{longest};
+ghost use Rattle.delay_queue.specs.Queues.{IsLeast, NoneIsDue};
+ghost use Rattle.executor_core.specs.Flows.{AreMade};
+ghost use Rattle.executor_core.specs.Histories.{is_end};
+ghost use Rattle.executor_core.specs.State.{reply_of, view_of_state};
+ghost use Rattle.executor_core.specs.Needs.{need_of, need_of_cancel, need_of_finish, MovesWords, IsRipe};
+
+use super::Core;
+use super::cancels::effect_on;
+use super::sweeps::setting_sweeps;
+use super::workers::outcome_in;
+use crate::types::{CancelEffect, Need, Outcome};
+use delay_queue::{DelayQueue, Entry};
+use queue_code::CodeCall;
+use sched_time::{Ending, next_due};
+use std::alloc::Allocator;
+
+impl<A: Allocator> Core<A> {
+    ghost use Rattle.executor_core.specs.Machine.{workers_of, state_of};
+
+    /// The word moves of the next call, where one with a moment of at most this one, in nanoseconds, is left, and `None`
+    /// where none is.
+    pub fn call_need(&self, moment: u64) -> Option<Need>
+        ensures none { (result ≡ None) ↔ AreMade self.now.calls self.now.made moment }
+        ensures last { result ≡ None → longest ≤ moment → length self.now.calls ≤ self.now.made }
+        ensures left { IfSome result (λ _. self.now.made < length self.now.calls) }
+        ensures need { IfSome result (λ need. need ≡ need_of self.now.calls (workers_of self.now) (state_of self.now) happening.Call) }
+    {
+        let (at, call) = self.next_call()?;
+        if moment < at {
+            return None;
+        }
+        Some(self.need_of_call(call))
+    }
+
+    /// The word moves of the next call, which is this one.
+    fn need_of_call(&self, call: CodeCall) -> Need
+        requires { (at : ℕ) × (slice_get self.now.calls self.now.made ≡ Some (at, call)) }
+        ensures { result ≡ need_of self.now.calls (workers_of self.now) (state_of self.now) happening.Call }
+    {
+        match call {
+            CodeCall::Submit { task, .. } => {
+                if self.shut {
+                    Need::Nothing
+                } else {
+                    Need::Submit(task)
+                }
+            }
+            CodeCall::Cancel { task } => {
+                need_of_cancel(task, effect_on(self.tasks.get(task as usize)))
+            }
+            CodeCall::SetPolicy { which, value } => {
+                if setting_sweeps(self.shut, which, value) {
+                    Need::Sweep
+                } else {
+                    Need::Nothing
+                }
+            }
+            CodeCall::Shutdown => {
+                if self.shut {
+                    Need::Nothing
+                } else {
+                    Need::Sweep
+                }
+            }
+            CodeCall::Illegal { .. } | CodeCall::Ask => Need::Nothing,
+        }
+    }
+
+    /// Whether the next call would end this task, by a sweep.
+    pub fn sweeps(&self, task: u32) -> bool
+        ensures { result ≡ is_end task (reply_of self.now.calls (workers_of self.now) (state_of self.now) happening.Call).ends }
+    {
+        let Some((at, call)) = self.next_call() else {
+            return false;
+        };
+        let now = self.moment.max(at);
+        match call {
+            CodeCall::SetPolicy { which, value } => setting_sweeps(self.shut, which, value)
+                && self.ends_under(task, self.policies.with(which, value), now),
+            CodeCall::Shutdown => !self.shut && self.ends_under(task, self.policies, now),
+            CodeCall::Submit { .. }
+            | CodeCall::Illegal { .. }
+            | CodeCall::Cancel { .. }
+            | CodeCall::Ask => false,
+        }
+    }
+
+    /// The word moves of a start of this worker.
+    pub fn start_need(&self, worker: u8) -> Need
+        ensures { result ≡ need_of self.now.calls (workers_of self.now) (state_of self.now) (happening.Start worker) }
+    {
+        let place = worker as usize;
+        if place >= self.work.len() {
+            return Need::Nothing;
+        }
+        if self.work[place].is_some() {
+            return Need::Nothing;
+        }
+        match first_due(&self.queue, self.moment) {
+            Some(entry) => Need::Start(entry.task),
+            None => Need::Nothing,
+        }
+    }
+
+    /// The word moves of a finish of this worker, whose run ended so.
+    pub fn finish_need(&self, worker: u8, ending: Ending) -> Need
+        ensures { result ≡ need_of self.now.calls (workers_of self.now) (state_of self.now) (happening.Finish worker ending) }
+    {
+        let place = worker as usize;
+        if place >= self.work.len() {
+            return Need::Nothing;
+        }
+        let Some(number) = self.work[place] else {
+            return Need::Nothing;
+        };
+        let task = self.tasks.get(number as usize);
+        let next = next_due(task.timing, task.due, self.moment);
+        let stops = self.shut && !self.policies.continues;
+        need_of_finish(number, outcome_in(task.cancelled, stops, next, ending))
+    }
+
+    /// Whether the due moment of some task that waits or is kept is reached.
+    pub fn ripe(&self) -> bool
+        ensures { IsTrue result ↔ IsRipe self.now.calls (view_of_state self.now.calls (state_of self.now)) }
+    {
+        first_due(&self.queue, self.moment).is_some()
+            || first_due(&self.kept, self.moment).is_some()
+    }
+}
+
+/// The least entry of a queue, where it is due at the moment `now`.
+fn first_due<A: Allocator>(queue: &DelayQueue<A>, now: u64) -> Option<Entry>
+    ensures least { IfSome result (λ e. IsLeast queue.now.entries e.due e.task) }
+    ensures due { IfSome result (λ e. e.due ≤ now) }
+    ensures none { IfNone result (NoneIsDue queue.now.entries now) }
+{
+    let entry = queue.peek()?;
+    if now < entry.due {
+        return None;
+    }
+    Some(entry)
+}
+
+/// The word moves of a cancel of a task that has this effect.
+fn need_of_cancel(task: u32, effect: CancelEffect) -> Need
+    ensures { result ≡ need_of_cancel task effect }
+{
+    match effect {
+        CancelEffect::Yes => Need::Cancel(task),
+        CancelEffect::No | CancelEffect::Absent => Need::Nothing,
+    }
+}
+
+/// The word moves of the end of a run of a task with this outcome.
+fn need_of_finish(task: u32, outcome: Outcome) -> Need
+    ensures { result ≡ need_of_finish task outcome }
+{
+    match outcome {
+        Outcome::Done(_) => Need::Done(task),
+        Outcome::Failed(_) => Need::Fail(task),
+        Outcome::Again(_) => Need::Rearm(task),
+        Outcome::Dropped => Need::Nothing,
+        Outcome::Ended => Need::Cancel(task),
+    }
+}

@@ -1,0 +1,54 @@
+//! Cores of codes with loops.
+use super::{core_of, give, lines_after};
+use crate::Event;
+use linked_list_allocator::LocalHeap;
+use queue_code::Instr;
+use sched_time::Timing;
+use std::alloc::AllocGlobal;
+use std::process::Abort;
+use std::test::Fail;
+
+#[test]
+fn each_iteration_submits_and_cancels_its_own_task(rt: HostRuntime) -> Result<(), Fail> {
+    let instrs = [
+        Instr::Loop(3, 10),
+        Instr::Submit(100, Timing::Once, 50),
+        Instr::CancelHere(104, 0),
+        Instr::EndLoop,
+    ];
+    let events = [Event::Clock(110), Event::Clock(130)];
+    let mut text = String::new(rt.alloc());
+    for line in &lines_after(&rt, &instrs, 1, &events)? {
+        writeln!(text, "{} {:?}", line.moment, line.message)?;
+    }
+    assert_eq!(rt;
+        text.as_str(),
+        "100 Answer(Submit { task: 0, kind: Schedule, due: 150 })\n\
+         104 Answer(Cancel { task: 0, effect: Yes })\n\
+         110 Answer(Submit { task: 1, kind: Schedule, due: 160 })\n\
+         110 Answer(Clock)\n\
+         114 Answer(Cancel { task: 1, effect: Yes })\n\
+         120 Answer(Submit { task: 2, kind: Schedule, due: 170 })\n\
+         124 Answer(Cancel { task: 2, effect: Yes })\n\
+         130 Answer(Clock)\n"
+    );
+    Ok(())
+}
+
+/// How much of a heap a core takes that asks so many times, before and after it has asked.
+fn used_by_loop(rt: &(impl AllocGlobal + Abort), times: u32) -> Result<usize, Fail> {
+    let heap = LocalHeap::new(rt.alloc(), 1 << 10)?;
+    let instrs = [Instr::Loop(times, 1), Instr::Ask(0), Instr::EndLoop];
+    let mut core = core_of(&heap, &instrs, 1, 9)?;
+    let used = heap.used();
+    let mut out = Vec::new(rt.alloc());
+    give(&mut core, &[Event::Clock(65_536)], &mut out)?;
+    assert_eq!(rt; (out.len(), heap.used()), (times as usize + 1, used));
+    Ok(used)
+}
+
+#[test]
+fn memory_does_not_grow_with_the_iterations(rt: HostRuntime) -> Result<(), Fail> {
+    assert_eq!(rt; used_by_loop(&rt, 65_536)?, used_by_loop(&rt, 1)?);
+    Ok(())
+}

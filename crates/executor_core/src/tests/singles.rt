@@ -1,0 +1,323 @@
+//! Single happenings, and what is told before each of them.
+use super::{core_of, nanos, submission};
+use crate::{Core, CoreError, Event, Happening, Line, Need};
+use queue_code::Instr;
+use sched_time::{Ending, Timing, Which};
+use std::alloc::{AllocGlobal, Allocator, Global};
+use std::process::Abort;
+use std::test::Fail;
+use task_word::{Phase, Word};
+
+/// The words in short: of each its phase and its run, and a mark where it is cancelled.
+fn short_words(alloc: Global, words: &[Word]) -> Result<String, Fail> {
+    let mut text = String::new(alloc);
+    for word in words {
+        let phase = match word.phase() {
+            Phase::Vacant => 'v',
+            Phase::New => 'n',
+            Phase::Running => 'r',
+            Phase::Done => 'd',
+            Phase::Failed => 'f',
+        };
+        let mark = if word.is_cancelled() { "!" } else { "" };
+        write!(text, " {phase}{}{mark}", word.run())?;
+    }
+    Ok(text)
+}
+
+/// What a core needs for a happening; nothing is told of a cancel.
+fn need_for<A: Allocator>(core: &Core<A>, happening: Happening) -> Option<Need> {
+    match happening {
+        Happening::Call => core.call_need(u64::MAX),
+        Happening::Start(worker) => Some(core.start_need(worker)),
+        Happening::Finish(worker, ending) => Some(core.finish_need(worker, ending)),
+        Happening::Clock(_) | Happening::Cancel(_) => None,
+    }
+}
+
+/// Counts an event, and has one thing happen to a core.
+fn take<A: Allocator, B: Allocator>(
+    rt: &impl Abort,
+    core: &mut Core<A>,
+    happening: Happening,
+    out: &mut Vec<Line, B>,
+) -> Result<(), Fail> {
+    assert!(rt; !core.full());
+    core.count();
+    out.reserve(core.room())?;
+    match happening {
+        Happening::Call => {
+            assert!(rt; core.call_need(u64::MAX).is_some());
+            core.make_call(out);
+        }
+        Happening::Clock(moment) => {
+            assert!(rt; core.call_need(moment).is_none());
+            core.move_clock(moment, out);
+        }
+        Happening::Start(worker) => core.start(worker, out),
+        Happening::Finish(worker, ending) => core.finish(worker, ending, out),
+        Happening::Cancel(task) => core.cancel(task, out),
+    }
+    Ok(())
+}
+
+/// Has these things happen to a core, and checks what is needed for each, and what the words say after it.
+fn needs_say<A: Allocator>(
+    rt: &(impl AllocGlobal + Abort),
+    core: &mut Core<A>,
+    steps: &[(Happening, Option<Need>, &str)],
+) -> Result<(), Fail> {
+    let mut out = Vec::new(rt.alloc());
+    for (happening, need, words) in steps {
+        assert_eq!(rt; need_for(core, *happening), *need, "of {happening:?}");
+        take(rt, core, *happening, &mut out)?;
+        let text = short_words(rt.alloc(), core.words())?;
+        assert_eq!(rt; text.as_str(), *words, "after {happening:?}");
+    }
+    Ok(())
+}
+
+/// An instruction that sets a policy to false.
+fn stop(moment: u64, which: Which) -> Instr {
+    Instr::SetPolicy(moment, which, false)
+}
+
+/// Calls of each kind, with eight tasks.
+fn all_calls() -> Result<[Instr; 15], Fail> {
+    Ok([
+        Instr::Submit(0, Timing::Rate(nanos(5)?), 0),
+        submission(0, 0),
+        submission(0, 0),
+        submission(0, 9),
+        submission(0, 0),
+        Instr::Submit(0, Timing::Fixed(nanos(5)?), 0),
+        Instr::Illegal(0),
+        Instr::CancelFixed(0, 3),
+        Instr::CancelFixed(0, 3),
+        Instr::Ask(0),
+        stop(1, Which::Execute),
+        Instr::Shutdown(2),
+        Instr::Shutdown(2),
+        submission(2, 0),
+        stop(3, Which::Continue),
+    ])
+}
+
+/// What happens before the first clock: the calls at moment 0.
+fn first_steps() -> [(Happening, Option<Need>, &'static str); 11] {
+    let call = Happening::Call;
+    let none = Some(Need::Nothing);
+    [
+        (call, Some(Need::Submit(0)), " n0 v0 v0 v0 v0 v0 v0 v0"),
+        (call, Some(Need::Submit(1)), " n0 n0 v0 v0 v0 v0 v0 v0"),
+        (call, Some(Need::Submit(2)), " n0 n0 n0 v0 v0 v0 v0 v0"),
+        (call, Some(Need::Submit(3)), " n0 n0 n0 n0 v0 v0 v0 v0"),
+        (call, Some(Need::Submit(4)), " n0 n0 n0 n0 n0 v0 v0 v0"),
+        (call, Some(Need::Submit(5)), " n0 n0 n0 n0 n0 n0 v0 v0"),
+        (call, none, " n0 n0 n0 n0 n0 n0 v0 v0"),
+        (call, Some(Need::Cancel(3)), " n0 n0 n0 n0! n0 n0 v0 v0"),
+        (call, none, " n0 n0 n0 n0! n0 n0 v0 v0"),
+        (call, none, " n0 n0 n0 n0! n0 n0 v0 v0"),
+        (Happening::Clock(0), None, " n0 n0 n0 n0! n0 n0 v0 v0"),
+    ]
+}
+
+/// Runs of each outcome but that of a periodic task that does not go on, which is left under way.
+fn run_steps() -> [(Happening, Option<Need>, &'static str); 13] {
+    let start = Happening::Start(0);
+    let end = Happening::Finish(0, Ending::Value(1));
+    let fail = Happening::Finish(0, Ending::Fault(3));
+    let none = Some(Need::Nothing);
+    [
+        (Happening::Start(1), none, " n0 n0 n0 n0! n0 n0 v0 v0"),
+        (end, none, " n0 n0 n0 n0! n0 n0 v0 v0"),
+        (start, Some(Need::Start(0)), " r0 n0 n0 n0! n0 n0 v0 v0"),
+        (start, none, " r0 n0 n0 n0! n0 n0 v0 v0"),
+        (end, Some(Need::Rearm(0)), " n1 n0 n0 n0! n0 n0 v0 v0"),
+        (start, Some(Need::Start(1)), " n1 r0 n0 n0! n0 n0 v0 v0"),
+        (end, Some(Need::Done(1)), " n1 d0 n0 n0! n0 n0 v0 v0"),
+        (start, Some(Need::Start(2)), " n1 d0 r0 n0! n0 n0 v0 v0"),
+        (fail, Some(Need::Fail(2)), " n1 d0 f0 n0! n0 n0 v0 v0"),
+        (start, Some(Need::Start(4)), " n1 d0 f0 n0! r0 n0 v0 v0"),
+        (Happening::Cancel(4), None, " n1 d0 f0 n0! r0! n0 v0 v0"),
+        (fail, none, " n1 d0 f0 n0! r0! n0 v0 v0"),
+        (start, Some(Need::Start(5)), " n1 d0 f0 n0! r0! r0 v0 v0"),
+    ]
+}
+
+/// The other calls, with two sweeps, and the end of the run that is under way.
+fn last_steps() -> [(Happening, Option<Need>, &'static str); 8] {
+    let call = Happening::Call;
+    let start = Happening::Start(0);
+    let end = Happening::Finish(0, Ending::Value(1));
+    let none = Some(Need::Nothing);
+    [
+        (call, none, " n1 d0 f0 n0! r0! r0 v0 v0"),
+        (call, Some(Need::Sweep), " n1! d0 f0 n0! r0! r0 v0 v0"),
+        (call, none, " n1! d0 f0 n0! r0! r0 v0 v0"),
+        (call, none, " n1! d0 f0 n0! r0! r0 v0 v0"),
+        (call, Some(Need::Sweep), " n1! d0 f0 n0! r0! r0 v0 v0"),
+        (end, Some(Need::Cancel(5)), " n1! d0 f0 n0! r0! r0! v0 v0"),
+        (start, none, " n1! d0 f0 n0! r0! r0! v0 v0"),
+        (Happening::Clock(9), None, " n1! d0 f0 n0! r0! r0! v0 v0"),
+    ]
+}
+
+#[test]
+fn needs_name_the_moves_of_words(rt: HostRuntime) -> Result<(), Fail> {
+    let mut core = core_of(rt.alloc(), &all_calls()?, 1, 100)?;
+    needs_say(&rt, &mut core, &first_steps())?;
+    needs_say(&rt, &mut core, &run_steps())?;
+    needs_say(&rt, &mut core, &last_steps())?;
+    assert_eq!(rt; (core.taken(), core.now(), core.room()), (32, 9, 5));
+    Ok(())
+}
+
+/// Has these things happen to a core, whatever their answers.
+fn take_all<A: Allocator, B: Allocator>(
+    rt: &impl Abort,
+    core: &mut Core<A>,
+    happenings: &[Happening],
+    out: &mut Vec<Line, B>,
+) -> Result<(), Fail> {
+    for happening in happenings {
+        take(rt, core, *happening, out)?;
+    }
+    Ok(())
+}
+
+/// Checks which of four tasks the next call would end.
+fn next_ends<A: Allocator>(rt: &impl Abort, core: &Core<A>, wanted: [bool; 4]) {
+    let told = [
+        core.sweeps(0),
+        core.sweeps(1),
+        core.sweeps(2),
+        core.sweeps(3),
+    ];
+    assert_eq!(rt; told, wanted);
+}
+
+#[test]
+fn sweeps_tell_whom_the_next_call_ends(rt: HostRuntime) -> Result<(), Fail> {
+    let calls = [
+        Instr::Submit(0, Timing::Rate(nanos(5)?), 0),
+        submission(0, 4),
+        submission(0, 3),
+        Instr::Shutdown(3),
+        stop(3, Which::Execute),
+    ];
+    let mut core = core_of(rt.alloc(), &calls, 1, 100)?;
+    let mut out = Vec::new(rt.alloc());
+    let call = Happening::Call;
+    take_all(&rt, &mut core, &[call, call], &mut out)?;
+    next_ends(&rt, &core, [false, false, false, false]);
+    take(&rt, &mut core, call, &mut out)?;
+    next_ends(&rt, &core, [true, false, false, false]);
+    take(&rt, &mut core, call, &mut out)?;
+    next_ends(&rt, &core, [false, true, false, false]);
+    take(&rt, &mut core, call, &mut out)?;
+    next_ends(&rt, &core, [false, false, false, false]);
+    Ok(())
+}
+
+/// A core of two tasks, due at 5 and at 9, of which a call at 2 cancels the first.
+fn two_timers<A: Allocator + Copy>(alloc: A) -> Result<Core<A>, Fail> {
+    let calls = [submission(0, 5), submission(0, 9), Instr::CancelFixed(2, 0)];
+    core_of(alloc, &calls, 1, 100)
+}
+
+#[test]
+fn calls_are_needed_from_their_moments_on(rt: HostRuntime) -> Result<(), Fail> {
+    let mut core = two_timers(rt.alloc())?;
+    let mut out = Vec::new(rt.alloc());
+    assert_eq!(rt; core.call_need(0), Some(Need::Submit(0)));
+    take_all(
+        &rt,
+        &mut core,
+        &[Happening::Call, Happening::Call],
+        &mut out,
+    )?;
+    assert_eq!(rt; core.call_need(1), None);
+    assert_eq!(rt; core.call_need(2), Some(Need::Cancel(0)));
+    take(&rt, &mut core, Happening::Call, &mut out)?;
+    assert_eq!(rt; core.call_need(u64::MAX), None);
+    Ok(())
+}
+
+#[test]
+fn a_waiting_task_is_ripe_at_its_due_moment(rt: HostRuntime) -> Result<(), Fail> {
+    let mut core = core_of(rt.alloc(), &[submission(0, 5)], 1, 100)?;
+    let mut out = Vec::new(rt.alloc());
+    assert!(rt; !core.ripe());
+    take_all(
+        &rt,
+        &mut core,
+        &[Happening::Call, Happening::Clock(4)],
+        &mut out,
+    )?;
+    assert!(rt; !core.ripe());
+    take(&rt, &mut core, Happening::Clock(5), &mut out)?;
+    assert!(rt; core.ripe());
+    take(&rt, &mut core, Happening::Start(0), &mut out)?;
+    assert!(rt; !core.ripe());
+    Ok(())
+}
+
+#[test]
+fn a_kept_task_is_ripe_until_a_start_meets_it(rt: HostRuntime) -> Result<(), Fail> {
+    let mut core = two_timers(rt.alloc())?;
+    let mut out = Vec::new(rt.alloc());
+    let call = Happening::Call;
+    take_all(
+        &rt,
+        &mut core,
+        &[call, call, call, Happening::Clock(4)],
+        &mut out,
+    )?;
+    assert!(rt; !core.ripe());
+    take(&rt, &mut core, Happening::Clock(5), &mut out)?;
+    assert!(rt; core.ripe());
+    take(&rt, &mut core, Happening::Start(0), &mut out)?;
+    assert!(rt; !core.ripe());
+    Ok(())
+}
+
+/// Room is one line, one for each call that is left, and one for each task that is not cancelled.
+#[test]
+fn room_falls_with_calls_and_cancels(rt: HostRuntime) -> Result<(), Fail> {
+    let mut core = two_timers(rt.alloc())?;
+    let mut out = Vec::new(rt.alloc());
+    assert_eq!(rt; core.room(), 6);
+    take_all(
+        &rt,
+        &mut core,
+        &[Happening::Call, Happening::Call],
+        &mut out,
+    )?;
+    assert_eq!(rt; core.room(), 4);
+    take(&rt, &mut core, Happening::Call, &mut out)?;
+    assert_eq!(rt; core.room(), 2);
+    take_all(
+        &rt,
+        &mut core,
+        &[Happening::Cancel(0), Happening::Clock(9)],
+        &mut out,
+    )?;
+    assert_eq!(rt; core.room(), 2);
+    take(&rt, &mut core, Happening::Cancel(1), &mut out)?;
+    assert_eq!(rt; (core.room(), out.len()), (1, 6));
+    Ok(())
+}
+
+#[test]
+fn no_event_is_counted_past_the_limit(rt: HostRuntime) -> Result<(), Fail> {
+    let mut core = core_of(rt.alloc(), &[], 1, 2)?;
+    let mut out = Vec::new(rt.alloc());
+    take(&rt, &mut core, Happening::Clock(1), &mut out)?;
+    assert!(rt; !core.full());
+    take(&rt, &mut core, Happening::Clock(2), &mut out)?;
+    assert!(rt; core.full());
+    assert_eq!(rt; (core.taken(), out.len()), (2, 2));
+    assert_eq!(rt; core.event(Event::Clock(3), &mut out), Err(CoreError::Full));
+    Ok(())
+}

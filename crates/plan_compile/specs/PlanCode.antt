@@ -1,0 +1,75 @@
+-- The instructions of a plan's code, in which a repeated block stands once, as a loop.
+-- All of it is this project's rule.
+use Rattle.std.specs.Prelude.{ℕ, ◌+◌, ◌*◌, ◌≤◌, ◌<◌, nat_lt, Bool, true, false, ◌&&◌, if◌then◌else◌, List, [], ◌∷◌, ◌++◌, Some, None, is_none, slice_get}
+use Rattle.sched_time.specs.declared.timing.Timing.TheVariants as t
+use Rattle.sched_time.specs.Times.{longest}
+use Rattle.queue_code.specs.declared.instr.Instr.{Instr}
+use Rattle.queue_code.specs.declared.instr.Instr.TheVariants as instr
+use Rattle.plan_read.specs.declared.plans.Call.{Call}
+use Rattle.plan_read.specs.declared.plans.Header.{Header}
+use Rattle.plan_read.specs.declared.plans.Op.{Op}
+use Rattle.plan_read.specs.declared.plans.Op.TheVariants as ops
+use Rattle.plan_read.specs.declared.plans.Target.{Target}
+use Rattle.plan_read.specs.Plans.{PlanTree}
+use Rattle.plan_compile.specs.PlanCalls.{number_of, tasks_of}
+
+-- a cancel's target is in the cancel's own block, and in none of those before it, whose first numbers `firsts` has
+abbrev pub is_own : List ℕ → Target → Bool
+is_own firsts target = is_none (slice_get firsts target.block)
+
+-- a cancel in a block that begins with the number `first`: in a loop, a target of its own block is named by how many submissions of the
+-- iteration come before it, and every other target by its number in the plan
+abbrev pub cancel_instr : List ℕ → ℕ → Bool → ℕ → Target → Instr
+cancel_instr firsts first repeated offset target =
+    if repeated && is_own firsts target then instr.CancelHere offset target.sub else instr.CancelFixed offset (number_of firsts first target)
+
+-- the instruction of an operation
+abbrev pub instr_of : List ℕ → ℕ → Bool → ℕ → Op → Instr
+instr_of firsts first repeated offset (ops.Schedule name delay) = instr.Submit offset t.Once delay
+instr_of firsts first repeated offset (ops.Rate name delay (Some period)) = instr.Submit offset (t.Rate period) delay
+instr_of firsts first repeated offset (ops.Rate name delay None) = instr.Illegal offset
+instr_of firsts first repeated offset (ops.Fixed name delay (Some gap)) = instr.Submit offset (t.Fixed gap) delay
+instr_of firsts first repeated offset (ops.Fixed name delay None) = instr.Illegal offset
+instr_of firsts first repeated offset (ops.Cancel target) = cancel_instr firsts first repeated offset target
+instr_of firsts first repeated offset (ops.Policy which value) = instr.SetPolicy offset which value
+instr_of firsts first repeated offset ops.Shutdown = instr.Shutdown offset
+instr_of firsts first repeated offset ops.Ask = instr.Ask offset
+
+-- the instructions of some calls of a block that begins at the moment `at`: the call with offset o stands at `at + o`
+abbrev pub instrs_at : List ℕ → ℕ → Bool → ℕ → List Call → List Instr
+instrs_at firsts first repeated at [] = []
+instrs_at firsts first repeated at (c ∷ cs) = instr_of firsts first repeated (at + c.at) c.op ∷ instrs_at firsts first repeated at cs
+
+-- those of a block: none where it has no calls, and a loop where it is made more than once
+abbrev pub block_instrs : List ℕ → ℕ → Header → List Call → List Instr
+block_instrs firsts first h [] = []
+block_instrs firsts first h (c ∷ cs) =
+    if nat_lt 1 h.times
+    then instr.Loop h.times h.every ∷ (instrs_at firsts first true h.at (c ∷ cs) ++ instr.EndLoop ∷ [])
+    else instrs_at firsts first false h.at (c ∷ cs)
+
+-- those of some blocks, where `first` submissions stand before them, and `firsts` has the first number of each block before; a halt is the
+-- last
+abbrev pub instrs_from : List ℕ → ℕ → PlanTree → List Instr
+instrs_from firsts first [] = instr.Halt ∷ []
+instrs_from firsts first (b ∷ bs) =
+    block_instrs firsts first b.header b.calls ++ instrs_from (firsts ++ first ∷ []) (first + b.header.times * tasks_of b) bs
+
+-- the instructions of a plan
+abbrev pub instrs_of : PlanTree → List Instr
+instrs_of blocks = instrs_from [] 0 blocks
+
+-- a cancel's target has a number below `limit`, where `firsts` has the first numbers of the blocks before its own, which begins with `first`
+abbrev pub IsBelow : List ℕ → ℕ → ℕ → Op → Type 0
+IsBelow firsts first limit (ops.Schedule name delay) = Unit {0}
+IsBelow firsts first limit (ops.Rate name delay period) = Unit {0}
+IsBelow firsts first limit (ops.Fixed name delay gap) = Unit {0}
+IsBelow firsts first limit (ops.Cancel target) = number_of firsts first target < limit
+IsBelow firsts first limit (ops.Policy which value) = Unit {0}
+IsBelow firsts first limit ops.Shutdown = Unit {0}
+IsBelow firsts first limit ops.Ask = Unit {0}
+
+-- the numbers of some calls' instructions are in range: their offsets, and those of the targets of cancels
+abbrev pub AreInRange : List ℕ → ℕ → ℕ → List Call → Type 0
+AreInRange firsts first at [] = Unit {0}
+AreInRange firsts first at (c ∷ cs) = (at + c.at ≤ longest) × IsBelow firsts first 65536 c.op × AreInRange firsts first at cs

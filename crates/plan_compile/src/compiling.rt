@@ -1,0 +1,40 @@
+//! The code of a plan.
+
+ghost use Rattle.std.specs.Prelude.{◌≡◌, IfOk};
+ghost use Rattle.queue_code.specs.Codes.{calls_of as code_calls};
+ghost use Rattle.plan_compile.specs.PlanCalls.{calls_of};
+ghost use Rattle.plan_compile.specs.PlanCode.{instrs_of};
+
+use crate::emitting::emit;
+use crate::fault::CompileFault;
+use plan_read::Plan;
+use queue_code::{Code, CodeFault};
+use std::alloc::Allocator;
+
+/// The code of a plan: it makes the plan's calls, with their moments in nanoseconds and their numbers, and a block
+/// that is repeated stands in it once, as a loop.
+///
+/// The only error is [`CompileFault::Memory`], where the allocator refused memory; what was begun is dropped then.
+pub fn compile<A: Allocator + Copy, B: Allocator>(
+    alloc: A,
+    plan: &Plan<B>,
+) -> Result<Code<A>, CompileFault>
+    ensures calls { IfOk result (λ code. code_calls code ≡ calls_of plan.now) }
+    ensures code { IfOk result (λ code. code ≡ instrs_of plan.now) }
+{
+    let instrs = emit(alloc, plan.blocks())?;
+    match Code::check(alloc, instrs) {
+        Ok(code) => Ok(code),
+        Err(fault) => Err(want_of_memory(fault)),
+    }
+}
+
+/// The only fault that the code of a plan may meet.
+fn want_of_memory(fault: CodeFault) -> CompileFault
+    requires { fault ≡ CodeFault.Memory }
+{
+    match fault {
+        CodeFault::Memory => CompileFault::Memory,
+        _ => unreachable!(),
+    }
+}

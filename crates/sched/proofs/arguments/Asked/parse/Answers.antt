@@ -1,0 +1,60 @@
+use Rattle.std.proofs.Common.{ap, ap₂, sym, map, string_bytes, Option, Some, None, List, true, false, ◌≡◌, ◌∙◌}
+use Rattle.std.specs.Prelude.{IsSome, option_map}
+use Rattle.std.proofs.lemmas.Bool.{and_parts}
+use Rattle.std.proofs.lemmas.Option.{none-some, same_Some}
+use Rattle.clap.specs.Words.{App, Row, Text, fault_of, found_of, is_simple, is_simple_and_free, rows_of, subcommand_of}
+use Rattle.sched.specs.Commands.{sched_app}
+use Rattle.sched.proofs.KnownCommand.{is_known}
+use Rattle.sched.proofs.arguments.Asked.parse.Goals as goal
+
+pub returns-in-Some-clause-fails : goal.returns-in-Some-clause-fails
+returns-in-Some-clause-fails c =
+    let app = c.in_ok-command.ensures.app in
+    let none = c.in_ok-matches.ensures.kinds (ap is_simple_and_free app ∙ is_known) in
+    ap (λ (a : App). fault_of a (map string_bytes c.args.arguments.now)) (sym app) ∙ none
+
+pub returns-in-Some-subcommand_matches-clause-fails : goal.returns-in-Some-subcommand_matches-clause-fails
+returns-in-Some-subcommand_matches-clause-fails c =
+    let app = c.in_ok-command.ensures.app in
+    let none = c.in_ok-matches.ensures.kinds (ap is_simple_and_free app ∙ is_known) in
+    ap (λ (a : App). fault_of a (map string_bytes c.args.arguments.now)) (sym app) ∙ none
+
+pub returns-clause-fails : goal.returns-clause-fails
+returns-clause-fails c =
+    let app = c.in_ok-command.ensures.app in
+    let none = c.in_ok-matches.ensures.kinds (ap is_simple_and_free app ∙ is_known) in
+    ap (λ (a : App). fault_of a (map string_bytes c.args.arguments.now)) (sym app) ∙ none
+
+-- false is not true
+no_truth : false ≡ true → ⊥
+no_truth q = cc
+
+-- what is not there is not found
+none_found : {X : Type 0} (r : Option X) → r ≡ None → IsSome r → ⊥
+none_found None is found = cc
+none_found (Some x) is found = absurd (none-some x (sym is))
+
+-- the name and the rows of a thing
+abbrev both : {B : Type 0} (name : B → Text) (rows : B → List Row) → B → Text × List Row
+both name rows b = (name b, rows b)
+
+-- what is there has the name and the rows that are read of it
+pair_of : {B : Type 0} (there : Option B) (name : B → Text) (rows : B → List Row) (n : Text) (r : List Row)
+    → Some n ≡ option_map name there → Some r ≡ option_map (λ (p : Text × List Row). p.1) (option_map (both name rows) there)
+    → option_map (both name rows) there ≡ Some (n, r)
+pair_of None name rows n r is all = absurd (none-some n (sym is))
+pair_of (Some b) name rows n r is all = ap₂ (λ (x : Text) (y : List Row). Some (x, y)) (same_Some (name b) n (sym is)) (same_Some (rows b) r (sym all))
+
+pub returns-clause-asked : goal.returns-clause-asked
+returns-clause-asked c =
+    let app = c.in_ok-command.ensures.app in
+    let simple = (and_parts _ _ is_known).0 in
+    let found = (c.in_ok-matches.ensures.matches (ap is_simple app ∙ simple)).1 ∙ ap (λ (a : App). subcommand_of a (map string_bytes c.args.arguments.now)) app in
+    let name = c.in-Some-subcommand.ensures.name in (
+      c.in-Some-subcommand.field-0-0.now,
+      rows_of (found_of c.in-Some-subcommand.run'.now),
+      sym found ∙ pair_of _ _ _ _ _ name c.in-Some-subcommand.ensures.rows,
+      λ q. absurd (no_truth (c.in_default.ensures.found.1 (sym name ∙ ap Some q))),
+      λ q. none_found _ c.in_default-subcommand_matches.is (c.subcommand_matches-2.ensures.found.1 (sym name ∙ ap Some q)),
+      c.of_matches-in-Some-subcommand.ensures,
+    )

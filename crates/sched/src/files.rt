@@ -1,0 +1,84 @@
+//! The files that the program reads: plans and traces.
+
+ghost use Rattle.std.specs.Prelude.{◌≡◌, ◌<◌, ◌≤◌, ◌⊎◌, IfErr, IfOk, IfSome, IsErrOf, length};
+ghost use Rattle.sched.specs.Fronts.{front, longest_trace, most_of_plan};
+ghost use Rattle.sched.specs.Faults.{IsOrMemory};
+ghost use Rattle.sched.specs.declared.fault_lines.Fault.TheVariants.{PlanFile, TraceFile, TraceTooLong};
+
+use crate::fault_lines::Fault;
+use std::alloc::Global;
+use std::fs;
+use std::io::Read;
+use std::rt::Files;
+
+/// How many bytes of a plan file are read at most: one more than a plan text may have, so that a
+/// longer file is seen to be too long.
+pub const MOST_OF_PLAN: u64 = 1_048_577;
+
+/// How many bytes of a trace file are read at most: one more than a trace may have.
+pub const MOST_OF_TRACE: u64 = 67_108_865;
+
+/// The text of the plan in a file: its first [`MOST_OF_PLAN`] bytes. `Err` where there is no such file,
+/// where these can't be read, or where memory ran out.
+pub fn plan_text<R: Files + AllocGlobal>(rt: &R, path: &str) -> Result<Vec<u8>, Fault>
+    ensures fault { IfErr result (IsOrMemory PlanFile) }
+{
+    match fs::open(rt, path) {
+        Ok(file) => plan_front(rt.alloc(), file),
+        Err(error) => Err(Fault::of_system(error, Fault::PlanFile)),
+    }
+}
+
+/// The first [`MOST_OF_PLAN`] bytes of a plan's reader. `Err` where it is at fault, though it gave bytes
+/// before, or where memory ran out.
+pub fn plan_front<R: Read + Drop>(alloc: Global, reader: R) -> Result<Vec<u8>, Fault>
+    ensures text { IfOk result (λ text. IfSome (R.remaining reader) (λ bytes. text.items ≡ front most_of_plan bytes)) }
+    ensures fault { IfErr result (IsOrMemory PlanFile) }
+{
+    front_of(alloc, reader, MOST_OF_PLAN, Fault::PlanFile)
+}
+
+/// The text of the trace in a file. `Err` where there is no such file, where it can't be read to its end,
+/// where memory ran out, or where it has more than 67,108,864 bytes.
+pub fn trace_text<R: Files + AllocGlobal>(rt: &R, path: &str) -> Result<Vec<u8>, Fault>
+    ensures size { IfOk result (λ text. length text.items ≤ longest_trace) }
+    ensures fault { IfErr result (λ e. (e ≡ TraceTooLong) ⊎ IsOrMemory TraceFile e) }
+{
+    match fs::open(rt, path) {
+        Ok(file) => whole_trace(rt.alloc(), file),
+        Err(error) => Err(Fault::of_system(error, Fault::TraceFile)),
+    }
+}
+
+/// All bytes of a trace's reader. `Err` where it is at fault, though it gave bytes before, where memory ran
+/// out, or where there are more than 67,108,864; at most [`MOST_OF_TRACE`] of them are read.
+pub fn whole_trace<R: Read + Drop>(alloc: Global, reader: R) -> Result<Vec<u8>, Fault>
+    ensures text { IfOk result (λ text. IfSome (R.remaining reader) (λ bytes. text.items ≡ bytes)) }
+    ensures size { IfOk result (λ text. length text.items ≤ longest_trace) }
+    ensures long { IsErrOf result TraceTooLong → IfSome (R.remaining reader) (λ bytes. longest_trace < length bytes) }
+    ensures fault { IfErr result (λ e. (e ≡ TraceTooLong) ⊎ IsOrMemory TraceFile e) }
+{
+    let text = front_of(alloc, reader, MOST_OF_TRACE, Fault::TraceFile)?;
+    if text.len() as u64 >= MOST_OF_TRACE {
+        return Err(Fault::TraceTooLong);
+    }
+    Ok(text)
+}
+
+/// The first bytes of a reader, at most `most`. `Err` is `fault` where it is at fault, though it gave
+/// bytes before, or want of memory.
+fn front_of<R: Read + Drop>(
+    alloc: Global,
+    reader: R,
+    most: u64,
+    fault: Fault,
+) -> Result<Vec<u8>, Fault>
+    ensures text { IfOk result (λ text. IfSome (R.remaining reader) (λ bytes. text.items ≡ front most bytes)) }
+    ensures fault { IfErr result (IsOrMemory fault) }
+{
+    let mut text = Vec::new(alloc);
+    match reader.take(most).read_to_end(&mut text) {
+        Ok(_) => Ok(text),
+        Err(error) => Err(Fault::of_system(error, fault)),
+    }
+}

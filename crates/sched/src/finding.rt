@@ -1,0 +1,58 @@
+//! What a check of a trace finds, as a line and as an exit status.
+
+ghost use Rattle.std.specs.Prelude.{◌≡◌, ◌≤◌, IfOk, MatchResult, length, string_bytes};
+ghost use Rattle.sched.specs.Faults.{status_of as fault_status};
+ghost use Rattle.sched.specs.Findings.{IsCheckedAsAsked, finding_text, finding_status};
+ghost use Rattle.sched.specs.Fronts.{longest_trace};
+
+use crate::fault_lines::Fault;
+use plan_read::Plan;
+use sched_engine::{RunError, Sink, write_text};
+use std::alloc::{AllocError, Allocator};
+use trace_check::{CheckError, Finding, check};
+
+/// Checks a trace's text against a plan, and writes what was found: `conforms` or `breaks N`. `Ok` is the
+/// exit status: 0 where the trace conforms, 1 where it breaks. Nothing is written but at `Ok` and where the
+/// writer is at fault.
+pub fn write_finding<A: Allocator + Copy, B: Allocator, W: Sink>(
+    alloc: A,
+    plan: &Plan<B>,
+    workers: u8,
+    trace: &[u8],
+    writer: &mut W,
+) -> Result<u8, Fault>
+    requires { length trace.now ≤ longest_trace }
+    ensures found { IsCheckedAsAsked result plan.now workers trace.now (W.contents writer.old) (W.contents writer.new) }
+    ensures status { MatchResult result (λ s. s ≤ 1) (λ e. fault_status e ≡ 1) }
+{
+    let finding = match check(alloc, plan, workers, trace) {
+        Ok(finding) => finding,
+        Err(CheckError::Workers) => return Err(Fault::Run(RunError::Workers)),
+        Err(CheckError::Memory) => return Err(Fault::Run(RunError::Memory)),
+    };
+    let line = line_of(alloc, finding)?;
+    if !write_text(writer, line.as_bytes()) {
+        return Err(Fault::Run(RunError::Write));
+    }
+    Ok(status_of(finding))
+}
+
+/// The line that tells a finding, with its newline.
+fn line_of<A: Allocator>(alloc: A, finding: Finding) -> Result<String<A>, AllocError>
+    ensures { IfOk result (λ line. string_bytes line ≡ finding_text finding) }
+{
+    match finding {
+        Finding::Conforms => String::from_str(alloc, "conforms\n"),
+        Finding::Breaks(line) => format!(in alloc; "breaks {line}\n"),
+    }
+}
+
+/// The exit status that tells a finding.
+fn status_of(finding: Finding) -> u8
+    ensures { result ≡ finding_status finding }
+{
+    match finding {
+        Finding::Conforms => 0,
+        Finding::Breaks(_) => 1,
+    }
+}

@@ -1,0 +1,51 @@
+-- What holds of the lines that go, and of what is found of a text. Lines and histories stand the newest first.
+-- All of it is this project's rule.
+use Rattle.std.specs.Prelude.{◌≡◌, ℕ, ◌↔◌, List, ◌∷◌, All, reverse}
+use Rattle.queue_code.specs.Calls.{Planned, IsOrderly}
+use Rattle.executor_core.specs.declared.types.Line.{Line}
+use Rattle.executor_core.specs.Counts.{IsWorkerCount}
+use Rattle.executor_core.specs.Histories.{HistoryEntry, IsHistoryOf}
+use Rattle.executor_core.specs.Flows.{lines_of}
+use Rattle.trace_text.specs.Spelling.{FitsLine, lines_text}
+use Rattle.trace_check.specs.declared.finding.Finding.{Finding}
+use Rattle.trace_check.specs.Going.{Goes, AreWhole, StandsNext}
+use Rattle.trace_check.specs.Findings.{Conforms, Breaks, Finds}
+
+-- lines that go are gone on with by exactly the lines that stand next
+abbrev pub GoesLineByLine : Type 0
+GoesLineByLine = (calls : List Planned) (workers : ℕ) (lines : List Line) (line : Line) (goes : Goes calls workers lines)
+    → Goes calls workers (line ∷ lines) ↔ StandsNext calls workers lines goes.past goes.owed line
+
+-- lines go in one way at most
+abbrev pub GoesOnlyOneWay : Type 0
+GoesOnlyOneWay = (calls : List Planned) (workers : ℕ) (lines : List Line) (one other : Goes calls workers lines)
+    → (one.past ≡ other.past) × (one.owed ≡ other.owed)
+
+-- where lines go, those before the last one go
+abbrev pub FrontsGo : Type 0
+FrontsGo = (calls : List Planned) (workers : ℕ) (lines : List Line) (line : Line) → Goes calls workers (line ∷ lines) → Goes calls workers lines
+
+-- the lines of each history go, and are whole
+abbrev pub TracesGo : Type 0
+TracesGo = (calls : List Planned) (workers : ℕ) (past : List HistoryEntry) → IsOrderly calls → IsWorkerCount workers → IsHistoryOf calls workers past
+    → AreWhole calls workers (reverse (lines_of calls past))
+
+-- a text is that of a history, whose lines can be spelled
+pub record IsTraceText (calls : List Planned) (workers : ℕ) (text : List ℕ) : Type 0 where
+  pub past : List HistoryEntry
+  pub means : IsHistoryOf calls workers past
+  pub fit : All FitsLine (lines_of calls past)
+  pub spelled : text ≡ lines_text (lines_of calls past)
+
+-- a text conforms exactly where it is that of a history
+abbrev pub TracesConform : Type 0
+TracesConform = (calls : List Planned) (workers : ℕ) (text : List ℕ) → IsOrderly calls → IsWorkerCount workers
+    → Conforms calls workers text ↔ IsTraceText calls workers text
+
+-- of a text one thing is found at most
+abbrev pub FindingsAreOne : Type 0
+FindingsAreOne = (calls : List Planned) (workers : ℕ) (text : List ℕ) (one other : Finding) → Finds calls workers text one → Finds calls workers text other → one ≡ other
+
+-- a text that breaks does not conform
+abbrev pub BreaksOrConforms : Type 0
+BreaksOrConforms = (calls : List Planned) (workers : ℕ) (text : List ℕ) (n : ℕ) → Breaks calls workers text n → Conforms calls workers text → ⊥

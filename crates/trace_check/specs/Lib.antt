@@ -1,0 +1,5 @@
+pub mod Plain
+pub mod Going
+pub mod Laws
+pub mod Standing
+pub mod Findings

@@ -1,0 +1,110 @@
+//! Which workers are busy by the lines of a trace, and the plain happening of a line.
+ghost use Rattle.std.specs.Prelude.{◌≡◌, ℕ, ◌<◌, Bool, true, false, not, if◌then◌else◌, slice_index_or, List};
+ghost use Rattle.std.specs.List.{range_with_len, find};
+ghost use Rattle.trace_check.specs.Plain.{busy_by, plain_answer, plain_error, plain_ending};
+ghost use Rattle.trace_check.specs.Standing.{TellBusy, most_named};
+ghost use Rattle.executor_core.specs.declared.types.Line.{Line as Said};
+
+use executor_core::{Answer, EventError, Happening, Outcome};
+use sched_time::{Ending, LONGEST};
+
+/// Which workers are busy.
+#[derive(Drop)]
+pub struct Busy {
+    flags: [bool; 256],
+    workers: u8,
+}
+
+impl Busy {
+    /// Of this many workers none is busy.
+    pub fn new(workers: u8) -> Busy
+        ensures workers { result.workers ≡ workers }
+        ensures none { (w : ℕ) → w < most_named → slice_index_or result.flags w false ≡ false }
+    {
+        Busy {
+            flags: [false; 256],
+            workers,
+        }
+    }
+
+    /// Notes an answer.
+    pub fn note(&mut self, answer: &Answer)
+        ensures workers { self.new.workers ≡ self.old.workers }
+        ensures flags { (w : ℕ) → w < most_named → slice_index_or self.new.flags w false ≡ busy_by w answer.now (slice_index_or self.old.flags w false) }
+    {
+        match answer {
+            Answer::Start { worker, .. } => self.flags[*worker as usize] = true,
+            Answer::Finish { worker, .. } => self.flags[*worker as usize] = false,
+            _ => {}
+        }
+    }
+
+    /// The worker of least number that is busy, or that is not.
+    fn first(&self, wanted: bool) -> Option<u8>
+        ensures { (test : ℕ → Bool) → ((w : ℕ) → w < most_named → test w ≡ (if wanted then slice_index_or self.now.flags w false else not (slice_index_or self.now.flags w false)))
+            → result ≡ find test (range_with_len 0 self.now.workers) }
+    {
+        let workers = self.workers;
+        for w in 0..workers {
+            if self.flags[w as usize] == wanted {
+                return Some(w);
+            }
+        }
+        prove!(workers <= 255);
+        None
+    }
+
+    /// A happening that gets this answer at this moment.
+    pub fn plain(&self, moment: u64, answer: &Answer) -> Option<Happening>
+        ensures { (lines : List Said) → TellBusy self.now.flags lines → result ≡ plain_answer self.now.workers lines moment answer.now }
+    {
+        match answer {
+            Answer::Submit { .. }
+            | Answer::Refuse { .. }
+            | Answer::Cancel { .. }
+            | Answer::Policy { .. }
+            | Answer::Shutdown
+            | Answer::ShutdownAgain
+            | Answer::Ask { .. } => Some(Happening::Call),
+            Answer::Outside { task, .. } => Some(Happening::Cancel(*task)),
+            Answer::Clock => Some(Happening::Clock(moment)),
+            Answer::Start { worker, .. } | Answer::Idle { worker } => {
+                Some(Happening::Start(*worker))
+            }
+            Answer::Finish {
+                worker,
+                outcome,
+                ..
+            } => Some(Happening::Finish(*worker, plain_ending(*outcome))),
+            Answer::Error(error) => self.plain_error(*error),
+        }
+    }
+
+    /// An event that gets this error.
+    fn plain_error(&self, error: EventError) -> Option<Happening>
+        ensures { (lines : List Said) → TellBusy self.now.flags lines → result ≡ plain_error self.now.workers lines error }
+    {
+        match error {
+            EventError::Backward => Some(Happening::Clock(0)),
+            EventError::TooFar => Some(Happening::Clock(LONGEST + 1)),
+            EventError::NoWorker => Some(Happening::Start(255)),
+            EventError::Busy => self.first(true).map(Happening::Start),
+            EventError::NotRunning => {
+                let worker = self.first(false)?;
+                Some(Happening::Finish(worker, Ending::Value(0)))
+            }
+            EventError::NoTask => Some(Happening::Cancel(4_294_967_295)),
+        }
+    }
+}
+
+/// An ending of a run that leads to this outcome.
+fn plain_ending(outcome: Outcome) -> Ending
+    ensures { result ≡ plain_ending outcome }
+{
+    match outcome {
+        Outcome::Done(value) => Ending::Value(value),
+        Outcome::Failed(code) => Ending::Fault(code),
+        Outcome::Again(_) | Outcome::Dropped | Outcome::Ended => Ending::Value(0),
+    }
+}

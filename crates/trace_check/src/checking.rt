@@ -1,0 +1,190 @@
+//! A check of a text, line by line.
+ghost use Rattle.std.specs.Prelude.{◌≡◌, ℕ, ◌+◌, ◌<◌, ◌≤◌, ◌∷◌, ◌↔◌, List, [], false, drop, length, IsTrue, IfOk, IsErrOf, vec_capacity};
+ghost use Rattle.plan_compile.specs.PlanCalls.{calls_of};
+ghost use Rattle.executor_core.specs.Counts.{IsWorkerCount};
+ghost use Rattle.executor_core.specs.Machine.{workers_of, IsOpening};
+ghost use Rattle.executor_core.specs.Flows.{answer_line};
+ghost use Rattle.executor_core.specs.declared.types.Line.{Line as Said};
+ghost use Rattle.trace_check.specs.Going.{Goes};
+ghost use Rattle.trace_check.specs.Findings.{Finds};
+ghost use Rattle.trace_check.specs.Standing.{TellBusy, IsStanding, IsReady, most_bytes, most_events};
+
+use crate::busy::Busy;
+use crate::coming::{happen, may_come};
+use crate::error::CheckError;
+use crate::finding::Finding;
+use executor_core::{Answer, Core, Line, Message};
+use plan_compile::compile;
+use plan_read::Plan;
+use std::alloc::Allocator;
+use trace_text::split_line;
+
+/// The greatest number of bytes of a text that is checked.
+pub const MOST_BYTES: usize = 67_108_864;
+
+/// The greatest number of workers.
+const MOST_WORKERS: u8 = 64;
+
+/// A check under way.
+#[derive(Drop)]
+pub struct Checker<A: Allocator> {
+    core: Core<A>,
+    /// The lines of the last answer.
+    out: Vec<Line, A>,
+    /// How many of them were met.
+    met: usize,
+    busy: Busy,
+}
+
+/// What is found of a text, held against the traces of a plan with so many workers, 1 to 64.
+///
+/// The text has at most [`MOST_BYTES`] bytes. It conforms exactly where it is a whole trace of the plan, and else breaks at a
+/// line, counted from 1: the first with which it begins no trace, or the one after its last where a line that ends a task is wanting. The errors are [`CheckError::Workers`] exactly where the number of
+/// workers is not 1 to 64, and else [`CheckError::Memory`]. Nothing is kept after an error.
+pub fn check<A: Allocator + Copy, B: Allocator>(
+    alloc: A,
+    plan: &Plan<B>,
+    workers: u8,
+    text: &[u8],
+) -> Result<Finding, CheckError>
+    requires { length text.now ≤ most_bytes }
+    ensures workers { IsErrOf result CheckError.Workers ↔ ¬ IsWorkerCount workers }
+    ensures finds { IfOk result (λ f. Finds (calls_of plan.now) workers text.now f) }
+{
+    let mut checker = Checker::new(alloc, plan, workers)?;
+    Ok(checker.run(text))
+}
+
+impl<A: Allocator> Checker<A> {
+    /// A check before any line.
+    fn new<B: Allocator>(alloc: A, plan: &Plan<B>, workers: u8) -> Result<Checker<A>, CheckError>
+    where
+        A: Copy,
+        ensures workers { IsErrOf result CheckError.Workers ↔ ¬ IsWorkerCount workers }
+        ensures core { IfOk result (λ c. IsOpening c.core (calls_of plan.now) workers most_events) }
+        ensures ready { IfOk result (λ c. IsReady c.core c.busy.workers (vec_capacity c.out)) }
+        ensures owed { IfOk result (λ c. drop c.met c.out.items ≡ []) }
+        ensures busy { IfOk result (λ c. TellBusy c.busy.flags []) }
+    {
+        let core = core_of(alloc, plan, workers)?;
+        let out = Vec::with_capacity(alloc, core.room()).map_err(|_| CheckError::Memory)?;
+        Ok(Checker {
+            core,
+            out,
+            met: 0,
+            busy: Busy::new(workers),
+        })
+    }
+
+    /// Takes the lines of a text, as far as they go.
+    fn run(&mut self, text: &[u8]) -> Finding
+        requires size { length text.now ≤ most_bytes }
+        requires limit { self.old.core.limit ≡ most_events }
+        requires taken { self.old.core.taken ≡ 0 }
+        requires ready { IsReady self.old.core self.old.busy.workers (vec_capacity self.old.out) }
+        requires stands { IsStanding self.old.core (drop self.old.met self.old.out.items) self.old.busy.flags [] }
+        ensures { Finds self.old.core.calls (workers_of self.old.core) text.now result }
+    {
+        let mut rest = text;
+        let mut count = 0u64;
+        while !rest.is_empty() {
+            let Some((line, behind)) = split_line(rest) else {
+                return Finding::Breaks(count + 1);
+            };
+            if !self.take(&line) {
+                return Finding::Breaks(count + 1);
+            }
+            rest = behind;
+            count += 1;
+        }
+        if self.met < self.out.len() {
+            return Finding::Breaks(count + 1);
+        }
+        Finding::Conforms
+    }
+
+    /// Takes the next line, where it goes.
+    fn take(&mut self, line: &Line) -> bool
+        requires ready { IsReady self.old.core self.old.busy.workers (vec_capacity self.old.out) }
+        requires some { self.old.core.taken < self.old.core.limit }
+        ensures goes { IsTrue result → (lines : List Said) → IsStanding self.old.core (drop self.old.met self.old.out.items) self.old.busy.flags lines
+            → IsStanding self.new.core (drop self.new.met self.new.out.items) self.new.busy.flags (line.now ∷ lines) }
+        ensures breaks { result ≡ false → (lines : List Said) → IsStanding self.old.core (drop self.old.met self.old.out.items) self.old.busy.flags lines
+            → Goes self.old.core.calls (workers_of self.old.core) (line.now ∷ lines) → ⊥ }
+        ensures calls { self.new.core.calls ≡ self.old.core.calls }
+        ensures workers { workers_of self.new.core ≡ workers_of self.old.core }
+        ensures ready { IsReady self.new.core self.new.busy.workers (vec_capacity self.new.out) }
+        ensures limit { self.new.core.limit ≡ self.old.core.limit }
+        ensures taken { self.new.core.taken ≤ self.old.core.taken + 1 }
+    {
+        if self.met < self.out.len() {
+            if !is_same(&self.out[self.met], line) {
+                return false;
+            }
+            self.met += 1;
+            return true;
+        }
+        match &line.message {
+            Message::Answer(said) => self.take_answer(line.moment, said),
+            Message::End(_) => false,
+        }
+    }
+
+    /// Takes the next line, an answer given at a moment, where nothing is owed.
+    fn take_answer(&mut self, moment: u64, said: &Answer) -> bool
+        requires ready { IsReady self.old.core self.old.busy.workers (vec_capacity self.old.out) }
+        requires some { self.old.core.taken < self.old.core.limit }
+        ensures goes { IsTrue result → (lines : List Said) → IsStanding self.old.core [] self.old.busy.flags lines
+            → IsStanding self.new.core (drop self.new.met self.new.out.items) self.new.busy.flags (answer_line moment said.now ∷ lines) }
+        ensures breaks { result ≡ false → (lines : List Said) → IsStanding self.old.core [] self.old.busy.flags lines
+            → Goes self.old.core.calls (workers_of self.old.core) (answer_line moment said.now ∷ lines) → ⊥ }
+        ensures calls { self.new.core.calls ≡ self.old.core.calls }
+        ensures workers { workers_of self.new.core ≡ workers_of self.old.core }
+        ensures ready { IsReady self.new.core self.new.busy.workers (vec_capacity self.new.out) }
+        ensures limit { self.new.core.limit ≡ self.old.core.limit }
+        ensures taken { self.new.core.taken ≤ self.old.core.taken + 1 }
+    {
+        let Some(happening) = self.busy.plain(moment, said) else {
+            return false;
+        };
+        if !may_come(&self.core, happening) {
+            return false;
+        }
+        self.core.count();
+        self.out.clear();
+        happen(&mut self.core, happening, &mut self.out);
+        self.met = 1;
+        let line = Line {
+            moment,
+            message: Message::Answer(*said),
+        };
+        if !is_same(&self.out[0], &line) {
+            return false;
+        }
+        self.busy.note(said);
+        true
+    }
+}
+
+/// Whether two lines are equal.
+fn is_same(one: &Line, other: &Line) -> bool
+    ensures { IsTrue result ↔ (one.now ≡ other.now) }
+{
+    one == other
+}
+
+/// The core of a plan before anything happened, which takes as many happenings as it may.
+fn core_of<A: Allocator + Copy, B: Allocator>(
+    alloc: A,
+    plan: &Plan<B>,
+    workers: u8,
+) -> Result<Core<A>, CheckError>
+    ensures workers { IsErrOf result CheckError.Workers ↔ ¬ IsWorkerCount workers }
+    ensures core { IfOk result (λ core. IsOpening core (calls_of plan.now) workers most_events) }
+{
+    if workers == 0 || workers > MOST_WORKERS {
+        return Err(CheckError::Workers);
+    }
+    let code = compile(alloc, plan).map_err(|_| CheckError::Memory)?;
+    Core::new(alloc, code, workers, u32::MAX).map_err(|_| CheckError::Memory)
+}

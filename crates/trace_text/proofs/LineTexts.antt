@@ -1,0 +1,418 @@
+-- LineTexts: one line of a trace alone stands at the front of some bytes; a line has one newline, at its end.
+use Rattle.std.proofs.Common.{◌≡◌, ℕ, ◌^◌, ◌<◌, true, false, Option, Some, None, List, [], ◌++◌, length, refl, ap, ◌∙◌, sym, arith, rules, append_assoc, append-nil, codes, ◌==◌, Bool}
+use Rattle.std.specs.Fmt.{decimal}
+use Rattle.std.proofs.lemmas.Bool.{false≢true}
+use Rattle.std.proofs.lemmas.List.{append_cancel_left}
+use Rattle.sched_time.specs.declared.policies.Which.{Which}
+use Rattle.executor_core.specs.declared.Kind.{Kind}
+use Rattle.executor_core.specs.declared.Refusal.{Refusal}
+use Rattle.executor_core.specs.declared.EventError.{EventError}
+use Rattle.executor_core.specs.declared.CancelEffect.{CancelEffect}
+use Rattle.executor_core.specs.declared.Outcome.{Outcome}
+use Rattle.executor_core.specs.declared.Answer.{Answer as Given}
+use Rattle.executor_core.specs.declared.Answer.TheVariants as a
+use Rattle.sched_time.specs.declared.policies.Which.TheVariants as which
+use Rattle.executor_core.specs.declared.Kind.TheVariants as kind
+use Rattle.executor_core.specs.declared.Refusal.TheVariants as refusal
+use Rattle.executor_core.specs.declared.EventError.TheVariants as error
+use Rattle.executor_core.specs.declared.CancelEffect.TheVariants as effect
+use Rattle.executor_core.specs.declared.Outcome.TheVariants as outcome
+use Rattle.executor_core.specs.declared.Message.{Message}
+use Rattle.executor_core.specs.declared.Message.TheVariants.{Answer, End}
+use Rattle.executor_core.specs.declared.Line.{Line}
+use Rattle.trace_text.specs.Spelling.{IsLine, EndsNumber, message_text, error_text, outcome_text, kind_text, refusal_text, effect_text, policy_text, truth_text, whether_text, line_text, FitsMessage, FitsLine, FitsOutcome}
+use Rattle.trace_text.specs.Reading.{IsUnread, Below, Any, text_then, LinesAreOne, LinesEndOnce}
+use Rattle.trace_text.proofs.Digits.{one_number}
+use Rattle.trace_text.proofs.Clashes.{clashes}
+use Rattle.trace_text.proofs.EventTexts.{IsEnded, ended_number, ended_behind, number_is_line}
+use Rattle.trace_text.proofs.Parts.{IsOnce}
+use Rattle.trace_text.proofs.LineForms.{start_text, FitsStart, finish_text, FitsFinish, submit_text, FitsSubmit, refuse_text, FitsRefuse, cancel_text, FitsCancel, set_text, FitsSet, ask_text, FitsAsk, outcome_is, run_text, due_text, kind_due_text, running_text, ends_text, start_once, finish_once, submit_once, refuse_once, cancel_once, set_once, ask_once, error_once, last_task_once}
+
+-- ---- the first word of a line behind its moment, and what follows it
+
+abbrev message_word : Message → List ℕ
+message_word (Answer (a.Start w k n d)) = codes " start "
+message_word (Answer (a.Idle w)) = codes " start "
+message_word (Answer (a.Finish w k n o)) = codes " finish "
+message_word (Answer (a.Submit k kind d)) = codes " submit "
+message_word (Answer (a.Refuse k reason)) = codes " refuse "
+message_word (Answer (a.Cancel k e)) = codes " cancel "
+message_word (Answer (a.Outside k e)) = codes " outside "
+message_word (Answer (a.Policy which value)) = codes " policy "
+message_word (Answer (a.Ask q r shut over)) = codes " ask queue "
+message_word (Answer (a.Error e)) = codes " error "
+message_word (End k) = codes " end "
+message_word (Answer a.Clock) = codes " clock\n"
+message_word (Answer a.Shutdown) = codes " shutdown\n"
+message_word (Answer a.ShutdownAgain) = codes " shutdown again\n"
+
+abbrev after_message_word : Message → List ℕ
+after_message_word (Answer (a.Start w k n d)) = start_text (w, Some (k, (n, d)))
+after_message_word (Answer (a.Idle w)) = start_text (w, None)
+after_message_word (Answer (a.Finish w k n o)) = decimal w ++ (codes " task " ++ (decimal k ++ (codes " run " ++ (decimal n ++ outcome_text o))))
+after_message_word (Answer (a.Submit k kind d)) = submit_text (k, (kind, d))
+after_message_word (Answer (a.Refuse k reason)) = refuse_text (k, reason)
+after_message_word (Answer (a.Cancel k e)) = cancel_text (k, e)
+after_message_word (Answer (a.Outside k e)) = cancel_text (k, e)
+after_message_word (Answer (a.Policy which value)) = set_text (which, value)
+after_message_word (Answer (a.Ask q r shut over)) = ask_text (q, (r, (shut, over)))
+after_message_word (Answer (a.Error e)) = text_then error_text (codes "\n") e
+after_message_word (End k) = text_then decimal (codes "\n") k
+after_message_word (Answer a.Clock) = []
+after_message_word (Answer a.Shutdown) = []
+after_message_word (Answer a.ShutdownAgain) = []
+
+-- the outcome of a finish stands behind its space
+finish_is : (w k n : ℕ) (o : Outcome) → decimal w ++ (codes " task " ++ (decimal k ++ (codes " run " ++ (decimal n ++ outcome_text o)))) ≡ finish_text (w, (k, (n, o)))
+finish_is w k n o = ap (λ l. decimal w ++ (codes " task " ++ (decimal k ++ (codes " run " ++ (decimal n ++ l))))) (outcome_is o)
+
+-- ---- no line
+
+-- bytes behind ` start ` that are no worker with what it gets
+pub unread_start : (bytes : List ℕ) → IsUnread start_text FitsStart bytes → IsUnread message_text FitsMessage (codes " start " ++ bytes)
+unread_start bytes never (Answer (a.Start w k n d)) tail f h = never (w, Some (k, (n, d))) tail (f.0, (f.1, (f.2, f.3))) (append_cancel_left (codes " start ") bytes (start_text (w, Some (k, (n, d))) ++ tail) h)
+unread_start bytes never (Answer (a.Idle w)) tail f h = never (w, None) tail (f, tt) (append_cancel_left (codes " start ") bytes (start_text (w, None) ++ tail) h)
+unread_start bytes never m tail f h = absurd (clashes (codes " start ") (message_word m) bytes (after_message_word m ++ tail) refl h)
+
+-- bytes behind ` finish ` that are no worker with its run and the outcome
+pub unread_finish : (bytes : List ℕ) → IsUnread finish_text FitsFinish bytes → IsUnread message_text FitsMessage (codes " finish " ++ bytes)
+unread_finish bytes never (Answer (a.Finish w k n o)) tail f h =
+    never (w, (k, (n, o))) tail (f.0, (f.1, (f.2, f.3))) (append_cancel_left (codes " finish ") bytes ((decimal w ++ (codes " task " ++ (decimal k ++ (codes " run " ++ (decimal n ++ outcome_text o))))) ++ tail) h ∙ ap (λ l. l ++ tail) (finish_is w k n o))
+unread_finish bytes never m tail f h = absurd (clashes (codes " finish ") (message_word m) bytes (after_message_word m ++ tail) refl h)
+
+-- bytes behind ` submit ` that are no task with its kind and due moment
+pub unread_submit : (bytes : List ℕ) → IsUnread submit_text FitsSubmit bytes → IsUnread message_text FitsMessage (codes " submit " ++ bytes)
+unread_submit bytes never (Answer (a.Submit k kind d)) tail f h = never (k, (kind, d)) tail (f.0, (tt, f.1)) (append_cancel_left (codes " submit ") bytes (submit_text (k, (kind, d)) ++ tail) h)
+unread_submit bytes never m tail f h = absurd (clashes (codes " submit ") (message_word m) bytes (after_message_word m ++ tail) refl h)
+
+-- bytes behind ` refuse ` that are no task with a reason
+pub unread_refuse : (bytes : List ℕ) → IsUnread refuse_text FitsRefuse bytes → IsUnread message_text FitsMessage (codes " refuse " ++ bytes)
+unread_refuse bytes never (Answer (a.Refuse k reason)) tail f h = never (k, reason) tail (f, tt) (append_cancel_left (codes " refuse ") bytes (refuse_text (k, reason) ++ tail) h)
+unread_refuse bytes never m tail f h = absurd (clashes (codes " refuse ") (message_word m) bytes (after_message_word m ++ tail) refl h)
+
+-- bytes behind ` cancel ` that are no task with an effect
+pub unread_cancel : (bytes : List ℕ) → IsUnread cancel_text FitsCancel bytes → IsUnread message_text FitsMessage (codes " cancel " ++ bytes)
+unread_cancel bytes never (Answer (a.Cancel k e)) tail f h = never (k, e) tail (f, tt) (append_cancel_left (codes " cancel ") bytes (cancel_text (k, e) ++ tail) h)
+unread_cancel bytes never m tail f h = absurd (clashes (codes " cancel ") (message_word m) bytes (after_message_word m ++ tail) refl h)
+
+-- bytes behind ` outside ` that are no task with an effect
+pub unread_outside : (bytes : List ℕ) → IsUnread cancel_text FitsCancel bytes → IsUnread message_text FitsMessage (codes " outside " ++ bytes)
+unread_outside bytes never (Answer (a.Outside k e)) tail f h = never (k, e) tail (f, tt) (append_cancel_left (codes " outside ") bytes (cancel_text (k, e) ++ tail) h)
+unread_outside bytes never m tail f h = absurd (clashes (codes " outside ") (message_word m) bytes (after_message_word m ++ tail) refl h)
+
+-- bytes behind ` policy ` that are no policy with what it is set to
+pub unread_policy : (bytes : List ℕ) → IsUnread set_text FitsSet bytes → IsUnread message_text FitsMessage (codes " policy " ++ bytes)
+unread_policy bytes never (Answer (a.Policy which value)) tail f h = never (which, value) tail (tt, tt) (append_cancel_left (codes " policy ") bytes (set_text (which, value) ++ tail) h)
+unread_policy bytes never m tail f h = absurd (clashes (codes " policy ") (message_word m) bytes (after_message_word m ++ tail) refl h)
+
+-- bytes behind ` ask queue ` that do not tell how far the executor is
+pub unread_ask : (bytes : List ℕ) → IsUnread ask_text FitsAsk bytes → IsUnread message_text FitsMessage (codes " ask queue " ++ bytes)
+unread_ask bytes never (Answer (a.Ask q r shut over)) tail f h = never (q, (r, (shut, over))) tail (f.0, (f.1, (tt, tt))) (append_cancel_left (codes " ask queue ") bytes (ask_text (q, (r, (shut, over))) ++ tail) h)
+unread_ask bytes never m tail f h = absurd (clashes (codes " ask queue ") (message_word m) bytes (after_message_word m ++ tail) refl h)
+
+-- none of the first words
+pub unread_words : (bytes : List ℕ)
+    → ((t : List ℕ) → bytes ≡ codes " start " ++ t → ⊥)
+    → ((t : List ℕ) → bytes ≡ codes " finish " ++ t → ⊥)
+    → ((t : List ℕ) → bytes ≡ codes " clock\n" ++ t → ⊥)
+    → ((t : List ℕ) → bytes ≡ codes " submit " ++ t → ⊥)
+    → ((t : List ℕ) → bytes ≡ codes " end " ++ t → ⊥)
+    → ((t : List ℕ) → bytes ≡ codes " outside " ++ t → ⊥)
+    → ((t : List ℕ) → bytes ≡ codes " cancel " ++ t → ⊥)
+    → ((t : List ℕ) → bytes ≡ codes " refuse " ++ t → ⊥)
+    → ((t : List ℕ) → bytes ≡ codes " error " ++ t → ⊥)
+    → ((t : List ℕ) → bytes ≡ codes " ask queue " ++ t → ⊥)
+    → ((t : List ℕ) → bytes ≡ codes " policy " ++ t → ⊥)
+    → ((t : List ℕ) → bytes ≡ codes " shutdown" ++ t → ⊥)
+    → IsUnread message_text FitsMessage bytes
+unread_words bytes start finish clock submit ended outside cancel refuse failed ask policy stopped (Answer (a.Start w k n d)) tail f h = start (start_text (w, Some (k, (n, d))) ++ tail) h
+unread_words bytes start finish clock submit ended outside cancel refuse failed ask policy stopped (Answer (a.Idle w)) tail f h = start (start_text (w, None) ++ tail) h
+unread_words bytes start finish clock submit ended outside cancel refuse failed ask policy stopped (Answer (a.Finish w k n o)) tail f h = finish ((decimal w ++ (codes " task " ++ (decimal k ++ (codes " run " ++ (decimal n ++ outcome_text o))))) ++ tail) h
+unread_words bytes start finish clock submit ended outside cancel refuse failed ask policy stopped (Answer (a.Submit k kind d)) tail f h = submit (submit_text (k, (kind, d)) ++ tail) h
+unread_words bytes start finish clock submit ended outside cancel refuse failed ask policy stopped (Answer (a.Refuse k reason)) tail f h = refuse (refuse_text (k, reason) ++ tail) h
+unread_words bytes start finish clock submit ended outside cancel refuse failed ask policy stopped (Answer (a.Cancel k e)) tail f h = cancel (cancel_text (k, e) ++ tail) h
+unread_words bytes start finish clock submit ended outside cancel refuse failed ask policy stopped (Answer (a.Outside k e)) tail f h = outside (cancel_text (k, e) ++ tail) h
+unread_words bytes start finish clock submit ended outside cancel refuse failed ask policy stopped (Answer (a.Policy which value)) tail f h = policy (set_text (which, value) ++ tail) h
+unread_words bytes start finish clock submit ended outside cancel refuse failed ask policy stopped (Answer (a.Ask q r shut over)) tail f h = ask (ask_text (q, (r, (shut, over))) ++ tail) h
+unread_words bytes start finish clock submit ended outside cancel refuse failed ask policy stopped (Answer (a.Error e)) tail f h = failed (text_then error_text (codes "\n") e ++ tail) h
+unread_words bytes start finish clock submit ended outside cancel refuse failed ask policy stopped (End k) tail f h = ended (text_then decimal (codes "\n") k ++ tail) h
+unread_words bytes start finish clock submit ended outside cancel refuse failed ask policy stopped (Answer a.Clock) tail f h = clock tail h
+unread_words bytes start finish clock submit ended outside cancel refuse failed ask policy stopped (Answer a.Shutdown) tail f h = stopped (codes "\n" ++ tail) h
+unread_words bytes start finish clock submit ended outside cancel refuse failed ask policy stopped (Answer a.ShutdownAgain) tail f h = stopped (codes " again\n" ++ tail) h
+
+-- ---- one line
+
+one_form : {V : Type 0} (word : List ℕ) (spell : V → List ℕ) (fits : V → Type 0) (message : V → Message) → IsOnce spell fits → (x y : V) (s t : List ℕ) → fits x → fits y
+    → word ++ (spell x ++ s) ≡ word ++ (spell y ++ t) → (message x ≡ message y) × (s ≡ t)
+one_form word spell fits message once x y s t p q h = let r = once x y s t p q (append_cancel_left word (spell x ++ s) (spell y ++ t) h) in (ap message r.0, r.1)
+
+-- what a start says
+abbrev start_message : ℕ × Option (ℕ × (ℕ × ℕ)) → Message
+start_message v = elim (v.1) as (λ g. Message) [ None ↦ Answer (a.Idle v.0) | Some g ↦ Answer (a.Start v.0 g.0 g.1.0 g.1.1) ]
+
+one_start : (x y : ℕ × Option (ℕ × (ℕ × ℕ))) (s t : List ℕ) → FitsStart x → FitsStart y → codes " start " ++ (start_text x ++ s) ≡ codes " start " ++ (start_text y ++ t) → (start_message x ≡ start_message y) × (s ≡ t)
+one_start = one_form (codes " start ") start_text FitsStart start_message start_once
+
+-- an end is no answer
+no_answer : (b : Given) (k : ℕ) (s t : List ℕ) → message_text (End k) ++ s ≡ message_text (Answer b) ++ t → ⊥
+no_answer (a.Start w1 k1 n1 d1) k s t h = clashes (codes " end ") (codes " start ") (text_then decimal (codes "\n") k ++ s) (start_text (w1, Some (k1, (n1, d1))) ++ t) refl h
+no_answer (a.Idle w1) k s t h = clashes (codes " end ") (codes " start ") (text_then decimal (codes "\n") k ++ s) (start_text (w1, None) ++ t) refl h
+no_answer (a.Finish w1 k1 n1 o1) k s t h = clashes (codes " end ") (codes " finish ") (text_then decimal (codes "\n") k ++ s) ((decimal w1 ++ (codes " task " ++ (decimal k1 ++ (codes " run " ++ (decimal n1 ++ outcome_text o1))))) ++ t) refl h
+no_answer (a.Submit k1 kind1 d1) k s t h = clashes (codes " end ") (codes " submit ") (text_then decimal (codes "\n") k ++ s) (submit_text (k1, (kind1, d1)) ++ t) refl h
+no_answer (a.Refuse k1 reason1) k s t h = clashes (codes " end ") (codes " refuse ") (text_then decimal (codes "\n") k ++ s) (refuse_text (k1, reason1) ++ t) refl h
+no_answer (a.Cancel k1 e1) k s t h = clashes (codes " end ") (codes " cancel ") (text_then decimal (codes "\n") k ++ s) (cancel_text (k1, e1) ++ t) refl h
+no_answer (a.Outside k1 e1) k s t h = clashes (codes " end ") (codes " outside ") (text_then decimal (codes "\n") k ++ s) (cancel_text (k1, e1) ++ t) refl h
+no_answer (a.Policy which1 value1) k s t h = clashes (codes " end ") (codes " policy ") (text_then decimal (codes "\n") k ++ s) (set_text (which1, value1) ++ t) refl h
+no_answer (a.Ask q1 r1 shut1 over1) k s t h = clashes (codes " end ") (codes " ask queue ") (text_then decimal (codes "\n") k ++ s) (ask_text (q1, (r1, (shut1, over1))) ++ t) refl h
+no_answer (a.Error e1) k s t h = clashes (codes " end ") (codes " error ") (text_then decimal (codes "\n") k ++ s) (text_then error_text (codes "\n") e1 ++ t) refl h
+no_answer a.Clock k s t h = clashes (codes " end ") (codes " clock\n") (text_then decimal (codes "\n") k ++ s) t refl h
+no_answer a.Shutdown k s t h = clashes (codes " end ") (codes " shutdown\n") (text_then decimal (codes "\n") k ++ s) t refl h
+no_answer a.ShutdownAgain k s t h = clashes (codes " end ") (codes " shutdown again\n") (text_then decimal (codes "\n") k ++ s) t refl h
+
+message_once : IsOnce message_text FitsMessage
+message_once (Answer (a.Start w1 k1 n1 d1)) (Answer (a.Start w2 k2 n2 d2)) s t p q h = one_start (w1, Some (k1, (n1, d1))) (w2, Some (k2, (n2, d2))) s t (p.0, (p.1, (p.2, p.3))) (q.0, (q.1, (q.2, q.3))) h
+message_once (Answer (a.Start w1 k1 n1 d1)) (Answer (a.Idle w2)) s t p q h = one_start (w1, Some (k1, (n1, d1))) (w2, None) s t (p.0, (p.1, (p.2, p.3))) (q, tt) h
+message_once (Answer (a.Idle w1)) (Answer (a.Start w2 k2 n2 d2)) s t p q h = one_start (w1, None) (w2, Some (k2, (n2, d2))) s t (p, tt) (q.0, (q.1, (q.2, q.3))) h
+message_once (Answer (a.Idle w1)) (Answer (a.Idle w2)) s t p q h = one_start (w1, None) (w2, None) s t (p, tt) (q, tt) h
+message_once (Answer (a.Finish w1 k1 n1 o1)) (Answer (a.Finish w2 k2 n2 o2)) s t p q h =
+    one_form (codes " finish ") finish_text FitsFinish (λ v. Answer (a.Finish v.0 v.1.0 v.1.1.0 v.1.1.1)) finish_once (w1, (k1, (n1, o1))) (w2, (k2, (n2, o2))) s t (p.0, (p.1, (p.2, p.3))) (q.0, (q.1, (q.2, q.3)))
+    (ap (λ l. codes " finish " ++ (l ++ s)) (sym (finish_is w1 k1 n1 o1)) ∙ (h ∙ ap (λ l. codes " finish " ++ (l ++ t)) (finish_is w2 k2 n2 o2)))
+message_once (Answer (a.Submit k1 kind1 d1)) (Answer (a.Submit k2 kind2 d2)) s t p q h = one_form (codes " submit ") submit_text FitsSubmit (λ v. Answer (a.Submit v.0 v.1.0 v.1.1)) submit_once (k1, (kind1, d1)) (k2, (kind2, d2)) s t (p.0, (tt, p.1)) (q.0, (tt, q.1)) h
+message_once (Answer (a.Refuse k1 reason1)) (Answer (a.Refuse k2 reason2)) s t p q h = one_form (codes " refuse ") refuse_text FitsRefuse (λ v. Answer (a.Refuse v.0 v.1)) refuse_once (k1, reason1) (k2, reason2) s t (p, tt) (q, tt) h
+message_once (Answer (a.Cancel k1 e1)) (Answer (a.Cancel k2 e2)) s t p q h = one_form (codes " cancel ") cancel_text FitsCancel (λ v. Answer (a.Cancel v.0 v.1)) cancel_once (k1, e1) (k2, e2) s t (p, tt) (q, tt) h
+message_once (Answer (a.Outside k1 e1)) (Answer (a.Outside k2 e2)) s t p q h = one_form (codes " outside ") cancel_text FitsCancel (λ v. Answer (a.Outside v.0 v.1)) cancel_once (k1, e1) (k2, e2) s t (p, tt) (q, tt) h
+message_once (Answer (a.Policy which1 value1)) (Answer (a.Policy which2 value2)) s t p q h = one_form (codes " policy ") set_text FitsSet (λ v. Answer (a.Policy v.0 v.1)) set_once (which1, value1) (which2, value2) s t (tt, tt) (tt, tt) h
+message_once (Answer (a.Ask q1 r1 shut1 over1)) (Answer (a.Ask q2 r2 shut2 over2)) s t p q h = one_form (codes " ask queue ") ask_text FitsAsk (λ v. Answer (a.Ask v.0 v.1.0 v.1.1.0 v.1.1.1)) ask_once (q1, (r1, (shut1, over1))) (q2, (r2, (shut2, over2))) s t (p.0, (p.1, (tt, tt))) (q.0, (q.1, (tt, tt))) h
+message_once (Answer (a.Error e1)) (Answer (a.Error e2)) s t p q h = one_form (codes " error ") (text_then error_text (codes "\n")) Any (λ e. Answer (a.Error e)) error_once e1 e2 s t tt tt h
+message_once (End k1) (End k2) s t p q h = one_form (codes " end ") (text_then decimal (codes "\n")) (Below (2 ^ 32)) End last_task_once k1 k2 s t p q h
+message_once (Answer a.Clock) (Answer a.Clock) s t p q h = (refl, append_cancel_left (codes " clock\n") s t h)
+message_once (Answer a.Shutdown) (Answer a.Shutdown) s t p q h = (refl, append_cancel_left (codes " shutdown\n") s t h)
+message_once (Answer a.ShutdownAgain) (Answer a.ShutdownAgain) s t p q h = (refl, append_cancel_left (codes " shutdown again\n") s t h)
+message_once (Answer (a.Start w1 k1 n1 d1)) m s t p q h = absurd (clashes (codes " start ") (message_word m) (start_text (w1, Some (k1, (n1, d1))) ++ s) (after_message_word m ++ t) refl h)
+message_once (Answer (a.Idle w1)) m s t p q h = absurd (clashes (codes " start ") (message_word m) (start_text (w1, None) ++ s) (after_message_word m ++ t) refl h)
+message_once (Answer (a.Finish w1 k1 n1 o1)) m s t p q h = absurd (clashes (codes " finish ") (message_word m) ((decimal w1 ++ (codes " task " ++ (decimal k1 ++ (codes " run " ++ (decimal n1 ++ outcome_text o1))))) ++ s) (after_message_word m ++ t) refl h)
+message_once (Answer (a.Submit k1 kind1 d1)) m s t p q h = absurd (clashes (codes " submit ") (message_word m) (submit_text (k1, (kind1, d1)) ++ s) (after_message_word m ++ t) refl h)
+message_once (Answer (a.Refuse k1 reason1)) m s t p q h = absurd (clashes (codes " refuse ") (message_word m) (refuse_text (k1, reason1) ++ s) (after_message_word m ++ t) refl h)
+message_once (Answer (a.Cancel k1 e1)) m s t p q h = absurd (clashes (codes " cancel ") (message_word m) (cancel_text (k1, e1) ++ s) (after_message_word m ++ t) refl h)
+message_once (Answer (a.Outside k1 e1)) m s t p q h = absurd (clashes (codes " outside ") (message_word m) (cancel_text (k1, e1) ++ s) (after_message_word m ++ t) refl h)
+message_once (Answer (a.Policy which1 value1)) m s t p q h = absurd (clashes (codes " policy ") (message_word m) (set_text (which1, value1) ++ s) (after_message_word m ++ t) refl h)
+message_once (Answer (a.Ask q1 r1 shut1 over1)) m s t p q h = absurd (clashes (codes " ask queue ") (message_word m) (ask_text (q1, (r1, (shut1, over1))) ++ s) (after_message_word m ++ t) refl h)
+message_once (Answer (a.Error e1)) m s t p q h = absurd (clashes (codes " error ") (message_word m) (text_then error_text (codes "\n") e1 ++ s) (after_message_word m ++ t) refl h)
+message_once (End k1) (Answer b) s t p q h = absurd (no_answer b k1 s t h)
+message_once (Answer a.Clock) m s t p q h = absurd (clashes (codes " clock\n") (message_word m) s (after_message_word m ++ t) refl h)
+message_once (Answer a.Shutdown) m s t p q h = absurd (clashes (codes " shutdown\n") (message_word m) s (after_message_word m ++ t) refl h)
+message_once (Answer a.ShutdownAgain) m s t p q h = absurd (clashes (codes " shutdown again\n") (message_word m) s (after_message_word m ++ t) refl h)
+
+-- a number ends before what a line says
+message_ends : (m : Message) (tail : List ℕ) → EndsNumber (message_text m ++ tail)
+message_ends (Answer (a.Start w k n d)) tail = λ r. omega (arith, r)
+message_ends (Answer (a.Idle w)) tail = λ r. omega (arith, r)
+message_ends (Answer (a.Finish w k n o)) tail = λ r. omega (arith, r)
+message_ends (Answer (a.Submit k kind d)) tail = λ r. omega (arith, r)
+message_ends (Answer (a.Refuse k reason)) tail = λ r. omega (arith, r)
+message_ends (Answer (a.Cancel k e)) tail = λ r. omega (arith, r)
+message_ends (Answer (a.Outside k e)) tail = λ r. omega (arith, r)
+message_ends (Answer (a.Policy which value)) tail = λ r. omega (arith, r)
+message_ends (Answer (a.Ask q r shut over)) tail = λ r. omega (arith, r)
+message_ends (Answer (a.Error e)) tail = λ r. omega (arith, r)
+message_ends (End k) tail = λ r. omega (arith, r)
+message_ends (Answer a.Clock) tail = λ r. omega (arith, r)
+message_ends (Answer a.Shutdown) tail = λ r. omega (arith, r)
+message_ends (Answer a.ShutdownAgain) tail = λ r. omega (arith, r)
+
+-- one text spells one line, and no line's text is the front of another's
+pub first_line : LinesAreOne
+first_line a b s t p q h =
+    let both = one_number a.moment b.moment (message_text a.message ++ s) (message_text b.message ++ t) p.0 q.0 (message_ends a.message s) (message_ends b.message t)
+    (sym (append_assoc (decimal a.moment) (message_text a.message) s) ∙ (h ∙ append_assoc (decimal b.moment) (message_text b.message) t)) in
+    let rest = message_once a.message b.message s t p.1 q.1 both.1 in
+    (λ i. record { moment = both.0 i; message = rest.0 i }, rest.1)
+
+-- bytes behind a line make a text that spells no line
+pub nothing_behind_line : (bytes rest : List ℕ) (line : Line) → FitsLine line → bytes ≡ line_text line ++ rest → false ≡ (length rest == 0) → (other : Line) → FitsLine other → bytes ≡ line_text other → ⊥
+nothing_behind_line bytes rest line p is some other q h =
+    let none : rest ≡ [] = (first_line line other rest [] p q (sym is ∙ (h ∙ sym (append-nil (line_text other))))).1 in
+    false≢true (some ∙ ap (λ l. length l == 0) none)
+
+-- no number stands in front
+pub unread_moment : (bytes : List ℕ) → ((n : ℕ) (rest : List ℕ) → n < 2 ^ 64 → EndsNumber rest → bytes ≡ decimal n ++ rest → ⊥) → IsUnread line_text FitsLine bytes
+unread_moment bytes never line tail f h = never line.moment (message_text line.message ++ tail) f.0 (message_ends line.message tail) (h ∙ append_assoc (decimal line.moment) (message_text line.message) tail)
+
+-- a number stands in front, and nothing that a line says is behind it
+pub unread_message : (bytes rest : List ℕ) (n : ℕ) → bytes ≡ decimal n ++ rest → EndsNumber rest → n < 2 ^ 64 → IsUnread message_text FitsMessage rest → IsUnread line_text FitsLine bytes
+unread_message bytes rest n is ends small never line tail f h =
+    never line.message tail f.1
+    (one_number n line.moment rest (message_text line.message ++ tail) small f.0 ends (message_ends line.message tail) (sym is ∙ (h ∙ append_assoc (decimal line.moment) (message_text line.message) tail))).1
+
+-- ---- the newline
+
+-- a number, a word and what is behind them
+numbered_ended : (n : ℕ) (word behind : List ℕ) → n < 2 ^ 64 → IsLine word → IsEnded behind → IsEnded (decimal n ++ (word ++ behind))
+numbered_ended n word behind small plain end = ended_behind (decimal n) (word ++ behind) (number_is_line n small) (ended_behind word behind plain end)
+
+space_line : IsLine (codes " ")
+space_line = search rules
+
+task_line : IsLine (codes " task ")
+task_line = search rules
+
+run_line : IsLine (codes " run ")
+run_line = search rules
+
+due_line : IsLine (codes " due ")
+due_line = search rules
+
+running_line : IsLine (codes " running ")
+running_line = search rules
+
+shutdown_line : IsLine (codes " shutdown ")
+shutdown_line = search rules
+
+terminated_line : IsLine (codes " terminated ")
+terminated_line = search rules
+
+start_line : IsLine (codes " start ")
+start_line = search rules
+
+finish_line : IsLine (codes " finish ")
+finish_line = search rules
+
+submit_line : IsLine (codes " submit ")
+submit_line = search rules
+
+refuse_line : IsLine (codes " refuse ")
+refuse_line = search rules
+
+cancel_line : IsLine (codes " cancel ")
+cancel_line = search rules
+
+outside_line : IsLine (codes " outside ")
+outside_line = search rules
+
+policy_line : IsLine (codes " policy ")
+policy_line = search rules
+
+ask_line : IsLine (codes " ask queue ")
+ask_line = search rules
+
+error_line : IsLine (codes " error ")
+error_line = search rules
+
+end_line : IsLine (codes " end ")
+end_line = search rules
+
+kind_line : (k : Kind) → IsLine (kind_text k)
+kind_line kind.Schedule = search rules
+kind_line kind.Rate = search rules
+kind_line kind.Fixed = search rules
+
+refusal_line : (r : Refusal) → IsLine (refusal_text r)
+refusal_line refusal.Illegal = search rules
+refusal_line refusal.Rejected = search rules
+
+effect_line : (e : CancelEffect) → IsLine (effect_text e)
+effect_line effect.Yes = search rules
+effect_line effect.No = search rules
+effect_line effect.Absent = search rules
+
+which_line : (w : Which) → IsLine (policy_text w)
+which_line which.Continue = search rules
+which_line which.Execute = search rules
+which_line which.Remove = search rules
+
+truth_line : (b : Bool) → IsLine (truth_text b)
+truth_line true = search rules
+truth_line false = search rules
+
+whether_line : (b : Bool) → IsLine (whether_text b)
+whether_line true = search rules
+whether_line false = search rules
+
+reason_line : (e : EventError) → IsLine (error_text e)
+reason_line error.Backward = search rules
+reason_line error.TooFar = search rules
+reason_line error.NoWorker = search rules
+reason_line error.Busy = search rules
+reason_line error.NotRunning = search rules
+reason_line error.NoTask = search rules
+
+last_word : (word : List ℕ) → IsLine word → IsEnded (word ++ codes "\n")
+last_word word plain = record { front = word; is = refl; plain = plain }
+
+done_line : IsLine (codes " done ")
+done_line = search rules
+
+failed_line : IsLine (codes " failed ")
+failed_line = search rules
+
+again_line : IsLine (codes " again due ")
+again_line = search rules
+
+dropped_line : IsLine (codes " dropped")
+dropped_line = search rules
+
+over_line : IsLine (codes " ended")
+over_line = search rules
+
+outcome_ended : (o : Outcome) → FitsOutcome o → IsEnded (outcome_text o)
+outcome_ended (outcome.Done v) f = ended_behind (codes " done ") (decimal v ++ codes "\n") done_line (ended_number v f)
+outcome_ended (outcome.Failed c) f = ended_behind (codes " failed ") (decimal c ++ codes "\n") failed_line (ended_number c (omega (arith, f)))
+outcome_ended (outcome.Again d) f = ended_behind (codes " again due ") (decimal d ++ codes "\n") again_line (ended_number d f)
+outcome_ended outcome.Dropped f = last_word (codes " dropped") dropped_line
+outcome_ended outcome.Ended f = last_word (codes " ended") over_line
+
+idle_line : IsLine (codes " idle")
+idle_line = search rules
+
+clock_line : IsLine (codes " clock")
+clock_line = search rules
+
+shut_line : IsLine (codes " shutdown")
+shut_line = search rules
+
+shut_again_line : IsLine (codes " shutdown again")
+shut_again_line = search rules
+
+message_ended : (m : Message) → FitsMessage m → IsEnded (message_text m)
+message_ended (Answer (a.Start w k n d)) f =
+    ended_behind (codes " start ") (start_text (w, Some (k, (n, d)))) start_line
+    (numbered_ended w (codes " task ") (run_text (k, (n, d))) (omega (arith, f.0)) task_line
+    (numbered_ended k (codes " run ") (due_text (n, d)) (omega (arith, f.1)) run_line (numbered_ended n (codes " due ") (decimal d ++ codes "\n") f.2 due_line (ended_number d f.3))))
+message_ended (Answer (a.Idle w)) f =
+    ended_behind (codes " start ") (start_text (w, None)) start_line (ended_behind (decimal w) (codes " idle\n") (number_is_line w (omega (arith, f))) (last_word (codes " idle") idle_line))
+message_ended (Answer (a.Finish w k n o)) f =
+    ended_behind (codes " finish ") (decimal w ++ (codes " task " ++ (decimal k ++ (codes " run " ++ (decimal n ++ outcome_text o))))) finish_line
+    (numbered_ended w (codes " task ") (decimal k ++ (codes " run " ++ (decimal n ++ outcome_text o))) (omega (arith, f.0)) task_line
+    (numbered_ended k (codes " run ") (decimal n ++ outcome_text o) (omega (arith, f.1)) run_line (ended_behind (decimal n) (outcome_text o) (number_is_line n f.2) (outcome_ended o f.3))))
+message_ended (Answer (a.Submit k kind d)) f =
+    ended_behind (codes " submit ") (submit_text (k, (kind, d))) submit_line
+    (numbered_ended k (codes " ") (kind_due_text (kind, d)) (omega (arith, f.0)) space_line
+    (ended_behind (kind_text kind) (codes " due " ++ (decimal d ++ codes "\n")) (kind_line kind) (ended_behind (codes " due ") (decimal d ++ codes "\n") due_line (ended_number d f.1))))
+message_ended (Answer (a.Refuse k reason)) f =
+    ended_behind (codes " refuse ") (refuse_text (k, reason)) refuse_line
+    (numbered_ended k (codes " ") (refusal_text reason ++ codes "\n") (omega (arith, f)) space_line (last_word (refusal_text reason) (refusal_line reason)))
+message_ended (Answer (a.Cancel k e)) f =
+    ended_behind (codes " cancel ") (cancel_text (k, e)) cancel_line (numbered_ended k (codes " ") (effect_text e ++ codes "\n") (omega (arith, f)) space_line (last_word (effect_text e) (effect_line e)))
+message_ended (Answer (a.Outside k e)) f =
+    ended_behind (codes " outside ") (cancel_text (k, e)) outside_line (numbered_ended k (codes " ") (effect_text e ++ codes "\n") (omega (arith, f)) space_line (last_word (effect_text e) (effect_line e)))
+message_ended (Answer (a.Policy which value)) f =
+    ended_behind (codes " policy ") (set_text (which, value)) policy_line
+    (ended_behind (policy_text which) (codes " " ++ (truth_text value ++ codes "\n")) (which_line which)
+    (ended_behind (codes " ") (truth_text value ++ codes "\n") space_line (last_word (truth_text value) (truth_line value))))
+message_ended (Answer (a.Ask q r shut over)) f =
+    ended_behind (codes " ask queue ") (ask_text (q, (r, (shut, over)))) ask_line
+    (numbered_ended q (codes " running ") (running_text (r, (shut, over))) (omega (arith, f.0)) running_line
+    (numbered_ended r (codes " shutdown ") (ends_text (shut, over)) (omega (arith, f.1)) shutdown_line
+    (ended_behind (whether_text shut) (codes " terminated " ++ (whether_text over ++ codes "\n")) (whether_line shut)
+    (ended_behind (codes " terminated ") (whether_text over ++ codes "\n") terminated_line (last_word (whether_text over) (whether_line over))))))
+message_ended (Answer (a.Error e)) f = ended_behind (codes " error ") (error_text e ++ codes "\n") error_line (last_word (error_text e) (reason_line e))
+message_ended (End k) f = ended_behind (codes " end ") (decimal k ++ codes "\n") end_line (ended_number k (omega (arith, f)))
+message_ended (Answer a.Clock) f = last_word (codes " clock") clock_line
+message_ended (Answer a.Shutdown) f = last_word (codes " shutdown") shut_line
+message_ended (Answer a.ShutdownAgain) f = last_word (codes " shutdown again") shut_again_line
+
+-- a line has one newline, and it is its last byte
+pub line_ended : LinesEndOnce
+line_ended line f =
+    let end = ended_behind (decimal line.moment) (message_text line.message) (number_is_line line.moment f.0) (message_ended line.message f.1) in
+    (end.front, end.plain, end.is)

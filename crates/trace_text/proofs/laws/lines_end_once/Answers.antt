@@ -1,0 +1,5 @@
+use Rattle.trace_text.proofs.LineTexts.{line_ended}
+use Rattle.trace_text.proofs.laws.lines_end_once.Goals as goal
+
+pub returns : goal.returns
+returns c = line_ended

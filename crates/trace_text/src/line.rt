@@ -1,0 +1,41 @@
+//! The lines of a trace that texts spell.
+ghost use Rattle.std.specs.Prelude.{MatchOption};
+ghost use Rattle.trace_text.specs.Spelling.{SpellsLine, line_text, FitsLine};
+ghost use Rattle.trace_text.specs.Reading.{IsRead, IsUnread};
+
+use crate::message::split_message;
+use crate::scan::split_number;
+use executor_core::Line;
+
+/// The line of a trace that some bytes spell, given with its newline and nothing after it. `None` exactly when they spell none
+/// whose moments, value and run are below 2^64, whose tasks, numbers of tasks and code are below 2^32 and whose worker is below
+/// 256.
+pub fn read_line(line: &[u8]) -> Option<Line>
+    ensures { SpellsLine line.now result }
+{
+    let Some((read, rest)) = split_line(line) else {
+        return None;
+    };
+    if !rest.is_empty() {
+        return None;
+    }
+    Some(read)
+}
+
+/// The line of a trace whose text stands at the front of some bytes, and what follows its newline. `None` exactly when no
+/// line's text stands there; the limits of its numbers are those of [`read_line`].
+#[inline]
+pub fn split_line(bytes: &[u8]) -> Option<(Line, &[u8])>
+    ensures { MatchOption result (IsUnread line_text FitsLine bytes.now) (λ r. IsRead line_text FitsLine bytes.now r.0 r.1.now) }
+{
+    let Some((moment, rest)) = split_number(bytes) else {
+        return None;
+    };
+    let Some((message, rest)) = split_message(rest) else {
+        return None;
+    };
+    Some((Line { moment, message }, rest))
+}
+
+#[cfg(test)]
+mod tests;

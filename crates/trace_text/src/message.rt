@@ -1,0 +1,68 @@
+//! What the lines of a trace say behind their moments, read with the newline.
+ghost use Rattle.std.specs.Prelude.{MatchOption, ◌++◌, codes};
+ghost use Rattle.trace_text.specs.Spelling.{message_text, FitsMessage};
+ghost use Rattle.trace_text.specs.Reading.{IsRead, IsUnread};
+
+use crate::answer::{
+    split_ask, split_cancel, split_finish, split_outside, split_policy, split_refuse,
+    split_shutdown, split_start, split_submit,
+};
+use crate::scan::{code_before, strip_word};
+use crate::words::split_error;
+use executor_core::{Answer, Message};
+
+/// What a line says whose text behind its moment stands at the front of some bytes, and what follows its newline. The words that
+/// stand in a trace most often are looked for first.
+#[inline(always)]
+pub fn split_message(bytes: &[u8]) -> Option<(Message, &[u8])>
+    ensures { MatchOption result (IsUnread message_text FitsMessage bytes.now) (λ r. IsRead message_text FitsMessage bytes.now r.0 r.1.now) }
+{
+    if let Some(rest) = strip_word(bytes, *b" start ") {
+        return split_start(rest);
+    }
+    if let Some(rest) = strip_word(bytes, *b" finish ") {
+        return split_finish(rest);
+    }
+    if let Some(rest) = strip_word(bytes, *b" clock\n") {
+        return Some((Message::Answer(Answer::Clock), rest));
+    }
+    if let Some(rest) = strip_word(bytes, *b" submit ") {
+        return split_submit(rest);
+    }
+    if let Some(rest) = strip_word(bytes, *b" end ") {
+        return split_end(rest);
+    }
+    if let Some(rest) = strip_word(bytes, *b" outside ") {
+        return split_outside(rest);
+    }
+    if let Some(rest) = strip_word(bytes, *b" cancel ") {
+        return split_cancel(rest);
+    }
+    if let Some(rest) = strip_word(bytes, *b" refuse ") {
+        return split_refuse(rest);
+    }
+    if let Some(rest) = strip_word(bytes, *b" error ") {
+        return split_error(rest);
+    }
+    if let Some(rest) = strip_word(bytes, *b" ask queue ") {
+        return split_ask(rest);
+    }
+    if let Some(rest) = strip_word(bytes, *b" policy ") {
+        return split_policy(rest);
+    }
+    if let Some(rest) = strip_word(bytes, *b" shutdown") {
+        return split_shutdown(rest);
+    }
+    None
+}
+
+/// The end of the task that stands at the front, and what follows its newline.
+#[inline(always)]
+fn split_end(bytes: &[u8]) -> Option<(Message, &[u8])>
+    ensures { MatchOption result (IsUnread message_text FitsMessage (codes " end " ++ bytes.now)) (λ r. IsRead message_text FitsMessage (codes " end " ++ bytes.now) r.0 r.1.now) }
+{
+    let Some((task, rest)) = code_before(bytes, b"\n") else {
+        return None;
+    };
+    Some((Message::End(task), rest))
+}

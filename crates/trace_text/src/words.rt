@@ -1,0 +1,159 @@
+//! Words that lines of a trace end with, or that stand between two numbers of them, with what is fixed behind them.
+ghost use Rattle.std.specs.Prelude.{MatchOption, ◌++◌, codes};
+ghost use Rattle.trace_text.specs.Spelling.{message_text, FitsMessage, outcome_text, FitsOutcome, kind_text, refusal_text, effect_text, policy_text, truth_text, whether_text};
+ghost use Rattle.trace_text.specs.Reading.{IsRead, IsUnread, Any, text_then};
+
+use crate::scan::{code_before, number_before, strip, strip_word};
+use executor_core::{Answer, CancelEffect, EventError, Kind, Message, Outcome, Refusal};
+use sched_time::Which;
+
+/// What a finished run led to, of which these bytes follow the space, to the newline, and what follows it.
+#[inline(always)]
+pub fn split_outcome(bytes: &[u8]) -> Option<(Outcome, &[u8])>
+    ensures { MatchOption result (IsUnread outcome_text FitsOutcome (codes " " ++ bytes.now)) (λ r. IsRead outcome_text FitsOutcome (codes " " ++ bytes.now) r.0 r.1.now) }
+{
+    if let Some(rest) = strip_word(bytes, *b"done ") {
+        let Some((value, rest)) = number_before(rest, b"\n") else {
+            return None;
+        };
+        return Some((Outcome::Done(value), rest));
+    }
+    if let Some(rest) = strip_word(bytes, *b"again due ") {
+        let Some((due, rest)) = number_before(rest, b"\n") else {
+            return None;
+        };
+        return Some((Outcome::Again(due), rest));
+    }
+    if let Some(rest) = strip_word(bytes, *b"failed ") {
+        let Some((code, rest)) = code_before(rest, b"\n") else {
+            return None;
+        };
+        return Some((Outcome::Failed(code), rest));
+    }
+    if let Some(rest) = strip_word(bytes, *b"dropped\n") {
+        return Some((Outcome::Dropped, rest));
+    }
+    if let Some(rest) = strip_word(bytes, *b"ended\n") {
+        return Some((Outcome::Ended, rest));
+    }
+    None
+}
+
+/// The kind of a task, to ` due `, and what follows that.
+#[inline(always)]
+pub fn split_kind(bytes: &[u8]) -> Option<(Kind, &[u8])>
+    ensures { MatchOption result (IsUnread (text_then kind_text (codes " due ")) Any bytes.now) (λ r. IsRead (text_then kind_text (codes " due ")) Any bytes.now r.0 r.1.now) }
+{
+    if let Some(rest) = strip_word(bytes, *b"schedule due ") {
+        return Some((Kind::Schedule, rest));
+    }
+    if let Some(rest) = strip_word(bytes, *b"rate due ") {
+        return Some((Kind::Rate, rest));
+    }
+    if let Some(rest) = strip_word(bytes, *b"fixed due ") {
+        return Some((Kind::Fixed, rest));
+    }
+    None
+}
+
+/// Why a task was refused, to the newline, and what follows it.
+pub fn split_refusal(bytes: &[u8]) -> Option<(Refusal, &[u8])>
+    ensures { MatchOption result (IsUnread (text_then refusal_text (codes "\n")) Any bytes.now) (λ r. IsRead (text_then refusal_text (codes "\n")) Any bytes.now r.0 r.1.now) }
+{
+    if let Some(rest) = strip_word(bytes, *b"illegal\n") {
+        return Some((Refusal::Illegal, rest));
+    }
+    if let Some(rest) = strip_word(bytes, *b"rejected\n") {
+        return Some((Refusal::Rejected, rest));
+    }
+    None
+}
+
+/// What a cancel did, to the newline, and what follows it.
+pub fn split_effect(bytes: &[u8]) -> Option<(CancelEffect, &[u8])>
+    ensures { MatchOption result (IsUnread (text_then effect_text (codes "\n")) Any bytes.now) (λ r. IsRead (text_then effect_text (codes "\n")) Any bytes.now r.0 r.1.now) }
+{
+    if let Some(rest) = strip_word(bytes, *b"yes\n") {
+        return Some((CancelEffect::Yes, rest));
+    }
+    if let Some(rest) = strip(bytes, b"no\n") {
+        return Some((CancelEffect::No, rest));
+    }
+    if let Some(rest) = strip_word(bytes, *b"none\n") {
+        return Some((CancelEffect::Absent, rest));
+    }
+    None
+}
+
+/// A policy, to the space behind it, and what follows that.
+pub fn split_which(bytes: &[u8]) -> Option<(Which, &[u8])>
+    ensures { MatchOption result (IsUnread (text_then policy_text (codes " ")) Any bytes.now) (λ r. IsRead (text_then policy_text (codes " ")) Any bytes.now r.0 r.1.now) }
+{
+    if let Some(rest) = strip_word(bytes, *b"continue ") {
+        return Some((Which::Continue, rest));
+    }
+    if let Some(rest) = strip_word(bytes, *b"execute ") {
+        return Some((Which::Execute, rest));
+    }
+    if let Some(rest) = strip_word(bytes, *b"remove ") {
+        return Some((Which::Remove, rest));
+    }
+    None
+}
+
+/// What a policy is set to, to the newline, and what follows it.
+pub fn split_truth(bytes: &[u8]) -> Option<(bool, &[u8])>
+    ensures { MatchOption result (IsUnread (text_then truth_text (codes "\n")) Any bytes.now) (λ r. IsRead (text_then truth_text (codes "\n")) Any bytes.now r.0 r.1.now) }
+{
+    if let Some(rest) = strip_word(bytes, *b"true\n") {
+        return Some((true, rest));
+    }
+    if let Some(rest) = strip_word(bytes, *b"false\n") {
+        return Some((false, rest));
+    }
+    None
+}
+
+/// Whether something is so, and what follows the word behind it.
+pub fn split_whether<'a>(bytes: &'a [u8], word: &[u8]) -> Option<(bool, &'a [u8])>
+    ensures { MatchOption result (IsUnread (text_then whether_text word.now) Any bytes.now) (λ r. IsRead (text_then whether_text word.now) Any bytes.now r.0 r.1.now) }
+{
+    if let Some(rest) = strip(bytes, b"yes") {
+        let Some(rest) = strip(rest, word) else {
+            return None;
+        };
+        return Some((true, rest));
+    }
+    if let Some(rest) = strip(bytes, b"no") {
+        let Some(rest) = strip(rest, word) else {
+            return None;
+        };
+        return Some((false, rest));
+    }
+    None
+}
+
+/// An event that had no effect, of which these bytes follow ` error `, to the newline, and what follows it.
+pub fn split_error(bytes: &[u8]) -> Option<(Message, &[u8])>
+    ensures { MatchOption result (IsUnread message_text FitsMessage (codes " error " ++ bytes.now)) (λ r. IsRead message_text FitsMessage (codes " error " ++ bytes.now) r.0 r.1.now) }
+{
+    if let Some(rest) = strip_word(bytes, *b"busy\n") {
+        return Some((Message::Answer(Answer::Error(EventError::Busy)), rest));
+    }
+    if let Some(rest) = strip_word(bytes, *b"backward\n") {
+        return Some((Message::Answer(Answer::Error(EventError::Backward)), rest));
+    }
+    if let Some(rest) = strip_word(bytes, *b"too far\n") {
+        return Some((Message::Answer(Answer::Error(EventError::TooFar)), rest));
+    }
+    if let Some(rest) = strip_word(bytes, *b"no worker\n") {
+        return Some((Message::Answer(Answer::Error(EventError::NoWorker)), rest));
+    }
+    if let Some(rest) = strip_word(bytes, *b"not running\n") {
+        return Some((Message::Answer(Answer::Error(EventError::NotRunning)), rest));
+    }
+    if let Some(rest) = strip_word(bytes, *b"no task\n") {
+        return Some((Message::Answer(Answer::Error(EventError::NoTask)), rest));
+    }
+    None
+}
