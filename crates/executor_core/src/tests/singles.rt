@@ -173,19 +173,6 @@ fn needs_name_the_moves_of_words(rt: HostRuntime) -> Result<(), Fail> {
     Ok(())
 }
 
-/// Has these things happen to a core, whatever their answers.
-fn take_all<A: Allocator, B: Allocator>(
-    rt: &impl Abort,
-    core: &mut Core<A>,
-    happenings: &[Happening],
-    out: &mut Vec<Line, B>,
-) -> Result<(), Fail> {
-    for happening in happenings {
-        take(rt, core, *happening, out)?;
-    }
-    Ok(())
-}
-
 /// Checks which of four tasks the next call would end.
 fn next_ends<A: Allocator>(rt: &impl Abort, core: &Core<A>, wanted: [bool; 4]) {
     let told = [
@@ -197,6 +184,20 @@ fn next_ends<A: Allocator>(rt: &impl Abort, core: &Core<A>, wanted: [bool; 4]) {
     assert_eq!(rt; told, wanted);
 }
 
+/// Makes the calls of a core, and checks after each of them which of four tasks the next one would end.
+fn calls_tell_ends<A: Allocator>(
+    rt: &(impl AllocGlobal + Abort),
+    core: &mut Core<A>,
+    steps: &[[bool; 4]],
+) -> Result<(), Fail> {
+    let mut out = Vec::new(rt.alloc());
+    for wanted in steps {
+        take(rt, core, Happening::Call, &mut out)?;
+        next_ends(rt, core, *wanted);
+    }
+    Ok(())
+}
+
 #[test]
 fn sweeps_tell_whom_the_next_call_ends(rt: HostRuntime) -> Result<(), Fail> {
     let calls = [
@@ -206,18 +207,14 @@ fn sweeps_tell_whom_the_next_call_ends(rt: HostRuntime) -> Result<(), Fail> {
         Instr::Shutdown(3),
         stop(3, Which::Execute),
     ];
-    let mut core = core_of(rt.alloc(), &calls, 1, 100)?;
-    let mut out = Vec::new(rt.alloc());
-    let call = Happening::Call;
-    take_all(&rt, &mut core, &[call, call], &mut out)?;
-    next_ends(&rt, &core, [false, false, false, false]);
-    take(&rt, &mut core, call, &mut out)?;
-    next_ends(&rt, &core, [true, false, false, false]);
-    take(&rt, &mut core, call, &mut out)?;
-    next_ends(&rt, &core, [false, true, false, false]);
-    take(&rt, &mut core, call, &mut out)?;
-    next_ends(&rt, &core, [false, false, false, false]);
-    Ok(())
+    let ends = [
+        [false, false, false, false],
+        [false, false, false, false],
+        [true, false, false, false],
+        [false, true, false, false],
+        [false, false, false, false],
+    ];
+    calls_tell_ends(&rt, &mut core_of(rt.alloc(), &calls, 1, 100)?, &ends)
 }
 
 /// A core of two tasks, due at 5 and at 9, of which a call at 2 cancels the first.
@@ -226,98 +223,138 @@ fn two_timers<A: Allocator + Copy>(alloc: A) -> Result<Core<A>, Fail> {
     core_of(alloc, &calls, 1, 100)
 }
 
+/// Checks what a core needs for the calls up to each of these moments, and makes its next call where there is one.
+fn calls_need<A: Allocator>(
+    rt: &(impl AllocGlobal + Abort),
+    core: &mut Core<A>,
+    steps: &[(u64, Option<Need>)],
+) -> Result<(), Fail> {
+    let mut out = Vec::new(rt.alloc());
+    for (moment, need) in steps {
+        assert_eq!(rt; core.call_need(*moment), *need, "at {moment}");
+        if need.is_some() {
+            take(rt, core, Happening::Call, &mut out)?;
+        }
+    }
+    Ok(())
+}
+
 #[test]
 fn calls_are_needed_from_their_moments_on(rt: HostRuntime) -> Result<(), Fail> {
-    let mut core = two_timers(rt.alloc())?;
+    let steps = [
+        (0, Some(Need::Submit(0))),
+        (0, Some(Need::Submit(1))),
+        (1, None),
+        (2, Some(Need::Cancel(0))),
+        (u64::MAX, None),
+    ];
+    calls_need(&rt, &mut two_timers(rt.alloc())?, &steps)
+}
+
+/// Checks whether a task of a core is ripe after each of these happenings; none is before them.
+fn ripe_after<A: Allocator>(
+    rt: &(impl AllocGlobal + Abort),
+    core: &mut Core<A>,
+    steps: &[(Happening, bool)],
+) -> Result<(), Fail> {
     let mut out = Vec::new(rt.alloc());
-    assert_eq!(rt; core.call_need(0), Some(Need::Submit(0)));
-    take_all(
-        &rt,
-        &mut core,
-        &[Happening::Call, Happening::Call],
-        &mut out,
-    )?;
-    assert_eq!(rt; core.call_need(1), None);
-    assert_eq!(rt; core.call_need(2), Some(Need::Cancel(0)));
-    take(&rt, &mut core, Happening::Call, &mut out)?;
-    assert_eq!(rt; core.call_need(u64::MAX), None);
+    assert!(rt; !core.ripe());
+    for (happening, wanted) in steps {
+        take(rt, core, *happening, &mut out)?;
+        assert_eq!(rt; core.ripe(), *wanted, "after {happening:?}");
+    }
     Ok(())
 }
 
 #[test]
 fn a_waiting_task_is_ripe_at_its_due_moment(rt: HostRuntime) -> Result<(), Fail> {
+    let steps = [
+        (Happening::Call, false),
+        (Happening::Clock(4), false),
+        (Happening::Clock(5), true),
+        (Happening::Start(0), false),
+    ];
     let mut core = core_of(rt.alloc(), &[submission(0, 5)], 1, 100)?;
-    let mut out = Vec::new(rt.alloc());
-    assert!(rt; !core.ripe());
-    take_all(
-        &rt,
-        &mut core,
-        &[Happening::Call, Happening::Clock(4)],
-        &mut out,
-    )?;
-    assert!(rt; !core.ripe());
-    take(&rt, &mut core, Happening::Clock(5), &mut out)?;
-    assert!(rt; core.ripe());
-    take(&rt, &mut core, Happening::Start(0), &mut out)?;
-    assert!(rt; !core.ripe());
-    Ok(())
+    ripe_after(&rt, &mut core, &steps)
 }
 
 #[test]
 fn a_kept_task_is_ripe_until_a_start_meets_it(rt: HostRuntime) -> Result<(), Fail> {
-    let mut core = two_timers(rt.alloc())?;
+    let steps = [
+        (Happening::Call, false),
+        (Happening::Call, false),
+        (Happening::Call, false),
+        (Happening::Clock(4), false),
+        (Happening::Clock(5), true),
+        (Happening::Start(0), false),
+    ];
+    ripe_after(&rt, &mut two_timers(rt.alloc())?, &steps)
+}
+
+/// Checks the room of a core, and how many lines were said, after each of these happenings.
+fn room_after<A: Allocator>(
+    rt: &(impl AllocGlobal + Abort),
+    core: &mut Core<A>,
+    steps: &[(Happening, usize, usize)],
+) -> Result<(), Fail> {
     let mut out = Vec::new(rt.alloc());
-    let call = Happening::Call;
-    take_all(
-        &rt,
-        &mut core,
-        &[call, call, call, Happening::Clock(4)],
-        &mut out,
-    )?;
-    assert!(rt; !core.ripe());
-    take(&rt, &mut core, Happening::Clock(5), &mut out)?;
-    assert!(rt; core.ripe());
-    take(&rt, &mut core, Happening::Start(0), &mut out)?;
-    assert!(rt; !core.ripe());
+    for (happening, room, lines) in steps {
+        take(rt, core, *happening, &mut out)?;
+        assert_eq!(rt;
+            (core.room(), out.len()),
+            (*room, *lines),
+            "after {happening:?}"
+        );
+    }
     Ok(())
 }
 
 /// Room is one line, one for each call that is left, and one for each task that is not cancelled.
 #[test]
 fn room_falls_with_calls_and_cancels(rt: HostRuntime) -> Result<(), Fail> {
+    let steps = [
+        (Happening::Call, 5, 1),
+        (Happening::Call, 4, 2),
+        (Happening::Call, 2, 3),
+        (Happening::Cancel(0), 2, 4),
+        (Happening::Clock(9), 2, 5),
+        (Happening::Cancel(1), 1, 6),
+    ];
     let mut core = two_timers(rt.alloc())?;
-    let mut out = Vec::new(rt.alloc());
     assert_eq!(rt; core.room(), 6);
-    take_all(
-        &rt,
-        &mut core,
-        &[Happening::Call, Happening::Call],
-        &mut out,
-    )?;
-    assert_eq!(rt; core.room(), 4);
-    take(&rt, &mut core, Happening::Call, &mut out)?;
-    assert_eq!(rt; core.room(), 2);
-    take_all(
-        &rt,
-        &mut core,
-        &[Happening::Cancel(0), Happening::Clock(9)],
-        &mut out,
-    )?;
-    assert_eq!(rt; core.room(), 2);
-    take(&rt, &mut core, Happening::Cancel(1), &mut out)?;
-    assert_eq!(rt; (core.room(), out.len()), (1, 6));
+    room_after(&rt, &mut core, &steps)
+}
+
+/// Moves the clock of a core to each of these moments, and checks after each whether the core is full.
+fn full_after<A: Allocator, B: Allocator>(
+    rt: &impl Abort,
+    core: &mut Core<A>,
+    steps: &[(u64, bool)],
+    out: &mut Vec<Line, B>,
+) -> Result<(), Fail> {
+    for (moment, wanted) in steps {
+        take(rt, core, Happening::Clock(*moment), out)?;
+        assert_eq!(rt; core.full(), *wanted, "at {moment}");
+    }
     Ok(())
+}
+
+/// Checks that a core takes no more events than these, of each of which there is one line.
+fn takes_no_more<A: Allocator, B: Allocator>(
+    rt: &impl Abort,
+    core: &mut Core<A>,
+    events: u32,
+    out: &mut Vec<Line, B>,
+) {
+    assert_eq!(rt; (core.taken(), out.len()), (events, events as usize));
+    assert_eq!(rt; core.event(Event::Clock(3), out), Err(CoreError::Full));
 }
 
 #[test]
 fn no_event_is_counted_past_the_limit(rt: HostRuntime) -> Result<(), Fail> {
     let mut core = core_of(rt.alloc(), &[], 1, 2)?;
     let mut out = Vec::new(rt.alloc());
-    take(&rt, &mut core, Happening::Clock(1), &mut out)?;
-    assert!(rt; !core.full());
-    take(&rt, &mut core, Happening::Clock(2), &mut out)?;
-    assert!(rt; core.full());
-    assert_eq!(rt; (core.taken(), out.len()), (2, 2));
-    assert_eq!(rt; core.event(Event::Clock(3), &mut out), Err(CoreError::Full));
+    full_after(&rt, &mut core, &[(1, false), (2, true)], &mut out)?;
+    takes_no_more(&rt, &mut core, 2, &mut out);
     Ok(())
 }
