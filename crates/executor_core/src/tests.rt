@@ -58,6 +58,15 @@ fn give<A: Allocator, B: Allocator>(
     Ok(())
 }
 
+/// Why a core does not take this event, and none where it does.
+fn refusal_of<A: Allocator, B: Allocator>(
+    core: &mut Core<A>,
+    event: Event,
+    out: &mut Vec<Line, B>,
+) -> Option<CoreError> {
+    core.event(event, out).err()
+}
+
 /// The lines with which a core of these instructions answers these events, which it takes.
 fn lines_after(
     rt: &(impl AllocGlobal + Abort),

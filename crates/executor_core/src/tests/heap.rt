@@ -1,5 +1,5 @@
 //! Which calls take memory, and what a refusal gives back, over a heap of fixed size.
-use super::{code_of, core_of, give, nanos, submission, submissions};
+use super::{code_of, core_of, give, nanos, refusal_of, submission, submissions};
 use crate::{Core, CoreError, Event, Line};
 use linked_list_allocator::LocalHeap;
 use queue_code::Instr;
@@ -21,7 +21,7 @@ fn events_take_no_memory(
     let room = out.capacity();
     let used = heap.used();
     for event in events {
-        core.event(*event, out)?;
+        give(core, &[*event], out)?;
         assert_eq!(rt; heap.used(), used);
     }
     let numbers = (out.len(), core.now(), core.taken(), core.tasks());
@@ -149,7 +149,10 @@ fn refuses_without_memory(
 ) -> Result<(), Fail> {
     let _full = Vec::<u8, _>::with_capacity(heap, 440)?;
     let used = heap.used();
-    assert_eq!(rt; core.event(Event::Clock(0), out), Err(CoreError::Memory));
+    assert_eq!(rt;
+        refusal_of(core, Event::Clock(0), out),
+        Some(CoreError::Memory)
+    );
     assert_eq!(rt; (core.taken(), out.len(), heap.used()), (0, 0, used));
     Ok(())
 }

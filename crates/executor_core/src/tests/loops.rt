@@ -1,6 +1,6 @@
 //! Cores of codes with loops.
 use super::{core_of, give, lines_after};
-use crate::Event;
+use crate::{Core, Event};
 use linked_list_allocator::LocalHeap;
 use queue_code::Instr;
 use sched_time::Timing;
@@ -35,16 +35,27 @@ fn each_iteration_submits_and_cancels_its_own_task(rt: HostRuntime) -> Result<()
     Ok(())
 }
 
+/// Checks that a core over this heap asks so many times, and takes none of it.
+fn asks_take_no_memory(
+    rt: &(impl AllocGlobal + Abort),
+    heap: &LocalHeap,
+    core: &mut Core<&LocalHeap>,
+    times: u32,
+) -> Result<(), Fail> {
+    let used = heap.used();
+    let mut out = Vec::new(rt.alloc());
+    give(core, &[Event::Clock(65_536)], &mut out)?;
+    assert_eq!(rt; (out.len(), heap.used()), (times as usize + 1, used));
+    Ok(())
+}
+
 /// How much of a heap a core takes that asks so many times, before and after it has asked.
 fn used_by_loop(rt: &(impl AllocGlobal + Abort), times: u32) -> Result<usize, Fail> {
     let heap = LocalHeap::new(rt.alloc(), 1 << 10)?;
     let instrs = [Instr::Loop(times, 1), Instr::Ask(0), Instr::EndLoop];
     let mut core = core_of(&heap, &instrs, 1, 9)?;
-    let used = heap.used();
-    let mut out = Vec::new(rt.alloc());
-    give(&mut core, &[Event::Clock(65_536)], &mut out)?;
-    assert_eq!(rt; (out.len(), heap.used()), (times as usize + 1, used));
-    Ok(used)
+    asks_take_no_memory(rt, &heap, &mut core, times)?;
+    Ok(heap.used())
 }
 
 #[test]

@@ -1,5 +1,5 @@
 //! Single happenings, and what is told before each of them.
-use super::{core_of, nanos, submission};
+use super::{core_of, nanos, refusal_of, submission};
 use crate::{Core, CoreError, Event, Happening, Line, Need};
 use queue_code::Instr;
 use sched_time::{Ending, Timing, Which};
@@ -122,11 +122,10 @@ fn first_steps() -> [(Happening, Option<Need>, &'static str); 11] {
     ]
 }
 
-/// Runs of each outcome but that of a periodic task that does not go on, which is left under way.
-fn run_steps() -> [(Happening, Option<Need>, &'static str); 13] {
+/// Runs that end with a value, the first of them of a periodic task; before them a start and an end that change nothing.
+fn value_steps() -> [(Happening, Option<Need>, &'static str); 7] {
     let start = Happening::Start(0);
     let end = Happening::Finish(0, Ending::Value(1));
-    let fail = Happening::Finish(0, Ending::Fault(3));
     let none = Some(Need::Nothing);
     [
         (Happening::Start(1), none, " n0 n0 n0 n0! n0 n0 v0 v0"),
@@ -136,11 +135,19 @@ fn run_steps() -> [(Happening, Option<Need>, &'static str); 13] {
         (end, Some(Need::Rearm(0)), " n1 n0 n0 n0! n0 n0 v0 v0"),
         (start, Some(Need::Start(1)), " n1 r0 n0 n0! n0 n0 v0 v0"),
         (end, Some(Need::Done(1)), " n1 d0 n0 n0! n0 n0 v0 v0"),
+    ]
+}
+
+/// Runs that fail, the second of them of a cancelled task, and then that of a periodic task, which is left under way.
+fn fault_steps() -> [(Happening, Option<Need>, &'static str); 6] {
+    let start = Happening::Start(0);
+    let fail = Happening::Finish(0, Ending::Fault(3));
+    [
         (start, Some(Need::Start(2)), " n1 d0 r0 n0! n0 n0 v0 v0"),
         (fail, Some(Need::Fail(2)), " n1 d0 f0 n0! n0 n0 v0 v0"),
         (start, Some(Need::Start(4)), " n1 d0 f0 n0! r0 n0 v0 v0"),
         (Happening::Cancel(4), None, " n1 d0 f0 n0! r0! n0 v0 v0"),
-        (fail, none, " n1 d0 f0 n0! r0! n0 v0 v0"),
+        (fail, Some(Need::Nothing), " n1 d0 f0 n0! r0! n0 v0 v0"),
         (start, Some(Need::Start(5)), " n1 d0 f0 n0! r0! r0 v0 v0"),
     ]
 }
@@ -167,7 +174,8 @@ fn last_steps() -> [(Happening, Option<Need>, &'static str); 8] {
 fn needs_name_the_moves_of_words(rt: HostRuntime) -> Result<(), Fail> {
     let mut core = core_of(rt.alloc(), &all_calls()?, 1, 100)?;
     needs_say(&rt, &mut core, &first_steps())?;
-    needs_say(&rt, &mut core, &run_steps())?;
+    needs_say(&rt, &mut core, &value_steps())?;
+    needs_say(&rt, &mut core, &fault_steps())?;
     needs_say(&rt, &mut core, &last_steps())?;
     assert_eq!(rt; (core.taken(), core.now(), core.room()), (32, 9, 5));
     Ok(())
@@ -347,7 +355,10 @@ fn takes_no_more<A: Allocator, B: Allocator>(
     out: &mut Vec<Line, B>,
 ) {
     assert_eq!(rt; (core.taken(), out.len()), (events, events as usize));
-    assert_eq!(rt; core.event(Event::Clock(3), out), Err(CoreError::Full));
+    assert_eq!(rt;
+        refusal_of(core, Event::Clock(3), out),
+        Some(CoreError::Full)
+    );
 }
 
 #[test]

@@ -1,5 +1,5 @@
 //! Cores and lines of several sizes, with ample memory.
-use super::{code_of, core_of, give, lines_after, submissions};
+use super::{code_of, core_of, give, lines_after, refusal_of, submissions};
 use crate::{Answer, Core, CoreError, Event, Line, Message};
 use queue_code::MOST_CALLS;
 use std::alloc::Allocator;
@@ -70,7 +70,10 @@ fn takes_three_starts<A: Allocator>(
     out: &mut Vec<Line, A>,
 ) -> Result<(), Fail> {
     give(core, &[Event::Start(0); 3], out)?;
-    assert_eq!(rt; core.event(Event::Start(0), out), Err(CoreError::Full));
+    assert_eq!(rt;
+        refusal_of(core, Event::Start(0), out),
+        Some(CoreError::Full)
+    );
     assert_eq!(rt; (core.taken(), out.len()), (3, 3));
     Ok(())
 }

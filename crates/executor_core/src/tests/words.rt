@@ -1,5 +1,5 @@
 //! What the words of the tasks say after each event.
-use super::{core_of, nanos, submission};
+use super::{core_of, give, nanos, submission};
 use crate::{Core, Event, Line};
 use queue_code::Instr;
 use sched_time::{Ending, Timing, Which};
@@ -30,7 +30,7 @@ fn words_say_after<A: Allocator>(
     steps: &[(Event, &str)],
 ) -> Result<(), Fail> {
     for (event, said) in steps {
-        core.event(*event, out)?;
+        give(core, &[*event], out)?;
         let text = text_of_words(rt.alloc(), core.words())?;
         assert_eq!(rt; text.as_str(), *said, "after {event:?}");
     }
