@@ -1,7 +1,8 @@
 //! Plan texts by hand: each fault at each of its places, limits, and what a plan keeps.
-use crate::{Block, Op, Plan, PlanFault, PlanFaultKind, Target, read_plan};
-use sched_time::{Unit, Which, span};
+use crate::{Block, Call, Op, Plan, PlanFault, PlanFaultKind, read_plan};
+use sched_time::Span;
 use std::alloc::Global;
+use std::process::Abort;
 use std::test::Fail;
 
 /// What stands before the keys of a plan's only block.
@@ -51,10 +52,102 @@ fn first_wrong<'a>(alloc: Global, front: &str, table: &'a str) -> Result<Option<
     Ok(None)
 }
 
-/// The blocks of a plan by the number of their calls.
-fn sizes(rt: &impl AllocGlobal, plan: &Plan<Global>) -> Result<Vec<usize>, Fail> {
-    let sizes = plan.blocks().iter().map(|block| block.calls().len());
-    Ok(sizes.collect(rt.alloc())?)
+/// Checks what is told of each text of a table.
+fn tells_each(rt: &(impl AllocGlobal + Abort), front: &str, table: &str) -> Result<(), Fail> {
+    assert_eq!(rt; first_wrong(rt.alloc(), front, table)?, None);
+    Ok(())
+}
+
+/// Checks what is told of a text.
+fn tells(rt: &(impl AllocGlobal + Abort), text: &str, fault: &str) -> Result<(), Fail> {
+    let answer = told(rt.alloc(), text)?;
+    assert!(rt; answer.as_str() == fault);
+    Ok(())
+}
+
+/// Whether a plan has so many blocks, with so many calls in each.
+fn has_sizes(plan: &Plan<Global>, blocks: usize, calls: usize) -> bool {
+    plan.blocks().len() == blocks
+        && plan
+            .blocks()
+            .iter()
+            .all(|block| block.calls().len() == calls)
+}
+
+/// Checks how many blocks the plan of a text has, and how many calls each of them has.
+fn reads_sizes(
+    rt: &(impl AllocGlobal + Abort),
+    text: &str,
+    blocks: usize,
+    calls: usize,
+) -> Result<(), Fail> {
+    let plan = read(rt.alloc(), text.as_bytes())?;
+    assert!(rt; has_sizes(&plan, blocks, calls), "{text}");
+    Ok(())
+}
+
+/// Writes a period or a fixed delay, in nanoseconds.
+fn write_period(out: &mut String, period: Option<Span>) -> Result<(), Fail> {
+    match period {
+        Some(period) => write!(out, "{}", period.nanos())?,
+        None => out.push_str("none")?,
+    }
+    Ok(())
+}
+
+/// Writes a call as words: its offset, what it asks for, and its times in nanoseconds.
+fn write_call(out: &mut String, call: &Call) -> Result<(), Fail> {
+    write!(out, "{} ", call.at)?;
+    match &call.op {
+        Op::Schedule { name, delay } => {
+            write!(out, "schedule {} {}", name.as_str(), delay.nanos())?;
+        }
+        Op::Rate {
+            name,
+            first,
+            period,
+        } => {
+            write!(out, "rate {} {} ", name.as_str(), first.nanos())?;
+            write_period(out, *period)?;
+        }
+        Op::Fixed { name, first, delay } => {
+            write!(out, "fixed {} {} ", name.as_str(), first.nanos())?;
+            write_period(out, *delay)?;
+        }
+        Op::Cancel(target) => write!(out, "cancel {} {}", target.block, target.sub)?,
+        Op::Policy { which, value } => write!(out, "policy {which:?} {value}")?,
+        Op::Shutdown => out.push_str("shutdown")?,
+        Op::Ask => out.push_str("ask")?,
+    }
+    out.push('\n')?;
+    Ok(())
+}
+
+/// Writes a block: its moment, its unit, how often its calls are made and how far apart, and then its calls.
+fn write_block(out: &mut String, block: &Block<Global>) -> Result<(), Fail> {
+    write!(
+        out,
+        "block {} {:?} {} {}\n",
+        block.at(),
+        block.unit(),
+        block.times(),
+        block.every()
+    )?;
+    for call in block.calls() {
+        write_call(out, call)?;
+    }
+    Ok(())
+}
+
+/// Checks the blocks and the calls of the plan of a text, a line for each.
+fn reads(rt: &(impl AllocGlobal + Abort), text: &str, lines: &str) -> Result<(), Fail> {
+    let plan = read(rt.alloc(), text.as_bytes())?;
+    let mut out = String::new(rt.alloc());
+    for block in plan.blocks() {
+        write_block(&mut out, block)?;
+    }
+    assert!(rt; out.as_str() == lines, "{text}");
+    Ok(())
 }
 
 /// Each fault by an example.
@@ -79,30 +172,28 @@ TooMany block 1 call 0 | version = 1 / [[block]] / times = 65536 / every = 0 / [
 
 #[test]
 fn answers_each_example(rt: HostRuntime) -> Result<(), Fail> {
-    assert_eq!(rt; first_wrong(rt.alloc(), "", EXAMPLES)?, None);
-    Ok(())
+    tells_each(&rt, "", EXAMPLES)
 }
 
 #[test]
 fn refuses_long_texts(rt: HostRuntime) -> Result<(), Fail> {
-    let alloc = rt.alloc();
-    let long = " ".repeat(alloc, 1_048_577)?;
-    assert!(rt; told(alloc, long.as_str())?.as_str() == "TooLong block 0 call 0");
-    let long = "=".repeat(alloc, 1_048_577)?;
-    assert!(rt; told(alloc, long.as_str())?.as_str() == "TooLong block 0 call 0");
-    let longest = " ".repeat(alloc, 1_048_576)?;
-    assert!(rt; told(alloc, longest.as_str())?.as_str() == "Version block 0 call 0");
+    for (byte, length, fault) in [
+        (" ", 1_048_577usize, "TooLong block 0 call 0"),
+        ("=", 1_048_577, "TooLong block 0 call 0"),
+        (" ", 1_048_576, "Version block 0 call 0"),
+    ] {
+        let text = byte.repeat(rt.alloc(), length)?;
+        tells(&rt, text.as_str(), fault)?;
+    }
     Ok(())
 }
 
 #[test]
 fn takes_a_plan_of_the_longest_text(rt: HostRuntime) -> Result<(), Fail> {
-    let alloc = rt.alloc();
-    let rest = " ".repeat(alloc, 1_048_565)?;
-    let text = format!(in alloc; "version = 1{rest}")?;
+    let rest = " ".repeat(rt.alloc(), 1_048_565)?;
+    let text = format!(in rt.alloc(); "version = 1{rest}")?;
     assert!(rt; text.len() == 1_048_576);
-    assert!(rt; told(alloc, text.as_str())?.as_str() == "plan");
-    Ok(())
+    tells(&rt, text.as_str(), "plan")
 }
 
 /// Texts that are no TOML document.
@@ -113,17 +204,19 @@ Toml block 0 call 0 | version = 1 / [[block]] / at = 9223372036854775808"#;
 
 #[test]
 fn refuses_at_the_text(rt: HostRuntime) -> Result<(), Fail> {
-    let alloc = rt.alloc();
-    assert_eq!(rt; first_wrong(alloc, "", NO_TOML)?, None);
-    assert!(rt; told(alloc, "")?.as_str() == "Version block 0 call 0");
-    let fault = read(alloc, b"\xff").err();
+    tells_each(&rt, "", NO_TOML)?;
+    tells(&rt, "", "Version block 0 call 0")
+}
+
+#[test]
+fn refuses_bytes_that_are_not_utf_8(rt: HostRuntime) {
+    let fault = read(rt.alloc(), b"\xff").err();
     let toml = PlanFault {
         kind: PlanFaultKind::Toml,
         block: 0,
         call: 0,
     };
     assert!(rt; fault == Some(toml));
-    Ok(())
 }
 
 /// Faults at the top.
@@ -139,8 +232,7 @@ WrongType block 0 call 0 | version = 1 / [block]"#;
 
 #[test]
 fn refuses_at_the_top(rt: HostRuntime) -> Result<(), Fail> {
-    assert_eq!(rt; first_wrong(rt.alloc(), "", TOPS)?, None);
-    Ok(())
+    tells_each(&rt, "", TOPS)
 }
 
 /// Faults of a header.
@@ -164,8 +256,7 @@ TooLarge block 1 call 0 | unit = "s" / at = 9223372036854775807"#;
 
 #[test]
 fn refuses_at_the_header(rt: HostRuntime) -> Result<(), Fail> {
-    assert_eq!(rt; first_wrong(rt.alloc(), HEADER, HEADERS)?, None);
-    Ok(())
+    tells_each(&rt, HEADER, HEADERS)
 }
 
 /// Headers with two faults, each in both orders.
@@ -184,11 +275,7 @@ Negative block 1 call 0 | at = 4611686018427387905 / every = -1"#;
 
 #[test]
 fn tells_the_first_fault_of_a_header(rt: HostRuntime) -> Result<(), Fail> {
-    assert_eq!(rt;
-        first_wrong(rt.alloc(), HEADER, HEADERS_OF_TWO_FAULTS)?,
-        None
-    );
-    Ok(())
+    tells_each(&rt, HEADER, HEADERS_OF_TWO_FAULTS)
 }
 
 /// Faults of a second block, behind one that begins at 100.
@@ -204,8 +291,7 @@ plan | [[block]] / at = 99 / [[block]] / at = 99"#;
 
 #[test]
 fn refuses_a_header_after_another_block(rt: HostRuntime) -> Result<(), Fail> {
-    assert_eq!(rt; first_wrong(rt.alloc(), LATE_BLOCK, LATER_HEADERS)?, None);
-    Ok(())
+    tells_each(&rt, LATE_BLOCK, LATER_HEADERS)
 }
 
 /// Faults of a call.
@@ -244,8 +330,7 @@ TooLarge block 1 call 1 | op = "fixed" / name = "a" / first = 1 / delay = 922337
 
 #[test]
 fn refuses_at_a_call(rt: HostRuntime) -> Result<(), Fail> {
-    assert_eq!(rt; first_wrong(rt.alloc(), CALL, CALLS)?, None);
-    Ok(())
+    tells_each(&rt, CALL, CALLS)
 }
 
 /// Faults of a policy, a shutdown and a question.
@@ -276,8 +361,7 @@ TooLarge block 1 call 1 | op = "ask" / at = 9223372036854775807"#;
 
 #[test]
 fn refuses_a_policy_a_shutdown_and_a_question(rt: HostRuntime) -> Result<(), Fail> {
-    assert_eq!(rt; first_wrong(rt.alloc(), CALL, OTHER_CALLS)?, None);
-    Ok(())
+    tells_each(&rt, CALL, OTHER_CALLS)
 }
 
 /// Policies, shutdowns and questions in repeated blocks; none is a submission that a cancel could name.
@@ -305,8 +389,7 @@ UnknownName block 1 call 2 | call = [{ op = "ask" }, { op = "cancel", name = "as
 fn refuses_a_policy_a_shutdown_and_a_question_in_a_repeated_block(
     rt: HostRuntime,
 ) -> Result<(), Fail> {
-    assert_eq!(rt; first_wrong(rt.alloc(), HEADER, REPEATED_OTHERS)?, None);
-    Ok(())
+    tells_each(&rt, HEADER, REPEATED_OTHERS)
 }
 
 /// Calls with two faults, each in both orders.
@@ -339,8 +422,7 @@ WrongType block 1 call 1 | at = "-1" / op = "ask""#;
 
 #[test]
 fn tells_the_first_fault_of_a_call(rt: HostRuntime) -> Result<(), Fail> {
-    assert_eq!(rt; first_wrong(rt.alloc(), CALL, CALLS_OF_TWO_FAULTS)?, None);
-    Ok(())
+    tells_each(&rt, CALL, CALLS_OF_TWO_FAULTS)
 }
 
 /// Faults of a second call.
@@ -357,8 +439,7 @@ TooLarge block 1 call 2 | call = [{ op = "schedule", name = "a", delay = 1, at =
 
 #[test]
 fn tells_the_first_fault_of_a_later_call(rt: HostRuntime) -> Result<(), Fail> {
-    assert_eq!(rt; first_wrong(rt.alloc(), HEADER, LATER_CALLS)?, None);
-    Ok(())
+    tells_each(&rt, HEADER, LATER_CALLS)
 }
 
 /// Names of a third block.
@@ -373,8 +454,7 @@ UnknownName block 3 call 1 | times = 2 / every = 5 / call = [{ op = "schedule", 
 
 #[test]
 fn refuses_names_over_all_blocks(rt: HostRuntime) -> Result<(), Fail> {
-    assert_eq!(rt; first_wrong(rt.alloc(), HEADER, NAMES_OF_BLOCKS)?, None);
-    Ok(())
+    tells_each(&rt, HEADER, NAMES_OF_BLOCKS)
 }
 
 /// Calls of blocks by their headers and offsets.
@@ -391,75 +471,81 @@ TooLarge block 1 call 1 | at = 4 / times = 3 / every = 2305843009213693948 / cal
 
 #[test]
 fn refuses_calls_of_a_repeated_block(rt: HostRuntime) -> Result<(), Fail> {
-    assert_eq!(rt; first_wrong(rt.alloc(), HEADER, REPEATED_CALLS)?, None);
-    Ok(())
+    tells_each(&rt, HEADER, REPEATED_CALLS)
+}
+
+/// The longest moment of each unit, and one that is too long.
+const LONGEST: &str = r#"TooLarge block 1 call 0 | unit = "ns" / at = 4611686018427387905
+plan | unit = "ns" / at = 4611686018427387904
+TooLarge block 1 call 0 | unit = "ns" / every = 4611686018427387905
+plan | unit = "ns" / every = 4611686018427387904
+TooLarge block 1 call 1 | unit = "ns" / [[block.call]] / op = "schedule" / name = "a" / delay = 0 / at = 4611686018427387905
+TooLarge block 1 call 1 | unit = "ns" / [[block.call]] / op = "schedule" / name = "a" / delay = 4611686018427387905
+TooLarge block 1 call 0 | unit = "us" / at = 4611686018427388
+plan | unit = "us" / at = 4611686018427387
+TooLarge block 1 call 0 | unit = "us" / every = 4611686018427388
+plan | unit = "us" / every = 4611686018427387
+TooLarge block 1 call 1 | unit = "us" / [[block.call]] / op = "schedule" / name = "a" / delay = 0 / at = 4611686018427388
+TooLarge block 1 call 1 | unit = "us" / [[block.call]] / op = "schedule" / name = "a" / delay = 4611686018427388
+TooLarge block 1 call 0 | unit = "ms" / at = 4611686018428
+plan | unit = "ms" / at = 4611686018427
+TooLarge block 1 call 0 | unit = "ms" / every = 4611686018428
+plan | unit = "ms" / every = 4611686018427
+TooLarge block 1 call 1 | unit = "ms" / [[block.call]] / op = "schedule" / name = "a" / delay = 0 / at = 4611686018428
+TooLarge block 1 call 1 | unit = "ms" / [[block.call]] / op = "schedule" / name = "a" / delay = 4611686018428
+TooLarge block 1 call 0 | unit = "s" / at = 4611686019
+plan | unit = "s" / at = 4611686018
+TooLarge block 1 call 0 | unit = "s" / every = 4611686019
+plan | unit = "s" / every = 4611686018
+TooLarge block 1 call 1 | unit = "s" / [[block.call]] / op = "schedule" / name = "a" / delay = 0 / at = 4611686019
+TooLarge block 1 call 1 | unit = "s" / [[block.call]] / op = "schedule" / name = "a" / delay = 4611686019"#;
+
+#[test]
+fn refuses_more_than_the_longest_of_each_unit(rt: HostRuntime) -> Result<(), Fail> {
+    tells_each(&rt, HEADER, LONGEST)
 }
 
 #[test]
 fn takes_the_longest_of_each_unit(rt: HostRuntime) -> Result<(), Fail> {
-    for (unit, longest, nanos) in [
+    for (text, lines) in [
         (
-            "ns",
-            4_611_686_018_427_387_904u64,
-            4_611_686_018_427_387_904u64,
+            "version = 1\n[[block]]\nunit = \"ns\"\n[[block.call]]\nop = \"schedule\"\nname = \"a\"\ndelay = 4611686018427387904\nat = 4611686018427387904",
+            "block 0 Ns 1 0\n4611686018427387904 schedule a 4611686018427387904\n",
         ),
-        ("us", 4_611_686_018_427_387, 4_611_686_018_427_387_000),
-        ("ms", 4_611_686_018_427, 4_611_686_018_427_000_000),
-        ("s", 4_611_686_018, 4_611_686_018_000_000_000),
+        (
+            "version = 1\n[[block]]\nunit = \"us\"\n[[block.call]]\nop = \"schedule\"\nname = \"a\"\ndelay = 4611686018427387\nat = 4611686018427387",
+            "block 0 Us 1 0\n4611686018427387000 schedule a 4611686018427387000\n",
+        ),
+        (
+            "version = 1\n[[block]]\nunit = \"ms\"\n[[block.call]]\nop = \"schedule\"\nname = \"a\"\ndelay = 4611686018427\nat = 4611686018427",
+            "block 0 Ms 1 0\n4611686018427000000 schedule a 4611686018427000000\n",
+        ),
+        (
+            "version = 1\n[[block]]\nunit = \"s\"\n[[block.call]]\nop = \"schedule\"\nname = \"a\"\ndelay = 4611686018\nat = 4611686018",
+            "block 0 S 1 0\n4611686018000000000 schedule a 4611686018000000000\n",
+        ),
     ] {
-        let more = longest + 1;
-        let front = format!(in rt.alloc(); "version = 1\n[[block]]\nunit = \"{unit}\"\n")?;
-        let text = format!(in rt.alloc();
-            "{front}[[block.call]]\nop = \"schedule\"\nname = \"a\"\ndelay = {longest}\nat = {longest}"
-        )?;
-        let plan = read(rt.alloc(), text.as_bytes())?;
-        let call = plan
-            .blocks()
-            .first()
-            .and_then(|block| block.calls().first())
-            .ok_or("no call")?;
-        assert_eq!(rt; call.at, nanos);
-        let Op::Schedule { delay, .. } = &call.op else {
-            return Err("not a schedule".into());
-        };
-        assert_eq!(rt; delay.nanos(), nanos);
-        for lines in ["at = ", "every = "] {
-            let text = format!(in rt.alloc(); "{front}{lines}{more}")?;
-            assert!(rt; told(rt.alloc(), text.as_str())?.as_str() == "TooLarge block 1 call 0");
-            let text = format!(in rt.alloc(); "{front}{lines}{longest}")?;
-            assert!(rt; told(rt.alloc(), text.as_str())?.as_str() == "plan");
-        }
-        for keys in ["delay = 0\nat = ", "delay = "] {
-            let text = format!(in rt.alloc();
-                "{front}[[block.call]]\nop = \"schedule\"\nname = \"a\"\n{keys}{more}"
-            )?;
-            assert!(rt; told(rt.alloc(), text.as_str())?.as_str() == "TooLarge block 1 call 1");
-        }
+        reads(&rt, text, lines)?;
     }
     Ok(())
 }
 
 #[test]
 fn takes_negative_delays_as_none(rt: HostRuntime) -> Result<(), Fail> {
-    let text =
-        "version = 1\n[[block]]\nunit = \"s\"\ncall = [{ op = \"schedule\", name = \"a\", delay = -9223372036854775808 }]";
-    let plan = read(rt.alloc(), text.as_bytes())?;
-    let call = plan
-        .blocks()
-        .first()
-        .and_then(|block| block.calls().first())
-        .ok_or("no call")?;
-    let Op::Schedule { delay, .. } = &call.op else {
-        return Err("not a schedule".into());
-    };
-    assert_eq!(rt; delay.nanos(), 0);
-    Ok(())
+    reads(
+        &rt,
+        "version = 1
+[[block]]
+unit = \"s\"
+call = [{ op = \"schedule\", name = \"a\", delay = -9223372036854775808 }]",
+        "block 0 S 1 0\n0 schedule a 0\n",
+    )
 }
 
 #[test]
 fn reads_plans_without_calls(rt: HostRuntime) -> Result<(), Fail> {
     for (text, blocks) in [
-        ("version = 1", 0),
+        ("version = 1", 0usize),
         ("version = 1\nblock = []", 0),
         ("version = 1\n[[block]]", 1),
         ("version = 1\n[[block]]\ncall = []\n[[block]]", 2),
@@ -468,19 +554,16 @@ fn reads_plans_without_calls(rt: HostRuntime) -> Result<(), Fail> {
             1,
         ),
     ] {
-        let plan = read(rt.alloc(), text.as_bytes())?;
-        assert!(rt; plan.blocks().len() == blocks, "{text}");
-        assert!(rt;
-            plan.blocks().iter().all(|block| block.calls().is_empty()),
-            "{text}"
-        );
+        reads_sizes(&rt, text, blocks, 0)?;
     }
     Ok(())
 }
 
 #[test]
 fn keeps_the_parts_of_a_plan(rt: HostRuntime) -> Result<(), Fail> {
-    let text = "version = 1
+    reads(
+        &rt,
+        "version = 1
 [[block]]
 at = 7
 unit = \"us\"
@@ -492,50 +575,20 @@ call = [
 ]
 [[block]]
 at = 1000000
-";
-    let plan = read(rt.alloc(), text.as_bytes())?;
-    let [first_block, second] = plan.blocks() else {
-        return Err("not two blocks".into());
-    };
-    assert_eq!(rt; second.at(), 1_000_000);
-    assert_eq!(rt;
-        (second.unit(), second.times(), second.every()),
-        (Unit::Ns, 1, 0)
-    );
-    assert!(rt; keeps_the_header(first_block));
-    let [often, never] = first_block.calls() else {
-        return Err("not two calls".into());
-    };
-    let Op::Rate {
-        name,
-        first,
-        period,
-    } = &often.op
-    else {
-        return Err("not a rate".into());
-    };
-    assert_eq!(rt; often.at, 2_000);
-    assert_eq!(rt; name.as_str(), "Az-_09");
-    assert_eq!(rt; first.nanos(), 4_000);
-    assert_eq!(rt; *period, Some(span(5, Unit::Us)?));
-    let Op::Fixed { name, first, delay } = &never.op else {
-        return Err("not a fixed".into());
-    };
-    assert_eq!(rt; never.at, 9_000);
-    assert_eq!(rt; name.as_str(), "never");
-    assert_eq!(rt; first.nanos(), 6_000);
-    assert_eq!(rt; *delay, None);
-    Ok(())
-}
-
-/// Whether a block begins at 7 microseconds and is made twice, 9 microseconds apart.
-fn keeps_the_header(block: &Block<Global>) -> bool {
-    block.at() == 7_000 && block.unit() == Unit::Us && block.times() == 2 && block.every() == 9_000
+",
+        "block 7000 Us 2 9000
+2000 rate Az-_09 4000 5000
+9000 fixed never 6000 none
+block 1000000 Ns 1 0
+",
+    )
 }
 
 #[test]
 fn keeps_policies_shutdowns_and_questions(rt: HostRuntime) -> Result<(), Fail> {
-    let text = "version = 1
+    reads(
+        &rt,
+        "version = 1
 [[block]]
 unit = \"us\"
 call = [
@@ -545,49 +598,22 @@ call = [
   { op = \"shutdown\", at = 2 },
   { op = \"ask\", at = 3 },
 ]
-";
-    let plan = read(rt.alloc(), text.as_bytes())?;
-    let block = plan.blocks().first().ok_or("no block")?;
-    let [first, second, third, shutdown, ask] = block.calls() else {
-        return Err("not five calls".into());
-    };
-    assert!(rt;
-        matches!(
-            first.op,
-            Op::Policy {
-                which: Which::Continue,
-                value: true
-            }
-        )
-    );
-    assert!(rt;
-        matches!(
-            second.op,
-            Op::Policy {
-                which: Which::Execute,
-                value: false
-            }
-        )
-    );
-    assert!(rt;
-        matches!(
-            third.op,
-            Op::Policy {
-                which: Which::Remove,
-                value: true
-            }
-        )
-    );
-    assert_eq!(rt; (second.at, third.at), (1_000, 2_000));
-    assert!(rt; matches!(shutdown.op, Op::Shutdown));
-    assert!(rt; matches!(ask.op, Op::Ask));
-    assert_eq!(rt; (shutdown.at, ask.at), (2_000, 3_000));
-    Ok(())
+",
+        "block 0 Us 1 0
+0 policy Continue true
+1000 policy Execute false
+2000 policy Remove true
+2000 shutdown
+3000 ask
+",
+    )
 }
 
 #[test]
 fn keeps_the_target_of_a_cancel(rt: HostRuntime) -> Result<(), Fail> {
-    let text = "version = 1
+    reads(
+        &rt,
+        "version = 1
 [[block]]
 call = [
   { op = \"schedule\", name = \"a\", delay = 1 },
@@ -602,28 +628,34 @@ call = [
   { op = \"fixed\", name = \"d\", first = 1, delay = 1 },
   { op = \"cancel\", name = \"d\", at = 5 },
 ]
-";
-    let plan = read(rt.alloc(), text.as_bytes())?;
-    let block = plan.blocks().last().ok_or("no block")?;
-    let [_, first, _, last] = block.calls() else {
-        return Err("not four calls".into());
-    };
-    let (Op::Cancel(first), Op::Cancel(target)) = (&first.op, &last.op) else {
-        return Err("not two cancels".into());
-    };
-    assert_eq!(rt; *first, Target { block: 0, sub: 1 });
-    assert_eq!(rt; *target, Target { block: 1, sub: 1 });
-    assert_eq!(rt; last.at, 5);
-    Ok(())
+",
+        "block 0 Ns 1 0
+0 schedule a 1
+0 rate b 1 none
+block 0 Ns 2 5
+0 schedule c 1
+0 cancel 0 1
+0 fixed d 1 1
+5 cancel 1 1
+",
+    )
 }
 
 #[test]
 fn takes_names_of_32_bytes(rt: HostRuntime) -> Result<(), Fail> {
-    let longest = "n".repeat(rt.alloc(), 32)?;
-    let text = format!(in rt.alloc(); "{CALL}op = \"schedule\"\ndelay = 0\nname = \"{longest}\"")?;
-    assert!(rt; told(rt.alloc(), text.as_str())?.as_str() == "plan");
-    let text = format!(in rt.alloc(); "{CALL}op = \"schedule\"\ndelay = 0\nname = \"{longest}n\"")?;
-    assert!(rt; told(rt.alloc(), text.as_str())?.as_str() == "BadName block 1 call 1");
+    for (length, fault) in [(32usize, "plan"), (33, "BadName block 1 call 1")] {
+        let name = "n".repeat(rt.alloc(), length)?;
+        let text = format!(in rt.alloc(); "{CALL}op = \"schedule\"\ndelay = 0\nname = \"{name}\"")?;
+        tells(&rt, text.as_str(), fault)?;
+    }
+    Ok(())
+}
+
+/// Writes this number of calls, whose names are those of no other block.
+fn write_calls(text: &mut String, block: u32, calls: u32) -> Result<(), Fail> {
+    for call in 0..calls {
+        write!(text, "{{op=\"schedule\",name=\"{block}-{call}\",delay=0}},")?;
+    }
     Ok(())
 }
 
@@ -632,9 +664,7 @@ fn with_calls(rt: &impl AllocGlobal, blocks: u32, calls: u32) -> Result<String, 
     let mut text = String::from_str(rt.alloc(), "version=1\n")?;
     for block in 0..blocks {
         text.push_str("[[block]]\ncall=[")?;
-        for call in 0..calls {
-            write!(text, "{{op=\"schedule\",name=\"{block}-{call}\",delay=0}},")?;
-        }
+        write_calls(&mut text, block, calls)?;
         text.push_str("]\n")?;
     }
     Ok(text)
@@ -642,25 +672,21 @@ fn with_calls(rt: &impl AllocGlobal, blocks: u32, calls: u32) -> Result<String, 
 
 #[test]
 fn takes_256_calls_of_a_block(rt: HostRuntime) -> Result<(), Fail> {
-    let plan = read(rt.alloc(), with_calls(&rt, 2, 256)?.as_bytes())?;
-    assert_eq!(rt; sizes(&rt, &plan)?.as_slice(), [256usize, 256].as_slice());
+    let text = with_calls(&rt, 2, 256)?;
+    reads_sizes(&rt, text.as_str(), 2, 256)?;
     let text = with_calls(&rt, 1, 257)?;
-    assert!(rt; told(rt.alloc(), text.as_str())?.as_str() == "TooMany block 1 call 0");
-    Ok(())
+    tells(&rt, text.as_str(), "TooMany block 1 call 0")
 }
 
 #[test]
 fn takes_256_blocks(rt: HostRuntime) -> Result<(), Fail> {
-    let plan = read(rt.alloc(), with_calls(&rt, 256, 1)?.as_bytes())?;
-    assert_eq!(rt; plan.blocks().len(), 256);
+    let text = with_calls(&rt, 256, 1)?;
+    reads_sizes(&rt, text.as_str(), 256, 1)?;
     let text = with_calls(&rt, 257, 0)?;
-    assert!(rt; told(rt.alloc(), text.as_str())?.as_str() == "TooMany block 0 call 0");
-    let text = format!(in rt.alloc();
-        "version = 1\nblock = [{}1]",
-        "{},".repeat(rt.alloc(), 257)?
-    )?;
-    assert!(rt; told(rt.alloc(), text.as_str())?.as_str() == "WrongType block 0 call 0");
-    Ok(())
+    tells(&rt, text.as_str(), "TooMany block 0 call 0")?;
+    let blocks = "{},".repeat(rt.alloc(), 257)?;
+    let text = format!(in rt.alloc(); "version = 1\nblock = [{blocks}1]")?;
+    tells(&rt, text.as_str(), "WrongType block 0 call 0")
 }
 
 /// As many calls as a plan may have, and more.
@@ -675,8 +701,7 @@ TooMany block 1 call 0 | times = 32769 / every = 0 / call = [{ op = "schedule", 
 
 #[test]
 fn takes_65536_calls_of_a_plan(rt: HostRuntime) -> Result<(), Fail> {
-    assert_eq!(rt; first_wrong(rt.alloc(), HEADER, MANY_CALLS)?, None);
-    Ok(())
+    tells_each(&rt, HEADER, MANY_CALLS)
 }
 
 #[test]
@@ -687,11 +712,7 @@ fn reads_as_many_names_as_fit(rt: HostRuntime) -> Result<(), Fail> {
         "{}",
         text.len()
     );
-    let plan = read(rt.alloc(), text.as_bytes())?;
-    let sizes = sizes(&rt, &plan)?;
-    assert_eq!(rt; sizes.len(), 108);
-    assert!(rt; sizes.iter().all(|size| *size == 256));
-    Ok(())
+    reads_sizes(&rt, text.as_str(), 108, 256)
 }
 
 #[test]
