@@ -1,115 +1,83 @@
 //! What the command line takes.
 
 use crate::arguments::Asked;
-use std::alloc::{AllocError, Global};
+use std::alloc::Global;
+use std::process::Abort;
 use std::test::Fail;
 
-/// The arguments of a command line, as the system gives them.
-fn owned(alloc: Global, arguments: &[&str]) -> Result<Vec<String>, AllocError> {
-    let mut all = Vec::new(alloc);
-    for argument in arguments {
-        all.push(String::from_str(alloc, argument)?)?;
-    }
-    Ok(all)
+/// What the arguments of a command line ask for, in words, or the status with which they end the program.
+fn in_words(alloc: Global, arguments: &[String]) -> Result<String, Fail> {
+    let words = match Asked::parse(alloc, arguments) {
+        Ok(Asked::Run(asked)) => {
+            format!(in alloc; "run {} {} {}", asked.path, asked.workers, asked.limit)?
+        }
+        Ok(Asked::Code(asked)) => format!(in alloc; "code {}", asked.path)?,
+        Ok(Asked::Check(asked)) => {
+            format!(in alloc; "check {} {} {}", asked.path, asked.trace, asked.workers)?
+        }
+        Err(error) => format!(in alloc; "status {}", error.exit_code())?,
+    };
+    Ok(words)
 }
+
+/// What a command line asks for, with a space between its arguments.
+fn told(alloc: Global, line: &str) -> Result<String, Fail> {
+    let mut arguments = Vec::new(alloc);
+    for argument in line.split(' ') {
+        arguments.push(String::from_str(alloc, argument)?)?;
+    }
+    in_words(alloc, &arguments)
+}
+
+/// Checks what each command line of a table asks for. It stands behind ` | `.
+fn tells_each(rt: &(impl AllocGlobal + Abort), table: &str) -> Result<(), Fail> {
+    for row in table.lines() {
+        let (words, line) = row.split_once(" | ").ok_or("no command line")?;
+        let answer = told(rt.alloc(), line)?;
+        assert!(rt; answer.as_str() == words, "{row}: {answer}");
+    }
+    Ok(())
+}
+
+/// Runs: the name of the plan's file, how many workers there are, and how many events are taken.
+const RUNS: &str = "run p 64 1000000 | sched run p --workers 64
+run p 1 1000000 | sched run p --workers +1
+run q 1 4294967295 | x run --limit 4294967295 --workers=1 q
+run -r 10 1 | sched run --limit=1 --workers=010 -- -r";
 
 #[test]
 fn takes_a_name_and_two_numbers(rt: HostRuntime) -> Result<(), Fail> {
-    let taken: [(&[&str], &str, u8, u32); 4] = [
-        (
-            &["sched", "run", "p", "--workers", "64"],
-            "p",
-            64,
-            1_000_000,
-        ),
-        (&["sched", "run", "p", "--workers", "+1"], "p", 1, 1_000_000),
-        (
-            &["x", "run", "--limit", "4294967295", "--workers=1", "q"],
-            "q",
-            1,
-            4_294_967_295,
-        ),
-        (
-            &["sched", "run", "--limit=1", "--workers=010", "--", "-r"],
-            "-r",
-            10,
-            1,
-        ),
-    ];
-    for (arguments, path, workers, limit) in taken {
-        let arguments = owned(rt.alloc(), arguments)?;
-        match Asked::parse(rt.alloc(), &arguments) {
-            Ok(Asked::Run(asked)) => {
-                assert_eq!(rt; asked.path, path);
-                assert_eq!(rt; asked.workers, workers);
-                assert_eq!(rt; asked.limit, limit);
-            }
-            Ok(_) => assert!(rt; false, "{path}"),
-            Err(error) => assert!(rt; false, "{error}"),
-        }
-    }
-    Ok(())
+    tells_each(&rt, RUNS)
 }
 
 #[test]
 fn takes_a_name_for_the_code(rt: HostRuntime) -> Result<(), Fail> {
-    let arguments = owned(rt.alloc(), &["sched", "code", "p"])?;
-    match Asked::parse(rt.alloc(), &arguments) {
-        Ok(Asked::Code(asked)) => assert_eq!(rt; asked.path, "p"),
-        Ok(_) => assert!(rt; false, "no listing"),
-        Err(error) => assert!(rt; false, "{error}"),
-    }
-    Ok(())
+    tells_each(&rt, "code p | sched code p")
 }
 
 #[test]
 fn takes_two_names_and_a_number_for_a_check(rt: HostRuntime) -> Result<(), Fail> {
-    let arguments = owned(rt.alloc(), &["sched", "check", "--workers", "64", "p", "t"])?;
-    match Asked::parse(rt.alloc(), &arguments) {
-        Ok(Asked::Check(asked)) => {
-            assert_eq!(rt; asked.path, "p");
-            assert_eq!(rt; asked.trace, "t");
-            assert_eq!(rt; asked.workers, 64);
-        }
-        Ok(_) => assert!(rt; false, "no check"),
-        Err(error) => assert!(rt; false, "{error}"),
-    }
-    Ok(())
+    tells_each(&rt, "check p t 64 | sched check --workers 64 p t")
 }
+
+/// Command lines that the program ends at.
+const REFUSED: &str = "status 2 | sched check p --workers 1
+status 2 | sched check p t
+status 2 | sched check p t --workers 65
+status 2 | sched
+status 2 | sched code
+status 2 | sched code p q
+status 2 | sched code p --workers 1
+status 2 | sched walk
+status 2 | sched run p
+status 2 | sched run --workers 1
+status 2 | sched run p q --workers 1
+status 2 | sched run p --workers 0
+status 2 | sched run p --workers 65
+status 2 | sched run p --workers 1 --limit 0
+status 2 | sched run p --workers 1 --limit 4294967296";
 
 #[test]
 fn refuses_what_is_missing_too_much_or_out_of_range(rt: HostRuntime) -> Result<(), Fail> {
-    let refused: [&[&str]; 15] = [
-        &["sched", "check", "p", "--workers", "1"],
-        &["sched", "check", "p", "t"],
-        &["sched", "check", "p", "t", "--workers", "65"],
-        &["sched"],
-        &["sched", "code"],
-        &["sched", "code", "p", "q"],
-        &["sched", "code", "p", "--workers", "1"],
-        &["sched", "walk"],
-        &["sched", "run", "p"],
-        &["sched", "run", "--workers", "1"],
-        &["sched", "run", "p", "q", "--workers", "1"],
-        &["sched", "run", "p", "--workers", "0"],
-        &["sched", "run", "p", "--workers", "65"],
-        &["sched", "run", "p", "--workers", "1", "--limit", "0"],
-        &[
-            "sched",
-            "run",
-            "p",
-            "--workers",
-            "1",
-            "--limit",
-            "4294967296",
-        ],
-    ];
-    for arguments in refused {
-        let owned = owned(rt.alloc(), arguments)?;
-        match Asked::parse(rt.alloc(), &owned) {
-            Ok(_) => assert!(rt; false, "{arguments:?}"),
-            Err(error) => assert_eq!(rt; error.exit_code(), 2),
-        }
-    }
-    Ok(())
+    tells_each(&rt, REFUSED)
 }
