@@ -13,13 +13,15 @@ use Rattle.executor_core.specs.declared.Line.{Line}
 use Rattle.queue_code.specs.Calls.{Planned, IsOrderly}
 use Rattle.executor_core.specs.Histories.{HistoryEntry, happenings, made, now_of, IsHistoryOf}
 use Rattle.executor_core.specs.Flows.{flow, part_of, calls_before, history_from, history_of, lines_of}
-use Rattle.executor_core.specs.Machine.{Machine, workers_of, Stands, Continues}
+use Rattle.executor_core.specs.Machine.{Machine, workers_of, Stands, Continues, Steps}
 use Rattle.trace_text.proofs.Texts.{take_add}
 use Rattle.executor_core.proofs.Flowing.{flow_means, history_more, stands_agrees, made_past, made-calls, happenings_from}
 use Rattle.trace_text.specs.Spelling.{event_line, FitsEvent, lines_text, line_text}
 use Rattle.sched_engine.specs.Inputs.{input_of}
+use Rattle.sched_engine.specs.Pieces.{Gives, Output}
 use Rattle.sched_engine.specs.Running.{text_of}
 use Rattle.sched_engine.specs.Turns.{TakesEvent, Extends, IsAnswered, IsStanding}
+use Rattle.sched_engine.proofs.Giving.{gives_both, gives_none}
 use Rattle.sched_engine.proofs.LineCounts.{lines_by_calls}
 
 -- the lines of some events and of more after them
@@ -73,6 +75,20 @@ lines_few calls workers events o =
 
 -- ---- one event more
 
+-- the core took an event, and the text of its lines was given out
+pub takes_event : (mid new : Machine) (event : Event) (before after : Output) (none lines : List Line) → none ≡ [] → Steps mid new none lines (part_of mid.calls mid.made mid.moment event) → new.taken ≡ mid.taken + 1 →
+    ((past : List HistoryEntry) → IsHistoryOf mid.calls (workers_of mid) past → Stands mid past → Continues mid new none lines event past) → Gives before after (lines_text lines) → TakesEvent mid new event before after (length lines)
+takes_event mid new event before after none lines clear steps one history given = record {
+  calls = steps.calls;
+  limit = steps.limit;
+  workers = steps.workers;
+  taken = one;
+  lines = lines;
+  history = subst (λ (l : List Line). (past : List HistoryEntry) → IsHistoryOf mid.calls (workers_of mid) past → Stands mid past → Continues mid new l lines event past) clear history;
+  written = given;
+  counted = refl;
+}
+
 -- the history of one event more, and its lines
 pub continue_history : (m new : Machine) (lines : List Line) (event : Event) (events : List Event) → IsOrderly m.calls → Stands m (history_of m.calls (workers_of m) events) →
     ((past : List HistoryEntry) → IsHistoryOf m.calls (workers_of m) past → Stands m past → Continues m new [] lines event past) →
@@ -96,7 +112,7 @@ lines_text-append : (xs ys : List Line) → lines_text (xs ++ ys) ≡ lines_text
 lines_text-append xs ys = flat_map-append line_text xs ys
 
 -- the history before, and the answers to one event more
-extends_more : (old mid new : Machine) (more events : List Event) (event : Event) (before after text : List ℕ) (count n : ℕ) → mid.calls ≡ old.calls → workers_of mid ≡ workers_of old → IsOrderly old.calls →
+extends_more : (old mid new : Machine) (more events : List Event) (event : Event) (before after : Output) (text : List ℕ) (count n : ℕ) → mid.calls ≡ old.calls → workers_of mid ≡ workers_of old → IsOrderly old.calls →
     Extends old.calls (workers_of old) mid more events text count → (t : TakesEvent mid new event before after n) → Extends old.calls (workers_of old) new (event ∷ more) events (text ++ lines_text t.lines) (count + n)
 extends_more old mid new more events event before after text count n calls workers o so_far t =
     let all = more ++ events in
@@ -119,7 +135,7 @@ front_is xs front size is inside =
     ap (take size) is ∙ (take-append-le size front (drop size xs) (omega (arith, long)) ∙ take_all size front (omega (arith, long)))
 
 -- what one event more makes of the answers so far
-pub answered_more : (old mid new : Machine) (held before put after : List ℕ) (taken size count n : ℕ) (event : Event) → IsAnswered old mid held taken before put count → FitsEvent event →
+pub answered_more : (old mid new : Machine) (held : List ℕ) (before put after : Output) (taken size count n : ℕ) (event : Event) → IsAnswered old mid held taken before put count → FitsEvent event →
     drop taken held ≡ event_line event ++ drop size (drop taken held) → size ≤ length (drop taken held) → TakesEvent mid new event put after n → IsAnswered old new held (taken + size) before after (count + n)
 answered_more old mid new held before put after taken size count n event a fits front inside t = record {
   more = event ∷ a.more;
@@ -131,7 +147,7 @@ answered_more old mid new held before put after taken size count n event a fits 
   limit = t.limit ∙ a.limit;
   workers = t.workers ∙ a.workers;
   text = a.text ++ lines_text t.lines;
-  written = t.written ∙ (ap (λ l. l ++ lines_text t.lines) a.written ∙ append_assoc before a.text (lines_text t.lines));
+  written = gives_both before put after a.text (lines_text t.lines) a.written t.written;
   extends = λ o events stands. extends_more old mid new a.more events event put after a.text count n a.calls a.workers o (a.extends o events stands) t;
 }
 
@@ -154,7 +170,7 @@ left_more event held rest next behind bound front =
     sym (next_is event rest next front) ∙ (ap (drop size) behind ∙ (drop-drop size (length held - length rest) held ∙ ap (λ k. drop k held) (sym (taken_more event held rest next bound front))))
 
 -- the same as `answered_more`, told by the bytes that are left
-pub answered_on : (old mid new : Machine) (held rest next before put after : List ℕ) (count n : ℕ) (event : Event) → IsAnswered old mid held (length held - length rest) before put count → rest ≡ drop (length held - length rest) held →
+pub answered_on : (old mid new : Machine) (held rest next : List ℕ) (before put after : Output) (count n : ℕ) (event : Event) → IsAnswered old mid held (length held - length rest) before put count → rest ≡ drop (length held - length rest) held →
     length rest ≤ length held → FitsEvent event → rest ≡ event_line event ++ next → TakesEvent mid new event put after n → IsAnswered old new held (length held - length next) before after (count + n)
 answered_on old mid new held rest next before put after count n event a behind bound fits front t =
     let taken = length held - length rest in
@@ -165,7 +181,7 @@ answered_on old mid new held rest next before put after count n event a behind b
     subst (λ k. IsAnswered old new held k before after (count + n)) (sym (taken_more event held rest next bound front)) (answered_more old mid new held before put after taken size count n event a fits there.0 there.1 t)
 
 -- nothing was answered yet
-pub answered_none : (m : Machine) (held before : List ℕ) → IsAnswered m m held 0 before before 0
+pub answered_none : (m : Machine) (held : List ℕ) (before : Output) → IsAnswered m m held 0 before before 0
 answered_none m held before = record {
   more = [];
   fit = All-nil FitsEvent;
@@ -176,12 +192,12 @@ answered_none m held before = record {
   limit = refl;
   workers = refl;
   text = [];
-  written = sym (append-nil before);
+  written = gives_none before;
   extends = λ o events stands. record { stands = stands; says = sym (append-nil (text_of m.calls (history_of m.calls (workers_of m) events))); counted = omega arith };
 }
 
 -- the count of lines fits, where the answers to the events so far stand
-pub count_fits : (old mid : Machine) (held before put : List ℕ) (taken count : ℕ) → IsStanding old → IsAnswered old mid held taken before put count → mid.taken ≤ mid.limit → count < 2 ^ 34
+pub count_fits : (old mid : Machine) (held : List ℕ) (before put : Output) (taken count : ℕ) → IsStanding old → IsAnswered old mid held taken before put count → mid.taken ≤ mid.limit → count < 2 ^ 34
 count_fits old mid held before put taken count s a within =
     let all = a.extends s.orderly s.events s.stands in
     omega (arith, all.counted, lines_few old.calls (workers_of old) (a.more ++ s.events) s.orderly, length-append a.more s.events, a.events, s.taken, s.small, within, a.limit)

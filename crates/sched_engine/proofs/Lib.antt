@@ -5,4 +5,5 @@ pub mod Inputs
 pub mod Rooms
 pub mod Turns
 pub mod OneText
+pub mod Giving
 pub mod InMemory

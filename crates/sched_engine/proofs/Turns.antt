@@ -1,5 +1,5 @@
 -- Turns: what a read, the answers to what it brought, and a write make of a run, and how a run ends.
-use Rattle.std.proofs.Common.{◌≡◌, ℕ, zero, suc, ◌+◌, ◌-◌, ◌*◌, ◌^◌, ◌<◌, ◌≤◌, List, [], ◌∷◌, ◌++◌, take, drop, length, Option, Some, None, Result, Ok, Err, MatchResult, inr, refl, ap, ◌∙◌, sym, subst, arith, append_assoc, append-nil, length-append, take-append-drop}
+use Rattle.std.proofs.Common.{◌≡◌, ℕ, zero, suc, ◌+◌, ◌-◌, ◌*◌, ◌^◌, ◌<◌, ◌≤◌, List, [], ◌∷◌, ◌++◌, take, drop, length, Option, Some, None, Result, Ok, Err, MatchResult, inr, refl, ap, ◌∙◌, sym, subst, arith, append_assoc, append-nil, length-append, length-drop, take-append-drop}
 use Rattle.std.proofs.lemmas.List.Elements.{All-append, All-nil}
 use Rattle.std.specs.Io.KnownBytes.{Consumes, Appends, Keeps, IsAtEnd, prepend_known}
 use Rattle.executor_core.specs.declared.Event.{Event}
@@ -15,10 +15,12 @@ use Rattle.sched_engine.specs.declared.report.RunError.{RunError}
 use Rattle.sched_engine.specs.declared.report.RunError.TheVariants as x
 use Rattle.sched_engine.specs.Inputs.{input_of, IsRefused, BeginsWithEvent}
 use Rattle.sched_engine.specs.Running.{IsAccepted, IsTrace, Ran, Runs, Taken, piece, text_of}
-use Rattle.sched_engine.specs.Turns.{Done, Extends, IsAnswered, IsBetweenTurns, IsStanding, Opens, Progress, Setting, Turns}
+use Rattle.sched_engine.specs.Pieces.{Output}
+use Rattle.sched_engine.specs.Turns.{Done, Extends, IsAnswered, IsBetweenTurns, IsCut, IsStanding, Opens, Progress, Setting, Turns}
 use Rattle.trace_text.specs.Reading.{most_event_bytes}
 use Rattle.trace_text.proofs.Fronts.{unread_part}
 use Rattle.sched_engine.proofs.Runs.{at_end, so_far, read_so_far, came, took, gave, gave_front}
+use Rattle.sched_engine.proofs.Giving.{wrote_none}
 use Rattle.sched_engine.proofs.Inputs.{input_of-append, lines_few, flow_happens}
 
 -- the history of some events is their trace
@@ -65,19 +67,20 @@ filled run at left held bytes done new all = record {
 }
 
 -- the events at the front of the bytes that are held were answered
-pub answered : (run : Setting) (at : Progress) (core : Machine) (taken count : ℕ) (text : List ℕ) → Done run at → IsAnswered at.core core at.held taken at.text text count → core.taken ≤ core.limit →
-    Done run (record at { held = drop taken at.held; text = text; core = core; count = at.count + count })
-answered run at core taken count text done a within =
+pub answered : (run : Setting) (at : Progress) (core : Machine) (taken count : ℕ) (out : Output) → Done run at → IsAnswered at.core core at.held taken (record { contents = at.contents; text = at.text }) out count → core.taken ≤ core.limit →
+    Done run (record { left = at.left; held = drop taken at.held; text = out.text; contents = out.contents; core = core; count = at.count + count })
+answered run at core taken count out done a within =
     let P : List Planned → ℕ → Type 0 = λ calls workers. Stands at.core (history_of calls workers done.events) → Extends calls workers core a.more done.events a.text count in
     let goes : P run.calls run.workers = subst (P run.calls) done.workers (subst (λ calls. P calls (workers_of at.core)) done.calls (a.extends (subst IsOrderly (sym done.calls) done.orderly) done.events)) in
     let more = goes done.stands in
+    let written = a.written.0 in
     record {
       events = a.more ++ done.events;
       fit = All-append FitsEvent a.more done.events a.fit done.fit;
       read = subst (Consumes run.input (prepend_known (drop taken at.held) at.left)) (sym (input_of-append a.more done.events)) (took run.input at.left at.held (input_of done.events) (input_of a.more) taken done.read a.front);
-      before = done.before;
-      written = done.written;
-      says = more.says ∙ (ap (λ l. l ++ a.text) done.says ∙ (append_assoc done.before at.text a.text ∙ ap (λ l. done.before ++ l) (sym a.written)));
+      before = done.before ++ written;
+      written = gave run.contents at.contents out.contents done.before written done.written a.written.1;
+      says = more.says ∙ (ap (λ l. l ++ a.text) done.says ∙ (append_assoc done.before at.text a.text ∙ (ap (λ l. done.before ++ l) a.written.2 ∙ sym (append_assoc done.before written out.text))));
       counted = omega (arith, more.counted, done.counted);
       taken = omega (arith, a.events, done.taken, length-append a.more done.events);
       within = omega (arith, within, a.limit, done.limit);
@@ -115,10 +118,6 @@ nothing_read : (a : Option (List ℕ)) (held : List ℕ) → held ≡ [] → Con
 nothing_read None held none = tt
 nothing_read (Some xs) held none = ap (λ l. l ++ xs) (sym none)
 
-nothing_written : (o : Option (List ℕ)) → Appends o o []
-nothing_written None = tt
-nothing_written (Some xs) = sym (append-nil xs)
-
 -- what is left as it was gave no byte
 kept_none : (a b : Option (List ℕ)) → Keeps a b → Consumes a b []
 kept_none None b p = tt
@@ -134,7 +133,7 @@ first at text workers limit opens none blank nought = record {
     fit = All-nil FitsEvent;
     read = nothing_read at.left at.held none;
     before = [];
-    written = nothing_written at.contents;
+    written = wrote_none at.contents;
     says = sym blank;
     counted = sym nought;
     taken = opens.taken;
@@ -240,6 +239,13 @@ unwritten run at contents n done near appends =
     taken_so_far run at (λ ahead. Unit {0}) (λ rest. Unit {0}) (λ events lines trace. (k : ℕ) × Appends run.contents contents (take k trace)) done near tt (λ more. tt)
     (length done.before + n, subst (λ (l : List ℕ). Appends run.contents contents (take (length done.before + n) l)) (sym done.says) (gave_front run.contents at.contents contents done.before at.text n done.written appends))
 
+-- a fault of the writer, after a front of the text at hand and of the text of more events
+pub cut_short : (run : Setting) (at : Progress) (contents : Option (List ℕ)) → Done run at → length at.held ≤ piece → IsCut at.core at.held (record { contents = at.contents; text = at.text }) contents →
+    Runs (Err x.Write) run.calls run.workers run.limit run.input at.left run.contents contents
+cut_short run at contents done near cut =
+    let whole : Progress = record { left = at.left; held = drop cut.taken at.held; text = cut.whole.text; contents = cut.whole.contents; core = cut.core; count = at.count + cut.count } in
+    unwritten run whole contents cut.front.0 (answered run at cut.core cut.taken cut.count cut.whole done cut.answered cut.within) (omega (arith, near, length-drop cut.taken at.held)) cut.front.1
+
 -- ---- turns end
 
 -- each turn brings an event or a byte
@@ -252,7 +258,7 @@ smaller limit old new held bytes whole rest all some rises within same short par
     by (suc n) is = omega (arith, is, within, short, part)
 
 -- where no event was taken, no byte was
-pub nothing_taken : (old new : Machine) (held : List ℕ) (taken : ℕ) (before after : List ℕ) (count : ℕ) → IsAnswered old new held taken before after count → new.taken ≡ old.taken → drop taken held ≡ held
+pub nothing_taken : (old new : Machine) (held : List ℕ) (taken : ℕ) (before after : Output) (count : ℕ) → IsAnswered old new held taken before after count → new.taken ≡ old.taken → drop taken held ≡ held
 nothing_taken old new held taken before after count a same = by a.more a.front a.events
   where
     by : (more : List Event) → take taken held ≡ input_of more → new.taken ≡ old.taken + length more → drop taken held ≡ held

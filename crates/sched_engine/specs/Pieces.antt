@@ -1,6 +1,8 @@
--- Pieces: what a refill of the bytes at hand did (this project's rule).
-use Rattle.std.specs.Prelude.{◌≡◌, ℕ, ◌<◌, List, [], ◌++◌, Option, length}
-use Rattle.std.specs.Io.KnownBytes.{Consumes, IsAtEnd, Keeps}
+-- Pieces: what a refill of the bytes at hand did, and what was given out (this project's rule).
+use Rattle.std.specs.Prelude.{◌≡◌, ℕ, ◌+◌, ◌<◌, ◌≤◌, Bool, true, false, List, [], ◌++◌, Option, length, take}
+use Rattle.std.specs.Io.KnownBytes.{Appends, Consumes, IsAtEnd, Keeps}
+use Rattle.trace_text.specs.declared.line_text.TheConstants.{LINE_ROOM}
+use Rattle.sched_engine.specs.declared.held.TheConstants.{PIECE}
 use Rattle.sched_engine.specs.declared.held.Filled.{Filled}
 use Rattle.sched_engine.specs.declared.held.Filled.TheVariants.{More, End, Fault}
 use Rattle.sched_engine.specs.Ends.{IsOneFault, NoneMore}
@@ -17,7 +19,21 @@ CountsFill Fault failed fruitless failed' fruitless' = IsOneFault failed fruitle
 CountsFill More failed fruitless failed' fruitless' = NoneMore failed fruitless failed' fruitless'
 CountsFill End failed fruitless failed' fruitless' = NoneMore failed fruitless failed' fruitless'
 
--- what contracts see of a draft: the text, and how many bytes of it there is room for
-pub record Drafted : Type 0 where
+-- what was given out: what the writer has, and the text behind it that was not written yet
+pub record Output : Type 0 where
+  pub contents : Option (List ℕ)
   pub text : List ℕ
-  pub room : ℕ
+
+-- a text was given out: some of the text at hand, and of this text behind it, was written, and the rest is at hand
+abbrev pub Gives : Output → Output → List ℕ → Type 0
+Gives old new more = (written : List ℕ) × Appends old.contents new.contents written × (old.text ++ more ≡ written ++ new.text)
+
+-- `true`: a text was given out; `false`: a front of the text at hand, and of this text behind it, was written
+abbrev pub GivesText : Bool → Output → Output → List ℕ → Type 0
+GivesText true old new more = Gives old new more
+GivesText false old new more = (n : ℕ) × Appends old.contents new.contents (take n (old.text ++ more))
+
+-- `true`: there is room for a line behind the text at hand, some of which may have been written; `false`: a front of it was
+abbrev pub MakesRoom : Bool → Output → Output → Type 0
+MakesRoom true old new = Gives old new [] × (length new.text + LINE_ROOM ≤ PIECE)
+MakesRoom false old new = (n : ℕ) × (n ≤ length old.text) × Appends old.contents new.contents (take n old.text)

@@ -1,6 +1,6 @@
 -- Turns: how far a run has come, between one read and the next.
 -- All of it is this project's rule.
-use Rattle.std.specs.Prelude.{◌≡◌, ℕ, ◌+◌, ◌-◌, ◌*◌, ◌^◌, ◌<◌, ◌≤◌, List, [], ◌++◌, ◌⊎◌, Option, Result, Ok, Err, drop, length, take}
+use Rattle.std.specs.Prelude.{◌≡◌, ℕ, ◌+◌, ◌-◌, ◌*◌, ◌^◌, ◌<◌, ◌≤◌, List, [], ◌++◌, Option, Result, Ok, Err, drop, length, take}
 use Rattle.std.specs.Io.KnownBytes.{Appends, Consumes, prepend_known}
 use Rattle.executor_core.specs.declared.Event.{Event}
 use Rattle.executor_core.specs.declared.Line.{Line}
@@ -10,26 +10,26 @@ use Rattle.executor_core.specs.Flows.{history_of, lines_of}
 use Rattle.executor_core.specs.Machine.{Machine, room_of, workers_of, Stands, Continues}
 use Rattle.trace_text.specs.Spelling.{IsLine, lines_text}
 use Rattle.trace_text.specs.Reading.{most_event_bytes}
-use Rattle.trace_text.specs.declared.line_text.TheConstants.{LINE_ROOM}
 use Rattle.sched_engine.specs.declared.answering.PieceEnd.{PieceEnd}
 use Rattle.sched_engine.specs.declared.answering.PieceEnd.TheVariants as e
 use Rattle.sched_engine.specs.declared.engine.Turn.{Turn}
 use Rattle.sched_engine.specs.declared.engine.Turn.TheVariants as t
 use Rattle.sched_engine.specs.declared.report.RunError.{RunError}
 use Rattle.sched_engine.specs.Inputs.{input_of, AreEvents, IsRefused, BeginsWithEvent}
+use Rattle.sched_engine.specs.Pieces.{Gives, Output}
 use Rattle.sched_engine.specs.Running.{IsAccepted, Runs, text_of}
 
 -- ---- one event, and the events of a piece
 
--- the core took an event, and the text of the lines that answer it was appended
-pub record TakesEvent (old new : Machine) (event : Event) (before after : List ℕ) (count : ℕ) : Type 0 where
+-- the core took an event, and the text of the lines that answer it was given out
+pub record TakesEvent (old new : Machine) (event : Event) (before after : Output) (count : ℕ) : Type 0 where
   pub calls : new.calls ≡ old.calls
   pub limit : new.limit ≡ old.limit
   pub workers : workers_of new ≡ workers_of old
   pub taken : new.taken ≡ old.taken + 1
   pub lines : List Line
   pub history : (past : List HistoryEntry) → IsHistoryOf old.calls (workers_of old) past → Stands old past → Continues old new [] lines event past
-  pub written : after ≡ before ++ lines_text lines
+  pub written : Gives before after (lines_text lines)
   pub counted : count ≡ length lines
 
 -- a core that took some events and then more: where it stands, and the text and the number of lines that it gave for the latter
@@ -39,7 +39,7 @@ pub record Extends (calls : List Planned) (workers : ℕ) (core : Machine) (more
   pub counted : length (lines_of calls (history_of calls workers (more ++ events))) ≡ length (lines_of calls (history_of calls workers events)) + count
 
 -- the first bytes of those held are the lines of events, which were answered: `more` are the events, the newest first
-pub record IsAnswered (old new : Machine) (held : List ℕ) (taken : ℕ) (before after : List ℕ) (count : ℕ) : Type 0 where
+pub record IsAnswered (old new : Machine) (held : List ℕ) (taken : ℕ) (before after : Output) (count : ℕ) : Type 0 where
   pub more : List Event
   pub fit : AreEvents more
   pub front : take taken held ≡ input_of more
@@ -49,7 +49,7 @@ pub record IsAnswered (old new : Machine) (held : List ℕ) (taken : ℕ) (befor
   pub limit : new.limit ≡ old.limit
   pub workers : workers_of new ≡ workers_of old
   pub text : List ℕ
-  pub written : after ≡ before ++ text
+  pub written : Gives before after text
   pub extends : IsOrderly old.calls → (events : List Event) → Stands old (history_of old.calls (workers_of old) events)
       → Extends old.calls (workers_of old) new more events text count
 
@@ -58,22 +58,28 @@ abbrev pub IsPieceEnd : PieceEnd → Machine → List ℕ → Type 0
 IsPieceEnd e.Part core rest = IsLine rest × (length rest < most_event_bytes)
 IsPieceEnd e.Refused core rest = (0 < length rest) × ((more : List ℕ) → IsRefused (rest ++ more))
 IsPieceEnd e.Full core rest = (core.taken ≡ core.limit) × BeginsWithEvent rest
+IsPieceEnd e.Memory core rest = (core.taken < core.limit) × BeginsWithEvent rest
 
--- there may be too little room for the lines of the next event and for their text, which comes behind one of this length:
--- `capacity` lines, and `room` bytes
-abbrev pub IsShort : Machine → ℕ → ℕ → ℕ → Type 0
-IsShort core long capacity room = (capacity < room_of core) ⊎ (room < long + LINE_ROOM * capacity)
-
--- some events at the front of the bytes that are held were answered, and for the lines of a further one there may be too little room
-pub record WantsRoom (old : Machine) (held before : List ℕ) (capacity room : ℕ) : Type 0 where
+-- some events at the front of the bytes that are held were answered, and a further one may have more lines than this
+pub record WantsRoom (old : Machine) (held : List ℕ) (before : Output) (capacity : ℕ) : Type 0 where
   pub core : Machine
   pub taken : ℕ
-  pub text : List ℕ
+  pub after : Output
   pub count : ℕ
-  pub answered : IsAnswered old core held taken before text count
+  pub answered : IsAnswered old core held taken before after count
   pub further : BeginsWithEvent (drop taken held)
   pub below : core.taken < core.limit
-  pub short : IsShort core (length text) capacity room
+  pub short : capacity < room_of core
+
+-- some events at the front of the bytes that are held were answered, and of the text of all that a front was written
+pub record IsCut (old : Machine) (held : List ℕ) (before : Output) (contents : Option (List ℕ)) : Type 0 where
+  pub core : Machine
+  pub taken : ℕ
+  pub whole : Output
+  pub count : ℕ
+  pub answered : IsAnswered old core held taken before whole count
+  pub within : core.taken ≤ core.limit
+  pub front : (n : ℕ) × Appends whole.contents contents (take n whole.text)
 
 -- the core is where some events led it
 pub record IsStanding (core : Machine) : Type 0 where

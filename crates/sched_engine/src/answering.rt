@@ -1,14 +1,17 @@
-//! The answering: events in, the text of the lines that answer them out. It knows of no reader and no writer.
-ghost use Rattle.std.specs.Prelude.{◌≡◌, ◌+◌, ◌<◌, ◌≤◌, ◌↔◌, ◌⊎◌, IfErr, IfOk, IsErrOf, IsOk, List, OnErr, OnOk, drop, length, vec_capacity, vec_len};
+//! The answering: events in, the text of the lines that answer them out. It knows of no reader.
+ghost use Rattle.std.specs.Prelude.{◌≡◌, ◌+◌, ◌<◌, ◌≤◌, ◌↔◌, ◌⊎◌, IfErr, IfOk, IsErrOf, IsOk, List, OnErr, OnOk, drop, vec_capacity, vec_len};
 ghost use Rattle.executor_core.specs.Flows.{part_of};
 ghost use Rattle.executor_core.specs.Histories.{HistoryEntry, IsHistoryOf};
 ghost use Rattle.executor_core.specs.Machine.{Machine, Continues, Stands, Steps, room_of, workers_of};
 ghost use Rattle.sched_engine.specs.Inputs.{IsRefused};
-ghost use Rattle.sched_engine.specs.Turns.{IsAnswered, IsPieceEnd, IsShort, IsStanding, TakesEvent, WantsRoom};
+ghost use Rattle.sched_engine.specs.Running.{CountsWriter};
+ghost use Rattle.sched_engine.specs.Turns.{IsAnswered, IsCut, IsPieceEnd, IsStanding, WantsRoom};
 
 use crate::draft::Draft;
+use crate::ends::Sink;
+use crate::report::RunError;
 use executor_core::{Core, CoreError, Event, Line};
-use std::alloc::{AllocError, Allocator};
+use std::alloc::Allocator;
 use trace_text::{Front, front_event, split_event};
 
 /// Why no further event was taken of the bytes at hand.
@@ -20,6 +23,8 @@ pub enum PieceEnd {
     Refused,
     /// As many events were taken as the limit allows, and a further one follows.
     Full,
+    /// A further event follows, and memory for its lines was refused.
+    Memory,
 }
 
 /// How far the bytes at hand were answered.
@@ -30,40 +35,6 @@ pub struct Answered {
     /// How many lines answer the events in them.
     pub lines: u64,
     pub end: PieceEnd,
-}
-
-/// Gives an event to the core and appends the text of the lines that answer it. Answers how many
-/// lines these are; they are left in `lines`.
-///
-/// On [`CoreError::Full`] the core and the text are as they were. On [`CoreError::Memory`] the
-/// core may have taken the event, and a part of its text may have been appended. It comes only
-/// where `lines` has capacity for fewer lines than [`Core::event`] may add, or the draft has room
-/// for fewer than [`trace_text::LINE_ROOM`] bytes for each line of that capacity.
-pub fn answer_event<A: Allocator>(
-    core: &mut Core<A>,
-    event: Event,
-    lines: &mut Vec<Line, A>,
-    draft: &mut Draft<A>,
-) -> Result<u64, CoreError>
-    ensures ok { IfOk result (λ count. TakesEvent core.old core.new event draft.old.text draft.new.text count) }
-    ensures full { IsErrOf result CoreError.Full ↔ (core.old.taken ≡ core.old.limit) }
-    ensures others { IfErr result (λ e. (e ≡ CoreError.Full) ⊎ (e ≡ CoreError.Memory)) }
-    ensures refused { IsErrOf result CoreError.Full → core.new ≡ core.old }
-    ensures kept { IsErrOf result CoreError.Full → draft.new.text ≡ draft.old.text }
-    ensures memory { IsErrOf result CoreError.Memory → core.old.taken < core.old.limit
-        → IsShort core.old (length draft.old.text) (vec_capacity lines.old) draft.old.room }
-    ensures capacity { room_of core.old ≤ vec_capacity lines.old → vec_capacity lines.new ≡ vec_capacity lines.old }
-    ensures keeps { draft.old.room ≤ draft.new.room }
-{
-    lines.clear();
-    take_event(core, event, lines)?;
-    if draft.put_lines(lines).is_err() {
-        return Err(CoreError::Memory);
-    }
-    let Ok(count) = u64::try_from(lines.len()) else {
-        unreachable!();
-    };
-    Ok(count)
 }
 
 /// Gives an event to the core, as [`Core::event`] takes it. The kinds of events are told apart here,
@@ -92,45 +63,50 @@ fn take_event<A: Allocator>(
     }
 }
 
-/// Answers the events whose lines stand at the front of the bytes that are held, up to the
-/// first that is cut off, refused or past the limit, and appends the text of the answers.
+/// Answers the events whose lines stand at the front of the bytes that are held, up to the first
+/// that is cut off, refused, past the limit or without memory for its lines, and gives out the text
+/// of the answers: what of it does not fit into the draft is written.
 ///
-/// An `Err` leaves the core and the text somewhere on the way. It comes only at an event for
-/// whose lines `lines` or the draft had too little room, as [`answer_event`] says.
-pub fn answer_events<A: Allocator>(
+/// An `Err` is [`RunError::Write`], after a front of that text was written, and leaves the core
+/// somewhere on the way.
+pub fn answer_events<A: Allocator, W: Sink>(
     core: &mut Core<A>,
     held: &[u8],
     lines: &mut Vec<Line, A>,
     draft: &mut Draft<A>,
-) -> Result<Answered, AllocError>
+    writer: &mut W,
+) -> Result<Answered, RunError>
     requires { IsStanding core.old }
-    ensures answered { IfOk result (λ a. IsAnswered core.old core.new held.now a.bytes draft.old.text draft.new.text a.lines) }
+    ensures answered { IfOk result (λ a. IsAnswered core.old core.new held.now a.bytes (record { contents = W.contents writer.old; text = draft.old }) (record { contents = W.contents writer.new; text = draft.new }) a.lines) }
     ensures within { IfOk result (λ _. core.new.taken ≤ core.new.limit) }
     ensures end { IfOk result (λ a. IsPieceEnd a.end core.new (drop a.bytes held.now)) }
-    ensures memory { OnErr result (WantsRoom core.old held.now draft.old.text (vec_capacity lines.old) draft.old.room) }
+    ensures memory { IfOk result (λ a. a.end ≡ PieceEnd.Memory → WantsRoom core.old held.now (record { contents = W.contents writer.old; text = draft.old }) (vec_capacity lines.old)) }
+    ensures cut { IfErr result (λ e. (e ≡ RunError.Write) × IsCut core.old held.now (record { contents = W.contents writer.old; text = draft.old }) (W.contents writer.new)) }
+    ensures write { CountsWriter result (W.failed writer.old) (W.fruitless writer.old) (W.failed writer.new) (W.fruitless writer.new) }
 {
     let mut rest = held;
     let mut count = 0;
-    while let Some((event, behind)) = split_event(rest) {
-        match answer_event(core, event, lines, draft) {
-            Ok(more) => {
-                rest = behind;
-                count += more;
-            }
-            Err(CoreError::Full) => {
-                return Ok(Answered {
-                    bytes: held.len() - rest.len(),
-                    lines: count,
-                    end: PieceEnd::Full,
-                });
-            }
-            Err(_) => return Err(AllocError),
+    let end = loop {
+        let Some((event, behind)) = split_event(rest) else {
+            break end_of(rest);
+        };
+        lines.clear();
+        match take_event(core, event, lines) {
+            Ok(()) => {}
+            Err(CoreError::Full) => break PieceEnd::Full,
+            Err(CoreError::Memory) => break PieceEnd::Memory,
+            Err(_) => unreachable!(),
         }
-    }
+        if !draft.give_lines(lines, writer) {
+            return Err(RunError::Write);
+        }
+        rest = behind;
+        count += lines.len() as u64;
+    };
     Ok(Answered {
         bytes: held.len() - rest.len(),
         lines: count,
-        end: end_of(rest),
+        end,
     })
 }
 

@@ -1,15 +1,18 @@
-//! The text that answers a piece, until it is written.
-ghost use Rattle.std.specs.Prelude.{◌≡◌, ◌+◌, ◌*◌, ◌≤◌, [], ◌++◌, length, take, IfOk, IsOk, OnErr, OnOk};
+//! The text that answers events, until it is written.
+ghost use Rattle.std.specs.Prelude.{◌≡◌, ◌+◌, ◌≤◌, ◌↔◌, [], ◌++◌, length, IfOk, IsTrue};
 ghost use Rattle.trace_text.specs.Spelling.{line_text, lines_text};
+ghost use Rattle.sched_engine.specs.Ends.{CountsText, WritesText};
+ghost use Rattle.sched_engine.specs.Pieces.{GivesText, MakesRoom};
 
+use crate::ends::{Sink, write_text};
 use crate::held::PIECE;
 use executor_core::Line;
 use std::alloc::{AllocError, Allocator};
 use std::marker::Model;
 use trace_text::{LINE_ROOM, put_line};
 
-/// A text of lines, which are put where they stand: no line is copied. Contracts see the text, and
-/// how many bytes of it there is room for.
+/// A text of lines, which are put where they stand: no line is copied. It has room for [`PIECE`]
+/// bytes, and takes no memory once it is made. Contracts see the text.
 #[derive(Drop)]
 pub struct Draft<A: Allocator> {
     buffer: Vec<u8, A>,
@@ -17,21 +20,20 @@ pub struct Draft<A: Allocator> {
 }
 
 impl<A: Allocator> Model for Draft<A> {
-    ghost use Rattle.std.specs.Prelude.{◌≤◌, take, vec_len};
-    ghost use Rattle.sched_engine.specs.Pieces.{Drafted};
+    ghost use Rattle.std.specs.Prelude.{◌≡◌, ◌≤◌, List, ℕ, take, vec_len};
+    ghost use Rattle.sched_engine.specs.declared.held.TheConstants.{PIECE};
 
-    ghost Value = { Drafted };
+    ghost Value = { List ℕ };
 
-    ghost view = { λ d. record { text = take d.end d.buffer.items; room = vec_len d.buffer } };
+    ghost view = { λ d. take d.end d.buffer.items };
 
-    ghost invariant = { λ d. d.end ≤ vec_len d.buffer };
+    ghost invariant = { λ d. (d.end ≤ vec_len d.buffer) × (vec_len d.buffer ≡ PIECE) };
 }
 
 impl<A: Allocator> Draft<A> {
-    /// No text, and room for [`PIECE`] bytes.
+    /// No text.
     pub fn new(alloc: A) -> Result<Draft<A>, AllocError>
-        ensures text { IfOk result (λ d. d.text ≡ []) }
-        ensures room { IfOk result (λ d. d.room ≡ PIECE) }
+        ensures { IfOk result (λ d. d ≡ []) }
     {
         Ok(Draft {
             buffer: Vec::from_elem(alloc, 0u8, PIECE)?,
@@ -41,58 +43,76 @@ impl<A: Allocator> Draft<A> {
 
     /// The text.
     pub fn bytes(&self) -> &[u8]
-        ensures { result.now ≡ self.now.text }
+        ensures { result.now ≡ self.now }
     {
         &self.buffer[..self.end]
     }
 
-    /// Lets go of the text, and keeps the room.
+    /// Lets go of the text.
     pub fn clear(&mut self)
-        ensures text { self.new.text ≡ [] }
-        ensures room { self.new.room ≡ self.old.room }
+        ensures { self.new ≡ [] }
     {
         self.end = 0;
     }
 
-    /// Appends the text of lines, each with its newline. An `Err` leaves the text of a front of
-    /// them, and does not come where there is room for [`LINE_ROOM`] bytes a line.
-    #[inline]
-    pub fn put_lines(&mut self, lines: &[Line]) -> Result<(), AllocError>
-        ensures ok { OnOk result (self.new.text ≡ self.old.text ++ lines_text lines.now) }
-        ensures room { length self.old.text + LINE_ROOM * length lines.now ≤ self.old.room → IsOk result }
-        ensures keeps { self.old.room ≤ self.new.room }
+    /// Whether there is room for [`LINE_ROOM`] bytes, and so for any line.
+    #[inline(always)]
+    fn has_room(&self) -> bool
+        ensures { IsTrue result ↔ (length self.now + LINE_ROOM ≤ PIECE) }
+    {
+        self.buffer.len() - self.end >= LINE_ROOM
+    }
+
+    /// Appends the text of a line, with its newline.
+    #[inline(always)]
+    fn put(&mut self, line: &Line)
+        requires { length self.old + LINE_ROOM ≤ PIECE }
+        ensures { self.new ≡ self.old ++ line_text line.now }
+    {
+        self.end = put_line(&mut self.buffer, self.end, line);
+    }
+
+    /// Writes the text and lets go of it. `false` is a fault of the sink, after a front of the text
+    /// was written.
+    #[cold]
+    fn flush<W: Sink>(&mut self, writer: &mut W) -> bool
+        ensures bytes { WritesText result (W.contents writer.old) (W.contents writer.new) self.old }
+        ensures clear { IsTrue result → self.new ≡ [] }
+        ensures counts { CountsText result (W.failed writer.old) (W.fruitless writer.old) (W.failed writer.new) (W.fruitless writer.new) }
+    {
+        if !write_text(writer, self.bytes()) {
+            return false;
+        }
+        self.clear();
+        true
+    }
+
+    /// Makes room for a line. `false` is a fault of the sink, after a front of the text was written.
+    #[inline(always)]
+    fn make_room<W: Sink>(&mut self, writer: &mut W) -> bool
+        ensures room { MakesRoom result (record { contents = W.contents writer.old; text = self.old }) (record { contents = W.contents writer.new; text = self.new }) }
+        ensures counts { CountsText result (W.failed writer.old) (W.fruitless writer.old) (W.failed writer.new) (W.fruitless writer.new) }
+    {
+        if self.has_room() {
+            return true;
+        }
+        self.flush(writer)
+    }
+
+    /// Appends the text of lines, each with its newline, and writes what stands here whenever there
+    /// is no room for one more. `false` is a fault of the sink, after a front of all that text was
+    /// written.
+    #[inline(always)]
+    pub fn give_lines<W: Sink>(&mut self, lines: &[Line], writer: &mut W) -> bool
+        ensures text { GivesText result (record { contents = W.contents writer.old; text = self.old }) (record { contents = W.contents writer.new; text = self.new }) (lines_text lines.now) }
+        ensures counts { CountsText result (W.failed writer.old) (W.fruitless writer.old) (W.failed writer.new) (W.fruitless writer.new) }
     {
         for line in lines {
-            self.put(line)?;
+            if !self.make_room(writer) {
+                return false;
+            }
+            self.put(line);
         }
-        Ok(())
-    }
-
-    /// Appends the text of a line, with its newline. An `Err` leaves the text as it was, and does
-    /// not come where there is room for [`LINE_ROOM`] bytes.
-    #[inline(always)]
-    pub fn put(&mut self, line: &Line) -> Result<(), AllocError>
-        ensures ok { OnOk result (self.new.text ≡ self.old.text ++ line_text line.now) }
-        ensures err { OnErr result (self.new.text ≡ self.old.text) }
-        ensures room { length self.old.text + LINE_ROOM ≤ self.old.room → IsOk result }
-        ensures keeps { self.old.room ≤ self.new.room }
-        ensures len { length self.new.text ≤ length self.old.text + LINE_ROOM }
-    {
-        if self.buffer.len() - self.end < LINE_ROOM {
-            self.grow()?;
-        }
-        self.end = put_line(&mut self.buffer, self.end, line);
-        Ok(())
-    }
-
-    /// Makes room for a further piece. An `Err` changes nothing.
-    #[cold]
-    fn grow(&mut self) -> Result<(), AllocError>
-        ensures ok { OnOk result (length self.new.text + LINE_ROOM ≤ self.new.room) }
-        ensures text { self.new.text ≡ self.old.text }
-        ensures keeps { self.old.room ≤ self.new.room }
-    {
-        self.buffer
-            .resize(self.buffer.len().saturating_add(PIECE), 0)
+        true
     }
 }

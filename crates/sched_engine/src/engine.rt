@@ -2,7 +2,7 @@
 ghost use Rattle.std.specs.Prelude.{◌≡◌, ℕ, ◌+◌, ◌^◌, ◌<◌, ◌≤◌, List, [], Option, IfOk, IfErr, MatchResult, OnOk, length};
 ghost use Rattle.sched_engine.specs.Running.{Refuses, Ran, CountsReader, CountsWriter};
 ghost use Rattle.sched_engine.specs.CodeTexts.{IsCodeOfText, RefusesText};
-ghost use Rattle.sched_engine.specs.Turns.{Done, IsBetweenTurns, IsPieceEnd, IsStanding, Opens, Progress, Setting, Turns};
+ghost use Rattle.sched_engine.specs.Turns.{Done, IsBetweenTurns, IsCut, IsPieceEnd, IsStanding, Opens, Progress, Setting, Turns};
 ghost use Rattle.sched_engine.specs.declared.engine.Turn.TheVariants as t;
 
 use crate::answering::{PieceEnd, answer_events};
@@ -14,19 +14,20 @@ use executor_core::{Core, CoreError, Line};
 use plan_compile::{CompileFault, compile};
 use plan_read::{Room, read_plan};
 use queue_code::Code;
-use std::alloc::{AllocError, Allocator};
+use std::alloc::Allocator;
 
 /// Runs a plan over the event lines of the reader, and writes its trace.
 ///
 /// `plan_text` is the plan's TOML, at most 1,048,576 bytes; `workers` is the number of workers, 1
 /// to 64, and `limit` the greatest number of events, 1 to 4,294,967,295. Moments are nanoseconds.
 /// A piece of input, 64 KiB at most, is answered whole and its text written before more is read,
-/// so whoever feeds lines sees each answer before the run waits for more. Nothing is flushed.
+/// so whoever feeds lines sees each answer before the run waits for more. A text of more than 64
+/// KiB is written as it comes. Nothing is flushed.
 ///
 /// On [`RunError::Plan`], [`RunError::Workers`] and [`RunError::Limit`], found in this order,
 /// nothing is read or written. On [`RunError::EventLine`], [`RunError::Full`] and
 /// [`RunError::Read`] the text of all events before was written, on [`RunError::Memory`] the
-/// text of some of the first of them, and on [`RunError::Write`] a front of such a text. At most
+/// text of some of the first events, and on [`RunError::Write`] a front of such a text. At most
 /// one piece was read behind the last event that was taken. A fault of an end is answered at
 /// once, and nothing is tried again.
 pub fn run<A: Room, S: Source, W: Sink>(
@@ -100,7 +101,7 @@ pub struct Engine<A: Allocator> {
     held: Held<A>,
     /// The lines that answer the event at hand.
     lines: Vec<Line, A>,
-    /// The text that answers the piece at hand.
+    /// The text of the answers that was not written yet.
     draft: Draft<A>,
     /// How many lines were answered.
     count: u64,
@@ -113,7 +114,7 @@ impl<A: Allocator> Engine<A> {
         A: Room,
         ensures opens { IfOk result (λ engine. Opens engine.core plan_text.now workers limit) }
         ensures held { IfOk result (λ engine. engine.held ≡ []) }
-        ensures text { IfOk result (λ engine. engine.draft.text ≡ []) }
+        ensures text { IfOk result (λ engine. engine.draft ≡ []) }
         ensures count { IfOk result (λ engine. engine.count ≡ 0) }
         ensures refuses { IfErr result (λ e. Refuses e plan_text.now workers limit) }
     {
@@ -135,9 +136,9 @@ impl<A: Allocator> Engine<A> {
         reader: &mut S,
         writer: &mut W,
     ) -> Result<Turn, RunError>
-        requires { (run : Setting) × IsBetweenTurns run (record { left = S.remaining reader.old; held = self.old.held; text = self.old.draft.text; contents = W.contents writer.old; core = self.old.core; count = self.old.count }) }
-        ensures turns { (run : Setting) → let old : Progress = record { left = S.remaining reader.old; held = self.old.held; text = self.old.draft.text; contents = W.contents writer.old; core = self.old.core; count = self.old.count } in
-            IsBetweenTurns run old → Turns result run old (record { left = S.remaining reader.new; held = self.new.held; text = self.new.draft.text; contents = W.contents writer.new; core = self.new.core; count = self.new.count }) }
+        requires { (run : Setting) × IsBetweenTurns run (record { left = S.remaining reader.old; held = self.old.held; text = self.old.draft; contents = W.contents writer.old; core = self.old.core; count = self.old.count }) }
+        ensures turns { (run : Setting) → let old : Progress = record { left = S.remaining reader.old; held = self.old.held; text = self.old.draft; contents = W.contents writer.old; core = self.old.core; count = self.old.count } in
+            IsBetweenTurns run old → Turns result run old (record { left = S.remaining reader.new; held = self.new.held; text = self.new.draft; contents = W.contents writer.new; core = self.new.core; count = self.new.count }) }
         ensures read { CountsReader result (S.failed reader.old) (S.fruitless reader.old) (S.failed reader.new) (S.fruitless reader.new) }
         ensures write { CountsWriter result (W.failed writer.old) (W.fruitless writer.old) (W.failed writer.new) (W.fruitless writer.new) }
     {
@@ -146,7 +147,7 @@ impl<A: Allocator> Engine<A> {
             Filled::End => return self.end(),
             Filled::Fault => return Err(RunError::Read),
         }
-        let end = self.answer_held()?;
+        let end = self.answer_held(writer)?;
         if !write_text(writer, self.draft.bytes()) {
             return Err(RunError::Write);
         }
@@ -155,17 +156,22 @@ impl<A: Allocator> Engine<A> {
             PieceEnd::Part => Ok(Turn::More),
             PieceEnd::Refused => Err(self.refused_line()),
             PieceEnd::Full => Err(RunError::Full),
+            PieceEnd::Memory => Err(RunError::Memory),
         }
     }
 
-    /// Answers each event line that is held, and lets go of these lines.
-    fn answer_held(&mut self) -> Result<PieceEnd, AllocError>
+    /// Answers each event line that is held, and lets go of these lines. What of the text does not
+    /// fit into the draft is written; an `Err` is a fault of that.
+    fn answer_held<W: Sink>(&mut self, writer: &mut W) -> Result<PieceEnd, RunError>
         requires standing { IsStanding self.old.core }
         requires few { self.old.count < 2 ^ 34 }
-        ensures done { OnOk result ((run : Setting) (left contents : Option (List ℕ)) →
-            Done run (record { left = left; held = self.old.held; text = self.old.draft.text; contents = contents; core = self.old.core; count = self.old.count }) →
-            Done run (record { left = left; held = self.new.held; text = self.new.draft.text; contents = contents; core = self.new.core; count = self.new.count })) }
+        ensures done { OnOk result ((run : Setting) (left : Option (List ℕ)) →
+            Done run (record { left = left; held = self.old.held; text = self.old.draft; contents = W.contents writer.old; core = self.old.core; count = self.old.count }) →
+            Done run (record { left = left; held = self.new.held; text = self.new.draft; contents = W.contents writer.new; core = self.new.core; count = self.new.count })) }
         ensures end { IfOk result (λ end. IsPieceEnd end self.new.core self.new.held) }
+        ensures cut { IfErr result (λ e. (e ≡ RunError.Write)
+            × IsCut self.old.core self.old.held (record { contents = W.contents writer.old; text = self.old.draft }) (W.contents writer.new)) }
+        ensures write { CountsWriter result (W.failed writer.old) (W.fruitless writer.old) (W.failed writer.new) (W.fruitless writer.new) }
         ensures fewer { OnOk result (length self.new.held ≤ length self.old.held) }
         ensures rises { OnOk result (self.old.core.taken ≤ self.new.core.taken) }
         ensures same { OnOk result (self.new.core.taken ≡ self.old.core.taken → self.new.held ≡ self.old.held) }
@@ -175,6 +181,7 @@ impl<A: Allocator> Engine<A> {
             self.held.bytes(),
             &mut self.lines,
             &mut self.draft,
+            writer,
         )?;
         self.held.skip(answered.bytes);
         self.count += answered.lines;

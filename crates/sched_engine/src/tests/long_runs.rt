@@ -8,9 +8,10 @@ const EVENT: &str = "start 9\n";
 
 const ANSWER: &str = "0 error no worker\n";
 
-/// A run over 20,000 such events with no trouble.
+/// A run of an empty plan over 20,000 such events, with no trouble.
 fn long_run<'a>(events: &'a str, text: &'a str, most: usize) -> TroubledRow<'a> {
     TroubledRow {
+        plan: "version = 1",
         events,
         most,
         read_trouble: 0,
@@ -133,6 +134,68 @@ fn one_clock_makes_all_calls(rt: HostRuntime) -> Result<(), Fail> {
                 lines: 257,
             }),
             trace: trace.as_str(),
+        },
+    );
+    Ok(())
+}
+
+/// A plan of one block that submits 4,096 tasks at moment 0.
+const MANY_TASKS: &str = "\
+version = 1
+[[block]]
+times = 4_096
+every = 0
+[[block.call]]
+op = \"schedule\"
+name = \"a\"
+delay = 0
+";
+
+/// The trace of a clock that makes all these calls: more text than is held at once.
+fn many_lines(alloc: Global) -> Result<String, Fail> {
+    let mut trace = String::new(alloc);
+    for n in 0..4_096u32 {
+        writeln!(trace, "0 submit {n} schedule due 0")?;
+    }
+    trace.push_str("0 clock\n")?;
+    Ok(trace)
+}
+
+/// A run of one such event with no trouble.
+fn long_event(text: &str, most: usize) -> TroubledRow<'_> {
+    TroubledRow {
+        plan: MANY_TASKS,
+        answer: Ok(Report {
+            events: 1,
+            lines: 4_097,
+        }),
+        least: text.len(),
+        greatest: text.len(),
+        ..long_run("clock 0\n", text, most)
+    }
+}
+
+#[test]
+fn the_text_of_a_long_event_is_written_as_it_comes(rt: HostRuntime) -> Result<(), Fail> {
+    let text = many_lines(rt.alloc())?;
+    for most in [7usize, 1_000, 1_000_000] {
+        answers_in_trouble(&rt, &long_event(text.as_str(), most));
+    }
+    Ok(())
+}
+
+#[test]
+fn a_fault_of_the_writer_in_mid_event_is_told_at_once(rt: HostRuntime) -> Result<(), Fail> {
+    let text = many_lines(rt.alloc())?;
+    // two writes take what is held first, which lacks less than a line of 65,536 bytes
+    answers_in_trouble(
+        &rt,
+        &TroubledRow {
+            write_trouble: 3,
+            answer: Err(RunError::Write),
+            least: 65_408,
+            greatest: 65_536,
+            ..long_event(text.as_str(), 40_000)
         },
     );
     Ok(())

@@ -64,10 +64,10 @@ impl Write for Taking {
     }
 }
 
-/// A run of an empty plan by 9 workers, with trouble at one call of an end, and what it has to come
-/// to.
+/// A run by 9 workers, with trouble at one call of an end, and what it has to come to.
 #[derive(Clone, Copy)]
 pub struct TroubledRow<'a> {
+    pub plan: &'a str,
     pub events: &'a str,
     /// How many bytes an end gives or takes a call at most.
     pub most: usize,
@@ -100,7 +100,7 @@ pub fn answers_in_trouble(rt: &(impl AllocGlobal + Abort), row: &TroubledRow<'_>
     });
     let answer = run(
         rt.alloc(),
-        b"version = 1",
+        row.plan.as_bytes(),
         9,
         4_294_967_295,
         &mut reader,
@@ -118,6 +118,7 @@ pub fn answers_in_trouble(rt: &(impl AllocGlobal + Abort), row: &TroubledRow<'_>
 #[test]
 fn tells_faults_of_the_ends(rt: HostRuntime) {
     let row = TroubledRow {
+        plan: "version = 1",
         events: "clock 0\n",
         most: 9,
         read_trouble: 0,

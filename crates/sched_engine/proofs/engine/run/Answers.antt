@@ -11,7 +11,7 @@ pub loop-engine-init : goal.loop-engine-init
 loop-engine-init g c =
     let engine = c.in_ok-engine.engine in
     let opens = c.in_ok-engine.ensures in
-    let at : Progress = record { left = g.S.Source.remaining c.args.reader.now; held = engine.held; text = engine.draft.text; contents = g.W.Sink.contents c.args.writer.now; core = engine.core; count = engine.count } in
+    let at : Progress = record { left = g.S.Source.remaining c.args.reader.now; held = engine.held; text = engine.draft; contents = g.W.Sink.contents c.args.writer.now; core = engine.core; count = engine.count } in
     record { between = first at c.args.plan_text.now c.args.workers c.args.limit opens.opens opens.held opens.text opens.count; reads = search rules; writes = search rules }
 
 pub returns-in_err-report-clause-ran : goal.returns-in_err-report-clause-ran
@@ -29,9 +29,9 @@ pub returns-in-Ended-clause-ran : goal.returns-in-Ended-clause-ran
 returns-in-Ended-clause-ran g c =
     let run : Setting = record { calls = c.in_ok-engine.engine.core.calls; workers = c.args.workers; limit = c.args.limit; input = g.S.Source.remaining c.args.reader.now; contents = g.W.Sink.contents c.args.writer.now } in
     let engine = c.loop-engine.engine in
-    let at : Progress = record { left = g.S.Source.remaining c.loop-engine.reader; held = engine.held; text = engine.draft.text; contents = g.W.Sink.contents c.loop-engine.writer; core = engine.core; count = engine.count } in
+    let at : Progress = record { left = g.S.Source.remaining c.loop-engine.reader; held = engine.held; text = engine.draft; contents = g.W.Sink.contents c.loop-engine.writer; core = engine.core; count = engine.count } in
     let new = c.turn.new.self in
-    let next : Progress = record { left = g.S.Source.remaining c.turn.new.reader; held = new.held; text = new.draft.text; contents = g.W.Sink.contents c.turn.new.writer; core = new.core; count = new.count } in
+    let next : Progress = record { left = g.S.Source.remaining c.turn.new.reader; held = new.held; text = new.draft; contents = g.W.Sink.contents c.turn.new.writer; core = new.core; count = new.count } in
     let runs = subst (λ (turn : Turn). Turns (Ok turn) run at next) c.in-Ended.is (c.in_ok-report.ensures.turns run c.loop-engine.invariant.between) in
     (run.calls, c.in_ok-engine.ensures.opens.accepted, runs)
 
@@ -39,18 +39,18 @@ pub loop-engine-smaller : goal.loop-engine-smaller
 loop-engine-smaller g c =
     let run : Setting = record { calls = c.in_ok-engine.engine.core.calls; workers = c.args.workers; limit = c.args.limit; input = g.S.Source.remaining c.args.reader.now; contents = g.W.Sink.contents c.args.writer.now } in
     let engine = c.loop-engine.engine in
-    let at : Progress = record { left = g.S.Source.remaining c.loop-engine.reader; held = engine.held; text = engine.draft.text; contents = g.W.Sink.contents c.loop-engine.writer; core = engine.core; count = engine.count } in
+    let at : Progress = record { left = g.S.Source.remaining c.loop-engine.reader; held = engine.held; text = engine.draft; contents = g.W.Sink.contents c.loop-engine.writer; core = engine.core; count = engine.count } in
     let new = c.turn.new.self in
-    let next : Progress = record { left = g.S.Source.remaining c.turn.new.reader; held = new.held; text = new.draft.text; contents = g.W.Sink.contents c.turn.new.writer; core = new.core; count = new.count } in
+    let next : Progress = record { left = g.S.Source.remaining c.turn.new.reader; held = new.held; text = new.draft; contents = g.W.Sink.contents c.turn.new.writer; core = new.core; count = new.count } in
     (subst (λ (turn : Turn). Turns (Ok turn) run at next) c.in_default.is (c.in_ok-report.ensures.turns run c.loop-engine.invariant.between)).1
 
 pub loop-engine-preserved : goal.loop-engine-preserved
 loop-engine-preserved g c =
     let run : Setting = record { calls = c.in_ok-engine.engine.core.calls; workers = c.args.workers; limit = c.args.limit; input = g.S.Source.remaining c.args.reader.now; contents = g.W.Sink.contents c.args.writer.now } in
     let engine = c.loop-engine.engine in
-    let at : Progress = record { left = g.S.Source.remaining c.loop-engine.reader; held = engine.held; text = engine.draft.text; contents = g.W.Sink.contents c.loop-engine.writer; core = engine.core; count = engine.count } in
+    let at : Progress = record { left = g.S.Source.remaining c.loop-engine.reader; held = engine.held; text = engine.draft; contents = g.W.Sink.contents c.loop-engine.writer; core = engine.core; count = engine.count } in
     let new = c.turn.new.self in
-    let next : Progress = record { left = g.S.Source.remaining c.turn.new.reader; held = new.held; text = new.draft.text; contents = g.W.Sink.contents c.turn.new.writer; core = new.core; count = new.count } in
+    let next : Progress = record { left = g.S.Source.remaining c.turn.new.reader; held = new.held; text = new.draft; contents = g.W.Sink.contents c.turn.new.writer; core = new.core; count = new.count } in
     let kept = c.loop-engine.invariant in
     let read = c.in_ok-report.ensures.read in
     let write = c.in_ok-report.ensures.write in

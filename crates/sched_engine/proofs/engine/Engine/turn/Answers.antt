@@ -2,11 +2,11 @@ use Rattle.std.proofs.Common.{◌≡◌, ℕ, ◌+◌, ◌≤◌, List, Result, 
 use Rattle.std.specs.Io.KnownBytes.{Appends}
 use Rattle.sched_engine.specs.declared.answering.PieceEnd.{PieceEnd}
 use Rattle.sched_engine.specs.declared.report.RunError.{RunError}
-use Rattle.sched_engine.specs.declared.report.RunError.TheVariants.{Memory}
+use Rattle.sched_engine.specs.declared.report.RunError.TheVariants.{Write}
 use Rattle.sched_engine.specs.declared.engine.Turn.{Turn}
 use Rattle.sched_engine.specs.Running.{Runs, piece}
 use Rattle.sched_engine.specs.Turns.{IsPieceEnd, Progress, Turns}
-use Rattle.sched_engine.proofs.Turns.{at_the_end, faulted, few_lines, filled, full, out_of_memory, refused, smaller, unwritten, wrote}
+use Rattle.sched_engine.proofs.Turns.{at_the_end, cut_short, faulted, few_lines, filled, full, out_of_memory, refused, smaller, unwritten, wrote}
 use Rattle.sched_engine.proofs.engine.Engine.turn.Goals as goal
 
 pub returns-in-End-clause-turns : goal.returns-in-End-clause-turns
@@ -15,7 +15,7 @@ returns-in-End-clause-turns g c = λ run between.
     let writer = g.W.Sink.contents c.args.writer.now in
     let none = c.in-End.ensures.bytes in
     let old = c.args.self.now in
-    let at : Progress = record { left = g.S.Source.remaining c.args.reader.now; held = old.held; text = old.draft.text; contents = writer; core = old.core; count = old.count } in
+    let at : Progress = record { left = g.S.Source.remaining c.args.reader.now; held = old.held; text = old.draft; contents = writer; core = old.core; count = old.count } in
     at_the_end run at reader c.fill.new.self c.end.result between none.0 none.1 none.2 c.end.ensures
 
 pub returns-in-Fault-clause-turns : goal.returns-in-Fault-clause-turns
@@ -24,7 +24,7 @@ returns-in-Fault-clause-turns g c = λ run between.
     let writer = g.W.Sink.contents c.args.writer.now in
     let none = c.in-Fault.ensures.bytes in
     let old = c.args.self.now in
-    let at : Progress = record { left = g.S.Source.remaining c.args.reader.now; held = old.held; text = old.draft.text; contents = writer; core = old.core; count = old.count } in
+    let at : Progress = record { left = g.S.Source.remaining c.args.reader.now; held = old.held; text = old.draft; contents = writer; core = old.core; count = old.count } in
     faulted run at reader between none.0
 
 pub answer_held-requires-clause-few : goal.answer_held-requires-clause-few
@@ -37,13 +37,15 @@ returns-in_err-end-clause-turns g c = λ run between.
     let new = c.answer_held.new.self in
     let more = c.in-More.ensures.bytes in
     let old = c.args.self.now in
-    let at : Progress = record { left = g.S.Source.remaining c.args.reader.now; held = old.held; text = old.draft.text; contents = writer; core = old.core; count = old.count } in
+    let at : Progress = record { left = g.S.Source.remaining c.args.reader.now; held = old.held; text = old.draft; contents = writer; core = old.core; count = old.count } in
     let read = filled run at reader c.fill.new.self more.0 between.done more.1 more.2 in
-    let read_on : Progress = record { left = reader; held = c.fill.new.self; text = old.draft.text; contents = writer; core = old.core; count = old.count } in
-    let memory : Result Turn RunError = Err Memory in
-    let told : memory ≡ c.from_residual.result = search rules in
-    subst (λ (r : Result Turn RunError). Turns r run at (record { left = reader; held = new.held; text = new.draft.text; contents = writer; core = new.core; count = new.count })) told
-    (out_of_memory run read_on read between.none c.fill.ensures.few)
+    let read_on : Progress = record { left = reader; held = c.fill.new.self; text = old.draft; contents = writer; core = old.core; count = old.count } in
+    let after = g.W.Sink.contents c.answer_held.new.writer in
+    let cut = c.in_err-end.ensures.cut in
+    let fault : Result Turn RunError = Err Write in
+    let told : fault ≡ c.from_residual.result = search (rules, cut.0) in
+    subst (λ (r : Result Turn RunError). Turns r run at (record { left = reader; held = new.held; text = new.draft; contents = after; core = new.core; count = new.count })) told
+    (cut_short run read_on after read c.fill.ensures.few cut.1)
 
 pub returns-then-not-write_text-clause-turns : goal.returns-then-not-write_text-clause-turns
 returns-then-not-write_text-clause-turns g c = λ run between.
@@ -52,15 +54,16 @@ returns-then-not-write_text-clause-turns g c = λ run between.
     let new = c.answer_held.new.self in
     let more = c.in-More.ensures.bytes in
     let old = c.args.self.now in
-    let at : Progress = record { left = g.S.Source.remaining c.args.reader.now; held = old.held; text = old.draft.text; contents = writer; core = old.core; count = old.count } in
+    let at : Progress = record { left = g.S.Source.remaining c.args.reader.now; held = old.held; text = old.draft; contents = writer; core = old.core; count = old.count } in
     let read = filled run at reader c.fill.new.self more.0 between.done more.1 more.2 in
     let ok = c.in_ok-end.ensures in
-    let done = ok.done run reader writer read in
-    let answered : Progress = record { left = reader; held = new.held; text = new.draft.text; contents = writer; core = new.core; count = new.count } in
+    let done = ok.done run reader read in
+    let given = g.W.Sink.contents c.answer_held.new.writer in
+    let answered : Progress = record { left = reader; held = new.held; text = new.draft; contents = given; core = new.core; count = new.count } in
     let near : length new.held ≤ piece = omega (arith, ok.fewer, c.fill.ensures.few) in
     let after = g.W.Sink.contents c.write_text.new.sink in
     let written = c.if-not-write_text.ensures.bytes in
-    unwritten run answered after written.0 done near (subst (λ (l : List ℕ). Appends writer after (take written.0 l)) c.bytes.ensures written.2)
+    unwritten run answered after written.0 done near (subst (λ (l : List ℕ). Appends given after (take written.0 l)) c.bytes.ensures written.2)
 
 pub returns-in-Part-clause-turns : goal.returns-in-Part-clause-turns
 returns-in-Part-clause-turns g c = λ run between.
@@ -69,17 +72,18 @@ returns-in-Part-clause-turns g c = λ run between.
     let new = c.answer_held.new.self in
     let more = c.in-More.ensures.bytes in
     let old = c.args.self.now in
-    let at : Progress = record { left = g.S.Source.remaining c.args.reader.now; held = old.held; text = old.draft.text; contents = writer; core = old.core; count = old.count } in
+    let at : Progress = record { left = g.S.Source.remaining c.args.reader.now; held = old.held; text = old.draft; contents = writer; core = old.core; count = old.count } in
     let read = filled run at reader c.fill.new.self more.0 between.done more.1 more.2 in
     let ok = c.in_ok-end.ensures in
-    let done = ok.done run reader writer read in
-    let answered : Progress = record { left = reader; held = new.held; text = new.draft.text; contents = writer; core = new.core; count = new.count } in
+    let done = ok.done run reader read in
+    let given = g.W.Sink.contents c.answer_held.new.writer in
+    let answered : Progress = record { left = reader; held = new.held; text = new.draft; contents = given; core = new.core; count = new.count } in
     let near : length new.held ≤ piece = omega (arith, ok.fewer, c.fill.ensures.few) in
     let after = g.W.Sink.contents c.write_text.new.sink in
-    let finished = wrote run answered after c.clear.new.self.text done (subst (Appends writer after) c.bytes.ensures c.if-not-write_text.ensures.bytes) c.clear.ensures.text in
-    let here : Progress = record { left = reader; held = new.held; text = c.clear.new.self.text; contents = after; core = new.core; count = new.count } in
+    let finished = wrote run answered after c.clear.new.self done (subst (Appends given after) c.bytes.ensures c.if-not-write_text.ensures.bytes) c.clear.ensures in
+    let here : Progress = record { left = reader; held = new.held; text = c.clear.new.self; contents = after; core = new.core; count = new.count } in
     let stop = subst (λ (end : PieceEnd). IsPieceEnd end new.core new.held) c.in-Part.is ok.end in (
-      record { done = finished; none = c.clear.ensures.text; part = stop.0; short = stop.1 },
+      record { done = finished; none = c.clear.ensures; part = stop.0; short = stop.1 },
       smaller run.limit old.core.taken new.core.taken old.held more.0 c.fill.new.self new.held more.2 more.3 ok.rises done.within ok.same stop.1 between.short,
     )
 
@@ -90,17 +94,18 @@ returns-in-Refused-clause-turns g c = λ run between.
     let new = c.answer_held.new.self in
     let more = c.in-More.ensures.bytes in
     let old = c.args.self.now in
-    let at : Progress = record { left = g.S.Source.remaining c.args.reader.now; held = old.held; text = old.draft.text; contents = writer; core = old.core; count = old.count } in
+    let at : Progress = record { left = g.S.Source.remaining c.args.reader.now; held = old.held; text = old.draft; contents = writer; core = old.core; count = old.count } in
     let read = filled run at reader c.fill.new.self more.0 between.done more.1 more.2 in
     let ok = c.in_ok-end.ensures in
-    let done = ok.done run reader writer read in
-    let answered : Progress = record { left = reader; held = new.held; text = new.draft.text; contents = writer; core = new.core; count = new.count } in
+    let done = ok.done run reader read in
+    let given = g.W.Sink.contents c.answer_held.new.writer in
+    let answered : Progress = record { left = reader; held = new.held; text = new.draft; contents = given; core = new.core; count = new.count } in
     let near : length new.held ≤ piece = omega (arith, ok.fewer, c.fill.ensures.few) in
     let after = g.W.Sink.contents c.write_text.new.sink in
-    let finished = wrote run answered after c.clear.new.self.text done (subst (Appends writer after) c.bytes.ensures c.if-not-write_text.ensures.bytes) c.clear.ensures.text in
-    let here : Progress = record { left = reader; held = new.held; text = c.clear.new.self.text; contents = after; core = new.core; count = new.count } in
+    let finished = wrote run answered after c.clear.new.self done (subst (Appends given after) c.bytes.ensures c.if-not-write_text.ensures.bytes) c.clear.ensures in
+    let here : Progress = record { left = reader; held = new.held; text = c.clear.new.self; contents = after; core = new.core; count = new.count } in
     let stop = subst (λ (end : PieceEnd). IsPieceEnd end new.core new.held) c.in-Refused.is ok.end in
-    subst (λ (e : RunError). Runs (Err e) run.calls run.workers run.limit run.input reader run.contents after) (sym c.refused_line.ensures) (refused run here (new.core.taken + 1) finished c.clear.ensures.text near stop.1 stop.0 refl)
+    subst (λ (e : RunError). Runs (Err e) run.calls run.workers run.limit run.input reader run.contents after) (sym c.refused_line.ensures) (refused run here (new.core.taken + 1) finished c.clear.ensures near stop.1 stop.0 refl)
 
 pub returns-in-Full-clause-turns : goal.returns-in-Full-clause-turns
 returns-in-Full-clause-turns g c = λ run between.
@@ -109,14 +114,34 @@ returns-in-Full-clause-turns g c = λ run between.
     let new = c.answer_held.new.self in
     let more = c.in-More.ensures.bytes in
     let old = c.args.self.now in
-    let at : Progress = record { left = g.S.Source.remaining c.args.reader.now; held = old.held; text = old.draft.text; contents = writer; core = old.core; count = old.count } in
+    let at : Progress = record { left = g.S.Source.remaining c.args.reader.now; held = old.held; text = old.draft; contents = writer; core = old.core; count = old.count } in
     let read = filled run at reader c.fill.new.self more.0 between.done more.1 more.2 in
     let ok = c.in_ok-end.ensures in
-    let done = ok.done run reader writer read in
-    let answered : Progress = record { left = reader; held = new.held; text = new.draft.text; contents = writer; core = new.core; count = new.count } in
+    let done = ok.done run reader read in
+    let given = g.W.Sink.contents c.answer_held.new.writer in
+    let answered : Progress = record { left = reader; held = new.held; text = new.draft; contents = given; core = new.core; count = new.count } in
     let near : length new.held ≤ piece = omega (arith, ok.fewer, c.fill.ensures.few) in
     let after = g.W.Sink.contents c.write_text.new.sink in
-    let finished = wrote run answered after c.clear.new.self.text done (subst (Appends writer after) c.bytes.ensures c.if-not-write_text.ensures.bytes) c.clear.ensures.text in
-    let here : Progress = record { left = reader; held = new.held; text = c.clear.new.self.text; contents = after; core = new.core; count = new.count } in
+    let finished = wrote run answered after c.clear.new.self done (subst (Appends given after) c.bytes.ensures c.if-not-write_text.ensures.bytes) c.clear.ensures in
+    let here : Progress = record { left = reader; held = new.held; text = c.clear.new.self; contents = after; core = new.core; count = new.count } in
     let stop = subst (λ (end : PieceEnd). IsPieceEnd end new.core new.held) c.in-Full.is ok.end in
-    full run here finished c.clear.ensures.text near stop.0 stop.1
+    full run here finished c.clear.ensures near stop.0 stop.1
+
+pub returns-in-Memory-clause-turns : goal.returns-in-Memory-clause-turns
+returns-in-Memory-clause-turns g c = λ run between.
+    let reader = g.S.Source.remaining c.fill.new.source in
+    let writer = g.W.Sink.contents c.args.writer.now in
+    let new = c.answer_held.new.self in
+    let more = c.in-More.ensures.bytes in
+    let old = c.args.self.now in
+    let at : Progress = record { left = g.S.Source.remaining c.args.reader.now; held = old.held; text = old.draft; contents = writer; core = old.core; count = old.count } in
+    let read = filled run at reader c.fill.new.self more.0 between.done more.1 more.2 in
+    let ok = c.in_ok-end.ensures in
+    let done = ok.done run reader read in
+    let given = g.W.Sink.contents c.answer_held.new.writer in
+    let answered : Progress = record { left = reader; held = new.held; text = new.draft; contents = given; core = new.core; count = new.count } in
+    let near : length new.held ≤ piece = omega (arith, ok.fewer, c.fill.ensures.few) in
+    let after = g.W.Sink.contents c.write_text.new.sink in
+    let finished = wrote run answered after c.clear.new.self done (subst (Appends given after) c.bytes.ensures c.if-not-write_text.ensures.bytes) c.clear.ensures in
+    let here : Progress = record { left = reader; held = new.held; text = c.clear.new.self; contents = after; core = new.core; count = new.count } in
+    out_of_memory run here finished c.clear.ensures near

@@ -1,0 +1,32 @@
+use Rattle.std.proofs.Common.{◌∙◌, [], take, drop, subst, sym, append-nil}
+use Rattle.trace_text.specs.Spelling.{lines_text}
+use Rattle.sched_engine.specs.Pieces.{Gives, Output}
+use Rattle.sched_engine.proofs.Giving.{gives_both, gives_front, gives_put, lines_on, lines_split}
+use Rattle.sched_engine.proofs.draft.Draft.give_lines.Goals as goal
+
+pub returns-then-not-make_room-clause-text : goal.returns-then-not-make_room-clause-text
+returns-then-not-make_room-clause-text g c =
+    let lines = c.args.lines.now in
+    let i = c.loop-line.line-index in
+    let old : Output = record { contents = g.W.Sink.contents c.args.writer.now; text = c.args.self.now } in
+    let here : Output = record { contents = g.W.Sink.contents c.loop-line.writer; text = c.loop-line.self } in
+    let cut = c.if-not-make_room.ensures.room in
+    gives_front old here (g.W.Sink.contents c.make_room.new.writer) (lines_text (take i lines)) (lines_text (drop i lines)) (lines_text lines) cut.0 c.loop-line.invariant.given cut.1 cut.2 (lines_split lines i)
+
+pub loop-line-preserved : goal.loop-line-preserved
+loop-line-preserved g c =
+    let lines = c.args.lines.now in
+    let i = c.loop-line.line-index in
+    let so_far = lines_text (take i lines) in
+    let old : Output = record { contents = g.W.Sink.contents c.args.writer.now; text = c.args.self.now } in
+    let here : Output = record { contents = g.W.Sink.contents c.loop-line.writer; text = c.loop-line.self } in
+    let roomy : Output = record { contents = g.W.Sink.contents c.make_room.new.writer; text = c.make_room.new.self } in
+    let new : Output = record { contents = g.W.Sink.contents c.make_room.new.writer; text = c.put.new.self } in
+    let made = c.if-not-make_room.ensures.room.0 in
+    let none = c.if-not-make_room.ensures.counts in
+    let kept = c.loop-line.invariant in
+    let all : Gives old roomy so_far = subst (Gives old roomy) (append-nil so_far) (gives_both old here roomy so_far [] kept.given made) in
+    record {
+      given = subst (Gives old new) (sym (lines_on lines i _ c.loop-line-test.true)) (gives_put old roomy so_far _ c.put.new.self all c.put.ensures);
+      counts = (none.0 ∙ kept.counts.0, none.1 ∙ kept.counts.1);
+    }
