@@ -31,7 +31,8 @@ input_of-append (e ∷ more) before = ap (λ l. l ++ event_line e) (input_of-app
 
 -- ---- lines are counted
 
-length-happenings : (past : List HistoryEntry) → length (happenings past) ≡ length past
+-- a history has as many happenings as entries
+pub length-happenings : (past : List HistoryEntry) → length (happenings past) ≡ length past
 length-happenings [] = refl
 length-happenings (e ∷ past) = omega (arith, length-happenings past)
 
@@ -48,7 +49,8 @@ part_are calls n now event hs =
     by (v.Finish w ending) = refl
     by (v.Cancel k) = refl
 
-flow_are : (calls : List Planned) (events : List Event) → length (flow calls events) ≡ length events + made (flow calls events)
+-- the flow of some events has one happening for each event and for each call made
+pub flow_are : (calls : List Planned) (events : List Event) → length (flow calls events) ≡ length events + made (flow calls events)
 flow_are calls [] = refl
 flow_are calls (e ∷ events) = omega (arith, part_are calls (made (flow calls events)) (now_of calls (flow calls events)) e (flow calls events), flow_are calls events)
 

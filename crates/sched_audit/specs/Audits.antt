@@ -1,0 +1,1 @@
+-- What a run and the check of its trace come to. All of it is this project's rule.

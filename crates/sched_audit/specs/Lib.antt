@@ -1,0 +1,10 @@
+pub use Rattle.executor_core.specs.Histories
+pub use Rattle.executor_core.specs.Flows
+pub use Rattle.trace_text.specs.Spelling
+pub use Rattle.plan_read.specs.Texts
+pub use Rattle.plan_compile.specs.PlanCalls
+pub use Rattle.trace_check.specs.Findings
+pub use Rattle.sched_engine.specs.Inputs
+pub use Rattle.sched_engine.specs.Running
+pub mod Laws
+pub mod Audits
