@@ -1,8 +1,23 @@
 -- What a run wrote conforms.
-use Rattle.std.proofs.Common.{refl}
-use Rattle.trace_check.proofs.TextLaws.{traces_conform}
-use Rattle.sched_engine.specs.Running.{text_of}
+use Rattle.std.proofs.Common.{◌≡◌, ℕ, ◌^◌, ◌<◌, ◌≤◌, List, length, Result, Ok, Err, refl, sym, subst, arith}
+use Rattle.queue_code.specs.Calls.{Planned, IsOrderly}
+use Rattle.executor_core.specs.declared.Event.{Event}
+use Rattle.executor_core.specs.Counts.{IsWorkerCount}
+use Rattle.executor_core.specs.Histories.{HistoryEntry}
+use Rattle.plan_read.specs.Plans.{PlanTree}
+use Rattle.plan_read.specs.Texts.{TextWrites}
+use Rattle.plan_compile.specs.PlanCalls.{calls_of}
+use Rattle.trace_check.specs.declared.finding.Finding.{Finding}
+use Rattle.trace_check.specs.declared.finding.Finding.TheVariants as f
+use Rattle.trace_check.specs.Findings.{Conforms}
+use Rattle.trace_check.proofs.TextLaws.{traces_conform, findings_are_one}
+use Rattle.sched_engine.specs.declared.report.Report.{Report}
+use Rattle.sched_engine.specs.declared.report.RunError.{RunError}
+use Rattle.sched_engine.specs.declared.report.RunError.TheVariants as x
+use Rattle.sched_engine.specs.Inputs.{AreEvents}
+use Rattle.sched_engine.specs.Running.{IsAccepted, IsTrace, RanInMemory, text_of}
 use Rattle.sched_audit.specs.Laws.{RunsConform}
+use Rattle.sched_audit.specs.Audits.{IsWhole, FindsByText}
 use Rattle.sched_audit.proofs.Fitting.{lines_fit}
 
 -- the text of the trace of some events conforms
@@ -14,3 +29,49 @@ runs_conform calls workers events past o count fit few trace =
       fit = lines_fit calls workers events past o count fit few trace;
       spelled = refl;
     })
+
+-- the calls of each plan that a text writes are in order
+abbrev pub AreInOrder : Type 0
+AreInOrder = (text : List ℕ) (plan : PlanTree) → TextWrites text plan → IsOrderly (calls_of plan)
+
+-- a text conforms, by the plan that a plan text writes
+record ConformsByText (plan_text : List ℕ) (workers : ℕ) (text : List ℕ) : Type 0 where
+  pub plan : PlanTree
+  pub reads : TextWrites plan_text plan
+  pub conforms : Conforms (calls_of plan) workers text
+
+wrote : (plan_text : List ℕ) (workers limit : ℕ) (calls : List Planned) (events : List Event) (past : List HistoryEntry) (output : List ℕ) → AreInOrder → limit < 2 ^ 32 → IsAccepted plan_text calls workers limit →
+    AreEvents events → length events ≤ limit → IsTrace calls workers events past → output ≡ text_of calls past → ConformsByText plan_text workers output
+wrote plan_text workers limit calls events past output ordered small accepted fit within trace is =
+    let o : IsOrderly calls = subst IsOrderly (sym accepted.makes) (ordered plan_text accepted.plan accepted.reads) in
+    let conforms : Conforms calls workers (text_of calls past) = runs_conform calls workers events past o accepted.counted fit (omega (arith, within, small)) trace in
+    record {
+      plan = accepted.plan;
+      reads = accepted.reads;
+      conforms = subst (λ (cs : List Planned). Conforms cs workers output) accepted.makes (subst (Conforms calls workers) (sym is) conforms);
+    }
+
+-- a whole trace conforms
+whole_conforms : (answer : Result Report RunError) (plan_text : List ℕ) (workers limit : ℕ) (input output : List ℕ) → AreInOrder → limit < 2 ^ 32 → RanInMemory answer plan_text workers limit input output → IsWhole answer →
+    ConformsByText plan_text workers output
+whole_conforms (Ok report) plan_text workers limit input output ordered small ran whole =
+    wrote plan_text workers limit ran.calls ran.events ran.past output ordered small ran.accepted ran.fit ran.within ran.trace ran.written
+whole_conforms (Err (x.EventLine n)) plan_text workers limit input output ordered small ran whole =
+    let (calls, accepted, taken) = ran.1 in
+    wrote plan_text workers limit calls taken.events taken.past output ordered small accepted taken.fit taken.within taken.trace taken.gives.1
+whole_conforms (Err x.Full) plan_text workers limit input output ordered small ran whole =
+    let (calls, accepted, taken) = ran.1 in
+    wrote plan_text workers limit calls taken.events taken.past output ordered small accepted taken.fit taken.within taken.trace taken.gives.1
+whole_conforms (Err (x.Plan fault)) plan_text workers limit input output ordered small ran whole = absurd whole
+whole_conforms (Err x.Workers) plan_text workers limit input output ordered small ran whole = absurd whole
+whole_conforms (Err x.Limit) plan_text workers limit input output ordered small ran whole = absurd whole
+whole_conforms (Err x.Read) plan_text workers limit input output ordered small ran whole = absurd whole
+whole_conforms (Err x.Write) plan_text workers limit input output ordered small ran whole = absurd whole
+whole_conforms (Err x.Memory) plan_text workers limit input output ordered small ran whole = absurd whole
+
+-- what is found of a whole trace is that it conforms
+pub whole_found : (answer : Result Report RunError) (plan_text : List ℕ) (workers limit : ℕ) (input output : List ℕ) (finding : Finding) → AreInOrder → limit < 2 ^ 32 → RanInMemory answer plan_text workers limit input output → IsWhole answer →
+    FindsByText plan_text workers output finding → finding ≡ f.Conforms
+whole_found answer plan_text workers limit input output finding ordered small ran whole finds =
+    let c = whole_conforms answer plan_text workers limit input output ordered small ran whole in
+    findings_are_one (calls_of c.plan) workers output finding f.Conforms (finds c.plan c.reads) c.conforms

@@ -1,5 +1,8 @@
 //! Laws of the traces of runs. The functions do nothing: what they ensure is the law.
+ghost use Rattle.std.specs.Prelude.{◌≡◌, true};
 ghost use Rattle.sched_audit.specs.Laws.{LinesFit, RunsConform};
+
+use crate::error::AuditError;
 
 /// Each line of the trace of some events can be spelled, where each event can: its moment and its numbers are in range.
 pub fn lines_fit()
@@ -9,4 +12,9 @@ pub fn lines_fit()
 /// The text of the trace of some events conforms.
 pub fn runs_conform()
     ensures { RunsConform }
+{}
+
+/// Errors that compare equal are the same.
+pub fn audit_error_equality_tells()
+    ensures { (a b : AuditError) → ⟦<AuditError as PartialEq>⟧.eq a b ≡ true → a ≡ b }
 {}
