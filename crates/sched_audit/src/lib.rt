@@ -1,9 +1,54 @@
-//! A run whose trace is checked.
+//! A run whose trace is checked: the trace of each run conforms.
+//!
+//! # Usage
+//!
+//! ```rust
+//! let audit = run_and_check(alloc, plan_text, 1, 1_000, b"clock 5\nstart 0\nfinish 0 ok 7\n")?;
+//! audit.answer;  // Ok(Report { events: 3, lines: 4 })
+//! audit.trace;   // b"0 submit 0 schedule due 5\n5 clock\n5 start 0 task 0 run 0 due 5\n.."
+//! audit.finding; // Finding::Conforms
+//! ```
+//!
+//! # Behaviour
+//!
+//! The run is that of [`run_in_memory`](sched_engine::run_in_memory), and the check that of
+//! [`check`](trace_check::check), with the same plan text and as many workers. Both are held to the definition of what
+//! a trace is, one from events to lines, the other from lines to a finding. That what is found is always
+//! [`Conforms`](trace_check::Finding::Conforms) is proved of [`run_and_check`].
+//!
+//! A run that ends at a line that is no event's, or at its limit, wrote the trace of the events before. Its
+//! trace is checked as well, and conforms.
+//!
+//! Two laws stand behind this. [`lines_fit`]: whatever the plan and the events, each line of their trace can be spelled,
+//! since its moment, its tasks, its runs and its due moments stay in range. [`runs_conform`]: so the text of the
+//! trace conforms.
+//!
+//! # Order and ties
+//!
+//! The lines of the trace stand in the order that [`run`](sched_engine::run) gives them.
+//!
+//! # Errors
+//!
+//! | Error | When |
+//! |---|---|
+//! | [`AuditError::Run`] | the run wrote no whole trace: its plan, its workers or its limit was refused, or memory ran out |
+//! | [`AuditError::TooLong`] | the trace has more bytes than a check takes, 67,108,864 |
+//! | [`AuditError::Memory`] | memory ran out while the trace was checked |
+//!
+//! The errors are looked for in this order. Nothing is kept after an error.
+//!
+//! # Memory and cost
+//!
+//! The trace is held whole. The plan is read twice, once for the run and once for the check, and what the run took is
+//! given back before the check begins, but for the trace. A line costs its answer twice: once when it is written, and once when
+//! it is checked.
 #![tactic(auto)]
 
 mod audit;
 mod error;
 mod laws;
+#[cfg(test)]
+mod tests;
 
 pub use audit::{Audit, run_and_check};
 pub use error::AuditError;
