@@ -1,5 +1,5 @@
 -- The lines of a trace fit: each number is in the range that a line can spell.
-use Rattle.std.proofs.Common.{◌≡◌, ℕ, zero, suc, ◌+◌, ◌^◌, ◌<◌, ◌≤◌, ◌==◌, nat_lt, Bool, true, false, cond, List, [], ◌∷◌, ◌++◌, length, map, replicate, Option, Some, None, refl, sym, ap, ◌∙◌, subst, arith}
+use Rattle.std.proofs.Common.{◌≡◌, ℕ, zero, suc, ◌+◌, ◌^◌, ◌<◌, ◌≤◌, ◌==◌, nat_lt, Bool, true, false, cond, List, [], ◌∷◌, ◌++◌, length, map, replicate, Option, Some, None, refl, sym, ap, subst, arith}
 use Rattle.std.specs.Prelude.{All, slice_get, max}
 use Rattle.std.specs.Option.{option_map_or}
 use Rattle.std.specs.List.{range_with_len}
@@ -21,13 +21,11 @@ use Rattle.executor_core.specs.declared.types.Happening.{Happening}
 use Rattle.executor_core.specs.declared.types.Happening.TheVariants as h
 use Rattle.executor_core.specs.declared.types.EventError.TheVariants as x
 use Rattle.executor_core.specs.declared.types.Refusal.TheVariants as refusal
-use Rattle.executor_core.specs.declared.types.Outcome.{Outcome}
 use Rattle.executor_core.specs.declared.types.Answer.{Answer}
 use Rattle.executor_core.specs.declared.types.Answer.TheVariants as a
-use Rattle.executor_core.specs.declared.types.Line.{Line}
 use Rattle.executor_core.specs.View.{View, is_running, first_enabled}
-use Rattle.executor_core.specs.Answers.{Reply, plain, reply, called, kind_of, is_swept, swept, setting_sweeps, set_policy, queue_size, running_count, is_queued, started, finished, due_next, outcome_in, stops_periodic, effect_on}
-use Rattle.executor_core.specs.Histories.{HistoryEntry, IsHistoryOf, view_of_history, happenings, made, now_of, work_of, work_after, starts, is_start}
+use Rattle.executor_core.specs.Answers.{Reply, plain, reply, called, kind_of, is_swept, swept, setting_sweeps, set_policy, is_queued, started, finished, due_next, outcome_in, stops_periodic, effect_on}
+use Rattle.executor_core.specs.Histories.{HistoryEntry, IsHistoryOf, view_of_history, happenings, made, now_of, work_of, work_after, is_start}
 use Rattle.executor_core.specs.Flows.{flow, calls_before, happening_of, answer_line, end_line, lines_at, lines_of, reply_in}
 use Rattle.executor_core.proofs.First.{first_is_in, range_below}
 use Rattle.executor_core.proofs.Flowing.{how_many-le, made_past}
@@ -36,7 +34,6 @@ use Rattle.executor_core.proofs.Within.{now_within, dues_within, next_within, no
 use Rattle.trace_text.specs.Reading.{Below}
 use Rattle.trace_text.specs.Spelling.{FitsEvent, FitsEnding, FitsOutcome, FitsAnswer, FitsLine}
 use Rattle.sched_engine.specs.Inputs.{AreEvents}
-use Rattle.sched_engine.specs.Running.{IsTrace}
 use Rattle.sched_engine.proofs.Inputs.{length-happenings, flow_are}
 use Rattle.sched_audit.specs.Laws.{LinesFit}
 
