@@ -19,7 +19,6 @@ pub mod Cancels
 pub mod Asking
 pub mod Opens
 pub mod Rooms
-pub mod WordMoves
 pub mod Needing
 pub mod Events
 pub mod Errors

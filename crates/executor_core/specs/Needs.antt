@@ -1,9 +1,6 @@
--- Which words a step moves, read on the state before it.
+-- Which words a step moves, read on the state before it, and what else is known before it.
 -- All of it is this project's rule.
-use Rattle.std.specs.Prelude.{◌≡◌, ℕ, ◌+◌, ◌<◌, ◌≤◌, ◌==◌, Bool, true, if◌then◌else◌, List, slice_index_or}
-use Rattle.task_word.specs.declared.phases.Phase.{Phase}
-use Rattle.task_word.specs.declared.phases.Phase.TheVariants as w
-use Rattle.task_word.specs.Words.{Parts}
+use Rattle.std.specs.Prelude.{◌≡◌, ℕ, ◌<◌, ◌≤◌, Bool, true, if◌then◌else◌, List, slice_index_or}
 use Rattle.queue_code.specs.Calls.{Planned}
 use Rattle.executor_core.specs.declared.types.CancelEffect.{CancelEffect}
 use Rattle.executor_core.specs.declared.types.CancelEffect.TheVariants as f
@@ -16,9 +13,7 @@ use Rattle.executor_core.specs.declared.types.Need.{Need}
 use Rattle.executor_core.specs.declared.types.Need.TheVariants as n
 use Rattle.executor_core.specs.View.{View}
 use Rattle.executor_core.specs.Answers.{is_queued, setting_sweeps}
-use Rattle.executor_core.specs.Histories.{is_end}
-use Rattle.executor_core.specs.State.{State, vacant, next, reply_of}
-use Rattle.executor_core.specs.Tasks.{word_of}
+use Rattle.executor_core.specs.State.{State, vacant, reply_of}
 use Rattle.executor_core.specs.Machine.{Machine}
 
 -- what a cancel of task k that has this effect moves
@@ -50,27 +45,6 @@ need_of_answer shut _ = n.Nothing
 -- what the step of a happening moves
 abbrev pub need_of : List Planned → ℕ → State → Happening → Need
 need_of calls workers s happening = need_of_answer s.shut (reply_of calls workers s happening).answer
-
--- the word of a task that is submitted: only a vacant one moves
-abbrev pub submitted : Phase → Parts → Parts
-submitted w.Vacant word = record word { phase = w.New; run = 0 }
-submitted _ word = word
-
--- the word of task k after the moves of a need, where the step ends task k by a sweep or does not
-abbrev pub moved : Need → Bool → ℕ → Parts → Parts
-moved n.Nothing swept k word = word
-moved (n.Submit j) swept k word = if j == k then submitted word.phase word else word
-moved (n.Start j) swept k word = if j == k then record word { phase = w.Running } else word
-moved (n.Done j) swept k word = if j == k then record word { phase = w.Done } else word
-moved (n.Fail j) swept k word = if j == k then record word { phase = w.Failed } else word
-moved (n.Rearm j) swept k word = if j == k then record word { phase = w.New; run = 1 + word.run } else word
-moved (n.Cancel j) swept k word = if j == k then record word { marked = true } else word
-moved n.Sweep swept k word = if swept then record word { marked = true } else word
-
--- the words after the step of a happening are those before it with the moves of a need
-abbrev pub MovesWords : List Planned → ℕ → State → Happening → Need → Type 0
-MovesWords calls workers s happening need = (k : ℕ) → word_of ((next calls workers s happening).tasks k)
-    ≡ moved need (is_end k (reply_of calls workers s happening).ends) k (word_of (s.tasks k))
 
 -- a task waits or is kept, and its due moment is reached
 abbrev pub IsRipe : List Planned → View → Type 0

@@ -12,3 +12,4 @@ pub mod Refusals
 pub mod Termination
 pub mod Kept
 pub mod Lines
+pub mod WordMoves

@@ -58,7 +58,7 @@ live_of terms t q = by t.phase refl
     by ph.Dropped e = refl
 
 -- what a reply says of a cancel and of the end of a run
-abbrev Says : List Planned → State → Answer → Type 0
+abbrev pub Says : List Planned → State → Answer → Type 0
 Says calls s (a.Cancel j effect) = effect ≡ effect_on (seen_task (terms_of calls j) (s.tasks j))
 Says calls s (a.Outside j effect) = effect ≡ effect_on (seen_task (terms_of calls j) (s.tasks j))
 Says calls s (a.Finish worker j run outcome) = (s.tasks j).cancelled ≡ true → outcome ≡ o.Dropped
@@ -77,7 +77,8 @@ call_says calls s moment c.Shutdown =
     pick s.shut
 call_says calls s moment c.Ask = tt
 
-says : (calls : List Planned) (workers : ℕ) (s : State) (happening : Happening) → Says calls s (reply_of calls workers s happening).answer
+-- what each reply says of a cancel and of the end of a run
+pub says : (calls : List Planned) (workers : ℕ) (s : State) (happening : Happening) → Says calls s (reply_of calls workers s happening).answer
 says calls workers s h.Call =
     let pick : (q : Option Planned) → Says calls s (option_map_or (λ p. called calls (record (view_of_state calls s) { moment = max s.moment p.0 }) p.1) q (plain a.Clock)).answer =
     elim [ None ↦ tt | Some p ↦ call_says calls s (max s.moment p.0) p.1 ]

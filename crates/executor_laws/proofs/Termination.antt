@@ -32,7 +32,7 @@ use Rattle.executor_laws.proofs.Refusals.{accepts_none}
 -- ---- the tasks that are counted
 
 -- a task that was submitted is one of the plan
-submitted_is_a_task : (calls : List Planned) (workers : ℕ) (past : List HistoryEntry) (k : ℕ) → IsOrderly calls → IsHistoryOf calls workers past → was_submitted ((after calls workers (happenings past)).tasks k).phase ≡ true → k < task_count calls
+pub submitted_is_a_task : (calls : List Planned) (workers : ℕ) (past : List HistoryEntry) (k : ℕ) → IsOrderly calls → IsHistoryOf calls workers past → was_submitted ((after calls workers (happenings past)).tasks k).phase ≡ true → k < task_count calls
 submitted_is_a_task calls workers past k o m q =
     let accepted : was_accepted k past ≡ true = ap (λ (v : View). (v.fate k).accepted) (sym (after_agrees calls workers past m).view) ∙ q in
     let made = call_was_made calls workers past k m accepted in

@@ -8,3 +8,4 @@ pub mod Positions
 pub mod Laws
 pub mod TaskWords
 pub mod Policies
+pub mod NeedWrites

@@ -11,7 +11,6 @@ use Rattle.executor_core.specs.View.{is_waiting, is_running}
 use Rattle.executor_core.specs.Histories.{HistoryEntry, IsHistoryOf, view_of_history, happenings, starts, was_accepted, was_cancelled, was_done, was_failed}
 use Rattle.executor_core.specs.State.{State, after, next, reply_of}
 use Rattle.executor_core.specs.Tasks.{word_of}
-use Rattle.executor_core.specs.Needs.{need_of, MovesWords}
 
 -- the word of task k in the state that a history leads to
 abbrev pub word_after : List Planned → ℕ → List HistoryEntry → ℕ → Parts
@@ -59,8 +58,3 @@ CancelledWordsStay = (calls : List Planned) (workers : ℕ) (past : List History
 abbrev pub ErrorsChangeNothing : Type 0
 ErrorsChangeNothing = (calls : List Planned) (workers : ℕ) (s : State) (happening : Happening) (error : EventError)
     → (reply_of calls workers s happening).answer ≡ a.Error error → next calls workers s happening ≡ s
-
--- the words after a step are those before it with the moves of its need
-abbrev pub NeedsMoveWords : Type 0
-NeedsMoveWords = (calls : List Planned) (workers : ℕ) (past : List HistoryEntry) (happening : Happening) → IsHistoryOf calls workers past
-    → MovesWords calls workers (after calls workers (happenings past)) happening (need_of calls workers (after calls workers (happenings past)) happening)

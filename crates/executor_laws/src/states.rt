@@ -1,5 +1,6 @@
 //! What holds of the states that a history leads to, and of the words of its tasks.
-ghost use Rattle.executor_laws.specs.TaskWords.{WordsTellTheHistory, RanksDoNotFall, CancelledWordsStay, ErrorsChangeNothing, NeedsMoveWords};
+ghost use Rattle.executor_laws.specs.TaskWords.{WordsTellTheHistory, RanksDoNotFall, CancelledWordsStay, ErrorsChangeNothing};
+ghost use Rattle.executor_laws.specs.NeedWrites.{NeedsMoveWords};
 
 /// The word of each task says what the history shows: it is vacant exactly when the task was not
 /// accepted, done exactly when it is done, failed exactly when it has failed, cancelled exactly when
@@ -24,8 +25,8 @@ pub fn errors_change_nothing()
     ensures { ErrorsChangeNothing }
 {}
 
-/// The words after a step are those before it, but for the moves that its need names: each task's, and at a
-/// sweep those of the tasks that it ends.
+/// A step makes the writes of words that its need names, and no other. Each is in the table of writes, and of a task of
+/// the calls whose word is not cancelled; a cancel's task waits or is run. A sweep cancels the tasks that the step ends.
 pub fn needs_move_words()
     ensures { NeedsMoveWords }
 {}

@@ -6,7 +6,7 @@ ghost use Rattle.delay_queue.specs.Queues.{IsLeast, NoneIsDue};
 ghost use Rattle.executor_core.specs.Flows.{AreMade};
 ghost use Rattle.executor_core.specs.Histories.{is_end};
 ghost use Rattle.executor_core.specs.State.{reply_of, view_of_state};
-ghost use Rattle.executor_core.specs.Needs.{need_of, need_of_cancel, need_of_finish, MovesWords, IsRipe};
+ghost use Rattle.executor_core.specs.Needs.{need_of, need_of_cancel, need_of_finish, IsRipe};
 
 use super::Core;
 use super::cancels::effect_on;

@@ -1,0 +1,403 @@
+-- Each step makes the writes of words that its need names, and no other.
+use Rattle.std.proofs.Common.{◌≡◌, ℕ, ◌+◌, ◌<◌, ◌==◌, ◌&&◌, ◌||◌, Bool, true, false, cond, List, [], ◌∷◌, map, Option, Some, None, refl, sym, ap, ◌∙◌, arith}
+use Rattle.std.specs.Prelude.{slice_get, max}
+use Rattle.std.specs.Option.{option_map_or}
+use Rattle.std.specs.List.{All, list_any}
+use Rattle.std.proofs.lemmas.Bool.{false≢true, false_from_ne_true, eq-eqb, or_parts, or_left, or_right, or_from}
+use Rattle.std.proofs.lemmas.List.Elements.{All-nil, All-cons, All-map}
+use Rattle.task_word.specs.Words.{Parts, marked, is_live, is_cancelled}
+use Rattle.task_word.specs.Writes.{Kind, submit, start, done, fail, rearm, core_cancel, plain as plain_word, Writes, is_cancel}
+use Rattle.task_word.specs.declared.phases.Phase.{Phase as WordPhase}
+use Rattle.task_word.specs.declared.phases.Phase.TheVariants as w
+use Rattle.queue_code.specs.declared.call.CodeCall.{CodeCall}
+use Rattle.queue_code.specs.declared.call.CodeCall.TheVariants as c
+use Rattle.queue_code.specs.Calls.{Planned, IsOrderly, task_count, terms_of}
+use Rattle.executor_core.specs.declared.task.Phase.{Phase}
+use Rattle.executor_core.specs.declared.task.Phase.TheVariants as ph
+use Rattle.executor_core.specs.declared.task.Task.{Task}
+use Rattle.executor_core.specs.declared.types.CancelEffect.{CancelEffect}
+use Rattle.executor_core.specs.declared.types.CancelEffect.TheVariants as f
+use Rattle.executor_core.specs.declared.types.Outcome.{Outcome}
+use Rattle.executor_core.specs.declared.types.Outcome.TheVariants as o
+use Rattle.executor_core.specs.declared.types.Kind.{Kind as TaskKind}
+use Rattle.executor_core.specs.declared.types.Answer.{Answer}
+use Rattle.executor_core.specs.declared.types.Answer.TheVariants as a
+use Rattle.executor_core.specs.declared.types.Happening.{Happening}
+use Rattle.executor_core.specs.declared.types.Happening.TheVariants as h
+use Rattle.executor_core.specs.declared.types.Need.{Need}
+use Rattle.executor_core.specs.declared.types.Need.TheVariants as n
+use Rattle.executor_core.specs.View.{View}
+use Rattle.executor_core.specs.Answers.{Reply, plain, called, swept, set_policy, setting_sweeps, effect_on}
+use Rattle.executor_core.specs.Histories.{HistoryEntry, IsHistoryOf, happenings, made, is_submit, is_yes, is_end, is_ended, was_accepted}
+use Rattle.executor_core.specs.State.{State, view_of_state, seen_task, was_submitted, reply_of, after, task_after, submit_phase, finish_task}
+use Rattle.executor_core.specs.Tasks.{word_of, word_phase}
+use Rattle.executor_core.specs.Needs.{need_of, need_of_answer, need_of_cancel, need_of_finish}
+use Rattle.executor_core.proofs.Agree.{after_agrees}
+use Rattle.executor_core.proofs.Sound.{waits_in}
+use Rattle.executor_core.proofs.Cancels.{live_is_uncancelled}
+use Rattle.executor_laws.specs.NeedWrites.{writes_of, IsWritten, NeedsMoveWords}
+use Rattle.executor_laws.proofs.Replies.{ends_say}
+use Rattle.executor_laws.proofs.Reading.{tasks_are_submitted}
+use Rattle.executor_laws.proofs.Waiting.{submit_says, was_submitted as call_was_made}
+use Rattle.executor_laws.proofs.Termination.{submitted_is_a_task}
+use Rattle.executor_laws.proofs.TaskWords.{Meets, meets, Says, says, words_tell_the_history}
+
+-- ---- words
+
+-- the word of a task with this mark
+abbrev word_with : Bool → Task → Parts
+word_with b t = record { phase = word_phase t.phase; run = t.run; marked = b }
+
+-- that of a task in this phase which is not cancelled
+plain_in : (t : Task) (p : Phase) → t.phase ≡ p → t.cancelled ≡ false → word_of t ≡ plain_word (word_phase p) t.run
+plain_in t p is live = λ i. record { phase = word_phase (is i); run = t.run; marked = live i }
+
+same_eqb : (k : ℕ) → (k == k) ≡ true
+same_eqb k = eq-eqb k k refl
+
+and_none : (b : Bool) → (b && false) ≡ false
+and_none true = refl
+and_none false = refl
+
+-- a word without the bit is not cancelled
+plain_lives : (w : Parts) (p : WordPhase) (m : ℕ) → w ≡ plain_word p m → is_cancelled w ≡ false
+plain_lives w p m e = ap is_cancelled e ∙ and_none (is_live p)
+
+-- ---- what is known of the tasks before a step with this answer, which ends these
+
+-- the word of task k after it
+abbrev word_next : List Planned → State → Answer → List ℕ → ℕ → Parts
+word_next calls s answer ends k = word_of (task_after calls s (record { answer = answer; ends = ends }) k)
+
+record Knows (calls : List Planned) (s : State) (answer : Answer) (ends : List ℕ) : Type 0 where
+  says : Says calls s answer
+  meets : (k : ℕ) → Meets k (s.tasks k) answer
+  submits : (k : ℕ) → is_submit k answer ≡ true → ((s.tasks k).phase ≡ ph.Vacant) × (k < task_count calls)
+  ended : (k : ℕ) → is_end k ends ≡ true → ((s.tasks k).phase ≡ ph.Waiting) × ((s.tasks k).cancelled ≡ false) × (need_of_answer s.shut answer ≡ n.Sweep)
+  fresh : (k : ℕ) → (s.tasks k).phase ≡ ph.Vacant → (s.tasks k).cancelled ≡ false
+  tasks : (k : ℕ) → was_submitted (s.tasks k).phase ≡ true → k < task_count calls
+
+-- a task is ended by a sweep alone
+unswept : (calls : List Planned) (s : State) (answer : Answer) (ends : List ℕ) (k : ℕ) → Knows calls s answer ends → (need_of_answer s.shut answer ≡ n.Sweep → ⊥) → is_end k ends ≡ false
+unswept calls s answer ends k knows apart = false_from_ne_true (is_end k ends) (λ q. apart (knows.ended k q).2)
+
+-- ---- the writes that are named
+
+abbrev Written : List Planned → State → Answer → List ℕ → ℕ × Kind → Type 0
+Written calls s answer ends x = IsWritten calls x.0 x.1 (word_of (s.tasks x.0)) (word_next calls s answer ends x.0)
+
+-- one write alone
+one : (P : ℕ × Kind → Type 0) (x : ℕ × Kind) → P x → All P (x ∷ [])
+one P x p = All-cons P x [] p (All-nil P)
+
+-- one of each task that is ended
+of_ends : (P : ℕ → Type 0) (ends : List ℕ) → ((k : ℕ) → is_end k ends ≡ true → P k) → All P ends
+of_ends P [] each = All-nil P
+of_ends P (k ∷ ends) each = All-cons P k ends (each k (or_left (k == k) (is_end k ends) (same_eqb k))) (of_ends P ends (λ j q. each j (or_right (k == j) (is_end j ends) q)))
+
+-- a write that is no cancel, of a task that is not cancelled
+exchange : (calls : List Planned) (s : State) (answer : Answer) (ends : List ℕ) (j : ℕ) (kind : Kind) (p : Phase) (r : WordPhase) (m : ℕ) → is_cancel kind ≡ false → j < task_count calls → (s.tasks j).phase ≡ p →
+    (s.tasks j).cancelled ≡ false → word_next calls s answer ends j ≡ plain_word r m → Writes kind (word_of (s.tasks j)) (word_next calls s answer ends j) → All (Written calls s answer ends) ((j, kind) ∷ [])
+exchange calls s answer ends j kind p r m other low is live goes writes =
+    let t = s.tasks j in
+    one (Written calls s answer ends) (j, kind) (low, writes, plain_lives (word_of t) (word_phase p) t.run (plain_in t p is live), plain_lives (word_next calls s answer ends j) r m goes ∙ sym other)
+
+-- a cancel of a task that waits or is run, and is not cancelled
+cancel : (calls : List Planned) (s : State) (answer : Answer) (ends : List ℕ) (j : ℕ) → j < task_count calls → is_live (word_phase (s.tasks j).phase) ≡ true → (s.tasks j).cancelled ≡ false →
+    word_next calls s answer ends j ≡ marked (word_of (s.tasks j)) → Written calls s answer ends (j, core_cancel)
+cancel calls s answer ends j low alive live is =
+    let alive_phase = is_live (word_phase (s.tasks j).phase) in
+    (low, is, ap (λ b. alive_phase && b) live ∙ and_none alive_phase, ap is_cancelled is ∙ ap (λ b. b && true) alive)
+
+-- a submission
+submit_written : (calls : List Planned) (s : State) (ends : List ℕ) (j due : ℕ) (kind : TaskKind) → Knows calls s (a.Submit j kind due) ends → All (Written calls s (a.Submit j kind due) ends) ((j, submit) ∷ [])
+submit_written calls s ends j due kind knows =
+    let t = s.tasks j in
+    let same = same_eqb j in
+    let found = knows.submits j same in
+    let live = knows.fresh j found.0 in
+    let none = unswept calls s (a.Submit j kind due) ends j knows (λ q. cc) in
+    let timing = (terms_of calls j).timing in
+    let goes : word_next calls s (a.Submit j kind due) ends j ≡ plain_word w.New 0 =
+    λ i. word_with ((false || (none i || false)) || live i) (cond (same i) (submit_phase timing due (found.0 i) t) t)
+    in
+    exchange calls s (a.Submit j kind due) ends j submit ph.Vacant w.New 0 refl found.1 found.0 live goes (ap word_phase found.0, goes)
+
+-- a start
+start_written : (calls : List Planned) (s : State) (ends : List ℕ) (v j run due : ℕ) → Knows calls s (a.Start v j run due) ends → All (Written calls s (a.Start v j run due) ends) ((j, start) ∷ [])
+start_written calls s ends v j run due knows =
+    let t = s.tasks j in
+    let same = same_eqb j in
+    let found = knows.meets j same in
+    let none = unswept calls s (a.Start v j run due) ends j knows (λ q. cc) in
+    let goes : word_next calls s (a.Start v j run due) ends j ≡ plain_word w.Running t.run =
+    λ i. word_with ((false || (none i || false)) || found.1 i) (cond (same i) (record t { phase = ph.Running }) t)
+    in
+    exchange calls s (a.Start v j run due) ends j start ph.Waiting w.Running t.run refl (knows.tasks j (ap was_submitted found.0)) found.0 found.1 goes (t.run, plain_in t ph.Waiting found.0 found.1, goes)
+
+-- the word of task j after a cancel of it that has an effect
+cancelled_word : (ends : List ℕ) (j : ℕ) (effect : CancelEffect) (t : Task) → effect ≡ f.Yes → word_with ((((j == j) && is_yes effect) || (is_end j ends || false)) || t.cancelled) t ≡ marked (word_of t)
+cancelled_word ends j effect t has =
+    let same = same_eqb j in
+    λ i. word_with (((same i && is_yes (has i)) || (is_end j ends || false)) || t.cancelled) t
+
+-- a cancel, from the plan or from outside, with this effect
+cancel_written : (calls : List Planned) (s : State) (answer : Answer) (ends : List ℕ) (j : ℕ) (effect : CancelEffect) → Knows calls s answer ends → effect ≡ effect_on (seen_task (terms_of calls j) (s.tasks j)) →
+    (effect ≡ f.Yes → is_live (word_phase (s.tasks j).phase) ≡ true) → (effect ≡ f.Yes → word_next calls s answer ends j ≡ marked (word_of (s.tasks j))) → All (Written calls s answer ends) (writes_of (need_of_cancel j effect) ends)
+cancel_written calls s answer ends j f.Yes knows says alive goes =
+    let t = s.tasks j in
+    let accepted : (b : Bool) (rest : CancelEffect) → f.Yes ≡ cond b rest f.Absent → b ≡ true = elim [ true ↦ λ rest q. refl | false ↦ λ rest q. absurd cc ] in
+    one (Written calls s answer ends) (j, core_cancel)
+    (cancel calls s answer ends j (knows.tasks j (accepted (was_submitted t.phase) _ says)) (alive refl) (live_is_uncancelled (terms_of calls j) t says) (goes refl))
+cancel_written calls s answer ends j f.No knows says alive goes = All-nil (Written calls s answer ends)
+cancel_written calls s answer ends j f.Absent knows says alive goes = All-nil (Written calls s answer ends)
+
+-- what the end of a run finds
+record Ends (calls : List Planned) (s : State) (ends : List ℕ) (j : ℕ) (outcome : Outcome) : Type 0 where
+  low : j < task_count calls
+  runs : (s.tasks j).phase ≡ ph.Running
+  live : (outcome ≡ o.Dropped → ⊥) → (s.tasks j).cancelled ≡ false
+  none : is_end j ends ≡ false
+
+finish_finds : (calls : List Planned) (s : State) (ends : List ℕ) (v j run : ℕ) (outcome : Outcome) → Knows calls s (a.Finish v j run outcome) ends → Ends calls s ends j outcome
+finish_finds calls s ends v j run outcome knows =
+    let met = knows.meets j (same_eqb j) in
+    record {
+      low = knows.tasks j (ap was_submitted met.0);
+      runs = met.0;
+      live = λ apart. false_from_ne_true (s.tasks j).cancelled (λ q. apart (met.1 q));
+      none = unswept calls s (a.Finish v j run outcome) ends j knows (no_sweep outcome);
+    }
+  where
+    no_sweep : (x : Outcome) → need_of_finish j x ≡ n.Sweep → ⊥
+    no_sweep (o.Done value) q = cc
+    no_sweep (o.Failed code) q = cc
+    no_sweep o.Dropped q = cc
+    no_sweep o.Ended q = cc
+    no_sweep (o.Again due) q = cc
+
+-- the end of a run
+finish_written : (calls : List Planned) (s : State) (ends : List ℕ) (v j run : ℕ) (outcome : Outcome) → Ends calls s ends j outcome →
+    All (Written calls s (a.Finish v j run outcome) ends) (writes_of (need_of_finish j outcome) ends)
+finish_written calls s ends v j run (o.Done value) found =
+    let t = s.tasks j in
+    let same = same_eqb j in
+    let live = found.live (λ q. cc) in
+    let goes : word_next calls s (a.Finish v j run (o.Done value)) ends j ≡ plain_word w.Done t.run =
+    λ i. word_with ((false || (found.none i || (same i && false))) || live i) (cond (same i) (finish_task (terms_of calls j).timing s.moment (o.Done value) t) t)
+    in
+    exchange calls s (a.Finish v j run (o.Done value)) ends j done ph.Running w.Done t.run refl found.low found.runs live goes (t.run, plain_in t ph.Running found.runs live, goes)
+finish_written calls s ends v j run (o.Failed code) found =
+    let t = s.tasks j in
+    let same = same_eqb j in
+    let live = found.live (λ q. cc) in
+    let goes : word_next calls s (a.Finish v j run (o.Failed code)) ends j ≡ plain_word w.Failed t.run =
+    λ i. word_with ((false || (found.none i || (same i && false))) || live i) (cond (same i) (finish_task (terms_of calls j).timing s.moment (o.Failed code) t) t)
+    in
+    exchange calls s (a.Finish v j run (o.Failed code)) ends j fail ph.Running w.Failed t.run refl found.low found.runs live goes (t.run, plain_in t ph.Running found.runs live, goes)
+finish_written calls s ends v j run (o.Again due) found =
+    let t = s.tasks j in
+    let same = same_eqb j in
+    let live = found.live (λ q. cc) in
+    let more : 1 + t.run ≡ t.run + 1 = omega arith in
+    let goes : word_next calls s (a.Finish v j run (o.Again due)) ends j ≡ plain_word w.New (t.run + 1) =
+    (λ i. word_with ((false || (found.none i || (same i && false))) || live i) (cond (same i) (finish_task (terms_of calls j).timing s.moment (o.Again due) t) t)) ∙ ap (plain_word w.New) more
+    in
+    exchange calls s (a.Finish v j run (o.Again due)) ends j rearm ph.Running w.New (t.run + 1) refl found.low found.runs live goes (t.run, plain_in t ph.Running found.runs live, goes)
+finish_written calls s ends v j run o.Dropped found = All-nil (Written calls s (a.Finish v j run o.Dropped) ends)
+finish_written calls s ends v j run o.Ended found =
+    let t = s.tasks j in
+    let same = same_eqb j in
+    let goes : word_next calls s (a.Finish v j run o.Ended) ends j ≡ marked (word_of t) =
+    (λ i. word_with ((false || (found.none i || (same i && true))) || t.cancelled) (cond (same i) (finish_task (terms_of calls j).timing s.moment o.Ended t) t))
+    ∙ ap (λ p. record { phase = word_phase p; run = t.run; marked = true }) (sym found.runs)
+    in
+    one (Written calls s (a.Finish v j run o.Ended) ends) (j, core_cancel) (cancel calls s (a.Finish v j run o.Ended) ends j found.low (ap (λ p. is_live (word_phase p)) found.runs) (found.live (λ q. cc)) goes)
+
+-- a sweep, whose answer moves no task
+sweep_written : (calls : List Planned) (s : State) (answer : Answer) (ends : List ℕ) → Knows calls s answer ends →
+    ((k : ℕ) → is_end k ends ≡ true → word_next calls s answer ends k ≡ marked (word_of (s.tasks k))) → All (Written calls s answer ends) (map (λ k. (k, core_cancel)) ends)
+sweep_written calls s answer ends knows goes = All-map (Written calls s answer ends) (λ k. (k, core_cancel)) ends (of_ends (λ k. Written calls s answer ends (k, core_cancel)) ends (λ k q.
+    let found = knows.ended k q in cancel calls s answer ends k (knows.tasks k (ap was_submitted found.0)) (ap (λ p. is_live (word_phase p)) found.0) found.1 (goes k q)))
+
+-- each write that the need of an answer names is made
+all_written : (calls : List Planned) (s : State) (answer : Answer) (ends : List ℕ) → Knows calls s answer ends → All (Written calls s answer ends) (writes_of (need_of_answer s.shut answer) ends)
+all_written calls s (a.Submit j kind due) ends knows = submit_written calls s ends j due kind knows
+all_written calls s (a.Refuse j why) ends knows = All-nil (Written calls s (a.Refuse j why) ends)
+all_written calls s (a.Cancel j effect) ends knows = cancel_written calls s (a.Cancel j effect) ends j effect knows knows.says (knows.meets j (same_eqb j)) (cancelled_word ends j effect (s.tasks j))
+all_written calls s (a.Outside j effect) ends knows = cancel_written calls s (a.Outside j effect) ends j effect knows knows.says (knows.meets j (same_eqb j)) (cancelled_word ends j effect (s.tasks j))
+all_written calls s (a.Policy which value) ends knows =
+    let all = sweep_written calls s (a.Policy which value) ends knows (λ k e i. word_with ((false || (e i || false)) || (s.tasks k).cancelled) (s.tasks k)) in
+    let pick : (b : Bool) → All (Written calls s (a.Policy which value) ends) (writes_of (cond b n.Sweep n.Nothing) ends) = elim [ true ↦ all | false ↦ All-nil (Written calls s (a.Policy which value) ends) ] in
+    pick (setting_sweeps s.shut which value)
+all_written calls s a.Shutdown ends knows = sweep_written calls s a.Shutdown ends knows (λ k e i. word_with ((false || (e i || false)) || (s.tasks k).cancelled) (s.tasks k))
+all_written calls s a.ShutdownAgain ends knows = All-nil (Written calls s a.ShutdownAgain ends)
+all_written calls s (a.Ask queue running shut terminated) ends knows = All-nil (Written calls s (a.Ask queue running shut terminated) ends)
+all_written calls s a.Clock ends knows = All-nil (Written calls s a.Clock ends)
+all_written calls s (a.Start v j run due) ends knows = start_written calls s ends v j run due knows
+all_written calls s (a.Idle v) ends knows = All-nil (Written calls s (a.Idle v) ends)
+all_written calls s (a.Finish v j run outcome) ends knows = finish_written calls s ends v j run outcome (finish_finds calls s ends v j run outcome knows)
+all_written calls s (a.Error why) ends knows = All-nil (Written calls s (a.Error why) ends)
+
+-- ---- the words of which no write is named
+
+-- none of the writes is of task k
+abbrev Unnamed : ℕ → List (ℕ × Kind) → Type 0
+Unnamed k writes = list_any (λ (x : ℕ × Kind). x.0 == k) writes ≡ false
+
+-- the one write that there is names another task
+named : (j k : ℕ) (kind : Kind) → Unnamed k ((j, kind) ∷ []) → (j == k) ≡ false
+named j k kind none = (or_parts (j == k) false none).0
+
+not_ended : (k : ℕ) (ends : List ℕ) → Unnamed k (map (λ j. (j, core_cancel)) ends) → is_end k ends ≡ false
+not_ended k [] none = refl
+not_ended k (j ∷ ends) none = let parts = or_parts (j == k) (list_any (λ (x : ℕ × Kind). x.0 == k) (map (λ j. (j, core_cancel)) ends)) none in or_from (j == k) (is_end k ends) parts.0 (not_ended k ends parts.1)
+
+-- nor is it ended
+unended : (k : ℕ) (need : Need) (ends : List ℕ) → Unnamed k (writes_of need ends) → (is_end k ends ≡ true → need ≡ n.Sweep) → is_end k ends ≡ false
+unended k n.Sweep ends none sweeps = not_ended k ends none
+unended k n.Nothing ends none sweeps = false_from_ne_true (is_end k ends) (λ q. let clash = sweeps q in cc)
+unended k (n.Submit j) ends none sweeps = false_from_ne_true (is_end k ends) (λ q. let clash = sweeps q in cc)
+unended k (n.Start j) ends none sweeps = false_from_ne_true (is_end k ends) (λ q. let clash = sweeps q in cc)
+unended k (n.Done j) ends none sweeps = false_from_ne_true (is_end k ends) (λ q. let clash = sweeps q in cc)
+unended k (n.Fail j) ends none sweeps = false_from_ne_true (is_end k ends) (λ q. let clash = sweeps q in cc)
+unended k (n.Rearm j) ends none sweeps = false_from_ne_true (is_end k ends) (λ q. let clash = sweeps q in cc)
+unended k (n.Cancel j) ends none sweeps = false_from_ne_true (is_end k ends) (λ q. let clash = sweeps q in cc)
+
+-- the word of a task that an answer neither moves nor cancels
+abbrev Stays : List Planned → State → Answer → List ℕ → ℕ → Type 0
+Stays calls s answer ends k = word_next calls s answer ends k ≡ word_of (s.tasks k)
+
+-- after a cancel of task j
+cancel_stays : (ends : List ℕ) (j k : ℕ) (effect : CancelEffect) (t : Task) → is_end k ends ≡ false → Unnamed k (writes_of (need_of_cancel j effect) ends) →
+    word_with ((((j == k) && is_yes effect) || (is_end k ends || false)) || t.cancelled) t ≡ word_of t
+cancel_stays ends j k f.Yes t none unnamed = let apart = named j k core_cancel unnamed in λ i. word_with (((apart i && true) || (none i || false)) || t.cancelled) t
+cancel_stays ends j k f.No t none unnamed = let off = and_none (j == k) in λ i. word_with ((off i || (none i || false)) || t.cancelled) t
+cancel_stays ends j k f.Absent t none unnamed = let off = and_none (j == k) in λ i. word_with ((off i || (none i || false)) || t.cancelled) t
+
+-- after the end of a run of another task
+other_stays : (calls : List Planned) (s : State) (ends : List ℕ) (v j run k : ℕ) (outcome : Outcome) → is_end k ends ≡ false → (j == k) ≡ false → Stays calls s (a.Finish v j run outcome) ends k
+other_stays calls s ends v j run k outcome none apart =
+    let t = s.tasks k in
+    λ i. word_with ((false || (none i || (apart i && is_ended outcome))) || t.cancelled) (cond (apart i) (finish_task (terms_of calls k).timing s.moment outcome t) t)
+
+-- after the end of a run of task j
+finish_stays : (calls : List Planned) (s : State) (ends : List ℕ) (v j run k : ℕ) (outcome : Outcome) → is_end k ends ≡ false → Meets k (s.tasks k) (a.Finish v j run outcome) → Unnamed k (writes_of (need_of_finish j outcome) ends) →
+    Stays calls s (a.Finish v j run outcome) ends k
+finish_stays calls s ends v j run k (o.Done value) none met unnamed = other_stays calls s ends v j run k (o.Done value) none (named j k done unnamed)
+finish_stays calls s ends v j run k (o.Failed code) none met unnamed = other_stays calls s ends v j run k (o.Failed code) none (named j k fail unnamed)
+finish_stays calls s ends v j run k (o.Again due) none met unnamed = other_stays calls s ends v j run k (o.Again due) none (named j k rearm unnamed)
+finish_stays calls s ends v j run k o.Ended none met unnamed = other_stays calls s ends v j run k o.Ended none (named j k core_cancel unnamed)
+finish_stays calls s ends v j run k o.Dropped none met unnamed = pick (j == k) refl
+  where
+    pick : (b : Bool) → (j == k) ≡ b → Stays calls s (a.Finish v j run o.Dropped) ends k
+    pick false apart = other_stays calls s ends v j run k o.Dropped none apart
+    pick true same =
+        let t = s.tasks k in
+        (λ i. word_with ((false || (none i || (same i && false))) || t.cancelled) (cond (same i) (finish_task (terms_of calls k).timing s.moment o.Dropped t) t)) ∙ ap (λ p. record { phase = word_phase p; run = t.run; marked = t.cancelled }) (sym (met same).0)
+
+-- the word of each task stays of which the need of an answer names no write
+others_stay : (calls : List Planned) (s : State) (answer : Answer) (ends : List ℕ) (k : ℕ) → is_end k ends ≡ false → Meets k (s.tasks k) answer → Unnamed k (writes_of (need_of_answer s.shut answer) ends) → Stays calls s answer ends k
+others_stay calls s (a.Submit j kind due) ends k none met unnamed =
+    let t = s.tasks k in
+    let apart = named j k submit unnamed in λ i. word_with ((false || (none i || false)) || t.cancelled) (cond (apart i) (submit_phase (terms_of calls k).timing due t.phase t) t)
+others_stay calls s (a.Cancel j effect) ends k none met unnamed = cancel_stays ends j k effect (s.tasks k) none unnamed
+others_stay calls s (a.Outside j effect) ends k none met unnamed = cancel_stays ends j k effect (s.tasks k) none unnamed
+others_stay calls s (a.Start v j run due) ends k none met unnamed =
+    let t = s.tasks k in
+    let apart = named j k start unnamed in λ i. word_with ((false || (none i || false)) || t.cancelled) (cond (apart i) (record t { phase = ph.Running }) t)
+others_stay calls s (a.Finish v j run outcome) ends k none met unnamed = finish_stays calls s ends v j run k outcome none met unnamed
+others_stay calls s (a.Refuse j why) ends k none met unnamed = λ i. word_with ((false || (none i || false)) || (s.tasks k).cancelled) (s.tasks k)
+others_stay calls s (a.Policy which value) ends k none met unnamed = λ i. word_with ((false || (none i || false)) || (s.tasks k).cancelled) (s.tasks k)
+others_stay calls s a.Shutdown ends k none met unnamed = λ i. word_with ((false || (none i || false)) || (s.tasks k).cancelled) (s.tasks k)
+others_stay calls s a.ShutdownAgain ends k none met unnamed = λ i. word_with ((false || (none i || false)) || (s.tasks k).cancelled) (s.tasks k)
+others_stay calls s (a.Ask queue running shut terminated) ends k none met unnamed = λ i. word_with ((false || (none i || false)) || (s.tasks k).cancelled) (s.tasks k)
+others_stay calls s a.Clock ends k none met unnamed = λ i. word_with ((false || (none i || false)) || (s.tasks k).cancelled) (s.tasks k)
+others_stay calls s (a.Idle v) ends k none met unnamed = λ i. word_with ((false || (none i || false)) || (s.tasks k).cancelled) (s.tasks k)
+others_stay calls s (a.Error why) ends k none met unnamed = λ i. word_with ((false || (none i || false)) || (s.tasks k).cancelled) (s.tasks k)
+
+-- ---- what is known after a history
+
+-- the reply to a call at some moment
+abbrev reply_at : List Planned → State → ℕ → CodeCall → Reply
+reply_at calls s moment call = called calls (record (view_of_state calls s) { moment = moment }) call
+
+call_sweeps : (calls : List Planned) (s : State) (moment : ℕ) (call : CodeCall) (k : ℕ) → is_end k (reply_at calls s moment call).ends ≡ true → need_of_answer s.shut (reply_at calls s moment call).answer ≡ n.Sweep
+call_sweeps calls s moment (c.Submit task timing delay) k q = absurd (false≢true q)
+call_sweeps calls s moment (c.Illegal task) k q = absurd (false≢true q)
+call_sweeps calls s moment (c.Cancel task) k q = absurd (false≢true q)
+call_sweeps calls s moment (c.SetPolicy which value) k q =
+    let all = swept calls (record (view_of_state calls s) { moment = moment }) (set_policy which value s.policies) in
+    let pick : (b : Bool) → is_end k (cond b all []) ≡ true → cond b n.Sweep n.Nothing ≡ n.Sweep = elim [ true ↦ λ q. refl | false ↦ λ q. absurd (false≢true q) ] in
+    pick (setting_sweeps s.shut which value) q
+call_sweeps calls s moment c.Shutdown k q =
+    let all = swept calls (record (view_of_state calls s) { moment = moment }) s.policies in
+    let reply : Bool → Reply = λ b. cond b (plain a.ShutdownAgain) (record { answer = a.Shutdown; ends = all }) in
+    let pick : (b : Bool) → is_end k (reply b).ends ≡ true → need_of_answer s.shut (reply b).answer ≡ n.Sweep = elim [ true ↦ λ q. absurd (false≢true q) | false ↦ λ q. refl ] in
+    pick s.shut q
+call_sweeps calls s moment c.Ask k q = absurd (false≢true q)
+
+-- where the step of a happening ends a task, its need is a sweep
+end_sweeps : (calls : List Planned) (workers : ℕ) (s : State) (happening : Happening) (k : ℕ) → is_end k (reply_of calls workers s happening).ends ≡ true → need_of calls workers s happening ≡ n.Sweep
+end_sweeps calls workers s h.Call k q =
+    let reply : Option Planned → Reply = λ p. option_map_or (λ (p : Planned). reply_at calls s (max s.moment p.0) p.1) p (plain a.Clock) in
+    let pick : (p : Option Planned) → is_end k (reply p).ends ≡ true → need_of_answer s.shut (reply p).answer ≡ n.Sweep = elim [ None ↦ λ q. absurd (false≢true q) | Some p ↦ call_sweeps calls s (max s.moment p.0) p.1 k ] in
+    pick (slice_get calls s.made) q
+end_sweeps calls workers s (h.Clock moment) k q = absurd (false≢true q)
+end_sweeps calls workers s (h.Start v) k q = absurd (false≢true q)
+end_sweeps calls workers s (h.Finish v ending) k q = absurd (false≢true q)
+end_sweeps calls workers s (h.Cancel j) k q = absurd (false≢true q)
+
+is_vacant : (p : Phase) → was_submitted p ≡ false → p ≡ ph.Vacant
+is_vacant ph.Vacant q = refl
+is_vacant ph.Waiting q = absurd (false≢true (sym q))
+is_vacant ph.Running q = absurd (false≢true (sym q))
+is_vacant ph.Done q = absurd (false≢true (sym q))
+is_vacant ph.Failed q = absurd (false≢true (sym q))
+is_vacant ph.Dropped q = absurd (false≢true (sym q))
+
+-- a task that is submitted is one of the calls, and was not submitted before: just one call is its submission
+submits_once : (calls : List Planned) (workers : ℕ) (past : List HistoryEntry) (happening : Happening) (k : ℕ) → IsOrderly calls → IsHistoryOf calls workers past →
+    is_submit k (reply_of calls workers (after calls workers (happenings past)) happening).answer ≡ true → (((after calls workers (happenings past)).tasks k).phase ≡ ph.Vacant) × (k < task_count calls)
+submits_once calls workers past happening k orderly means q =
+    let s = after calls workers (happenings past) in
+    let t = s.tasks k in
+    let view = (after_agrees calls workers past means).view in
+    let now = submit_says calls workers (view_of_state calls s) happening k q in
+    let tasks = tasks_are_submitted calls k orderly in
+    let low = tasks.1 s.made now.call now.there now.submits in
+    let submission = tasks.0 low in
+    let made_so : s.made ≡ made (happenings past) = ap (λ (v : View). v.made) view in
+    let first : was_submitted t.phase ≡ true → ⊥ = λ used.
+    let accepted : was_accepted k past ≡ true = ap (λ (v : View). (v.fate k).accepted) (sym view) ∙ used in
+    let before = call_was_made calls workers past k means accepted in
+    let here = submission.only s.made now.call now.there now.submits in
+    let there = submission.only before.place before.call before.there before.submits in
+    omega (arith, made_so, here, there, before.before)
+    in
+    (is_vacant t.phase (false_from_ne_true (was_submitted t.phase) first), low)
+
+knows_all : (calls : List Planned) (workers : ℕ) (past : List HistoryEntry) (happening : Happening) → IsOrderly calls → IsHistoryOf calls workers past →
+    Knows calls (after calls workers (happenings past)) (reply_of calls workers (after calls workers (happenings past)) happening).answer (reply_of calls workers (after calls workers (happenings past)) happening).ends
+knows_all calls workers past happening orderly means =
+    let s = after calls workers (happenings past) in
+    let sound = (after_agrees calls workers past means).sound in
+    record {
+      says = says calls workers s happening;
+      meets = meets calls workers s happening sound;
+      submits = λ k. submits_once calls workers past happening k orderly means;
+      ended = λ k q. let waits = waits_in calls s k sound (ends_say calls workers (view_of_state calls s) happening k q).waited in (waits.0, waits.1, end_sweeps calls workers s happening k q);
+      fresh = λ k q. ((words_tell_the_history calls workers past k means).fresh (ap word_phase q)).1;
+      tasks = λ k. submitted_is_a_task calls workers past k orderly means;
+    }
+
+-- the law that a step makes the writes that its need names
+pub needs_move_words : NeedsMoveWords
+needs_move_words calls workers past happening orderly means =
+    let s = after calls workers (happenings past) in
+    let r = reply_of calls workers s happening in
+    let knows = knows_all calls workers past happening orderly means in
+    record {
+      made = all_written calls s r.answer r.ends knows;
+      rest = λ k unnamed. others_stay calls s r.answer r.ends k (unended k (need_of calls workers s happening) r.ends unnamed (end_sweeps calls workers s happening k)) (knows.meets k) unnamed;
+    }
