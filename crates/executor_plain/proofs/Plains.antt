@@ -87,6 +87,17 @@ one_event calls workers i events d past new l is next =
     ∙ (ap (λ (p : List HistoryEntry). history_from calls workers p (part_of calls (made (happenings p)) (now_of calls (happenings p)) (get_or events i d))) is
     ∙ (sym (history_more calls workers (reverse (take i events)) (get_or events i d)) ∙ ap (history_of calls workers) (sym turned)))
 
+-- one happening more in a history
+pub one_happening : (calls : List Planned) (workers i : ℕ) (happened : List Happening) (d : Happening) (past new : List HistoryEntry) → i < length happened →
+    past ≡ history_from calls workers [] (reverse (take i happened)) →
+    new ≡ history_from calls workers past (get_or happened i d ∷ []) →
+    new ≡ history_from calls workers [] (reverse (take (i + 1) happened))
+one_happening calls workers i happened d past new l is next =
+    let turned : reverse (take (i + 1) happened) ≡ get_or happened i d ∷ reverse (take i happened) = ap reverse (take_more happened i d l) ∙ reverse-append (take i happened) (get_or happened i d ∷ []) in
+    next
+    ∙ (ap (λ (p : List HistoryEntry). history_from calls workers p (get_or happened i d ∷ [])) is
+    ∙ ap (history_from calls workers []) (sym turned))
+
 -- how many calls come before an event of a history
 pub count_before : (calls : List Planned) (count n now : ℕ) (event : Event) (past made_in now_in : List HistoryEntry) →
     count ≡ calls_before calls n now event → n ≡ made (happenings made_in) → now ≡ now_of calls (happenings now_in) → made_in ≡ past → now_in ≡ past →

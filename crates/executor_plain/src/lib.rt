@@ -7,8 +7,9 @@
 //! let lines = trace(alloc, &[], 1, &[Event::Clock(3), Event::Start(0)])?;
 //! ```
 //!
-//! [`trace`] gives the lines of some events, as a core of the same calls does. [`answer_after`] gives the answer to
-//! one happening after a history, and [`ends_after`] the tasks that this answer ends.
+//! [`trace`] gives the lines of some events, as a core of the same calls does, and [`trace_of_happenings`] those of
+//! happenings, among which the calls stand too. [`answer_after`] gives the answer to one happening after a history, and
+//! [`ends_after`] the tasks that this answer ends.
 //!
 //! # Behaviour
 //!
@@ -23,11 +24,11 @@
 //!
 //! # Errors
 //!
-//! `trace` and `ends_after` fail only where there is no memory, and `answer_after` does not fail.
+//! `trace`, `trace_of_happenings` and `ends_after` fail only where there is no memory, and `answer_after` does not fail.
 //!
 //! # Memory and cost
 //!
-//! `trace` takes memory for the history and for the lines, `ends_after` for the tasks, and `answer_after` takes none.
+//! `trace` and `trace_of_happenings` take memory for the history and for the lines, `ends_after` for the tasks, and `answer_after` takes none.
 //! An answer to a start, and the tasks of a sweep, go over the whole history once and more for each task; an answer to
 //! a question goes over what stands before each entry once and more for each task, and each other one over the whole
 //! history a few times: it is slow, and for tests.
@@ -48,4 +49,4 @@ mod tracing;
 pub use ends::ends_after;
 pub use history::Past;
 pub use table::answer_after;
-pub use tracing::trace;
+pub use tracing::{trace, trace_of_happenings};

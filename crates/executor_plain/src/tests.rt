@@ -4,6 +4,7 @@ mod kept;
 mod policies;
 mod runs;
 mod shutdown;
+mod single;
 
 use crate::trace;
 use executor_core::{Answer, CancelEffect, Core, Event, Kind, Line, Message, Outcome, Refusal};

@@ -29,6 +29,24 @@ pub fn trace<A: Allocator + Copy>(
     lines_of(alloc, calls, &past)
 }
 
+/// The lines of some happenings, the oldest first, each with its answer.
+///
+/// The calls of the plan stand among the happenings, wherever they are put: none is added. A call past the
+/// last one never comes in a history; it is answered as a clock is. A growth that is refused for want of
+/// memory is the only error.
+pub fn trace_of_happenings<A: Allocator + Copy>(
+    alloc: A,
+    calls: &[(u64, CodeCall)],
+    workers: u8,
+    happenings: &[Happening],
+) -> Result<Vec<Line, A>, AllocError>
+    requires { IsOrderly calls.now }
+    ensures { IfOk result (λ lines. lines.items ≡ flows.lines_of calls.now (flows.history_from calls.now workers [] (reverse happenings.now))) }
+{
+    let past = happened(alloc, calls, workers, happenings)?;
+    lines_of(alloc, calls, &past)
+}
+
 /// The happening that an event is.
 fn happening_of(event: Event) -> Happening
     ensures { result ≡ flows.happening_of event }
@@ -156,6 +174,23 @@ fn history_of<A: Allocator + Copy>(
     let mut past = Vec::new(alloc);
     for event in events {
         take_event(alloc, calls, workers, &mut past, *event)?;
+    }
+    Ok(past)
+}
+
+/// The history of some happenings, which stand the oldest first.
+fn happened<A: Allocator + Copy>(
+    alloc: A,
+    calls: &[(u64, CodeCall)],
+    workers: u8,
+    happenings: &[Happening],
+) -> Result<Vec<Past<A>, A>, AllocError>
+    requires { IsOrderly calls.now }
+    ensures { IfOk result (λ past. past.items ≡ flows.history_from calls.now workers [] (reverse happenings.now)) }
+{
+    let mut past = Vec::new(alloc);
+    for happening in happenings {
+        happen(alloc, calls, workers, &mut past, *happening)?;
     }
     Ok(past)
 }

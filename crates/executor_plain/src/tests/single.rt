@@ -1,0 +1,27 @@
+//! Calls that come where they are put, and not just before a clock.
+use super::*;
+use crate::trace_of_happenings;
+use executor_core::Happening;
+
+#[test]
+fn calls_come_where_they_are_put(rt: HostRuntime) -> Result<(), Fail> {
+    let calls = [submission(5, 0, 0), cancel(5, 0)];
+    let happened = [
+        Happening::Start(0),
+        Happening::Call,
+        Happening::Start(0),
+        Happening::Call,
+        Happening::Clock(9),
+    ];
+    let lines = [
+        line(0, idle()),
+        line(5, accepted(0, 5)),
+        line(5, started(0, 5)),
+        line(5, cancelled(0, CancelEffect::Yes)),
+        line(9, Answer::Clock),
+    ];
+    assert!(rt; orderly(&calls));
+    let plain = trace_of_happenings(rt.alloc(), &calls, 1, &happened)?;
+    assert_eq!(rt; plain.as_slice(), lines.as_slice());
+    Ok(())
+}
