@@ -2,10 +2,12 @@
 ghost use Rattle.queue_code.specs.Cursors.{IsCursorOf};
 
 use crate::compile;
+use linked_list_allocator::LocalHeap;
 use plan_read::{Block, Op, Plan, Target, read_plan};
-use queue_code::{Code, CodeCall, Cursor, listing};
+use queue_code::{Code, CodeCall, CodeFault, Cursor, listing};
 use sched_time::Timing;
 use std::alloc::{AllocError, Global};
+use std::process::Abort;
 use std::test::Fail;
 
 /// The listing of the code of the plan that a text writes.
@@ -346,5 +348,48 @@ call = [{ op = \"policy\", which = \"remove\", value = true }, { op = \"shutdown
 fn the_fault_has_its_text(rt: HostRuntime) -> Result<(), Fail> {
     let text = format!(in rt.alloc(); "{}", crate::CompileFault::Memory)?;
     assert_eq!(rt; text.as_str(), "out of memory");
+    Ok(())
+}
+
+/// Whether a heap has room to compile a plan and to list its code, whose listing is then this one; all memory is given back.
+fn lists_over(rt: &impl Abort, heap: &LocalHeap, plan: &Plan<Global>, wanted: &str) -> bool {
+    let is_made = match compile(heap, plan) {
+        Ok(code) => match listing(heap, &code) {
+            Ok(text) => {
+                assert_eq!(rt; text.as_str(), wanted);
+                true
+            }
+            Err(error) => {
+                assert_eq!(rt; error, CodeFault::Memory);
+                false
+            }
+        },
+        Err(error) => {
+            assert_eq!(rt; error, crate::CompileFault::Memory);
+            false
+        }
+    };
+    assert_eq!(rt; heap.used(), 0);
+    is_made
+}
+
+/// Heaps from one that has room for hardly anything up to one that has room for all, so that each growth is the first
+/// that is refused in one of them.
+#[test]
+fn a_plan_without_memory_is_not_compiled(rt: HostRuntime) -> Result<(), Fail> {
+    let plan = read_plan(rt.alloc(), THREE_TIMES.as_bytes())?;
+    let wanted = listed(&rt, THREE_TIMES)?;
+    let mut refused = 0u32;
+    let mut made = 0u32;
+    for step in 0..100usize {
+        let heap = LocalHeap::new(rt.alloc(), 64 + 16 * step)?;
+        if lists_over(&rt, &heap, &plan, &wanted) {
+            made = made.saturating_add(1);
+        } else {
+            assert_eq!(rt; made, 0, "{step}");
+            refused = refused.saturating_add(1);
+        }
+    }
+    assert!(rt; refused > 0 && made > 0, "{refused} {made}");
     Ok(())
 }

@@ -1,5 +1,8 @@
 //! Texts by hand, and the traces of plans.
+mod changes;
 mod examples;
+mod heaps;
+mod plainly;
 mod rows;
 
 use crate::{CheckError, Finding, MOST_BYTES, check};

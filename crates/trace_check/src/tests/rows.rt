@@ -117,25 +117,7 @@ call = [
 
 #[test]
 fn a_cancel_of_a_run(rt: HostRuntime) -> Result<(), Fail> {
-    let plan = "\
-version = 1
-
-[[block]]
-call = [
-  { op = \"rate\", name = \"a\", first = 0, period = 5 },
-]
-";
-    let trace = "\
-0 submit 0 rate due 0
-0 clock
-0 start 0 task 0 run 0 due 0
-0 outside 0 yes
-0 outside 0 no
-0 finish 0 task 0 run 0 dropped
-9 clock
-9 start 0 idle
-";
-    conforms(&rt, plan, trace)
+    conforms(&rt, A_CANCEL_OF_A_RUN, A_CANCEL_OF_A_RUN_TRACE)
 }
 
 #[test]
@@ -186,38 +168,45 @@ call = [
 }
 
 #[test]
+fn a_removed_task(rt: HostRuntime) -> Result<(), Fail> {
+    let plan = "\
+version = 1
+
+[[block]]
+call = [
+  { op = \"policy\", which = \"remove\", value = true },
+  { op = \"schedule\", name = \"a\", delay = 10 },
+  { op = \"cancel\", name = \"a\", at = 2 },
+  { op = \"ask\", at = 3 },
+  { op = \"ask\", at = 20 },
+]
+";
+    let trace = "\
+0 policy remove true
+0 submit 0 schedule due 10
+2 cancel 0 yes
+3 ask queue 0 running 0 shutdown no terminated no
+15 clock
+15 start 0 idle
+20 ask queue 0 running 0 shutdown no terminated no
+20 clock
+";
+    conforms(&rt, plan, trace)
+}
+
+#[test]
 fn a_sweep(rt: HostRuntime) -> Result<(), Fail> {
     conforms(&rt, A_SWEEP, A_SWEEP_TRACE)
 }
 
 #[test]
 fn an_ended_run(rt: HostRuntime) -> Result<(), Fail> {
-    let plan = "\
-version = 1
+    conforms(&rt, AN_ENDED_RUN, AN_ENDED_RUN_TRACE)
+}
 
-[[block]]
-call = [
-  { op = \"fixed\", name = \"a\", first = 0, delay = 4 },
-  { op = \"shutdown\", at = 1 },
-  { op = \"policy\", which = \"continue\", value = true, at = 2 },
-  { op = \"policy\", which = \"continue\", value = false, at = 9 },
-]
-";
-    let trace = "\
-0 submit 0 fixed due 0
-0 clock
-0 start 0 task 0 run 0 due 0
-1 shutdown
-2 policy continue true
-3 clock
-3 finish 0 task 0 run 0 again due 7
-7 clock
-7 start 0 task 0 run 1 due 7
-9 policy continue false
-9 clock
-9 finish 0 task 0 run 1 ended
-";
-    conforms(&rt, plan, trace)
+#[test]
+fn policies_that_sweep(rt: HostRuntime) -> Result<(), Fail> {
+    conforms(&rt, POLICIES, POLICIES_TRACE)
 }
 
 #[test]
@@ -267,26 +256,7 @@ call = [
 
 #[test]
 fn errors(rt: HostRuntime) -> Result<(), Fail> {
-    let plan = "\
-version = 1
-
-[[block]]
-call = [
-  { op = \"schedule\", name = \"a\", delay = 0 },
-]
-";
-    let trace = "\
-0 submit 0 schedule due 0
-5 clock
-5 error backward
-5 error no worker
-5 start 0 task 0 run 0 due 0
-5 error busy
-5 finish 0 task 0 run 0 done 2
-5 error not running
-5 error no task
-";
-    conforms(&rt, plan, trace)
+    conforms(&rt, ERRORS, ERRORS_TRACE)
 }
 
 #[test]
@@ -352,7 +322,7 @@ const ONE_DELAY_TRACE: &str = "\
 5 finish 0 task 0 run 0 done 7
 ";
 
-const A_SWEEP: &str = "\
+pub const A_SWEEP: &str = "\
 version = 1
 
 [[block]]
@@ -367,7 +337,7 @@ call = [
 ]
 ";
 
-const A_SWEEP_TRACE: &str = "\
+pub const A_SWEEP_TRACE: &str = "\
 0 policy execute false
 0 submit 0 schedule due 1
 0 submit 1 schedule due 100
@@ -380,6 +350,140 @@ const A_SWEEP_TRACE: &str = "\
 6 clock
 6 start 0 task 0 run 0 due 1
 6 finish 0 task 0 run 0 done 9
+";
+
+pub const A_CANCEL_OF_A_RUN: &str = "\
+version = 1
+
+[[block]]
+call = [
+  { op = \"rate\", name = \"a\", first = 0, period = 5 },
+]
+";
+
+pub const A_CANCEL_OF_A_RUN_TRACE: &str = "\
+0 submit 0 rate due 0
+0 clock
+0 start 0 task 0 run 0 due 0
+0 outside 0 yes
+0 outside 0 no
+0 finish 0 task 0 run 0 dropped
+9 clock
+9 start 0 idle
+";
+
+pub const AN_ENDED_RUN: &str = "\
+version = 1
+
+[[block]]
+call = [
+  { op = \"fixed\", name = \"a\", first = 0, delay = 4 },
+  { op = \"shutdown\", at = 1 },
+  { op = \"policy\", which = \"continue\", value = true, at = 2 },
+  { op = \"policy\", which = \"continue\", value = false, at = 9 },
+]
+";
+
+pub const AN_ENDED_RUN_TRACE: &str = "\
+0 submit 0 fixed due 0
+0 clock
+0 start 0 task 0 run 0 due 0
+1 shutdown
+2 policy continue true
+3 clock
+3 finish 0 task 0 run 0 again due 7
+7 clock
+7 start 0 task 0 run 1 due 7
+9 policy continue false
+9 clock
+9 finish 0 task 0 run 1 ended
+";
+
+pub const ERRORS: &str = "\
+version = 1
+
+[[block]]
+call = [
+  { op = \"schedule\", name = \"a\", delay = 0 },
+]
+";
+
+pub const ERRORS_TRACE: &str = "\
+0 submit 0 schedule due 0
+5 clock
+5 error backward
+5 error no worker
+5 start 0 task 0 run 0 due 0
+5 error busy
+5 finish 0 task 0 run 0 done 2
+5 error not running
+5 error no task
+";
+
+pub const TWO_WORKERS: &str = "\
+version = 1
+
+[[block]]
+call = [
+  { op = \"rate\", name = \"a\", first = 10, period = 10 },
+]
+";
+
+pub const TWO_WORKERS_TRACE: &str = "\
+0 submit 0 rate due 10
+10 clock
+10 start 0 task 0 run 0 due 10
+25 clock
+25 start 1 idle
+25 error busy
+25 error not running
+25 finish 0 task 0 run 0 again due 20
+25 start 1 task 0 run 1 due 20
+25 error busy
+25 error not running
+";
+
+const NO_OVERLAP_TRACE: &str = "\
+0 submit 0 rate due 10
+10 clock
+10 start 0 task 0 run 0 due 10
+25 clock
+25 start 1 idle
+25 finish 0 task 0 run 0 again due 20
+25 start 1 task 0 run 1 due 20
+";
+
+pub const POLICIES: &str = "\
+version = 1
+
+[[block]]
+call = [
+  { op = \"policy\", which = \"continue\", value = true },
+  { op = \"rate\", name = \"a\", first = 5, period = 5 },
+  { op = \"schedule\", name = \"b\", delay = 9 },
+  { op = \"shutdown\", at = 1 },
+  { op = \"cancel\", name = \"b\", at = 2 },
+  { op = \"ask\", at = 2 },
+  { op = \"policy\", which = \"execute\", value = false, at = 3 },
+  { op = \"ask\", at = 3 },
+  { op = \"policy\", which = \"continue\", value = false, at = 4 },
+  { op = \"ask\", at = 4 },
+]
+";
+
+pub const POLICIES_TRACE: &str = "\
+0 policy continue true
+0 submit 0 rate due 5
+0 submit 1 schedule due 9
+1 shutdown
+2 cancel 1 yes
+2 ask queue 2 running 0 shutdown yes terminated no
+3 policy execute false
+3 ask queue 1 running 0 shutdown yes terminated no
+4 policy continue false
+4 end 0
+4 ask queue 0 running 0 shutdown yes terminated yes
+4 clock
 ";
 
 /// A plan without calls.
@@ -395,6 +499,7 @@ fn lines_of_an_empty_plan(rt: HostRuntime) -> Result<(), Fail> {
         "0 error no task\n",
         "5 clock\n",
         "5 clock\n5 error backward\n",
+        "4611686018427387904 clock\n4611686018427387904 error too far\n",
     ] {
         assert_eq!(rt; found(&rt, EMPTY, &[text])?, Finding::Conforms, "{text}");
     }
@@ -405,12 +510,20 @@ fn lines_of_an_empty_plan(rt: HostRuntime) -> Result<(), Fail> {
         "0 outside 0 none\n",
         "05 clock\n",
         "5 clock",
+        "5 clock\r\n",
+        "5\tclock\n",
+        "5  clock\n",
+        "5 clock \n",
         "\n",
+        "\n5 clock\n",
         "x\n",
         "0 end 0\n",
         "0 shutdown\n",
         "4611686018427387905 clock\n",
         "0 start 0 task 0 run 0 due 0\n",
+        // the longest line, and one that is too long
+        "18446744073709551615 finish 255 task 4294967295 run 18446744073709551615 again due 18446744073709551615\n",
+        "18446744073709551615 finish 255 task 4294967295 run 18446744073709551615 again due 184467440737095516150\n",
     ] {
         assert_eq!(rt; found(&rt, EMPTY, &[text])?, Finding::Breaks(1), "{text}");
     }
@@ -495,35 +608,18 @@ fn ends_of_tasks(rt: HostRuntime) -> Result<(), Fail> {
 /// A worker that waits is named by the least number.
 #[test]
 fn two_workers(rt: HostRuntime) -> Result<(), Fail> {
-    let plan = "\
-version = 1
-
-[[block]]
-call = [
-  { op = \"rate\", name = \"a\", first = 10, period = 10 },
-]
-";
-    let trace = "\
-0 submit 0 rate due 10
-10 clock
-10 start 0 task 0 run 0 due 10
-25 clock
-25 start 1 idle
-25 error busy
-25 error not running
-25 finish 0 task 0 run 0 again due 20
-25 start 1 task 0 run 1 due 20
-25 error busy
-25 error not running
-";
-    assert_eq!(rt;
-        checked(&rt, plan, 2, trace.as_bytes())?,
-        Ok(Finding::Conforms)
-    );
-    assert_eq!(rt;
-        checked(&rt, plan, 1, trace.as_bytes())?,
-        Ok(Finding::Breaks(5))
-    );
+    for (workers, trace, finding) in [
+        (2, TWO_WORKERS_TRACE, Finding::Conforms),
+        (1, TWO_WORKERS_TRACE, Finding::Breaks(5)),
+        (2, NO_OVERLAP_TRACE, Finding::Conforms),
+        (1, NO_OVERLAP_TRACE, Finding::Breaks(5)),
+    ] {
+        assert_eq!(rt;
+            checked(&rt, TWO_WORKERS, workers, trace.as_bytes())?,
+            Ok(finding),
+            "{workers}: {trace}"
+        );
+    }
     Ok(())
 }
 

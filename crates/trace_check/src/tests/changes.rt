@@ -1,0 +1,172 @@
+//! Traces with one byte changed, left out or doubled, at each place, beside the slow program.
+ghost use Rattle.std.specs.Prelude.{◌<◌, length};
+ghost use Rattle.queue_code.specs.Calls.{IsOrderly};
+
+use super::plainly::plain_finding;
+use super::rows::{
+    A_CANCEL_OF_A_RUN, A_CANCEL_OF_A_RUN_TRACE, A_SWEEP, A_SWEEP_TRACE, AN_ENDED_RUN,
+    AN_ENDED_RUN_TRACE, ERRORS, ERRORS_TRACE, POLICIES, POLICIES_TRACE, TWO_WORKERS,
+    TWO_WORKERS_TRACE,
+};
+use super::*;
+use plan_read::Plan;
+use queue_code::{CodeCall, orderly};
+use sched_time::{Timing, Unit, Which, span};
+use std::alloc::{AllocError, Global};
+
+/// What is found of a text, where the check and the slow program find the same.
+fn found_by_both(
+    alloc: Global,
+    plan: &Plan<Global>,
+    calls: &[(u64, CodeCall)],
+    workers: u8,
+    text: &[u8],
+) -> Result<Option<Finding>, AllocError>
+    requires { IsOrderly calls.now }
+{
+    let finding = plain_finding(alloc, calls, workers, text)?;
+    if text.len() > MOST_BYTES || check(alloc, plan, workers, text) != Ok(finding) {
+        return Ok(None);
+    }
+    Ok(Some(finding))
+}
+
+/// A text with other bytes in the place of one.
+fn changed(alloc: Global, text: &[u8], at: usize, instead: &[u8]) -> Result<Vec<u8>, AllocError>
+    requires { at < length text.now }
+{
+    let mut changed = Vec::from_slice(alloc, &text[..at])?;
+    changed.extend_from_slice(instead)?;
+    changed.extend_from_slice(&text[at + 1..])?;
+    Ok(changed)
+}
+
+/// Checks the texts that differ from a trace at one place, and answers how many of them conform.
+fn conforming_at(
+    rt: &(impl AllocGlobal + Abort),
+    plan: &Plan<Global>,
+    calls: &[(u64, CodeCall)],
+    workers: u8,
+    trace: &[u8],
+    at: usize,
+) -> Result<usize, Fail>
+    requires orderly { IsOrderly calls.now }
+    requires within { at < length trace.now }
+{
+    let code = trace[at];
+    let mut conforming = 0usize;
+    for instead in [b"".as_slice(), b"0", b"9", b" ", b"\n", b"x", &[code, code]] {
+        let text = changed(rt.alloc(), trace, at, instead)?;
+        let found = found_by_both(rt.alloc(), plan, calls, workers, &text)?;
+        assert!(rt; found.is_some(), "{at}: {instead:?}");
+        if found == Some(Finding::Conforms) && text.as_slice() != trace {
+            conforming = conforming.saturating_add(1);
+        }
+    }
+    Ok(conforming)
+}
+
+/// Checks a trace and the texts that differ from it at one place, of which so many conform.
+fn finds_changes(
+    rt: &(impl AllocGlobal + Abort),
+    plan: &str,
+    calls: &[(u64, CodeCall)],
+    workers: u8,
+    trace: &str,
+    conforming: usize,
+) -> Result<(), Fail> {
+    assert!(rt; orderly(calls));
+    let plan = read_plan(rt.alloc(), plan.as_bytes())?;
+    let whole = found_by_both(rt.alloc(), &plan, calls, workers, trace.as_bytes())?;
+    assert_eq!(rt; whole, Some(Finding::Conforms));
+    let mut met = 0usize;
+    for at in 0..trace.as_bytes().len() {
+        let here = conforming_at(rt, &plan, calls, workers, trace.as_bytes(), at)?;
+        met = met.saturating_add(here);
+    }
+    assert_eq!(rt; met, conforming);
+    Ok(())
+}
+
+fn submit(task: u32, timing: Timing, delay: u64) -> CodeCall {
+    CodeCall::Submit {
+        task,
+        timing,
+        delay,
+    }
+}
+
+fn set(which: Which, value: bool) -> CodeCall {
+    CodeCall::SetPolicy { which, value }
+}
+
+/// The value of the last line may be 0 as well, and 99.
+#[test]
+fn of_a_sweep(rt: HostRuntime) -> Result<(), Fail> {
+    let calls = [
+        (0, set(Which::Execute, false)),
+        (0, submit(0, Timing::Once, 1)),
+        (0, submit(1, Timing::Once, 100)),
+        (0, submit(2, Timing::Rate(span(3, Unit::Ns)?), 3)),
+        (5, CodeCall::Shutdown),
+        (6, CodeCall::Shutdown),
+        (6, CodeCall::Ask),
+    ];
+    finds_changes(&rt, A_SWEEP, &calls, 1, A_SWEEP_TRACE, 2)
+}
+
+/// The last clock may show 9 as well, and 44.
+#[test]
+fn of_policies_that_sweep(rt: HostRuntime) -> Result<(), Fail> {
+    let calls = [
+        (0, set(Which::Continue, true)),
+        (0, submit(0, Timing::Rate(span(5, Unit::Ns)?), 5)),
+        (0, submit(1, Timing::Once, 9)),
+        (1, CodeCall::Shutdown),
+        (2, CodeCall::Cancel { task: 1 }),
+        (2, CodeCall::Ask),
+        (3, set(Which::Execute, false)),
+        (3, CodeCall::Ask),
+        (4, set(Which::Continue, false)),
+        (4, CodeCall::Ask),
+    ];
+    finds_changes(&rt, POLICIES, &calls, 1, POLICIES_TRACE, 2)
+}
+
+#[test]
+fn of_an_ended_run(rt: HostRuntime) -> Result<(), Fail> {
+    let calls = [
+        (0, submit(0, Timing::Fixed(span(4, Unit::Ns)?), 0)),
+        (1, CodeCall::Shutdown),
+        (2, set(Which::Continue, true)),
+        (9, set(Which::Continue, false)),
+    ];
+    finds_changes(&rt, AN_ENDED_RUN, &calls, 1, AN_ENDED_RUN_TRACE, 0)
+}
+
+#[test]
+fn of_a_cancel_from_outside(rt: HostRuntime) -> Result<(), Fail> {
+    let calls = [(0, submit(0, Timing::Rate(span(5, Unit::Ns)?), 0))];
+    finds_changes(
+        &rt,
+        A_CANCEL_OF_A_RUN,
+        &calls,
+        1,
+        A_CANCEL_OF_A_RUN_TRACE,
+        0,
+    )
+}
+
+/// The value 2 may be 0, 9 and 22 as well.
+#[test]
+fn of_errors(rt: HostRuntime) -> Result<(), Fail> {
+    let calls = [(0, submit(0, Timing::Once, 0))];
+    finds_changes(&rt, ERRORS, &calls, 1, ERRORS_TRACE, 3)
+}
+
+/// The last run may be worker 0's as well.
+#[test]
+fn of_two_workers(rt: HostRuntime) -> Result<(), Fail> {
+    let calls = [(0, submit(0, Timing::Rate(span(10, Unit::Ns)?), 10))];
+    finds_changes(&rt, TWO_WORKERS, &calls, 2, TWO_WORKERS_TRACE, 1)
+}

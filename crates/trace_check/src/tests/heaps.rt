@@ -1,0 +1,52 @@
+//! Checks with little memory, over heaps of fixed size.
+use super::rows::{A_SWEEP, A_SWEEP_TRACE};
+use super::*;
+use linked_list_allocator::LocalHeap;
+use plan_read::Plan;
+use std::alloc::Global;
+
+/// What a check over a heap answers; all memory is given back.
+fn checked_over(
+    rt: &impl Abort,
+    heap: &LocalHeap,
+    plan: &Plan<Global>,
+    text: &[u8],
+) -> Result<Finding, CheckError> {
+    assert!(rt; text.len() <= MOST_BYTES);
+    let answer = check(heap, plan, 1, text);
+    assert_eq!(rt; heap.used(), 0);
+    answer
+}
+
+/// Checks a text over heaps from one that has room for hardly anything up to one that has room for all, so that each
+/// growth is the first that is refused in one of them: where the check is refused memory it answers nothing else.
+fn refuses_or_finds(
+    rt: &(impl AllocGlobal + Abort),
+    text: &str,
+    finding: Finding,
+) -> Result<(), Fail> {
+    let plan = read_plan(rt.alloc(), A_SWEEP.as_bytes())?;
+    let mut refused = 0u32;
+    let mut found = 0u32;
+    for step in 0..200usize {
+        let heap = LocalHeap::new(rt.alloc(), 64 + 16 * step)?;
+        match checked_over(rt, &heap, &plan, text.as_bytes()) {
+            Err(error) => {
+                assert_eq!(rt; (error, found), (CheckError::Memory, 0), "{step}");
+                refused = refused.saturating_add(1);
+            }
+            Ok(one) => {
+                assert_eq!(rt; one, finding, "{step}");
+                found = found.saturating_add(1);
+            }
+        }
+    }
+    assert!(rt; refused > 0 && found > 0, "{refused} {found}");
+    Ok(())
+}
+
+#[test]
+fn a_check_without_memory_finds_nothing(rt: HostRuntime) -> Result<(), Fail> {
+    refuses_or_finds(&rt, A_SWEEP_TRACE, Finding::Conforms)?;
+    refuses_or_finds(&rt, "0 policy execute false\n0 clock\n", Finding::Breaks(2))
+}
