@@ -197,3 +197,36 @@ call = [
     };
     answers_with(&rt, &row, 1)
 }
+
+#[test]
+fn a_repeated_block_submits_and_cancels_anew(rt: HostRuntime) {
+    let row = Row {
+        plan: "\
+version = 1
+[[block]]
+at = 100
+times = 3
+every = 10
+call = [
+  { at = 0, op = \"schedule\", name = \"a\", delay = 50 },
+  { at = 4, op = \"cancel\", name = \"a\" },
+]
+",
+        limit: 1_000_000,
+        events: "clock 130\n",
+        answer: Ok(Report {
+            events: 1,
+            lines: 7,
+        }),
+        trace: "\
+100 submit 0 schedule due 150
+104 cancel 0 yes
+110 submit 1 schedule due 160
+114 cancel 1 yes
+120 submit 2 schedule due 170
+124 cancel 2 yes
+130 clock
+",
+    };
+    answers_with(&rt, &row, 1)
+}
