@@ -21,18 +21,18 @@ pub fn plain_finding(
 {
     let (lines, is_whole) = lines_in_front(alloc, text)?;
     let mut owed = 0;
-    let mut number = 0u64;
-    for _ in &lines {
-        number = number.saturating_add(1);
-        match owed_after(alloc, calls, workers, &lines, number as usize)? {
+    let mut number = 1u64;
+    for at in 0..lines.len() {
+        match owed_after(alloc, calls, workers, &lines[..at + 1])? {
             Some(more) => owed = more,
             None => return Ok(Finding::Breaks(number)),
         }
+        number = number.saturating_add(1);
     }
     if is_whole && owed == 0 {
         return Ok(Finding::Conforms);
     }
-    Ok(Finding::Breaks(number.saturating_add(1)))
+    Ok(Finding::Breaks(number))
 }
 
 /// The lines in front of a text, which is cut at its newlines, and whether nothing follows them.
@@ -52,19 +52,15 @@ fn lines_in_front(alloc: Global, text: &[u8]) -> Result<(Vec<Line>, bool), Alloc
     Ok((lines, piece.is_empty()))
 }
 
-/// How many lines are still to come after the first ones, so many, where these go.
+/// How many lines are still to come after these, where they go.
 fn owed_after(
     alloc: Global,
     calls: &[(u64, CodeCall)],
     workers: u8,
     lines: &[Line],
-    count: usize,
 ) -> Result<Option<usize>, AllocError>
     requires { IsOrderly calls.now }
 {
-    let Some(lines) = lines.get(..count) else {
-        return Ok(None);
-    };
     let mut happened = Vec::new(alloc);
     if !happen_plainly(calls, workers, lines, &mut happened)? {
         return Ok(None);
