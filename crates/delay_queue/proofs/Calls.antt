@@ -1,9 +1,9 @@
 -- What a call of the queue does to its table, and what it finds there.
 use Rattle.std.proofs.Common.{◌≡◌, ◌≢◌, inl, inr, ⊎_elim, ℕ, ◌+◌, ◌<◌, ◌≤◌, true, List, [], ◌∷◌, ◌++◌, Option, Some, None, set, take, drop, length, get_or, refl, sym, ap, subst, subst₂, ◌∙◌, arith, length-append, take_at}
 use Rattle.std.specs.Prelude.{slice_get, IfSome, IfNone}
-use Rattle.std.proofs.lemmas.Bool.{cases_eq, cases_lt}
+use Rattle.std.proofs.lemmas.Bool.{false≢true, cases_eq, cases_lt}
 use Rattle.std.proofs.lemmas.List.{get_or_append_left, set-get_or}
-use Rattle.std.proofs.lemmas.Option.{none-some, slice_get_within, get_or_from_slice_get}
+use Rattle.std.proofs.lemmas.Option.{same_Some, none-some, slice_get_within, get_or_from_slice_get}
 use Rattle.delay_queue.specs.Queues.{Queue, comes_before, due_in, IsLeast, IsEmpty, NoneIsDue}
 use Rattle.delay_queue.specs.Heaps.{no_entry, entry_at, IsHeap, IsPlaced, due_of, due_with, table}
 use Rattle.delay_queue.specs.declared.entry.Entry.{Entry}
@@ -50,6 +50,19 @@ least heap places queue view is p some =
           (before_from_ordered first e (λ eq. other (sym (eq ∙ f.task))) (first_is_least heap (get_or places j 0) (get_or places j 0) (omega arith) f.inside is))))
           (cases_eq j first.task);
     }
+
+-- the least entry is the first
+pub least_place : (heap : List Entry) (places : List ℕ) (queue : List (Option ℕ)) (k due : ℕ) → table heap places ≡ queue → IsHeap heap → IsPlaced heap places → k < length heap
+    → IsLeast queue due (entry_at heap k).task → k ≡ 0
+least_place heap places queue k due view is p inside h =
+    let first : Entry = entry_at heap 0 in
+    let e : Entry = entry_at heap k in
+    let same : due ≡ e.due = same_Some due e.due (sym h.there ∙ due_at heap places queue k view p inside) in
+    ⊎_elim
+    (λ (one : first.task ≡ e.task). sym (p.noted k inside) ∙ ap (λ (n : ℕ). get_or places n 0) (sym one) ∙ p.noted 0 (omega (arith, inside)))
+    (λ (before : comes_before due e.task first.due first.task ≡ true).
+    absurd (false≢true (sym (first_is_least heap k k (omega arith) inside is) ∙ subst (λ (d : ℕ). comes_before d e.task first.due first.task ≡ true) same before)))
+    (h.least first.task first.due (due_at heap places queue 0 view p (omega (arith, inside))))
 
 -- the first entry is due after `now`, and so is each
 pub none_due : (heap : List Entry) (places : List ℕ) (queue : List (Option ℕ)) (now : ℕ) → table heap places ≡ queue → IsHeap heap → now < (entry_at heap 0).due → NoneIsDue queue now

@@ -1,6 +1,7 @@
 -- How many entries there are.
-use Rattle.std.proofs.Common.{◌≡◌, ℕ, zero, suc, ◌+◌, ◌<◌, ◌≤◌, cond, List, [], ◌∷◌, ◌++◌, Option, Some, None, is_some, set, take, replicate, length, get_or, refl, sym, ap, subst, ◌∙◌, arith, count_by, length-set, length-append}
+use Rattle.std.proofs.Common.{◌≡◌, ⊎_elim, ℕ, zero, suc, ◌+◌, ◌-◌, ◌<◌, ◌≤◌, cond, List, [], ◌∷◌, ◌++◌, Option, Some, None, is_some, set, take, replicate, length, get_or, refl, sym, ap, subst, ◌∙◌, min, arith, count_by, length-set, length-append}
 use Rattle.std.specs.List.{sum_by}
+use Rattle.std.proofs.lemmas.Bool.{cases_lt}
 use Rattle.std.proofs.lemmas.List.{take_more, take_all, get_or_push}
 use Rattle.std.proofs.lemmas.List.Sums.{sum_by-set, count_by-le-length}
 use Rattle.delay_queue.specs.Queues.{due_in, entry_count}
@@ -68,3 +69,7 @@ room_left heap places task p known none =
     let same : length (set queue task (Some 0)) ≡ length queue = length-set queue task (Some 0) in
     let all : entry_count queue ≡ length heap = count_placed heap places p in
     omega arith
+
+-- where another entry is left, it moves
+pub some_touched : (count times : ℕ) → (0 + 1 < count → 0 < times) → min 1 (count - 1) ≤ times
+some_touched count times h = ⊎_elim (λ (more : 1 < count). omega (arith, h (omega arith))) (λ (few : count ≤ 1). omega (arith, few)) (cases_lt 1 count)

@@ -1,5 +1,5 @@
 //! The queue: a binary heap of entries, with the place of each task's entry beside it.
-ghost use Rattle.std.specs.Prelude.{◌≡◌, ◌+◌, ◌-◌, ◌<◌, ◌≤◌, ◌==◌, false, min, Some, None, length, replicate, slice_set, is_some, IfOk, IsOk, IfSome, IfNone};
+ghost use Rattle.std.specs.Prelude.{◌≡◌, ℕ, ◌+◌, ◌-◌, ◌<◌, ◌≤◌, ◌==◌, false, min, Some, None, length, replicate, slice_set, is_some, IfOk, IsOk, IfSome, IfNone};
 ghost use Rattle.delay_queue.specs.Queues.{due_in, entry_count, most_touches, greatest_count, IsLeast, IsEmpty, NoneIsDue, Touches};
 
 use crate::entry::Entry;
@@ -114,6 +114,7 @@ impl<A: Allocator> DelayQueue<A> {
         ensures removed { self.new.entries ≡ slice_set self.old.entries task None }
         ensures unchanged { result ≡ false → self.new.entries ≡ self.old.entries }
         ensures touched { Touches self.old.touched self.new.touched 0 (most_touches (entry_count self.old.entries)) }
+        ensures least { (due : ℕ) → IsLeast self.old.entries due task → Touches self.old.touched self.new.touched (min 1 (entry_count self.old.entries - 1)) (most_touches (entry_count self.old.entries)) }
         ensures untouched { result ≡ false → self.new.touched ≡ self.old.touched }
     {
         let Some(place) = place_of(&self.heap, &self.places, task) else {

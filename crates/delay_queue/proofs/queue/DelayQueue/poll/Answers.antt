@@ -1,10 +1,9 @@
 -- The first entry is the least, and is taken out.
-use Rattle.std.proofs.Common.{◌≡◌, ℕ, ◌+◌, ◌-◌, ◌<◌, ◌≤◌, ⊎_elim, Option, None, length, set, min, ap, sym, subst, ◌∙◌, arith}
+use Rattle.std.proofs.Common.{◌≡◌, ℕ, ◌+◌, ◌<◌, ◌≤◌, Option, None, length, set, min, ap, sym, subst, ◌∙◌, arith}
 use Rattle.std.specs.Prelude.{IfNone}
-use Rattle.std.proofs.lemmas.Bool.{cases_lt}
 use Rattle.delay_queue.specs.Queues.{Queue, IsLeast, NoneIsDue, entry_count, most_touches, greatest_count}
 use Rattle.delay_queue.specs.declared.entry.Entry.{Entry}
-use Rattle.delay_queue.proofs.Counts.{count_placed, count_within}
+use Rattle.delay_queue.proofs.Counts.{count_placed, count_within, some_touched}
 use Rattle.delay_queue.proofs.Calls.{entries_of, least, empty, nothing_first, none_due, first_read, removed_lent}
 use Rattle.delay_queue.proofs.queue.DelayQueue.poll.Goals as goal
 
@@ -43,10 +42,6 @@ returns-clause-removed g c =
     removed_lent q.heap.items r.new.heap.items q.places.items c.deref_mut.result.now r.new.places c.args.self.now.entries 0 q.places.len (ap entries_of c.self.view_is) c.self.invariant.placed f.0
     c.deref_mut.ensures.value q.places.ok.0 r.ensures.places_length r.ensures.taken r.ensures.others
     ∙ ap (λ (x : Entry). set c.args.self.now.entries x.task None) f.1
-
--- another entry is left, and moves
-some_touched : (count times : ℕ) → (0 + 1 < count → 0 < times) → min 1 (count - 1) ≤ times
-some_touched count times h = ⊎_elim (λ (more : 1 < count). omega (arith, h (omega arith))) (λ (few : count ≤ 1). omega (arith, few)) (cases_lt 1 count)
 
 pub returns-clause-touched : goal.returns-clause-touched
 returns-clause-touched g c =

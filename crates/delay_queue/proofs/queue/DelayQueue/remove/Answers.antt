@@ -1,8 +1,9 @@
 -- The place of a task's entry, from which it is taken out, or that it has none.
-use Rattle.std.proofs.Common.{◌≡◌, ℕ, ◌+◌, ◌≤◌, None, length, is_some, set, min, ap, sym, subst, ◌∙◌, arith}
-use Rattle.delay_queue.specs.Queues.{Queue, entry_count, most_touches, greatest_count}
-use Rattle.delay_queue.proofs.Counts.{count_placed, count_within}
-use Rattle.delay_queue.proofs.Calls.{entries_of, place_found, place_missing, nothing_there, removed_lent}
+use Rattle.std.proofs.Common.{◌≡◌, ℕ, ◌+◌, ◌<◌, ◌≤◌, None, length, is_some, set, min, ap, sym, subst, subst₂, ◌∙◌, arith}
+use Rattle.std.proofs.lemmas.Option.{none-some}
+use Rattle.delay_queue.specs.Queues.{Queue, IsLeast, entry_count, most_touches, greatest_count}
+use Rattle.delay_queue.proofs.Counts.{count_placed, count_within, some_touched}
+use Rattle.delay_queue.proofs.Calls.{entries_of, least_place, place_found, place_missing, nothing_there, removed_lent}
 use Rattle.delay_queue.proofs.queue.DelayQueue.remove.Goals as goal
 
 pub returns-in_default-clause-there : goal.returns-in_default-clause-there
@@ -17,6 +18,12 @@ returns-in_default-clause-removed g c =
     nothing_there c.args.self.now.entries c.args.task
     (place_missing q.heap.items c.deref.result.now q.places.items c.deref-2.result.now c.args.self.now.entries c.args.task (ap entries_of c.self.view_is) c.deref.ensures.value
     c.deref-2.ensures.value c.in_default.ensures.missing)
+
+pub returns-in_default-clause-least : goal.returns-in_default-clause-least
+returns-in_default-clause-least g c due h =
+    let q = c.self.inside in
+    absurd (none-some due (sym (place_missing q.heap.items c.deref.result.now q.places.items c.deref-2.result.now c.args.self.now.entries c.args.task (ap entries_of c.self.view_is)
+    c.deref.ensures.value c.deref-2.ensures.value c.in_default.ensures.missing) ∙ h.there))
 
 pub take_out-touches-requires-clause-few : goal.take_out-touches-requires-clause-few
 take_out-touches-requires-clause-few g c =
@@ -51,4 +58,22 @@ returns-clause-touched g c =
       many = omega arith;
       few = subst (λ (n : ℕ). c.take_out-touches.result ≤ most_touches n) size c.take_out-touches.ensures.few;
       counted = c.count.ensures ∙ ap (λ (v : Queue). min (v.touched + c.take_out-touches.result) greatest_count) c.self.view_is;
+    }
+
+pub returns-clause-least : goal.returns-clause-least
+returns-clause-least g c due h =
+    let q = c.self.inside in
+    let k = c.in-Some.place in
+    let t = c.take_out-touches in
+    let queue = c.args.self.now.entries in
+    let size : length q.heap.items ≡ entry_count queue = sym (count_placed q.heap.items q.places.items c.self.invariant.placed) ∙ ap entry_count (ap entries_of c.self.view_is) in
+    let f = place_found q.heap.items c.deref.result.now q.places.items queue c.args.task k (ap entries_of c.self.view_is) c.self.invariant.placed c.deref.ensures.value
+    c.in-Some.ensures.found in
+    let first : k ≡ 0 = least_place q.heap.items q.places.items queue k due (ap entries_of c.self.view_is) c.self.invariant.heap c.self.invariant.placed f.0
+    (subst (λ (n : ℕ). IsLeast queue due n) (sym f.1) h) in
+    record {
+      times = t.result;
+      many = some_touched (entry_count queue) t.result (subst₂ (λ (n k : ℕ). k + 1 < n → 0 < t.result) size first t.ensures.many);
+      few = subst (λ (n : ℕ). t.result ≤ most_touches n) size t.ensures.few;
+      counted = c.count.ensures ∙ ap (λ (v : Queue). min (v.touched + t.result) greatest_count) c.self.view_is;
     }
