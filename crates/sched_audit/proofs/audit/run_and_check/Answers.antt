@@ -3,6 +3,10 @@ use Rattle.sched_audit.specs.Audits.{FindsByText}
 use Rattle.sched_audit.proofs.Conforming.{whole_found}
 use Rattle.sched_audit.proofs.audit.run_and_check.Goals as goal
 
+pub returns-clause-finds : goal.returns-clause-finds
+returns-clause-finds g c =
+    subst (λ (l : List ℕ). FindsByText c.args.plan_text.now c.args.workers l c.in_ok-finding.finding) c.deref.ensures.value c.in_ok-finding.ensures.finds
+
 pub returns-clause-conforms : goal.returns-clause-conforms
 returns-clause-conforms g c =
     let ran = c.run_in_memory-answer in
