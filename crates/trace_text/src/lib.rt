@@ -68,8 +68,8 @@
 //! # Errors
 //!
 //! [`TextError::Memory`]: the memory for a text was refused. Where there is room for [`LINE_ROOM`] bytes a line it does not come.
-//! A line that was not written leaves the text as it was; of several lines a front was written. A reader has no errors: it
-//! answers `None`, or [`Front::Refused`].
+//! A line that was not written leaves the text as it was, and the room for more; of several lines a front was written. A reader
+//! has no errors: it answers `None`, or [`Front::Refused`].
 //!
 //! # Memory and cost
 //!

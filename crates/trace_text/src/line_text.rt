@@ -26,12 +26,13 @@ pub fn write_lines<A: Allocator>(out: &mut Vec<u8, A>, lines: &[Line]) -> Result
     Ok(())
 }
 
-/// Appends the text of a line, with its newline. An `Err` leaves the items as they were, and does not come where there is
-/// room for [`LINE_ROOM`] bytes. The capacity never falls.
+/// Appends the text of a line, with its newline. An `Err` leaves the items and the capacity as they were, and does not come
+/// where there is room for [`LINE_ROOM`] bytes. The capacity never falls.
 #[inline]
 pub fn write_line<A: Allocator>(out: &mut Vec<u8, A>, line: &Line) -> Result<(), TextError>
     ensures ok { OnOk result (out.new.items ≡ out.old.items ++ line_text line.now) }
     ensures err { OnErr result (out.new.items ≡ out.old.items) }
+    ensures capacity { OnErr result (vec_capacity out.new ≡ vec_capacity out.old) }
     ensures room { vec_len out.old + LINE_ROOM ≤ vec_capacity out.old → IsOk result }
     ensures keeps { vec_capacity out.old ≤ vec_capacity out.new }
     ensures len { vec_len out.new ≤ vec_len out.old + LINE_ROOM }
@@ -43,7 +44,7 @@ pub fn write_line<A: Allocator>(out: &mut Vec<u8, A>, line: &Line) -> Result<(),
     Ok(())
 }
 
-/// Appends the text of a line, where more memory is wanted for it.
+/// Appends the text of a line, where more memory is wanted for it. An `Err` leaves the items and the capacity as they were.
 #[cold]
 fn write_line_with_more_room<A: Allocator>(
     out: &mut Vec<u8, A>,
@@ -52,6 +53,7 @@ fn write_line_with_more_room<A: Allocator>(
     requires { vec_capacity out.old < vec_len out.old + LINE_ROOM }
     ensures ok { OnOk result (out.new.items ≡ out.old.items ++ line_text line.now) }
     ensures err { OnErr result (out.new.items ≡ out.old.items) }
+    ensures capacity { OnErr result (vec_capacity out.new ≡ vec_capacity out.old) }
     ensures keeps { vec_capacity out.old ≤ vec_capacity out.new }
     ensures len { vec_len out.new ≤ vec_len out.old + LINE_ROOM }
 {

@@ -66,12 +66,13 @@ impl<A: Allocator> TextBuffer<A> {
         Ok(())
     }
 
-    /// Appends the text of a line, with its newline. An `Err` leaves the text as it was, and does not come where there is room
-    /// for [`LINE_ROOM`] bytes; the memory stays where it is then.
+    /// Appends the text of a line, with its newline. An `Err` leaves the text and the room as they were, and does not come where
+    /// there is room for [`LINE_ROOM`] bytes; the memory stays where it is then.
     #[inline(always)]
     pub fn write_line(&mut self, line: &Line) -> Result<(), TextError>
         ensures ok { OnOk result (self.new.text ≡ self.old.text ++ line_text line.now) }
         ensures err { OnErr result (self.new.text ≡ self.old.text) }
+        ensures stays { OnErr result (self.new.room ≡ self.old.room) }
         ensures room { LINE_ROOM ≤ self.old.room → IsOk result }
         ensures keeps { self.old.room ≤ self.new.room + LINE_ROOM }
     {
@@ -82,11 +83,12 @@ impl<A: Allocator> TextBuffer<A> {
         Ok(())
     }
 
-    /// Makes room for one line at least.
+    /// Makes room for one line at least. An `Err` changes nothing.
     #[cold]
     fn grow(&mut self) -> Result<(), TextError>
         ensures text { self.new.text ≡ self.old.text }
         ensures ok { OnOk result (LINE_ROOM ≤ self.new.room) }
+        ensures stays { OnErr result (self.new.room ≡ self.old.room) }
         ensures keeps { self.old.room ≤ self.new.room }
     {
         self.buffer.reserve(LINE_ROOM)?;
