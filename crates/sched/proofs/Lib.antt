@@ -1,2 +1,3 @@
 pub mod Getters
 pub mod KnownCommand
+pub mod Orders

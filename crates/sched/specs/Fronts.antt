@@ -1,10 +1,17 @@
 -- Fronts: how much of a file is read, and how long a trace may be.
 -- All of it is this project's rule.
-use Rattle.std.specs.Prelude.{ℕ, List, take}
+use Rattle.std.specs.Prelude.{◌≡◌, ◌≢◌, ℕ, List, Option, Some, None, Result, Ok, Err, IfSome, take, ⊤}
+use Rattle.std.specs.IoError.{error_kind}
+use Rattle.std.specs.declared.io.Error.{Error}
+use Rattle.std.specs.declared.io.ErrorKind.TheVariants.{OutOfMemory}
 
 -- how many bytes of a plan file are read at most: one more than a plan text may have, which shows that the file is longer
 abbrev pub most_of_plan : ℕ
 most_of_plan = 1048577
+
+-- how many bytes of a trace file are read at most: one more than a trace may have
+abbrev pub most_of_trace : ℕ
+most_of_trace = 67108865
 
 -- how many bytes a trace has at most
 abbrev pub longest_trace : ℕ
@@ -13,3 +20,11 @@ longest_trace = 67108864
 -- what is read of a file, of so many bytes at most
 abbrev pub front : ℕ → List ℕ → List ℕ
 front most bytes = take most bytes
+
+-- what was read of a file that the system opened, or did not: the front of its bytes, where these are known, or nothing. Of a
+-- file that was not opened nothing was read
+abbrev pub IsReadOf : {R : Type 0} → (R → Option (List ℕ)) → ℕ → Result R Error → Option (List ℕ) → Type 0
+IsReadOf remaining most (Ok reader) (Some text) = IfSome (remaining reader) (λ bytes. text ≡ front most bytes)
+IsReadOf remaining most (Ok reader) None = ⊤
+IsReadOf remaining most (Err error) (Some text) = ⊥
+IsReadOf remaining most (Err error) None = error_kind error ≢ OutOfMemory

@@ -5,3 +5,4 @@ pub mod Arguments
 pub mod Fronts
 pub mod Answers
 pub mod Findings
+pub mod Order

@@ -1,15 +1,15 @@
 //! The files that the program reads: plans and traces.
 
-ghost use Rattle.std.specs.Prelude.{◌≡◌, ◌<◌, ◌≤◌, ◌⊎◌, IfErr, IfOk, IfSome, IsErrOf, length};
-ghost use Rattle.sched.specs.Fronts.{front, longest_trace, most_of_plan};
+ghost use Rattle.std.specs.Prelude.{◌≡◌, ℕ, ◌<◌, ◌≤◌, ◌⊎◌, List, None, Some, IfErr, IfOk, IfSome, IsErrOf, length};
+ghost use Rattle.sched.specs.Fronts.{IsReadOf, front, longest_trace, most_of_plan, most_of_trace};
 ghost use Rattle.sched.specs.Faults.{IsOrMemory};
-ghost use Rattle.sched.specs.declared.fault_lines.Fault.TheVariants.{PlanFile, TraceFile, TraceTooLong};
+ghost use Rattle.sched.specs.declared.fault_lines.Fault.TheVariants.{PlanFile, Run, TraceFile, TraceTooLong};
+ghost use Rattle.sched_engine.specs.declared.report.RunError.TheVariants.{Memory};
 
 use crate::fault_lines::Fault;
 use std::alloc::Global;
-use std::fs;
+use std::io;
 use std::io::Read;
-use std::rt::Files;
 
 /// How many bytes of a plan file are read at most: one more than a plan text may have, so that a
 /// longer file is seen to be too long.
@@ -18,13 +18,14 @@ pub const MOST_OF_PLAN: u64 = 1_048_577;
 /// How many bytes of a trace file are read at most: one more than a trace may have.
 pub const MOST_OF_TRACE: u64 = 67_108_865;
 
-/// The text of the plan in a file: its first [`MOST_OF_PLAN`] bytes. `Err` where there is no such file,
-/// where these can't be read, or where memory ran out.
-pub fn plan_text<R: Files + AllocGlobal>(rt: &R, path: &str) -> Result<Vec<u8>, Fault>
-    ensures fault { IfErr result (IsOrMemory PlanFile) }
+/// The text of a plan's file as the system opened it: its first [`MOST_OF_PLAN`] bytes. `Err` where it was not opened, where
+/// these can't be read, or where memory ran out.
+pub fn plan_text<R: Read + Drop>(alloc: Global, opened: io::Result<R>) -> Result<Vec<u8>, Fault>
+    ensures text { IfOk result (λ text. IsReadOf R.remaining most_of_plan opened (Some text.items)) }
+    ensures fault { IfErr result (λ e. (e ≡ Run Memory) ⊎ ((e ≡ PlanFile) × IsReadOf R.remaining most_of_plan opened None)) }
 {
-    match fs::open(rt, path) {
-        Ok(file) => plan_front(rt.alloc(), file),
+    match opened {
+        Ok(file) => plan_front(alloc, file),
         Err(error) => Err(Fault::of_system(error, Fault::PlanFile)),
     }
 }
@@ -38,14 +39,16 @@ pub fn plan_front<R: Read + Drop>(alloc: Global, reader: R) -> Result<Vec<u8>, F
     front_of(alloc, reader, MOST_OF_PLAN, Fault::PlanFile)
 }
 
-/// The text of the trace in a file. `Err` where there is no such file, where it can't be read to its end,
-/// where memory ran out, or where it has more than 67,108,864 bytes.
-pub fn trace_text<R: Files + AllocGlobal>(rt: &R, path: &str) -> Result<Vec<u8>, Fault>
+/// The text of a trace's file as the system opened it. `Err` where it was not opened, where it can't be read to its end, where
+/// memory ran out, or where it has more than 67,108,864 bytes.
+pub fn trace_text<R: Read + Drop>(alloc: Global, opened: io::Result<R>) -> Result<Vec<u8>, Fault>
+    ensures text { IfOk result (λ text. IsReadOf R.remaining most_of_trace opened (Some text.items)) }
     ensures size { IfOk result (λ text. length text.items ≤ longest_trace) }
-    ensures fault { IfErr result (λ e. (e ≡ TraceTooLong) ⊎ IsOrMemory TraceFile e) }
+    ensures long { IsErrOf result TraceTooLong → (text : List ℕ) × IsReadOf R.remaining most_of_trace opened (Some text) × (longest_trace < length text) }
+    ensures fault { IfErr result (λ e. (e ≡ TraceTooLong) ⊎ (e ≡ Run Memory) ⊎ ((e ≡ TraceFile) × IsReadOf R.remaining most_of_trace opened None)) }
 {
-    match fs::open(rt, path) {
-        Ok(file) => whole_trace(rt.alloc(), file),
+    match opened {
+        Ok(file) => whole_trace(alloc, file),
         Err(error) => Err(Fault::of_system(error, Fault::TraceFile)),
     }
 }

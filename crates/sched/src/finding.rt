@@ -1,6 +1,7 @@
 //! What a check of a trace finds, as a line and as an exit status.
 
-ghost use Rattle.std.specs.Prelude.{◌≡◌, ◌≤◌, IfOk, MatchResult, length, string_bytes};
+ghost use Rattle.std.specs.Prelude.{◌≡◌, ◌≤◌, ◌↔◌, IfOk, IsErrOf, MatchResult, length, string_bytes};
+ghost use Rattle.executor_core.specs.Counts.{IsWorkerCount};
 ghost use Rattle.sched.specs.Faults.{status_of as fault_status};
 ghost use Rattle.sched.specs.Findings.{IsCheckedAsAsked, finding_text, finding_status};
 ghost use Rattle.sched.specs.Fronts.{longest_trace};
@@ -23,6 +24,7 @@ pub fn write_finding<A: Allocator + Copy, B: Allocator, W: Sink>(
 ) -> Result<u8, Fault>
     requires { length trace.now ≤ longest_trace }
     ensures found { IsCheckedAsAsked result plan.now workers trace.now (W.contents writer.old) (W.contents writer.new) }
+    ensures workers { IsErrOf result (Fault.Run RunError.Workers) ↔ ¬ IsWorkerCount workers }
     ensures status { MatchResult result (λ s. s ≤ 1) (λ e. fault_status e ≡ 1) }
 {
     let finding = match check(alloc, plan, workers, trace) {

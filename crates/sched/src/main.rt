@@ -49,6 +49,7 @@ mod laws;
 mod program;
 #[cfg(test)]
 mod tests;
+mod work;
 
 use std::process::ExitCode;
 

@@ -3,22 +3,19 @@
 ghost use Rattle.std.specs.Prelude.{◌≡◌, ◌≤◌, ◌⊎◌, map, string_bytes, IfErr, IfOk, MatchResult};
 ghost use Rattle.std.specs.Process.{exit_status};
 ghost use Rattle.clap.specs.Words.{kind_of};
-ghost use Rattle.sched.specs.Answers.{ListedAsAsked, RanAsAsked};
 ghost use Rattle.sched.specs.Commands.{IsRefusal, IsShown, IsTaken};
 ghost use Rattle.sched.specs.Faults.{IsOrMemory, status_of};
 ghost use Rattle.sched.specs.declared.fault_lines.Fault.TheVariants.{Arguments};
 
 use crate::arguments::{Asked, CheckArguments, CodeArguments, RunArguments};
 use crate::fault_lines::{Fault, told};
-use crate::files::{plan_text, trace_text};
-use crate::finding::write_finding;
+use crate::work::{check_files, list_file, run_file};
 use clap::Error;
 use clap::error::ErrorKind;
-use plan_read::read_plan;
-use sched_engine::{Reading, Room, RunError, Sink, Source, Writing, run, write_listing};
+use sched_engine::{Reading, RunError, Writing};
 use std::process::ExitCode;
 use std::rt::{Env, Files};
-use std::{env, io};
+use std::{env, fs, io};
 
 /// Does what the command line says, and answers the exit status: 0, 1 after a fault that a line
 /// on standard error tells or where a trace breaks, or 2 for a fault of the command line.
@@ -95,44 +92,23 @@ fn run_plan<R: Files + Input + Print + AllocGlobal>(
 ) -> Result<u8, Fault>
     ensures status { MatchResult result (λ s. s ≡ 0) (λ e. status_of e ≡ 1) }
 {
-    let text = plan_text(rt, asked.path)?;
     let mut reader = Reading::new(rt.reader());
     let mut writer = Writing::new(io::writer(rt));
-    run_text(rt.alloc(), asked, &text, &mut reader, &mut writer)
-}
-
-/// Runs a plan's text as asked, events from the reader and the trace to the writer. `Ok` is the
-/// exit status, 0.
-fn run_text<A: Room, S: Source, W: Sink>(
-    alloc: A,
-    asked: &RunArguments<'_>,
-    text: &[u8],
-    reader: &mut S,
-    writer: &mut W,
-) -> Result<u8, Fault>
-    ensures ran { RanAsAsked result asked.now text.now (S.remaining reader.old) (S.remaining reader.new) (W.contents writer.old) (W.contents writer.new) }
-    ensures status { MatchResult result (λ s. s ≡ 0) (λ e. status_of e ≡ 1) }
-{
-    run(alloc, text, asked.workers, asked.limit, reader, writer)?;
-    Ok(0)
+    run_file(
+        rt.alloc(),
+        asked,
+        fs::open(rt, asked.path),
+        &mut reader,
+        &mut writer,
+    )
 }
 
 /// `sched code`: opens the plan file and standard output, and writes the listing.
 fn list_plan<R: Files + Print + AllocGlobal>(rt: &R, asked: &CodeArguments<'_>) -> Result<u8, Fault>
     ensures status { MatchResult result (λ s. s ≡ 0) (λ e. status_of e ≡ 1) }
 {
-    let text = plan_text(rt, asked.path)?;
     let mut writer = Writing::new(io::writer(rt));
-    list_text(rt.alloc(), &text, &mut writer)
-}
-
-/// Writes the listing of a plan's text. `Ok` is the exit status, 0.
-fn list_text<A: Room, W: Sink>(alloc: A, text: &[u8], writer: &mut W) -> Result<u8, Fault>
-    ensures listed { ListedAsAsked result text.now (W.contents writer.old) (W.contents writer.new) }
-    ensures status { MatchResult result (λ s. s ≡ 0) (λ e. status_of e ≡ 1) }
-{
-    write_listing(alloc, text, writer)?;
-    Ok(0)
+    list_file(rt.alloc(), fs::open(rt, asked.path), &mut writer)
 }
 
 /// `sched check`: opens the plan file, the trace file where the plan is one, and standard output, and checks. `Ok` is the
@@ -143,9 +119,12 @@ fn check_trace<R: Files + Print + AllocGlobal>(
 ) -> Result<u8, Fault>
     ensures status { MatchResult result (λ s. s ≤ 1) (λ e. status_of e ≡ 1) }
 {
-    let text = plan_text(rt, asked.path)?;
-    let plan = read_plan(rt.alloc(), &text).map_err(RunError::Plan)?;
-    let trace = trace_text(rt, asked.trace)?;
     let mut writer = Writing::new(io::writer(rt));
-    write_finding(rt.alloc(), &plan, asked.workers, &trace, &mut writer)
+    check_files(
+        rt.alloc(),
+        fs::open(rt, asked.path),
+        || fs::open(rt, asked.trace),
+        asked.workers,
+        &mut writer,
+    )
 }

@@ -4,6 +4,7 @@ use super::world::{Given, GivenFile};
 use super::{ends_given, given};
 use crate::fault_lines::Fault;
 use crate::files::{MOST_OF_PLAN, MOST_OF_TRACE, plan_front, plan_text, trace_text, whole_trace};
+use std::fs;
 use std::test::Fail;
 
 /// The command line of a run of `plan.toml`.
@@ -64,7 +65,7 @@ fn does_not_take_a_broken_file_for_its_front(rt: HostRuntime) {
 #[test]
 fn does_not_take_a_missing_file_for_an_empty_one(rt: HostRuntime) {
     assert_eq!(rt;
-        plan_text(&rt, "no such plan.toml").err(),
+        plan_text(rt.alloc(), fs::open(&rt, "no such plan.toml")).err(),
         Some(Fault::PlanFile)
     );
     let given = Given {
@@ -81,7 +82,7 @@ fn reads_the_whole_of_a_trace(rt: HostRuntime) {
     let text = whole_trace(rt.alloc(), b"0 clock\n".as_slice());
     assert_eq!(rt; text.ok().map(|text| text.len()), Some(8));
     assert_eq!(rt;
-        trace_text(&rt, "no such trace").err(),
+        trace_text(rt.alloc(), fs::open(&rt, "no such trace")).err(),
         Some(Fault::TraceFile)
     );
 }

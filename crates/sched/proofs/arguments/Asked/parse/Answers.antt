@@ -3,7 +3,6 @@ use Rattle.std.specs.Prelude.{IsSome, option_map}
 use Rattle.std.proofs.lemmas.Bool.{and_parts}
 use Rattle.std.proofs.lemmas.Option.{none-some, same_Some}
 use Rattle.clap.specs.Words.{App, Row, Text, fault_of, found_of, is_simple, is_simple_and_free, rows_of, subcommand_of}
-use Rattle.sched.specs.Commands.{sched_app}
 use Rattle.sched.proofs.KnownCommand.{is_known}
 use Rattle.sched.proofs.arguments.Asked.parse.Goals as goal
 

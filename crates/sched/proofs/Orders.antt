@@ -1,0 +1,219 @@
+-- Orders: the first fault of a command, by what each step of it answers.
+use Rattle.std.proofs.Common.{◌≡◌, ◌≢◌, ℕ, ◌<◌, ◌≤◌, ◌⊎◌, inl, inr, true, false, List, length, Option, Some, None, Result, Ok, Err, refl, ap, sym, ◌∙◌, arith}
+use Rattle.std.specs.Prelude.{nat_le, nat_lt, option_map}
+use Rattle.std.proofs.lemmas.Bool.{cases_Bool, and_parts}
+use Rattle.std.proofs.lemmas.Bool.Decides.{nat_tests}
+use Rattle.std.specs.Io.KnownBytes.{Keeps}
+use Rattle.executor_core.specs.Counts.{IsWorkerCount, most_workers}
+use Rattle.plan_read.specs.Plans.{PlanTree}
+use Rattle.plan_read.specs.Reads.{out_of_memory}
+use Rattle.plan_read.specs.Texts.{TextWrites, fault_of_text, plan_of_text}
+use Rattle.plan_read.specs.declared.faults.PlanFault.{PlanFault}
+use Rattle.plan_read.specs.declared.faults.PlanFaultKind.{PlanFaultKind}
+use Rattle.plan_read.specs.declared.faults.PlanFaultKind.TheVariants as k
+use Rattle.plan_read.proofs.TextLaw.{text_only}
+use Rattle.sched_engine.specs.Running.{IsAccepted, Ran}
+use Rattle.sched_engine.specs.CodeTexts.{Listed}
+use Rattle.sched_engine.specs.declared.report.Report.{Report}
+use Rattle.sched_engine.specs.declared.report.RunError.{RunError}
+use Rattle.sched_engine.specs.declared.report.RunError.TheVariants as x
+use Rattle.sched.specs.declared.fault_lines.Fault.{Fault}
+use Rattle.sched.specs.declared.fault_lines.Fault.TheVariants.{TraceFile, TraceTooLong, Run}
+use Rattle.sched.specs.declared.arguments.RunArguments.{RunArguments}
+use Rattle.sched.specs.Answers.{ListedAsAsked, RanAsAsked, Tells}
+use Rattle.sched.specs.Faults.{IsToldAs}
+use Rattle.sched.specs.Findings.{IsCheckedAsAsked}
+use Rattle.sched.specs.Fronts.{longest_trace}
+use Rattle.sched.specs.Order.{AnswersCheck, AnswersCode, AnswersRun, code_faults, first_of, is_worker_count, plan_fault, run_faults}
+
+-- what stays is kept
+pub kept : (contents : Option (List ℕ)) → Keeps contents contents
+kept None = tt
+kept (Some bytes) = refl
+
+-- a kind of fault is want of memory, or another
+memory_or_not : (kind : PlanFaultKind) → (kind ≡ k.Memory) ⊎ (kind ≢ k.Memory)
+memory_or_not k.TooLong = inr (λ q. cc)
+memory_or_not k.Toml = inr (λ q. cc)
+memory_or_not k.Version = inr (λ q. cc)
+memory_or_not k.UnknownKey = inr (λ q. cc)
+memory_or_not k.Missing = inr (λ q. cc)
+memory_or_not k.WrongType = inr (λ q. cc)
+memory_or_not k.BadUnit = inr (λ q. cc)
+memory_or_not k.BadTimes = inr (λ q. cc)
+memory_or_not k.Negative = inr (λ q. cc)
+memory_or_not k.BadName = inr (λ q. cc)
+memory_or_not k.DuplicateName = inr (λ q. cc)
+memory_or_not k.UnknownName = inr (λ q. cc)
+memory_or_not k.Ambiguous = inr (λ q. cc)
+memory_or_not k.OutOfOrder = inr (λ q. cc)
+memory_or_not k.TooLarge = inr (λ q. cc)
+memory_or_not k.TooMany = inr (λ q. cc)
+memory_or_not k.Memory = inl refl
+
+-- a fault of a plan's text is told as want of memory, or as itself
+pub told_plan : (text : List ℕ) (fault : PlanFault) (told : Fault) → (fault_of_text text ≡ Some fault) ⊎ (fault ≡ out_of_memory) → IsToldAs (x.Plan fault) told
+    → (told ≡ Run x.Memory) ⊎ (plan_fault text ≡ Some told)
+told_plan text fault told why is = elim (memory_or_not fault.kind) [
+  | inl memory ↦ inl (is.0 memory)
+  | inr other ↦ elim why [
+    | inl of_text ↦ inr (rw of_text (ap Some (sym (is.1 other))))
+    | inr memory ↦ absurd (other (ap (λ (f : PlanFault). f.kind) memory))
+  ]
+]
+
+-- the plan that a text writes is that of the text, which has no fault
+pub no_plan_fault : (text : List ℕ) (plan : PlanTree) → TextWrites text plan → plan_fault text ≡ None
+no_plan_fault text plan writes = ap (option_map (λ fault. Run (x.Plan fault))) (text_only text plan writes).0
+
+-- a number of workers passes the test
+pub counted : (workers : ℕ) → IsWorkerCount workers → is_worker_count workers ≡ true
+counted workers is = grind (arith, nat_tests, is.0, is.1)
+
+-- another number fails it
+pub not_counted : (workers : ℕ) → ¬ IsWorkerCount workers → is_worker_count workers ≡ false
+not_counted workers isnt = elim (cases_Bool (is_worker_count workers)) [
+  | inl is ↦ absurd (isnt (let both = and_parts (nat_le 1 workers) (nat_le workers most_workers) is in (grind (arith, nat_tests, both.0), grind (arith, nat_tests, both.1))))
+  | inr is ↦ is
+]
+
+-- a trace's length passes the test
+not_too_long : (n : ℕ) → n ≤ longest_trace → nat_le n longest_trace ≡ true
+not_too_long n short = grind (arith, nat_tests)
+
+-- a greater length fails it
+too_long : (n : ℕ) → longest_trace < n → nat_le n longest_trace ≡ false
+too_long n long = grind (arith, nat_tests)
+
+-- ---- a check
+
+-- the plan has a fault
+pub check_wrong_plan : (text : List ℕ) (fault : PlanFault) (told : Fault) (IsPlan IsTrace : Option (List ℕ) → Type 0) (workers : ℕ) (contents : Option (List ℕ))
+    → (fault_of_text text ≡ Some fault) ⊎ (fault ≡ out_of_memory) → IsToldAs (x.Plan fault) told → IsPlan (Some text)
+    → AnswersCheck (Err told) IsPlan IsTrace workers contents contents
+check_wrong_plan text fault told IsPlan IsTrace workers contents why is read = elim (told_plan text fault told why is) [
+  | inl memory ↦ inl (ap Err memory, kept contents)
+  | inr first ↦ inr (record {
+    plan = Some text;
+    trace = None;
+    plan_read = read;
+    trace_read = λ q. absurd (let e = rw first at q in cc);
+    told = rw first (refl, kept contents);
+  })
+]
+
+-- the trace's file was not read, or is too long
+pub check_no_trace : (text : List ℕ) (plan : PlanTree) (fault : Fault) (IsPlan IsFront IsTrace : Option (List ℕ) → Type 0) (workers : ℕ) (contents : Option (List ℕ))
+    → TextWrites text plan → IsPlan (Some text) → ((trace : Option (List ℕ)) → IsFront trace → IsTrace trace)
+    → (fault ≡ TraceTooLong) ⊎ (fault ≡ Run x.Memory) ⊎ ((fault ≡ TraceFile) × IsFront None)
+    → (fault ≡ TraceTooLong → (trace : List ℕ) × IsFront (Some trace) × (longest_trace < length trace))
+    → AnswersCheck (Err fault) IsPlan IsTrace workers contents contents
+check_no_trace text plan fault IsPlan IsFront IsTrace workers contents writes read gives (inl long) is_long =
+    let found = is_long long in
+    let none = no_plan_fault text plan writes in
+    let more : nat_le (length found.0) longest_trace ≡ false = too_long (length found.0) found.2 in
+    inr (record {
+      plan = Some text;
+      trace = Some found.0;
+      plan_read = read;
+      trace_read = λ q. gives (Some found.0) found.1;
+      told = rw (none, more) (ap Err long, kept contents);
+    })
+check_no_trace text plan fault IsPlan IsFront IsTrace workers contents writes read gives (inr (inl memory)) is_long = inl (ap Err memory, kept contents)
+check_no_trace text plan fault IsPlan IsFront IsTrace workers contents writes read gives (inr (inr file)) is_long =
+    inr (record {
+      plan = Some text;
+      trace = None;
+      plan_read = read;
+      trace_read = λ q. gives None file.1;
+      told = rw (no_plan_fault text plan writes) (ap Err file.0, kept contents);
+    })
+
+-- where the number of workers is out of range that is told
+told_workers : (answer : Result ℕ Fault) (plan : PlanTree) (workers : ℕ) (trace : List ℕ) (old new : Option (List ℕ)) → is_worker_count workers ≡ false
+    → (¬ IsWorkerCount workers → answer ≡ Err (Run x.Workers)) → IsCheckedAsAsked answer plan workers trace old new
+    → (answer ≡ Err (Run x.Workers)) × Keeps old new
+told_workers answer plan workers trace old new few wrong checked =
+    let is = wrong (λ w. let e = counted workers w in cc) in
+    let c = rw is at checked in
+    (is, c.1)
+
+-- both files were read
+pub check_both : (text : List ℕ) (plan : PlanTree) (trace : List ℕ) (answer : Result ℕ Fault) (IsPlan IsTrace : Option (List ℕ) → Type 0) (workers : ℕ) (old new : Option (List ℕ))
+    → TextWrites text plan → IsPlan (Some text) → IsTrace (Some trace) → length trace ≤ longest_trace
+    → (¬ IsWorkerCount workers → answer ≡ Err (Run x.Workers))
+    → IsCheckedAsAsked answer plan workers trace old new
+    → AnswersCheck answer IsPlan IsTrace workers old new
+check_both text plan trace answer IsPlan IsTrace workers old new writes read trace_read short wrong checked =
+    let none = no_plan_fault text plan writes in
+    let is : plan_of_text text ≡ plan = (text_only text plan writes).1 in
+    let fits : nat_le (length trace) longest_trace ≡ true = not_too_long (length trace) short in
+    inr (record {
+      plan = Some text;
+      trace = Some trace;
+      plan_read = read;
+      trace_read = λ q. trace_read;
+      told = elim (cases_Bool (is_worker_count workers)) [
+        | inl all ↦ rw (none, fits, all, is) checked
+        | inr few ↦ rw (none, fits, few) (told_workers answer plan workers trace old new few wrong checked)
+      ];
+    })
+
+-- ---- a listing
+
+-- a text that writes a plan has none of the faults of a listing
+no_code_fault : (text : List ℕ) (plan : PlanTree) → TextWrites text plan → first_of (code_faults (Some text)) ≡ None
+no_code_fault text plan writes = rw (no_plan_fault text plan writes) refl
+
+-- the plan's file was read
+pub code_read : (text : List ℕ) (answer : Result ℕ Fault) (IsPlan : Option (List ℕ) → Type 0) (old new : Option (List ℕ))
+    → IsPlan (Some text) → ListedAsAsked answer text old new → AnswersCode answer IsPlan old new
+code_read text answer IsPlan old new read all = go all.ended all.listed all.told
+  where
+    go : (ended : Result (Unit {0}) RunError) → Listed ended text old new → Tells ended answer → AnswersCode answer IsPlan old new
+    go (Ok done) listed told = inr (Some text, read, rw (no_code_fault text listed.1.plan listed.1.reads) all)
+    go (Err x.Write) listed told = inr (Some text, read, rw (no_code_fault text listed.1.plan listed.1.reads) all)
+    go (Err (x.Plan fault)) listed told = elim (told_plan text fault told.0 listed.0 told.1) [
+      | inl memory ↦ inl (told.2 ∙ ap Err memory, listed.1)
+      | inr first ↦ inr (Some text, read, rw first (told.2, listed.1))
+    ]
+    go (Err x.Memory) listed told = inl (told.2 ∙ ap Err told.1, listed.1)
+    go (Err x.Workers) listed told = absurd listed.0
+    go (Err x.Limit) listed told = absurd listed.0
+    go (Err (x.EventLine n)) listed told = absurd listed.0
+    go (Err x.Full) listed told = absurd listed.0
+    go (Err x.Read) listed told = absurd listed.0
+
+-- ---- a run
+
+-- a limit passes the test
+some_events : (limit : ℕ) → 0 < limit → nat_lt 0 limit ≡ true
+some_events limit more = grind (arith, nat_tests)
+
+-- what a run may go over has none of the faults of a run
+no_run_fault : (text : List ℕ) (plan : PlanTree) (workers limit : ℕ) → TextWrites text plan → IsWorkerCount workers → 0 < limit
+    → first_of (run_faults (Some text) workers limit) ≡ None
+no_run_fault text plan workers limit writes all more = rw (no_plan_fault text plan writes, counted workers all, some_events limit more) refl
+
+-- the plan's file was read
+pub run_read : (text : List ℕ) (answer : Result ℕ Fault) (IsPlan : Option (List ℕ) → Type 0) (asked : RunArguments) (input left old new : Option (List ℕ))
+    → IsPlan (Some text) → RanAsAsked answer asked text input left old new → AnswersRun answer IsPlan asked input left old new
+run_read text answer IsPlan asked input left old new read all = go all.ended all.ran all.told
+  where
+    accepted : (calls : _) → IsAccepted text calls asked.workers asked.limit → AnswersRun answer IsPlan asked input left old new
+    accepted calls a = inr (Some text, read, rw (no_run_fault text a.plan asked.workers asked.limit a.reads a.counted a.positive) all)
+
+    go : (ended : Result Report RunError) → Ran ended text asked.workers asked.limit input left old new → Tells ended answer → AnswersRun answer IsPlan asked input left old new
+    go (Ok report) ran told = accepted ran.0 ran.1
+    go (Err (x.Plan fault)) ran told = elim (told_plan text fault told.0 ran.0 told.1) [
+      | inl memory ↦ inl (told.2 ∙ ap Err memory, ran.1)
+      | inr first ↦ inr (Some text, read, rw first (told.2, ran.1))
+    ]
+    go (Err x.Workers) ran told = inr (Some text, read, rw (no_plan_fault text ran.0.0 ran.0.1, not_counted asked.workers ran.0.2) (told.2 ∙ ap Err told.1, ran.1))
+    go (Err x.Limit) ran told = inr (Some text, read, rw (no_plan_fault text ran.0.0 ran.0.1, counted asked.workers ran.0.2, ran.0.3) (told.2 ∙ ap Err told.1, ran.1))
+    go (Err x.Memory) (inl refused) told = inl (told.2 ∙ ap Err told.1, refused.1)
+    go (Err x.Memory) (inr ran) told = accepted ran.0 ran.1
+    go (Err (x.EventLine n)) ran told = accepted ran.0 ran.1
+    go (Err x.Full) ran told = accepted ran.0 ran.1
+    go (Err x.Read) ran told = accepted ran.0 ran.1
+    go (Err x.Write) ran told = accepted ran.0 ran.1

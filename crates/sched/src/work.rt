@@ -1,0 +1,97 @@
+//! What each command does with its files, and which fault it tells.
+
+ghost use Rattle.std.specs.Prelude.{◌≡◌, ◌≤◌, MatchResult, Result};
+ghost use Rattle.std.specs.declared.io.Error.{Error};
+ghost use Rattle.sched.specs.Answers.{ListedAsAsked, RanAsAsked};
+ghost use Rattle.sched.specs.Faults.{status_of};
+ghost use Rattle.sched.specs.Fronts.{IsReadOf, most_of_plan, most_of_trace};
+ghost use Rattle.sched.specs.Order.{AnswersCheck, AnswersCode, AnswersRun};
+
+use crate::arguments::RunArguments;
+use crate::fault_lines::Fault;
+use crate::files::{plan_text, trace_text};
+use crate::finding::write_finding;
+use plan_read::read_plan;
+use sched_engine::{Room, RunError, Sink, Source, run, write_listing};
+use std::alloc::Global;
+use std::io;
+use std::io::Read;
+
+/// Runs the plan of a file, as the system opened it, as asked: events from the reader and the trace to the writer. `Ok` is
+/// the exit status, 0. At a fault of the file, the plan or the numbers, the first in this order, nothing is read or written.
+pub fn run_file<P: Read + Drop, S: Source, W: Sink>(
+    alloc: Global,
+    asked: &RunArguments<'_>,
+    plan: io::Result<P>,
+    reader: &mut S,
+    writer: &mut W,
+) -> Result<u8, Fault>
+    ensures answers { AnswersRun result (IsReadOf P.remaining most_of_plan plan) asked.now (S.remaining reader.old) (S.remaining reader.new) (W.contents writer.old) (W.contents writer.new) }
+    ensures status { MatchResult result (λ s. s ≡ 0) (λ e. status_of e ≡ 1) }
+{
+    let text = plan_text(alloc, plan)?;
+    run_text(alloc, asked, &text, reader, writer)
+}
+
+/// Runs a plan's text as asked, events from the reader and the trace to the writer. `Ok` is the
+/// exit status, 0.
+fn run_text<A: Room, S: Source, W: Sink>(
+    alloc: A,
+    asked: &RunArguments<'_>,
+    text: &[u8],
+    reader: &mut S,
+    writer: &mut W,
+) -> Result<u8, Fault>
+    ensures ran { RanAsAsked result asked.now text.now (S.remaining reader.old) (S.remaining reader.new) (W.contents writer.old) (W.contents writer.new) }
+    ensures status { MatchResult result (λ s. s ≡ 0) (λ e. status_of e ≡ 1) }
+{
+    run(alloc, text, asked.workers, asked.limit, reader, writer)?;
+    Ok(0)
+}
+
+/// Writes the listing of the plan of a file, as the system opened it. `Ok` is the exit status, 0. At a fault of the file or
+/// the plan, the first in this order, nothing is written.
+pub fn list_file<P: Read + Drop, W: Sink>(
+    alloc: Global,
+    plan: io::Result<P>,
+    writer: &mut W,
+) -> Result<u8, Fault>
+    ensures answers { AnswersCode result (IsReadOf P.remaining most_of_plan plan) (W.contents writer.old) (W.contents writer.new) }
+    ensures status { MatchResult result (λ s. s ≡ 0) (λ e. status_of e ≡ 1) }
+{
+    list_text(alloc, &plan_text(alloc, plan)?, writer)
+}
+
+/// Writes the listing of a plan's text. `Ok` is the exit status, 0.
+fn list_text<A: Room, W: Sink>(alloc: A, text: &[u8], writer: &mut W) -> Result<u8, Fault>
+    ensures listed { ListedAsAsked result text.now (W.contents writer.old) (W.contents writer.new) }
+    ensures status { MatchResult result (λ s. s ≡ 0) (λ e. status_of e ≡ 1) }
+{
+    write_listing(alloc, text, writer)?;
+    Ok(0)
+}
+
+/// Checks the trace of a file against the plan of a file, as the system opens them, and writes what is found. The trace's is
+/// opened where the plan is one. `Ok` is the exit status: 0 where the trace conforms, 1 where it breaks. At a fault of a file,
+/// the plan or the number of workers, the first in this order, nothing is written.
+pub fn check_files<P: Read + Drop, T: Read + Drop, O: FnOnce() -> io::Result<T> + Drop, W: Sink>(
+    alloc: Global,
+    plan: io::Result<P>,
+    open_trace: O,
+    workers: u8,
+    writer: &mut W,
+) -> Result<u8, Fault>
+    requires { O.pre open_trace }
+    ensures answers { AnswersCheck result (IsReadOf P.remaining most_of_plan plan)
+        (λ trace. (opened : Result T Error) × O.post open_trace opened × IsReadOf T.remaining most_of_trace opened trace)
+        workers (W.contents writer.old) (W.contents writer.new) }
+    ensures status { MatchResult result (λ s. s ≤ 1) (λ e. status_of e ≡ 1) }
+{
+    let text = plan_text(alloc, plan)?;
+    let plan = match read_plan(alloc, &text) {
+        Ok(plan) => plan,
+        Err(fault) => return Err(Fault::from(RunError::Plan(fault))),
+    };
+    let trace = trace_text(alloc, open_trace())?;
+    write_finding(alloc, &plan, workers, &trace, writer)
+}
