@@ -1,4 +1,5 @@
-//! Traces with one byte changed, left out or doubled, at each place, beside the slow program.
+//! Traces with one byte changed, left out or doubled, at each place, and with one line left out, doubled or put behind the
+//! next one, beside the slow program.
 ghost use Rattle.std.specs.Prelude.{◌<◌, length};
 ghost use Rattle.queue_code.specs.Calls.{IsOrderly};
 
@@ -66,7 +67,84 @@ fn conforming_at(
     Ok(conforming)
 }
 
-/// Checks a trace and the texts that differ from it at one place, of which so many conform.
+/// What is done with a line.
+#[derive(Clone, Copy, Debug)]
+enum LineChange {
+    LeftOut,
+    Doubled,
+    PutBehindTheNext,
+}
+
+/// A trace with a change of the line at a place, counted from 0.
+fn with_line_changed(
+    alloc: Global,
+    trace: &str,
+    at: usize,
+    change: LineChange,
+) -> Result<String, AllocError> {
+    let mut text = String::new(alloc);
+    let mut here = 0usize;
+    for line in trace.lines() {
+        if here != at || matches!(change, LineChange::Doubled) {
+            add_line(&mut text, line)?;
+        }
+        if here == at && matches!(change, LineChange::Doubled) {
+            add_line(&mut text, line)?;
+        }
+        here = here.saturating_add(1);
+        if here.saturating_sub(2) == at
+            && here > 1
+            && matches!(change, LineChange::PutBehindTheNext)
+        {
+            add_line(&mut text, line_at(trace, at))?;
+        }
+    }
+    Ok(text)
+}
+
+/// Adds a line with its newline.
+fn add_line(text: &mut String, line: &str) -> Result<(), AllocError> {
+    text.push_str(line)?;
+    text.push('\n')
+}
+
+/// The line at a place, counted from 0.
+fn line_at(trace: &str, at: usize) -> &str {
+    let mut here = 0usize;
+    for line in trace.lines() {
+        if here == at {
+            return line;
+        }
+        here = here.saturating_add(1);
+    }
+    ""
+}
+
+/// Checks the texts that differ from a trace by one line.
+fn finds_line_changes(
+    rt: &(impl AllocGlobal + Abort),
+    plan: &Plan<Global>,
+    calls: &[(u64, CodeCall)],
+    workers: u8,
+    trace: &str,
+) -> Result<(), Fail>
+    requires { IsOrderly calls.now }
+{
+    for at in 0..trace.lines().count() {
+        for change in [
+            LineChange::LeftOut,
+            LineChange::Doubled,
+            LineChange::PutBehindTheNext,
+        ] {
+            let text = with_line_changed(rt.alloc(), trace, at, change)?;
+            let found = found_by_both(rt.alloc(), plan, calls, workers, text.as_bytes())?;
+            assert!(rt; found.is_some(), "{at}: {change:?}");
+        }
+    }
+    Ok(())
+}
+
+/// Checks a trace and the texts that differ from it at one place, of which so many that differ by one byte conform.
 fn finds_changes(
     rt: &(impl AllocGlobal + Abort),
     plan: &str,
@@ -85,7 +163,7 @@ fn finds_changes(
         met = met.saturating_add(here);
     }
     assert_eq!(rt; met, conforming);
-    Ok(())
+    finds_line_changes(rt, &plan, calls, workers, trace)
 }
 
 fn submit(task: u32, timing: Timing, delay: u64) -> CodeCall {
