@@ -6,11 +6,14 @@ mod runs;
 mod shutdown;
 mod single;
 
+ghost use Rattle.std.specs.Prelude.{◌≡◌, IfOk};
+ghost use Rattle.queue_code.specs.Codes.{calls_of};
+
 use crate::trace;
 use executor_core::{Answer, CancelEffect, Core, Event, Kind, Line, Message, Outcome, Refusal};
-use queue_code::{Code, CodeCall, Instr, orderly};
+use queue_code::{Code, CodeCall, CodeFault, Cursor, Instr};
 use sched_time::{Span, Timing, Unit, Which, span};
-use std::alloc::Allocator;
+use std::alloc::{AllocError, Allocator};
 use std::process::Abort;
 use std::test::Fail;
 
@@ -155,14 +158,38 @@ fn instr_of(planned: &(u64, CodeCall)) -> Instr {
     }
 }
 
-/// The code that makes these calls.
-fn code_of<A: Allocator + Copy>(alloc: A, calls: &[(u64, CodeCall)]) -> Result<Code<A>, Fail> {
+/// The instructions that make these calls.
+fn instrs_of<A: Allocator>(
+    alloc: A,
+    calls: &[(u64, CodeCall)],
+) -> Result<Vec<Instr, A>, AllocError> {
     let mut instrs = Vec::new(alloc);
     for planned in calls {
         instrs.push(instr_of(planned))?;
     }
     instrs.push(Instr::Halt)?;
-    Ok(Code::check(alloc, instrs)?)
+    Ok(instrs)
+}
+
+/// The code that makes these calls, if they are in order.
+fn code_of<A: Allocator + Copy>(alloc: A, calls: &[(u64, CodeCall)]) -> Result<Code<A>, CodeFault> {
+    let instrs = instrs_of(alloc, calls)?;
+    Code::check(alloc, instrs)
+}
+
+/// The calls that a code makes, one after the other.
+fn made_by<A: Allocator + Copy>(
+    alloc: A,
+    code: &Code<A>,
+) -> Result<Vec<(u64, CodeCall), A>, AllocError>
+    ensures { IfOk result (λ calls. calls.items ≡ calls_of code.now) }
+{
+    let mut calls = Vec::new(alloc);
+    let mut cursor = Cursor::new(code);
+    while let Some(planned) = cursor.fetch(code) {
+        calls.push(planned)?;
+    }
+    Ok(calls)
 }
 
 /// A core with one worker and the plain program both give these lines.
@@ -185,10 +212,14 @@ fn compare_with<A: Allocator + Copy>(
     events: &[Event],
     lines: &[Line],
 ) -> Result<(), Fail> {
-    assert!(rt; orderly(calls));
-    let plain = trace(alloc, calls, workers, events)?;
+    let code = code_of(alloc, calls)?;
+    // Its calls are in order, as the plain program asks.
+    let _count = code.calls();
+    let made = made_by(alloc, &code)?;
+    assert_eq!(rt; made.as_slice(), calls);
+    let plain = trace(alloc, &made, workers, events)?;
     assert_eq!(rt; plain.as_slice(), lines);
-    let mut core = Core::new(alloc, code_of(alloc, calls)?, workers, 100)?;
+    let mut core = Core::new(alloc, code, workers, 100)?;
     let mut out = Vec::new(alloc);
     for event in events {
         core.event(*event, &mut out)?;

