@@ -5,9 +5,11 @@ use Rattle.std.proofs.lemmas.Bool.{cases_Bool, ltb-false, ltb-true, le-ltb, or_f
 use Rattle.queue_code.specs.declared.fault.CodeFault.{CodeFault}
 use Rattle.queue_code.specs.declared.instr.Instr.{Instr}
 use Rattle.queue_code.specs.declared.instr.Instr.TheVariants as instr
-use Rattle.queue_code.specs.Checks.{last_shift, loop_after, calls_after, after, lacks_task, checks, first_failing, or_else, first_fault, fault_of}
+use Rattle.queue_code.specs.Checks.{first_failing, or_else, fault_of}
+use Rattle.queue_code.specs.Walks.{last_shift, loop_after, calls_after, after, lacks_task, checks, first_fault}
 use Rattle.queue_code.proofs.Accepting.{Met, none_fails, met_out, met_in, loop_begins, loop_ends, leb_not}
 use Rattle.queue_code.proofs.Passing.{Passes}
+use Rattle.queue_code.proofs.Faults.{fault_is}
 use Rattle.plan_read.specs.declared.plans.Call.{Call}
 use Rattle.plan_read.specs.declared.plans.Header.{Header}
 use Rattle.plan_read.specs.declared.plans.Op.{Op}
@@ -195,4 +197,4 @@ blocks_ok earlier (b ∷ bs) firsts first ordered a few =
 
 -- the code of a plan has no fault
 pub code_has_no_fault : (blocks : PlanTree) → IsOrdered blocks → fault_of (instrs_of blocks) ≡ None
-code_has_no_fault blocks ordered = blocks_ok [] blocks [] 0 ordered.1 firsts_start (omega arith)
+code_has_no_fault blocks ordered = fault_is (instrs_of blocks) ∙ blocks_ok [] blocks [] 0 ordered.1 firsts_start (omega arith)

@@ -6,7 +6,8 @@ use Rattle.queue_code.specs.declared.progress.Progress.{Progress}
 use Rattle.queue_code.specs.declared.fault.CodeFault.{CodeFault}
 use Rattle.queue_code.specs.declared.instr.Instr.{Instr}
 use Rattle.queue_code.specs.declared.instr.Instr.TheVariants.{Loop, EndLoop}
-use Rattle.queue_code.specs.Checks.{checks, first_failing, after_loop, or_else, first_fault}
+use Rattle.queue_code.specs.Checks.{first_failing, or_else}
+use Rattle.queue_code.specs.Walks.{checks, after_loop, first_fault}
 use Rattle.queue_code.proofs.Passing.{Passes}
 
 -- what a check has met, for the crates above

@@ -1,5 +1,5 @@
 -- A check that meets no fault counts the calls and the tasks of the code.
-use Rattle.std.proofs.Common.{◌≡◌, ℕ, zero, suc, ◌+◌, ◌*◌, ◌-◌, ◌≤◌, Bool, true, false, cond, eqb, List, [], ◌∷◌, ◌++◌, Option, Some, None, length, refl, ap, subst, ◌∙◌, arith, append_assoc, length-append}
+use Rattle.std.proofs.Common.{◌≡◌, ℕ, zero, suc, ◌+◌, ◌*◌, ◌-◌, ◌≤◌, Bool, true, false, cond, eqb, List, [], ◌∷◌, ◌++◌, Option, Some, None, length, refl, sym, ap, subst, ◌∙◌, arith, length-append}
 use Rattle.queue_code.specs.declared.call.CodeCall.TheVariants as call
 use Rattle.queue_code.specs.declared.instr.Instr.{Instr}
 use Rattle.queue_code.specs.declared.instr.Instr.TheVariants.{Submit, Illegal, Loop, EndLoop, Halt}
@@ -7,49 +7,13 @@ use Rattle.queue_code.specs.declared.progress.OpenLoop.{OpenLoop}
 use Rattle.queue_code.specs.declared.progress.Progress.{Progress}
 use Rattle.queue_code.specs.Calls.{Planned, task_count}
 use Rattle.queue_code.specs.Codes.{call_of, in_front, tasks_by, tasks_in, pass, iterations, body_of, calls_from, calls_of}
-use Rattle.queue_code.specs.Checks.{opening, offset_of, is_call, first_fault, fault_of, walked, AreTimed}
+use Rattle.queue_code.specs.Checks.{offset_of, is_call, fault_of, AreTimed}
+use Rattle.queue_code.specs.Walks.{opening, first_fault, walked}
 use Rattle.queue_code.specs.Cursors.{IsCode}
-use Rattle.queue_code.proofs.Passing.{passes_all, passes_first, length_call, in_front_append}
+use Rattle.queue_code.proofs.Passing.{passes_all, passes_first, length_call}
+use Rattle.queue_code.proofs.Totals.{AreCalls, tasks_call, tasks_turns, length_turns}
+use Rattle.queue_code.proofs.Faults.{fault_is}
 use Rattle.queue_code.proofs.Soundness.{sound, met_in, met_out}
-
-abbrev AreCalls : List Instr → Type 0
-AreCalls [] = Unit {0}
-AreCalls (i ∷ is) = (is_call i ≡ true) × AreCalls is
-
-tasks_call : (base start count : ℕ) (i : Instr) (rest : List Planned) → task_count (in_front (call_of base start count i) rest) ≡ tasks_by i + task_count rest
-tasks_call base start count (Submit offset timing delay) rest = omega arith
-tasks_call base start count (Illegal offset) rest = omega arith
-tasks_call base start count i rest = omega arith
-
-tasks_pass : (base start count : ℕ) (is : List Instr) (ys : List Planned) → task_count (pass base start count is ++ ys) ≡ tasks_in is + task_count ys
-tasks_pass base start count [] ys = omega arith
-tasks_pass base start count (i ∷ is) ys =
-    omega (
-      arith,
-      ap task_count (in_front_append (call_of base start count i) (pass base start (count + tasks_by i) is) ys),
-      tasks_call base start count i (pass base start (count + tasks_by i) is ++ ys),
-      tasks_pass base start (count + tasks_by i) is ys,
-    )
-
-tasks_turns : (n q every count : ℕ) (body : List Instr) (ys : List Planned) → task_count (iterations n q every body count ++ ys) ≡ n * tasks_in body + task_count ys
-tasks_turns zero q every count body ys = omega arith
-tasks_turns (suc n) q every count body ys =
-    omega (
-      arith,
-      ap task_count (append_assoc (pass (q * every) count count body) (iterations n (q + 1) every body (count + tasks_in body)) ys),
-      tasks_pass (q * every) count count body (iterations n (q + 1) every body (count + tasks_in body) ++ ys),
-      tasks_turns n (q + 1) every (count + tasks_in body) body ys,
-    )
-
-length_pass : (base start count : ℕ) (is : List Instr) → AreCalls is → length (pass base start count is) ≡ length is
-length_pass base start count [] calls = refl
-length_pass base start count (i ∷ is) calls =
-    omega (arith, length_call i base start count (pass base start (count + tasks_by i) is) calls.0, length_pass base start (count + tasks_by i) is calls.1)
-
-length_turns : (n q every count : ℕ) (body : List Instr) → AreCalls body → length (iterations n q every body count) ≡ n * length body
-length_turns zero q every count body calls = omega arith
-length_turns (suc n) q every count body calls =
-    omega (arith, length-append (pass (q * every) count count body) (iterations n (q + 1) every body (count + tasks_in body)), length_pass (q * every) count count body calls, length_turns n (q + 1) every (count + tasks_in body) body calls)
 
 -- in the end there are the calls and the tasks so far, and those of the instructions
 abbrev Counts : Bool → ℕ → ℕ → Progress → List Instr → Type 0
@@ -113,7 +77,7 @@ pub record Known (code : List Instr) (p : Progress) : Type 0 where
 -- instructions without a fault are a code, and what was met in them are its calls and its tasks
 pub known : (code : List Instr) (p : Progress) → fault_of code ≡ None → p ≡ walked opening code → AreTimed code → Known code p
 known code p none is timed =
-    let k = counted None 0 0 0 code none in
+    let k = counted None 0 0 0 code (sym (fault_is code) ∙ none) in
     let good = sound code timed none in
     let calls : p.calls ≡ length (calls_of code) = ap (λ (q : Progress). q.calls) is ∙ omega (arith, k.0) in
     let tasks : p.tasks ≡ task_count (calls_of code) = ap (λ (q : Progress). q.tasks) is ∙ omega (arith, k.1) in

@@ -1,49 +1,50 @@
 -- The fault of a list of instructions is that of the least index at which a check fails.
-use Rattle.std.proofs.Common.{◌≡◌, ℕ, zero, suc, ◌<◌, List, [], ◌∷◌, Option, Some, None, length, refl, ap, ◌∙◌, arith}
+use Rattle.std.proofs.Common.{◌≡◌, ℕ, zero, suc, ◌+◌, ◌<◌, ◌≤◌, List, Option, Some, None, inl, inr, length, refl, sym, ap, subst, ◌∙◌, arith}
+use Rattle.std.specs.List.{range_with_len}
+use Rattle.std.proofs.lemmas.Bool.{cases_lt}
 use Rattle.queue_code.specs.declared.fault.CodeFault.{CodeFault}
 use Rattle.queue_code.specs.declared.instr.Instr.{Instr}
-use Rattle.queue_code.specs.declared.instr.Instr.TheVariants.{Halt}
-use Rattle.queue_code.specs.declared.progress.Progress.{Progress}
-use Rattle.queue_code.specs.Checks.{opening, after, checks, first_failing, or_else, first_fault}
-use Rattle.queue_code.specs.CodeLaws.{fault_from, LeastIndex, NothingWrong}
-use Rattle.queue_code.proofs.Passing.{neither, passes_all, last_halt}
+use Rattle.queue_code.specs.Checks.{fault_at, or_else, first_of}
+use Rattle.queue_code.specs.CodeLaws.{LeastIndex, NothingWrong}
+use Rattle.queue_code.proofs.Passing.{neither}
 
-abbrev Found : Progress → List Instr → CodeFault → Type 0
-Found p is e = (n : ℕ) × (fault_from p is n ≡ Some e) × ((m : ℕ) → m < n → fault_from p is m ≡ None)
+-- a fault among the indexes from n on, and none before it
+abbrev Found : List Instr → ℕ → CodeFault → Type 0
+Found code n e = (index : ℕ) × (fault_at code index ≡ Some e) × ((earlier : ℕ) → n ≤ earlier → earlier < index → fault_at code earlier ≡ None)
 
-not_earlier : (p : Progress) (i : Instr) (is : List Instr) (n m : ℕ) → first_failing (checks p i is) ≡ None → ((k : ℕ) → k < n → fault_from (after p i) is k ≡ None) → m < suc n → fault_from p (i ∷ is) m ≡ None
-not_earlier p i is n zero none later low = none
-not_earlier p i is n (suc m) none later low = later m (omega (arith, low))
+found_here : (code : List Instr) (n : ℕ) (e : CodeFault) → fault_at code n ≡ Some e → Found code n e
+found_here code n e fails = (n, fails, λ m least low. absurd (omega (arith, least, low)))
 
-found_here : (p : Progress) (i : Instr) (is : List Instr) (e : CodeFault) → first_failing (checks p i is) ≡ Some e → Found p (i ∷ is) e
-found_here p i is e fails = (0, fails, λ m low. absurd (omega (arith, low)))
+none_between : (code : List Instr) (n m : ℕ) (last : ℕ) → fault_at code n ≡ None → ((k : ℕ) → n + 1 ≤ k → k < last → fault_at code k ≡ None) → n ≤ m → m < last → fault_at code m ≡ None
+none_between code n m last none later least low =
+    elim (cases_lt n m) [
+      | inl more ↦ later m (omega (arith, more)) low
+      | inr past ↦ (let same : n ≡ m = omega (arith, past, least) in ap (fault_at code) (sym same) ∙ none)
+    ]
 
-found_behind : (p : Progress) (i : Instr) (is : List Instr) (e : CodeFault) → first_failing (checks p i is) ≡ None → Found (after p i) is e → Found p (i ∷ is) e
-found_behind p i is e none found = (suc found.0, found.1, λ m low. not_earlier p i is found.0 m none found.2 low)
+found_behind : (code : List Instr) (n : ℕ) (e : CodeFault) → fault_at code n ≡ None → Found code (n + 1) e → Found code n e
+found_behind code n e none found = (found.0, found.1, λ m least low. none_between code n m found.0 none found.2 least low)
 
-found_either : (p : Progress) (i : Instr) (is : List Instr) (e : CodeFault) (here : Option CodeFault) → first_failing (checks p i is) ≡ here → (first_fault (after p i) is ≡ Some e → Found (after p i) is e)
-    → or_else here (first_fault (after p i) is) ≡ Some e → Found p (i ∷ is) e
-found_either p i is e None at later fault = found_behind p i is e at (later fault)
-found_either p i is e (Some first) at later fault = found_here p i is e (at ∙ fault)
+found_either : (code : List Instr) (n : ℕ) (e : CodeFault) (here : Option CodeFault) (later : Option CodeFault) → fault_at code n ≡ here → (later ≡ Some e → Found code (n + 1) e) → or_else here later ≡ Some e → Found code n e
+found_either code n e None later at behind fault = found_behind code n e at (behind fault)
+found_either code n e (Some first) later at behind fault = found_here code n e (at ∙ fault)
 
-found : (p : Progress) (is : List Instr) (e : CodeFault) → first_fault p is ≡ Some e → Found p is e
-found p [] e fault = (0, fault, λ m low. absurd (omega (arith, low)))
-found p (Halt ∷ is) e fault = found_here p Halt is e fault
-found p (i ∷ is) e fault = found_either p i is e (first_failing (checks p i is)) refl (found (after p i) is e) fault
+found : (code : List Instr) (n k : ℕ) (e : CodeFault) → first_of code (range_with_len n k) ≡ Some e → Found code n e
+found code n zero e fault = cc
+found code n (suc k) e fault = found_either code n e (fault_at code n) (first_of code (range_with_len (n + 1) k)) refl (found code (n + 1) k e) fault
 
-nothing : (p : Progress) (is : List Instr) → first_fault p is ≡ None → (n : ℕ) → n < length is → fault_from p is n ≡ None
-nothing p [] none n low = absurd (omega (arith, low))
-nothing p (Halt ∷ is) none zero low = none
-nothing p (Halt ∷ is) none (suc n) low =
-    let last : length is ≡ 0 = ap length (last_halt is (passes_all p Halt is none).early) in
-    absurd (omega (arith, low, last))
-nothing p (i ∷ is) none zero low = (neither (first_failing (checks p i is)) (first_fault (after p i) is) none).0
-nothing p (i ∷ is) none (suc n) low = nothing (after p i) is (neither (first_failing (checks p i is)) (first_fault (after p i) is) none).1 n (omega (arith, low))
+nothing : (code : List Instr) (n k : ℕ) → first_of code (range_with_len n k) ≡ None → (m : ℕ) → n ≤ m → m < n + k → fault_at code m ≡ None
+nothing code n zero none m least low = absurd (omega (arith, least, low))
+nothing code n (suc k) none m least low =
+    let both = neither (fault_at code n) (first_of code (range_with_len (n + 1) k)) none in
+    none_between code n m (n + suc k) both.0 (λ j more less. nothing code (n + 1) k both.1 j more (omega (arith, less))) least low
 
 -- the fault stands at some index, and nothing is wrong before it
 pub least_index : LeastIndex
-least_index code e fault = found opening code e fault
+least_index code e fault =
+    let least = found code 0 (length code + 1) e fault in
+    (least.0, least.1, λ m low. least.2 m (omega arith) low)
 
 -- where there is no fault nothing is wrong at any index
 pub nothing_wrong : NothingWrong
-nothing_wrong code none = nothing opening code none
+nothing_wrong code none index low = nothing code 0 (length code + 1) none index (omega arith) (omega (arith, low))

@@ -3,8 +3,11 @@ pub mod Tables
 pub mod Moves
 pub mod Making
 pub mod Passing
+pub mod Totals
+pub mod Faults
 pub mod Soundness
 pub mod Sizes
 pub mod Counting
 pub mod LeastFault
 pub mod Accepting
+pub mod Shapes

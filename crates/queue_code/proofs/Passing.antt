@@ -8,7 +8,8 @@ use Rattle.queue_code.specs.declared.instr.Instr.TheVariants.{Submit, Illegal, C
 use Rattle.queue_code.specs.declared.progress.Progress.{Progress}
 use Rattle.queue_code.specs.Calls.{Planned, IsOrderlyCall, count_after}
 use Rattle.queue_code.specs.Codes.{call_of, in_front, tasks_by}
-use Rattle.queue_code.specs.Checks.{offset_of, is_call, last_shift, after, is_early_halt, is_nested, is_unclosed, is_empty_loop, lacks_task, is_bad_task, is_too_large, is_out_of_order, is_too_many, checks, first_failing, or_else, first_fault, IsTimedInstr}
+use Rattle.queue_code.specs.Checks.{offset_of, is_call, is_early_halt, first_failing, or_else, IsTimedInstr}
+use Rattle.queue_code.specs.Walks.{last_shift, after, is_nested, is_unclosed, is_empty_loop, lacks_task, is_bad_task, is_too_large, is_out_of_order, is_too_many, checks, first_fault}
 
 -- no check fails
 pub record Passes (p : Progress) (i : Instr) (rest : List Instr) : Type 0 where

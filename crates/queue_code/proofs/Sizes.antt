@@ -9,7 +9,8 @@ use Rattle.queue_code.specs.declared.instr.Instr.TheVariants.{Loop, EndLoop, Hal
 use Rattle.queue_code.specs.declared.progress.OpenLoop.{OpenLoop}
 use Rattle.queue_code.specs.declared.progress.Progress.{Progress}
 use Rattle.queue_code.specs.Codes.{tasks_by}
-use Rattle.queue_code.specs.Checks.{offset_of, is_call, after, checks, first_failing, first_fault, walked, IsTimedInstr, AreTimed}
+use Rattle.queue_code.specs.Checks.{offset_of, is_call, first_failing, IsTimedInstr, AreTimed}
+use Rattle.queue_code.specs.Walks.{after, checks, first_fault, walked}
 use Rattle.queue_code.specs.Sizes.{IsBounded, IsLoopBounded}
 use Rattle.queue_code.proofs.Passing.{Passes, passes_all, moment_low}
 use Rattle.queue_code.proofs.Making.{one_task}

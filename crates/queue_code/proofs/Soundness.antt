@@ -9,9 +9,12 @@ use Rattle.queue_code.specs.declared.progress.OpenLoop.{OpenLoop}
 use Rattle.queue_code.specs.declared.progress.Progress.{Progress}
 use Rattle.queue_code.specs.Calls.{Planned, IsOrderlyFrom}
 use Rattle.queue_code.specs.Codes.{call_of, in_front, tasks_by, tasks_in, pass, iterations, body_of, calls_from}
-use Rattle.queue_code.specs.Checks.{offset_of, is_call, last_shift, overlaps, first_fault, fault_of, IsTimedInstr, AreTimed}
+use Rattle.queue_code.specs.Checks.{offset_of, is_call, fault_of, IsTimedInstr, AreTimed}
+use Rattle.queue_code.specs.Walks.{last_shift, overlaps, first_fault}
 use Rattle.queue_code.specs.Cursors.{BeginsWithCall, IsWellFormed, IsCode}
 use Rattle.queue_code.proofs.Passing.{Passes, passes_all, passes_first, Called, called, moment_low, not_before, length_call, in_front_append, last_halt}
+use Rattle.queue_code.proofs.Totals.{if_zero, if_more}
+use Rattle.queue_code.proofs.Faults.{fault_is}
 
 -- what was met in a loop
 abbrev pub met_in : OpenLoop → ℕ → ℕ → ℕ → Progress
@@ -104,7 +107,7 @@ sizes r calls tasks last is h none (suc n) q count =
     )
 
 -- a loop begins with a call: no loop begins in it, and it has a call before its end
-begins : (r : OpenLoop) (calls tasks last : ℕ) (is : List Instr) → r.calls ≡ 0 → first_fault (met_in r calls tasks last) is ≡ None → BeginsWithCall is
+pub begins : (r : OpenLoop) (calls tasks last : ℕ) (is : List Instr) → r.calls ≡ 0 → first_fault (met_in r calls tasks last) is ≡ None → BeginsWithCall is
 begins r calls tasks last [] none fault = cc
 begins r calls tasks last (Halt ∷ is) none fault = let e = (passes_all (met_in r calls tasks last) Halt is fault).unclosed in cc
 begins r calls tasks last (Loop times every ∷ is) none fault = let e = (passes_first (met_in r calls tasks last) (Loop times every) is fault).0.nested in cc
@@ -112,17 +115,6 @@ begins r calls tasks last (EndLoop ∷ is) none fault =
     let e : eqb r.calls 0 ≡ false = (passes_first (met_in r calls tasks last) EndLoop is fault).0.empty in
     absurd (eqb-false r.calls 0 e none)
 begins r calls tasks last (i ∷ is) none fault = tt
-
-if_zero : (n a b : ℕ) → n ≡ 0 → cond (eqb n 0) a b ≡ a
-if_zero n a b is = rw is refl
-
-if_more : (n a b : ℕ) → 1 ≤ n → cond (eqb n 0) a b ≡ b
-if_more zero a b low = absurd (omega (arith, low))
-if_more (suc n) a b low =
-    elim (cases_Bool (eqb (suc n) 0)) [
-      | inl is ↦ absurd (omega (arith, eqb-true (suc n) 0 is))
-      | inr isnt ↦ rw isnt refl
-    ]
 
 -- what follows from no fault, in a loop and outside one
 abbrev Goal : Option OpenLoop → ℕ → ℕ → ℕ → List Instr → Type 0
@@ -243,5 +235,5 @@ follows (Some r) calls tasks last (i ∷ is) timed fault = λ low.
 -- a list of instructions without a fault is a code
 pub sound : (code : List Instr) → AreTimed code → fault_of code ≡ None → IsCode code
 sound code timed fault =
-    let f = follows None 0 0 0 code timed fault (omega arith) in
+    let f = follows None 0 0 0 code timed (sym (fault_is code) ∙ fault) (omega arith) in
     record { form = f.form; order = (omega (arith, f.room), f.order) }

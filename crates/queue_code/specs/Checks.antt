@@ -1,18 +1,74 @@
--- What is wrong with a list of instructions: the fault of the least index, and at one index the first in a table.
+-- What is wrong with a list of instructions: at each index a table of checks on the instruction that stands there, those in
+-- front of it and those behind it; and the fault of the list is that of the least index, and there the first of the table.
 -- All of it is this project's rule.
-use Rattle.std.specs.Prelude.{ℕ, ◌+◌, ◌-◌, ◌*◌, ◌^◌, ◌==◌, nat_lt, nat_le, Bool, true, false, ◌&&◌, ◌||◌, if◌then◌else◌, List, [], ◌∷◌, Option, Some, None, is_some, is_none}
+use Rattle.std.specs.Prelude.{ℕ, ◌+◌, ◌-◌, ◌*◌, ◌==◌, nat_lt, nat_le, Bool, true, false, ◌&&◌, ◌||◌, if◌then◌else◌, List, [], ◌∷◌, ◌++◌, Option, Some, None, is_some, is_none, length, take, drop}
+use Rattle.std.specs.List.{range_with_len}
+use Rattle.sched_time.specs.Times.{longest}
 use Rattle.queue_code.specs.declared.fault.CodeFault.{CodeFault}
 use Rattle.queue_code.specs.declared.fault.CodeFault.TheVariants as fault
 use Rattle.queue_code.specs.declared.instr.Instr.{Instr}
 use Rattle.queue_code.specs.declared.instr.Instr.TheVariants.{Submit, Illegal, CancelFixed, CancelHere, SetPolicy, Shutdown, Ask, Loop, EndLoop, Halt}
-use Rattle.queue_code.specs.declared.progress.OpenLoop.{OpenLoop}
-use Rattle.queue_code.specs.declared.progress.Progress.{Progress}
-use Rattle.queue_code.specs.Calls.{IsTimed}
-use Rattle.queue_code.specs.Codes.{tasks_by}
+use Rattle.queue_code.specs.Calls.{Planned, most_calls, task_count, IsTimed}
+use Rattle.queue_code.specs.Codes.{pass, calls_of}
 
--- before the first instruction
-abbrev pub opening : Progress
-opening = record { open_loop = None; calls = 0; tasks = 0; last = 0 }
+-- ---- what is in front of an instruction
+
+-- a loop that has begun and not ended: the instructions in front of it, how often it is made, its step, and its
+-- instructions so far
+pub record Begun : Type 0 where
+  pub before : List Instr
+  pub times : ℕ
+  pub every : ℕ
+  pub body : List Instr
+
+-- a loop ends among some instructions
+abbrev pub has_end : List Instr → Bool
+has_end [] = false
+has_end (EndLoop ∷ is) = true
+has_end (i ∷ is) = has_end is
+
+-- a loop with one instruction more in front of it
+abbrev pub behind : Instr → Option Begun → Option Begun
+behind i None = None
+behind i (Some loop) = Some (record loop { before = i ∷ loop.before })
+
+-- the loop that is open at the end of some instructions: one behind whose beginning no loop ends
+abbrev pub open_loop : List Instr → Option Begun
+open_loop [] = None
+open_loop (Loop times every ∷ is) =
+    if has_end is then behind (Loop times every) (open_loop is) else Some (record { before = []; times = times; every = every; body = is })
+open_loop (i ∷ is) = behind i (open_loop is)
+
+-- the calls of the first iteration of a loop, so far
+abbrev pub calls_inside : Begun → List Planned
+calls_inside loop = pass 0 (task_count (calls_of loop.before)) (task_count (calls_of loop.before)) loop.body
+
+-- the calls that are made before an instruction is executed first, where these stand in front of it and `loop` is open:
+-- each loop is written out, but of the loop that is open only the first iteration is
+abbrev pub calls_with : List Instr → Option Begun → List Planned
+calls_with front None = calls_of front
+calls_with front (Some loop) = calls_of loop.before ++ calls_inside loop
+
+-- the moment of the first of some calls, and 0 where there is none
+abbrev pub first_moment : List Planned → ℕ
+first_moment [] = 0
+first_moment (p ∷ calls) = p.0
+
+-- the moment of the last of some calls, and before them that of an earlier one
+abbrev pub last_from : ℕ → List Planned → ℕ
+last_from moment [] = moment
+last_from moment (p ∷ calls) = last_from p.0 calls
+
+-- the moment of the last of some calls, and 0 where there is none
+abbrev pub last_moment : List Planned → ℕ
+last_moment calls = last_from 0 calls
+
+-- how much later a call is made in the last iteration than in the first
+abbrev pub latest_base : Option Begun → ℕ
+latest_base None = 0
+latest_base (Some loop) = (loop.times - 1) * loop.every
+
+-- ---- an instruction
 
 -- the offset of a call, and 0 of an instruction that makes none
 abbrev pub offset_of : Instr → ℕ
@@ -32,43 +88,7 @@ is_call EndLoop = false
 is_call Halt = false
 is_call _ = true
 
--- how much later a call is made in the last iteration than in the first
-abbrev pub last_shift : Option OpenLoop → ℕ
-last_shift None = 0
-last_shift (Some inner) = (inner.times - 1) * inner.every
-
--- an open loop after a call with this offset
-abbrev pub loop_after : Option OpenLoop → ℕ → Option OpenLoop
-loop_after None offset = None
-loop_after (Some inner) offset =
-    Some (record inner { calls = inner.calls + 1; first = if inner.calls == 0 then offset else inner.first })
-
--- how many calls there are with one more: one in a loop is counted at the loop's end
-abbrev pub calls_after : Option OpenLoop → ℕ → ℕ
-calls_after None calls = calls + 1
-calls_after (Some inner) calls = calls
-
--- what was met after the end of a loop, all iterations of which are counted then
-abbrev pub after_loop : Progress → Option OpenLoop → Progress
-after_loop p None = p
-after_loop p (Some inner) = record {
-  open_loop = None;
-  calls = p.calls + inner.times * inner.calls;
-  tasks = inner.start + inner.times * (p.tasks - inner.start);
-  last = (inner.times - 1) * inner.every + p.last;
-}
-
--- what was met after an instruction
-abbrev pub after : Progress → Instr → Progress
-after p (Loop times every) = record p { open_loop = Some (record { times = times; every = every; start = p.tasks; calls = 0; first = 0 }) }
-after p EndLoop = after_loop p p.open_loop
-after p Halt = p
-after p i = record {
-  open_loop = loop_after p.open_loop (offset_of i);
-  calls = calls_after p.open_loop p.calls;
-  tasks = p.tasks + tasks_by i;
-  last = offset_of i;
-}
+-- ---- the checks: an instruction is refused behind the instructions `front`, of which `loop` is open at the end
 
 -- NoHalt: a halt that is not the last instruction
 abbrev pub is_early_halt : Instr → List Instr → Bool
@@ -77,105 +97,121 @@ is_early_halt Halt (i ∷ rest) = true
 is_early_halt i rest = false
 
 -- Nested: a loop in a loop
-abbrev pub is_nested : Progress → Instr → Bool
-is_nested p (Loop times every) = is_some p.open_loop
-is_nested p i = false
+abbrev pub is_nested : Option Begun → Instr → Bool
+is_nested loop (Loop times every) = is_some loop
+is_nested loop i = false
 
 -- Unclosed: the end of a loop outside one, or a halt inside one
-abbrev pub is_unclosed : Progress → Instr → Bool
-is_unclosed p EndLoop = is_none p.open_loop
-is_unclosed p Halt = is_some p.open_loop
-is_unclosed p i = false
+abbrev pub is_unclosed : Option Begun → Instr → Bool
+is_unclosed loop EndLoop = is_none loop
+is_unclosed loop Halt = is_some loop
+is_unclosed loop i = false
 
--- a loop has no call so far
-abbrev pub has_no_call : Option OpenLoop → Bool
+-- a loop makes no call
+abbrev pub has_no_call : Option Begun → Bool
 has_no_call None = false
-has_no_call (Some inner) = inner.calls == 0
+has_no_call (Some loop) = length (calls_inside loop) == 0
 
--- Empty: the end of a loop that has no call
-abbrev pub is_empty_loop : Progress → Instr → Bool
-is_empty_loop p EndLoop = has_no_call p.open_loop
-is_empty_loop p i = false
+-- Empty: the end of a loop that makes no call
+abbrev pub is_empty_loop : Option Begun → Instr → Bool
+is_empty_loop loop EndLoop = has_no_call loop
+is_empty_loop loop i = false
 
--- outside a loop, or no task of this iteration has `nth` others of it before it
-abbrev pub lacks_task : Progress → Option OpenLoop → ℕ → Bool
-lacks_task p None nth = true
-lacks_task p (Some inner) nth = nat_le (p.tasks - inner.start) nth
+-- outside a loop, or at most `nth` tasks of this iteration are made so far
+abbrev pub lacks_task : Option Begun → ℕ → Bool
+lacks_task None nth = true
+lacks_task (Some loop) nth = nat_le (task_count (calls_inside loop)) nth
 
 -- BadTask: a cancel of a task that is not made before it
-abbrev pub is_bad_task : Progress → Instr → Bool
-is_bad_task p (CancelFixed offset task) = nat_le p.tasks task
-is_bad_task p (CancelHere offset nth) = lacks_task p p.open_loop nth
-is_bad_task p i = false
+abbrev pub is_bad_task : List Instr → Option Begun → Instr → Bool
+is_bad_task front loop (CancelFixed offset task) = nat_le (task_count (calls_with front loop)) task
+is_bad_task front loop (CancelHere offset nth) = lacks_task loop nth
+is_bad_task front loop i = false
 
 -- a call with this offset is made later than at 2^62 in the last iteration
-abbrev pub ends_late : Option OpenLoop → ℕ → Bool
-ends_late open_loop offset = nat_lt (2 ^ 62) (last_shift open_loop + offset)
+abbrev pub ends_late : Option Begun → ℕ → Bool
+ends_late loop offset = nat_lt longest (latest_base loop + offset)
 
 -- TooLarge: a loop's step, a delay, or a call's moment in the last iteration is above 2^62
-abbrev pub is_too_large : Progress → Instr → Bool
-is_too_large p (Loop times every) = nat_lt (2 ^ 62) every
-is_too_large p EndLoop = false
-is_too_large p Halt = false
-is_too_large p (Submit offset timing delay) = nat_lt (2 ^ 62) delay || ends_late p.open_loop offset
-is_too_large p i = ends_late p.open_loop (offset_of i)
+abbrev pub is_too_large : Option Begun → Instr → Bool
+is_too_large loop (Loop times every) = nat_lt longest every
+is_too_large loop EndLoop = false
+is_too_large loop Halt = false
+is_too_large loop (Submit offset timing delay) = nat_lt longest delay || ends_late loop offset
+is_too_large loop i = ends_late loop (offset_of i)
 
--- an iteration of the loop begins before the one in front of it ends
-abbrev pub overlaps : Progress → Option OpenLoop → Bool
-overlaps p None = false
-overlaps p (Some inner) = nat_lt 1 inner.times && nat_lt (inner.first + inner.every) p.last
+-- the second iteration begins before the last call of the first
+abbrev pub overlaps : Option Begun → Bool
+overlaps None = false
+overlaps (Some loop) = nat_lt 1 loop.times && nat_lt (first_moment (calls_inside loop) + loop.every) (last_moment (calls_inside loop))
 
--- Order: a call whose first moment is before that of the call in front of it, or the end of a loop whose iterations
+-- Order: a call whose first moment is before that of the call made before it, or the end of a loop whose iterations
 -- overlap
-abbrev pub is_out_of_order : Progress → Instr → Bool
-is_out_of_order p EndLoop = overlaps p p.open_loop
-is_out_of_order p i = is_call i && nat_lt (offset_of i) p.last
+abbrev pub is_out_of_order : List Instr → Option Begun → Instr → Bool
+is_out_of_order front loop EndLoop = overlaps loop
+is_out_of_order front loop i = is_call i && nat_lt (offset_of i) (last_moment (calls_with front loop))
 
 -- TooMany: a loop that is not made 1 to 65,536 times; a call outside a loop, or the end of one, with more than 65,536
--- calls so far
-abbrev pub is_too_many : Progress → Instr → Bool
-is_too_many p (Loop times every) = nat_lt times 1 || nat_lt 65536 times
-is_too_many p Halt = false
-is_too_many p EndLoop = nat_lt 65536 (after_loop p p.open_loop).calls
-is_too_many p i = nat_lt 65536 (calls_after p.open_loop p.calls)
+-- calls so far, all iterations counted
+abbrev pub is_too_many : List Instr → Option Begun → Instr → Bool
+is_too_many front loop (Loop times every) = nat_lt times 1 || nat_lt most_calls times
+is_too_many front loop Halt = false
+is_too_many front loop EndLoop = nat_lt most_calls (length (calls_of front))
+is_too_many front loop i = is_none loop && nat_lt most_calls (length (calls_of (front ++ i ∷ [])))
 
 -- the table of checks of an instruction, where `rest` comes behind it, in their order
-abbrev pub checks : Progress → Instr → List Instr → List (CodeFault × Bool)
-checks p i rest =
+abbrev pub checks_with : List Instr → Option Begun → Instr → List Instr → List (CodeFault × Bool)
+checks_with front loop i rest =
     (fault.NoHalt, is_early_halt i rest) ∷
-    (fault.Nested, is_nested p i) ∷
-    (fault.Unclosed, is_unclosed p i) ∷
-    (fault.Empty, is_empty_loop p i) ∷
-    (fault.BadTask, is_bad_task p i) ∷
-    (fault.TooLarge, is_too_large p i) ∷
-    (fault.Order, is_out_of_order p i) ∷
-    (fault.TooMany, is_too_many p i) ∷ []
+    (fault.Nested, is_nested loop i) ∷
+    (fault.Unclosed, is_unclosed loop i) ∷
+    (fault.Empty, is_empty_loop loop i) ∷
+    (fault.BadTask, is_bad_task front loop i) ∷
+    (fault.TooLarge, is_too_large loop i) ∷
+    (fault.Order, is_out_of_order front loop i) ∷
+    (fault.TooMany, is_too_many front loop i) ∷ []
+
+-- the table of an instruction that stands between these
+abbrev pub checks : List Instr → Instr → List Instr → List (CodeFault × Bool)
+checks front i rest = checks_with front (open_loop front) i rest
+
+-- ---- the fault of a list
 
 -- the first of some checks that fails
 abbrev pub first_failing : List (CodeFault × Bool) → Option CodeFault
 first_failing [] = None
 first_failing (check ∷ rest) = if check.1 then Some check.0 else first_failing rest
 
+-- a halt stands among some instructions
+abbrev pub has_halt : List Instr → Bool
+has_halt [] = false
+has_halt (Halt ∷ is) = true
+has_halt (i ∷ is) = has_halt is
+
+-- what is wrong with the first of some instructions, where others are in front; and at the end, that there is no halt
+abbrev pub fault_between : List Instr → List Instr → Option CodeFault
+fault_between front [] = if has_halt front then None else Some fault.NoHalt
+fault_between front (i ∷ rest) = first_failing (checks front i rest)
+
+-- what is wrong at an index. The end of the list has one too, its length
+abbrev pub fault_at : List Instr → ℕ → Option CodeFault
+fault_at code index = fault_between (take index code) (drop index code)
+
 -- a fault, and else a later one
 abbrev pub or_else : Option CodeFault → Option CodeFault → Option CodeFault
 or_else None later = later
 or_else (Some first) later = Some first
 
--- the first fault of instructions after what was met; at their end, that there was no halt
-abbrev pub first_fault : Progress → List Instr → Option CodeFault
-first_fault p [] = Some fault.NoHalt
-first_fault p (Halt ∷ rest) = first_failing (checks p Halt rest)
-first_fault p (i ∷ rest) = or_else (first_failing (checks p i rest)) (first_fault (after p i) rest)
+-- the first fault at any of some indexes
+abbrev pub first_of : List Instr → List ℕ → Option CodeFault
+first_of code [] = None
+first_of code (index ∷ indexes) = or_else (fault_at code index) (first_of code indexes)
 
--- the first fault of a list of instructions
+-- the fault of a list of instructions
 abbrev pub fault_of : List Instr → Option CodeFault
-fault_of code = first_fault opening code
+fault_of code = first_of code (range_with_len 0 (length code + 1))
 
--- what was met up to the halt
-abbrev pub walked : Progress → List Instr → Progress
-walked p [] = p
-walked p (Halt ∷ rest) = p
-walked p (i ∷ rest) = walked (after p i) rest
+-- ---- timings, which no check tests: a span is within the limit by its type
 
 -- the period, or fixed delay, of a submission is within the limit, as each span is
 abbrev pub IsTimedInstr : Instr → Type 0

@@ -1,4 +1,4 @@
--- How large the numbers of a check grow while it meets no fault.
+-- How large the numbers of a check grow while it meets no fault: a means of proof, in the check's own types.
 use Rattle.std.specs.Prelude.{ℕ, ◌+◌, ◌^◌, ◌<◌, ◌≤◌, Option, Some, None}
 use Rattle.queue_code.specs.declared.progress.OpenLoop.{OpenLoop}
 use Rattle.queue_code.specs.declared.progress.Progress.{Progress}

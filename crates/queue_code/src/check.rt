@@ -1,6 +1,7 @@
 //! The checks of a list of instructions.
 ghost use Rattle.std.specs.Prelude.{◌≡◌, ℕ, ◌^◌, ◌<◌, IfOk, IfErr, None, Some};
-ghost use Rattle.queue_code.specs.Checks.{opening, is_early_halt, is_nested, is_unclosed, is_empty_loop, is_bad_task, is_too_large, is_out_of_order, is_too_many, checks, first_failing, fault_of, walked, IsTimedInstr, AreTimed};
+ghost use Rattle.queue_code.specs.Checks.{is_early_halt, first_failing, fault_of, IsTimedInstr, AreTimed};
+ghost use Rattle.queue_code.specs.Walks.{opening, is_nested, is_unclosed, is_empty_loop, is_bad_task, is_too_large, is_out_of_order, is_too_many, checks, walked};
 ghost use Rattle.queue_code.specs.Sizes.{IsBounded};
 
 use crate::fault::CodeFault;
@@ -124,7 +125,7 @@ fn is_too_large(progress: &Progress, instr: &Instr) -> bool
 
 /// Whether a call with this offset is made later than at 2^62 nanoseconds in the last iteration.
 fn ends_late(progress: &Progress, offset: u64) -> bool
-    ensures { result ≡ Rattle.queue_code.specs.Checks.ends_late progress.now.open_loop offset }
+    ensures { result ≡ Rattle.queue_code.specs.Walks.ends_late progress.now.open_loop offset }
 {
     u128::from(LONGEST) < progress.last_shift() + u128::from(offset)
 }

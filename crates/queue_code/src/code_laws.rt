@@ -2,7 +2,7 @@
 ghost use Rattle.std.specs.Prelude.{◌≡◌, true};
 ghost use Rattle.queue_code.specs.declared.fault.CodeFault.{CodeFault};
 ghost use Rattle.queue_code.specs.declared.instr.Instr.{Instr};
-ghost use Rattle.queue_code.specs.CodeLaws.{LeastIndex, NothingWrong, CodesAreOrderly};
+ghost use Rattle.queue_code.specs.CodeLaws.{LeastIndex, NothingWrong, CodesAreOrderly, AcceptedExactly};
 
 use crate::fault::CodeFault;
 use crate::instr::Instr;
@@ -27,4 +27,10 @@ pub fn faults_are_the_first()
 /// The calls of a list of instructions without a fault are in order.
 pub fn codes_are_orderly()
     ensures { CodesAreOrderly }
+{}
+
+/// A list of instructions is accepted exactly where it has the shape of a code, and its calls are in order with each
+/// loop written out: nothing else is refused.
+pub fn codes_are_accepted_exactly()
+    ensures { AcceptedExactly }
 {}

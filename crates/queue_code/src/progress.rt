@@ -33,7 +33,7 @@ pub(crate) struct Progress {
 
 impl Progress {
     ghost use Rattle.std.specs.Prelude.{◌≡◌, ℕ, ◌^◌, ◌<◌, IfSome};
-    ghost use Rattle.queue_code.specs.Checks.{opening, last_shift, loop_after, calls_after, after_loop, after};
+    ghost use Rattle.queue_code.specs.Walks.{opening, last_shift, loop_after, calls_after, after_loop, after};
     ghost use Rattle.queue_code.specs.Sizes.{IsBounded};
 
     /// Before the first instruction.

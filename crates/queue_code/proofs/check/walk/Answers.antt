@@ -1,9 +1,15 @@
-use Rattle.std.proofs.Common.{◌≡◌, ◌+◌, List, drop, ap, sym, ◌∙◌, None}
+use Rattle.std.proofs.Common.{◌≡◌, ◌+◌, List, drop, ap, sym, ◌∙◌, None, refl, arith}
 use Rattle.std.proofs.lemmas.List.{take_rest}
 use Rattle.queue_code.specs.declared.instr.Instr.{Instr}
-use Rattle.queue_code.specs.Checks.{checks, first_failing}
+use Rattle.queue_code.specs.Checks.{first_failing}
+use Rattle.queue_code.specs.Walks.{checks}
+use Rattle.queue_code.proofs.Faults.{fault_is}
 use Rattle.queue_code.proofs.Sizes.{bounded_more, fault_more, walked_more, timed_more}
 use Rattle.queue_code.proofs.check.walk.Goals as goal
+
+pub loop-index-init : goal.loop-index-init
+loop-index-init c =
+    rw c.new-progress.ensures (record { fault = sym (fault_is c.args.instrs.now); ends = refl; timed = λ timed. timed; bounded = record { calls = omega arith; last = omega arith; open_loop = omega arith } })
 
 pub loop-index-preserved : goal.loop-index-preserved
 loop-index-preserved c =

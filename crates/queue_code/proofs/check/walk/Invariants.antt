@@ -1,5 +1,6 @@
 use Rattle.std.proofs.Common.{◌≡◌, drop}
-use Rattle.queue_code.specs.Checks.{opening, first_fault, fault_of, walked, AreTimed}
+use Rattle.queue_code.specs.Checks.{fault_of, AreTimed}
+use Rattle.queue_code.specs.Walks.{opening, first_fault, walked}
 use Rattle.queue_code.specs.Sizes.{IsBounded}
 use Rattle.queue_code.proofs.check.walk.Given as goal
 
