@@ -24,7 +24,8 @@ use Rattle.executor_core.specs.View.{first_enabled}
 use Rattle.executor_core.specs.Answers.{reply, plain, called, kind_of, swept, started, finished, effect_on}
 use Rattle.executor_core.specs.Histories.{HistoryEntry, entry_of, happenings, IsHistoryOf, view_of_history, answer, cancels, is_shutdown}
 use Rattle.executor_core.specs.State.{State, view_of_state, next, after, opening, reply_of, move_task, submit_phase, finish_task}
-use Rattle.executor_core.specs.Machine.{Machine, workers_of, state_of, IsSound, IsDue, TimingsAgree, NoneDelayed, IsWellFormedCore}
+use Rattle.executor_core.specs.Machine.{Machine, workers_of, state_of}
+use Rattle.executor_core.specs.Invariants.{IsSound, IsDue, TimingsAgree, NoneDelayed, IsWellFormedCore}
 use Rattle.executor_core.proofs.Views.{seen_moves, look_moves, view_after, due_next_state}
 use Rattle.executor_core.proofs.Sound.{Finds, IsPeriodicAgain, reply_finds, fits_all, sound_stays, later}
 

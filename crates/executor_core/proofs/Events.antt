@@ -11,7 +11,8 @@ use Rattle.executor_core.specs.declared.types.Line.{Line}
 use Rattle.queue_code.specs.Calls.{IsOrderly}
 use Rattle.executor_core.specs.Histories.{HistoryEntry, IsHistoryOf}
 use Rattle.executor_core.specs.Flows.{calls_before, happening_of, part_of, reached, ReachesNext, answer_line, lines_at}
-use Rattle.executor_core.specs.Machine.{Machine, NoneIsLeft, workers_of, Takes, Counts, Steps, Stands, Continues}
+use Rattle.executor_core.specs.Machine.{Machine, NoneIsLeft, workers_of, Counts, Steps, Stands, Continues}
+use Rattle.executor_core.specs.OwnSteps.{Takes}
 use Rattle.executor_core.proofs.Flowing.{all_reached, steps_then, core_continues}
 
 -- one step with its line

@@ -13,7 +13,9 @@ use Rattle.executor_core.specs.declared.task.Phase.TheVariants as ph
 use Rattle.executor_core.specs.declared.task.Task.{Task}
 use Rattle.executor_core.specs.View.{comes_before}
 use Rattle.executor_core.specs.State.{State, vacant, view_of_state, seen_task}
-use Rattle.executor_core.specs.Machine.{Machine, state_of, IsWellFormedCore, IsSound, IsDue, LeavesMet, is_met, held, queued}
+use Rattle.executor_core.specs.Machine.{Machine, state_of}
+use Rattle.executor_core.specs.Invariants.{IsWellFormedCore, IsSound, IsDue, held, queued}
+use Rattle.executor_core.specs.OwnSteps.{LeavesMet, is_met}
 use Rattle.executor_core.proofs.Tables.{at_set}
 
 -- the queue of kept tasks

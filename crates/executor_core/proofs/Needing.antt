@@ -1,11 +1,11 @@
 -- What steps move of the words, and whether a task is due.
-use Rattle.std.proofs.Common.{zero, suc, ◌≡◌, ℕ, ◌<◌, ◌≤◌, ◌==◌, ◌&&◌, ◌||◌, nat_le, nat_lt, Bool, true, false, cond, List, [], ◌∷◌, Option, Some, None, is_some, inl, inr, ◌⊎◌, refl, sym, ap, ◌∙◌, arith, subst}
+use Rattle.std.proofs.Common.{◌≡◌, ℕ, ◌<◌, ◌≤◌, ◌==◌, ◌&&◌, ◌||◌, nat_le, nat_lt, Bool, true, false, cond, List, Option, Some, None, is_some, inl, inr, ◌⊎◌, refl, sym, ap, ◌∙◌, arith, subst}
 use Rattle.std.specs.Prelude.{slice_get, slice_index_or, IfSome, IfNone}
 use Rattle.std.specs.Option.{option_map_or}
 use Rattle.std.proofs.lemmas.Bool.{false≢true, eqb-true}
 use Rattle.std.proofs.lemmas.Bool.Decides.{nat_tests}
 use Rattle.std.proofs.lemmas.List.{get_or_past}
-use Rattle.std.proofs.lemmas.Option.{none-some, same_Some, slice_get_within}
+use Rattle.std.proofs.lemmas.Option.{none-some, same_Some}
 use Rattle.sched_time.specs.declared.timing.Ending.{Ending}
 use Rattle.delay_queue.specs.declared.entry.Entry.{Entry}
 use Rattle.delay_queue.specs.Queues.{IsLeast, NoneIsDue, comes_before}
@@ -25,9 +25,10 @@ use Rattle.executor_core.specs.Answers.{plain, called, effect_on, setting_sweeps
 use Rattle.executor_core.specs.Histories.{is_end}
 use Rattle.executor_core.specs.State.{vacant, seen_task, seen_phase, due_seen, due_past, view_of_state}
 use Rattle.executor_core.specs.Flows.{AreMade}
-use Rattle.executor_core.specs.Tasks.{waits_with}
+use Rattle.executor_core.specs.Tables.{waits_with}
 use Rattle.executor_core.specs.Needs.{need_of, need_of_answer, need_of_cancel, need_of_finish, IsRipe}
-use Rattle.executor_core.specs.Machine.{Machine, IsWellFormedCore, workers_of, state_of, queued_phase, held}
+use Rattle.executor_core.specs.Machine.{Machine, workers_of, state_of}
+use Rattle.executor_core.specs.Invariants.{IsWellFormedCore, queued_phase, held}
 use Rattle.executor_core.proofs.Calling.{view_at}
 use Rattle.executor_core.proofs.Opens.{tells_none}
 use Rattle.executor_core.proofs.Flowing.{all_reached}

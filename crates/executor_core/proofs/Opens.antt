@@ -12,7 +12,8 @@ use Rattle.queue_code.specs.Calls.{Planned, IsOrderly, IsOrderlyFrom, count_afte
 use Rattle.executor_core.specs.Flows.{reached, ReachesNext}
 use Rattle.executor_core.specs.Answers.{default_policies}
 use Rattle.executor_core.specs.State.{opening, vacant, view_of_state}
-use Rattle.executor_core.specs.Machine.{Machine, state_of, IsOpening, IsWellFormedCore, IsSound, IsDue, queued, held}
+use Rattle.executor_core.specs.Machine.{Machine, state_of, IsOpening}
+use Rattle.executor_core.specs.Invariants.{IsWellFormedCore, IsSound, IsDue, queued, held}
 use Rattle.executor_core.proofs.Agree.{opening_sound}
 use Rattle.executor_core.proofs.Tables.{at_replicate}
 

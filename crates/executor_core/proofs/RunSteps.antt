@@ -25,7 +25,9 @@ use Rattle.executor_core.specs.Answers.{plain, outcome_in, stops_periodic}
 use Rattle.executor_core.specs.declared.types.Need.TheVariants as n
 use Rattle.executor_core.specs.Needs.{need_of, need_of_answer}
 use Rattle.executor_core.specs.State.{vacant, view_of_state, reply_of, state_after, end_task, due_past}
-use Rattle.executor_core.specs.Machine.{Machine, workers_of, state_of, Takes, IsWellFormedCore, IsSound, IsDue, LeavesMet, queued, queued_phase, queued_again, finished_task, held}
+use Rattle.executor_core.specs.Machine.{Machine, workers_of, state_of}
+use Rattle.executor_core.specs.Invariants.{IsWellFormedCore, IsSound, IsDue, queued, queued_phase, held}
+use Rattle.executor_core.specs.OwnSteps.{Takes, LeavesMet, queued_again, finished_task}
 use Rattle.executor_core.proofs.Agree.{next_sound, next_due_is, still_true}
 use Rattle.executor_core.proofs.Tables.{at_set, runs_set}
 use Rattle.executor_core.proofs.Meeting.{sound_apart, due_apart}

@@ -21,7 +21,9 @@ use Rattle.queue_code.specs.Calls.{Terms, terms_of, due_at, task_count}
 use Rattle.executor_core.specs.Answers.{plain, called, kind_of}
 use Rattle.executor_core.specs.State.{vacant, view_of_state, submit_phase, submit_task}
 use Rattle.executor_core.specs.Tasks.{uncancelled_in}
-use Rattle.executor_core.specs.Machine.{Machine, workers_of, state_of, IsWellFormedCore, Takes, queued, held}
+use Rattle.executor_core.specs.Machine.{Machine, workers_of, state_of}
+use Rattle.executor_core.specs.Invariants.{IsWellFormedCore, queued, held}
+use Rattle.executor_core.specs.OwnSteps.{Takes}
 use Rattle.executor_core.proofs.Keeping.{kept_stays}
 use Rattle.executor_core.proofs.Agree.{still_true}
 use Rattle.executor_core.proofs.Tables.{at_set, submission, runs_set, uncancelled_set}

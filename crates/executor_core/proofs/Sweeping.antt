@@ -21,8 +21,11 @@ use Rattle.executor_core.specs.Answers.{is_swept, is_ended_by, swept}
 use Rattle.executor_core.specs.Histories.{is_end}
 use Rattle.executor_core.specs.State.{vacant, seen_task, seen_phase, due_seen, view_of_state}
 use Rattle.executor_core.specs.Flows.{end_line}
-use Rattle.executor_core.specs.Tasks.{waits_with, waits_again, is_waiting_phase, is_periodic, periodic_in, uncancelled_in}
-use Rattle.executor_core.specs.Machine.{Machine, state_of, IsWellFormedCore, NoneDelayed, Ends, Drops, Sweeps, queued, held}
+use Rattle.executor_core.specs.Tasks.{uncancelled_in}
+use Rattle.executor_core.specs.Tables.{waits_with, waits_again, is_waiting_phase, is_periodic, periodic_in}
+use Rattle.executor_core.specs.Machine.{Machine, state_of}
+use Rattle.executor_core.specs.Invariants.{IsWellFormedCore, NoneDelayed, queued, held}
+use Rattle.executor_core.specs.OwnSteps.{Ends, Drops, Sweeps}
 use Rattle.executor_core.proofs.Tables.{at_set, queued_at, held_at}
 
 and_none : (b : Bool) → (b && false) ≡ false

@@ -12,7 +12,7 @@ use Rattle.executor_core.specs.declared.task.Phase.TheVariants as ph
 use Rattle.executor_core.specs.declared.task.Task.{Task}
 use Rattle.executor_core.specs.State.{vacant}
 use Rattle.executor_core.specs.Tasks.{uncancelled_in}
-use Rattle.executor_core.specs.Machine.{RunsBelow, queued, held}
+use Rattle.executor_core.specs.Invariants.{RunsBelow, queued, held}
 use Rattle.queue_code.specs.Calls.{Planned, IsOrderlyFrom, IsOrderlyCall, count_after, is_submission, task_count, terms_of}
 
 -- a table after a write

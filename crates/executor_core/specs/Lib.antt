@@ -10,7 +10,10 @@ pub mod Answers
 pub mod Histories
 pub mod State
 pub mod Tasks
+pub mod Tables
 pub mod Flows
 pub mod Within
 pub mod Machine
+pub mod OwnSteps
+pub mod Invariants
 pub mod Needs

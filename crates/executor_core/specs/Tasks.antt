@@ -1,7 +1,5 @@
--- What the tables of a core say of its tasks. All of it is this project's rule.
-use Rattle.std.specs.Prelude.{◌≡◌, ℕ, ◌+◌, ◌^◌, ◌<◌, ◌≤◌, ◌&&◌, ◌||◌, Bool, true, false, not, List, [], ◌∷◌, length}
-use Rattle.sched_time.specs.declared.timing.Timing.{Timing}
-use Rattle.sched_time.specs.declared.timing.Timing.TheVariants as t
+-- The words of a core's tasks, and how many of them are not cancelled. All of it is this project's rule.
+use Rattle.std.specs.Prelude.{ℕ, not, List}
 use Rattle.task_word.specs.Words.{Parts}
 use Rattle.task_word.specs.declared.phases.Phase.{Phase as WordPhase}
 use Rattle.task_word.specs.declared.phases.Phase.TheVariants as w
@@ -9,93 +7,6 @@ use Rattle.queue_code.specs.Calls.{how_many}
 use Rattle.executor_core.specs.declared.task.Phase.{Phase}
 use Rattle.executor_core.specs.declared.task.Phase.TheVariants as ph
 use Rattle.executor_core.specs.declared.task.Task.{Task}
-use Rattle.executor_core.specs.declared.tasks.Detail.{Detail}
-use Rattle.executor_core.specs.declared.tallies.Tallies.{Tallies}
-
--- the phase of a task whose word has this one, and whose run was maybe dropped
-abbrev pub phase_in : WordPhase → Bool → Phase
-phase_in w.Vacant over = ph.Vacant
-phase_in w.New over = ph.Waiting
-phase_in w.Running true = ph.Dropped
-phase_in w.Running false = ph.Running
-phase_in w.Done over = ph.Done
-phase_in w.Failed over = ph.Failed
-
--- the task of a word and what is held beside it
-abbrev pub task_of : Parts → Detail → Task
-task_of word detail = record { phase = phase_in word.phase detail.over; run = word.run; due = detail.due; timing = detail.timing; cancelled = word.marked; kept = detail.kept }
-
--- the tasks of two tables
-abbrev pub tasks_of : List Parts → List Detail → List Task
-tasks_of [] details = []
-tasks_of (word ∷ words) [] = []
-tasks_of (word ∷ words) (detail ∷ details) = task_of word detail ∷ tasks_of words details
-
--- how many tasks are not cancelled
-abbrev pub uncancelled_in : List Task → ℕ
-uncancelled_in tasks = how_many (λ t. not t.cancelled) tasks
-
--- a run is under way
-abbrev pub is_running_phase : Phase → Bool
-is_running_phase ph.Running = true
-is_running_phase _ = false
-
--- how many tasks have a run under way
-abbrev pub running_in : List Task → ℕ
-running_in tasks = how_many (λ t. is_running_phase t.phase) tasks
-
--- a task in this phase waits for a run, or did when it was cancelled
-abbrev pub is_waiting_phase : Phase → Bool
-is_waiting_phase ph.Waiting = true
-is_waiting_phase _ = false
-
--- a task of this timing has more runs than one
-abbrev pub is_periodic : Timing → Bool
-is_periodic t.Once = false
-is_periodic (t.Rate period) = true
-is_periodic (t.Fixed delay) = true
-
--- a periodic task waits for a run
-abbrev pub waits_again : Task → Bool
-waits_again task = is_waiting_phase task.phase && (not task.cancelled && is_periodic task.timing)
-
--- a task waits for a run
-abbrev pub waits_with : Task → Bool
-waits_with task = is_waiting_phase task.phase && not task.cancelled
-
--- a task once it is cancelled: one that waited is kept, where a cancelled task does not leave the queue
-abbrev pub cancelled_task : Bool → Task → Task
-cancelled_task removes task = record task { cancelled = true; kept = task.kept || (is_waiting_phase task.phase && not removes) }
-
--- how many periodic tasks wait for a run
-abbrev pub periodic_in : List Task → ℕ
-periodic_in tasks = how_many waits_again tasks
-
--- the numbers of some tasks that are kept beside them
-abbrev pub AreTallies : Tallies → List Task → Type 0
-AreTallies tallies tasks = (tallies.uncancelled ≡ uncancelled_in tasks) × (tallies.running ≡ running_in tasks) × (tallies.periodic ≡ periodic_in tasks)
-
--- one where a test passes
-abbrev pub one : Bool → ℕ
-one true = 1
-one false = 0
-
--- the numbers count a task, and have room for one more
-abbrev pub Count : Tallies → Task → Type 0
-Count tallies task = (one (not task.cancelled) ≤ tallies.uncancelled) × (one (is_running_phase task.phase) ≤ tallies.running) × (one (waits_again task) ≤ tallies.periodic)
-    × (tallies.uncancelled < 2 ^ 63) × (tallies.running < 2 ^ 63) × (tallies.periodic < 2 ^ 63)
-
--- the numbers once one task stands for another
-abbrev pub IsRecount : Tallies → Tallies → Task → Task → Type 0
-IsRecount old new before after = (new.uncancelled + one (not before.cancelled) ≡ old.uncancelled + one (not after.cancelled))
-    × (new.running + one (is_running_phase before.phase) ≡ old.running + one (is_running_phase after.phase))
-    × (new.periodic + one (waits_again before) ≡ old.periodic + one (waits_again after))
-
--- what is so of the two tables of some tasks, and of their numbers: a task has a number below 2^32
-pub record AreTables (words : List Parts) (details : List Detail) (tallies : Tallies) : Type 0 where
-  pub paired : length words ≡ length details
-  pub few : length words ≤ 2 ^ 32
-  pub counted : AreTallies tallies (tasks_of words details)
 
 -- the phase of a task's word: a cancelled word stands still, also once the run has ended
 abbrev pub word_phase : Phase → WordPhase
@@ -109,3 +20,7 @@ word_phase ph.Failed = w.Failed
 -- the word of a task
 abbrev pub word_of : Task → Parts
 word_of task = record { phase = word_phase task.phase; run = task.run; marked = task.cancelled }
+
+-- how many tasks are not cancelled
+abbrev pub uncancelled_in : List Task → ℕ
+uncancelled_in tasks = how_many (λ t. not t.cancelled) tasks

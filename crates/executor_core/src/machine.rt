@@ -51,7 +51,8 @@ pub struct Core<A: Allocator> {
 }
 
 impl<A: Allocator> Model for Core<A> {
-    ghost use Rattle.executor_core.specs.Machine.{Machine, IsWellFormedCore};
+    ghost use Rattle.executor_core.specs.Machine.{Machine};
+    ghost use Rattle.executor_core.specs.Invariants.{IsWellFormedCore};
 
     ghost Value = { Machine };
 
@@ -61,7 +62,8 @@ impl<A: Allocator> Model for Core<A> {
 }
 
 impl<A: Allocator> Core<A> {
-    ghost use Rattle.executor_core.specs.Machine.{workers_of, room_of, Takes, Counts, IsCounted, NoneIsLeft, Steps, Stands, Continues, ContinuesAny, ErrorOnlyCounts, IsOpening};
+    ghost use Rattle.executor_core.specs.Machine.{workers_of, room_of, Counts, IsCounted, NoneIsLeft, Steps, Stands, Continues, ContinuesAny, ErrorOnlyCounts, IsOpening};
+    ghost use Rattle.executor_core.specs.OwnSteps.{Takes};
 
     /// A core before anything happened, for the calls of a code.
     ///

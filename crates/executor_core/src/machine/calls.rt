@@ -15,7 +15,8 @@ use sched_time::{LONGEST, Timing};
 use std::alloc::Allocator;
 
 impl<A: Allocator> Core<A> {
-    ghost use Rattle.executor_core.specs.Machine.{Takes, Steps, ContinuesAny, room_of};
+    ghost use Rattle.executor_core.specs.Machine.{Steps, ContinuesAny, room_of};
+    ghost use Rattle.executor_core.specs.OwnSteps.{Takes};
 
     /// Makes the calls that are made just before an event.
     #[inline(always)]

@@ -7,7 +7,8 @@ ghost use Rattle.executor_core.specs.declared.task.Phase.TheVariants as ph;
 ghost use Rattle.queue_code.specs.Calls.{Terms, terms_of, task_count};
 ghost use Rattle.executor_core.specs.State.{vacant, seen_task, reply_of};
 ghost use Rattle.executor_core.specs.Answers.{effect_on};
-ghost use Rattle.executor_core.specs.Tasks.{cancelled_task, uncancelled_in};
+ghost use Rattle.executor_core.specs.Tasks.{uncancelled_in};
+ghost use Rattle.executor_core.specs.Tables.{cancelled_task};
 
 use super::Core;
 use crate::task::{Phase, Task};
@@ -16,7 +17,8 @@ use delay_queue::Entry;
 use std::alloc::Allocator;
 
 impl<A: Allocator> Core<A> {
-    ghost use Rattle.executor_core.specs.Machine.{Takes, Steps, ContinuesAny, room_of, workers_of, state_of};
+    ghost use Rattle.executor_core.specs.Machine.{Steps, ContinuesAny, room_of, workers_of, state_of};
+    ghost use Rattle.executor_core.specs.OwnSteps.{Takes};
 
     /// A task is cancelled from outside the plan. The line is added, for which `out` has room.
     #[inline(always)]

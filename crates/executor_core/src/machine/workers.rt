@@ -7,7 +7,7 @@ ghost use Rattle.sched_time.specs.Dues.{next_due};
 ghost use Rattle.queue_code.specs.Calls.{task_count};
 ghost use Rattle.executor_core.specs.Needs.{need_of};
 ghost use Rattle.executor_core.specs.State.{due_past, vacant};
-ghost use Rattle.executor_core.specs.Machine.{finished_task, queued_again, is_met};
+ghost use Rattle.executor_core.specs.OwnSteps.{finished_task, queued_again, is_met};
 ghost use Rattle.sched_time.specs.declared.timing.Timing.{Timing};
 ghost use Rattle.executor_core.specs.Answers.{outcome_in};
 
@@ -19,7 +19,8 @@ use sched_time::{Ending, next_due};
 use std::alloc::Allocator;
 
 impl<A: Allocator> Core<A> {
-    ghost use Rattle.executor_core.specs.Machine.{Takes, Steps, ContinuesAny, LeavesMet, room_of, workers_of, state_of};
+    ghost use Rattle.executor_core.specs.Machine.{Steps, ContinuesAny, room_of, workers_of, state_of};
+    ghost use Rattle.executor_core.specs.OwnSteps.{Takes, LeavesMet};
     ghost use Rattle.executor_core.specs.Needs.{RunsBelowTaken};
 
     /// A worker asks for work: it gets the first task that is due, or none. The line is added, for which `out` has room.

@@ -2,7 +2,8 @@ use Rattle.std.proofs.Common.{◌≡◌, ◌<◌, length, Some, max, refl, ap, s
 use Rattle.std.specs.Prelude.{slice_get}
 use Rattle.queue_code.specs.declared.call.CodeCall.TheVariants as call
 use Rattle.executor_core.specs.Tasks.{uncancelled_in}
-use Rattle.executor_core.specs.Machine.{Machine, state_of, IsSound}
+use Rattle.executor_core.specs.Machine.{Machine, state_of}
+use Rattle.executor_core.specs.Invariants.{IsSound}
 use Rattle.executor_core.proofs.Calling.{passed_kept}
 use Rattle.executor_core.proofs.Cancels.{names_a_task, plan_steps, is_cancelled_so, cancelled_fewer}
 use Rattle.executor_core.proofs.machine.Core.cancel_by_plan.Goals as goal

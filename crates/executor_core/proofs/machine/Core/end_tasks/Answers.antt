@@ -2,7 +2,8 @@ use Rattle.std.proofs.Common.{◌≡◌, ◌+◌, ◌<◌, length, true, ap, sym
 use Rattle.std.specs.Prelude.{slice_index_or, slice_set, vec_len, vec_capacity}
 use Rattle.executor_core.specs.State.{vacant}
 use Rattle.executor_core.specs.Tasks.{uncancelled_in}
-use Rattle.executor_core.specs.Machine.{Machine, Ends}
+use Rattle.executor_core.specs.Machine.{Machine}
+use Rattle.executor_core.specs.OwnSteps.{Ends}
 use Rattle.executor_core.proofs.Sweeping.{sweeps_at, swept_waits_in, waits_uncancelled, uncancelled_less, ends_more, ends_not}
 use Rattle.executor_core.proofs.machine.Core.end_tasks.Goals as goal
 use Rattle.executor_core.proofs.machine.Core.end_tasks.Goals.{then-is_swept, else-is_swept}

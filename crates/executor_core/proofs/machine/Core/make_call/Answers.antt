@@ -2,7 +2,8 @@ use Rattle.std.proofs.Common.{◌≡◌, [], ◌∷◌, ◌++◌, sym, ap, ◌�
 use Rattle.executor_core.specs.declared.types.Happening.TheVariants as happening
 use Rattle.executor_core.specs.declared.types.Answer.{Answer}
 use Rattle.executor_core.specs.Flows.{answer_line}
-use Rattle.executor_core.specs.Machine.{Machine, Takes}
+use Rattle.executor_core.specs.Machine.{Machine}
+use Rattle.executor_core.specs.OwnSteps.{Takes}
 use Rattle.executor_core.proofs.Events.{one_step}
 use Rattle.executor_core.proofs.Rooms.{room_less}
 use Rattle.executor_core.proofs.Flowing.{step_continues}

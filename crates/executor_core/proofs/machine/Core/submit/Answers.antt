@@ -2,7 +2,7 @@ use Rattle.std.proofs.Common.{◌≡◌, ◌+◌, ◌<◌, length, Some, None, a
 use Rattle.std.specs.Prelude.{slice_get, slice_index_or}
 use Rattle.std.proofs.lemmas.List.{length-map}
 use Rattle.queue_code.specs.declared.call.CodeCall.TheVariants as call
-use Rattle.executor_core.specs.Machine.{queued}
+use Rattle.executor_core.specs.Invariants.{queued}
 use Rattle.executor_core.proofs.Tables.{submission, queued_at}
 use Rattle.executor_core.proofs.Calling.{passed_kept}
 use Rattle.executor_core.proofs.Submits.{submit_keeps_in, submit_steps_in, submit_fewer}

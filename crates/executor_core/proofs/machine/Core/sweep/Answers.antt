@@ -1,7 +1,8 @@
 use Rattle.std.proofs.Common.{◌≡◌, ◌+◌, ◌≤◌, length, ap, sym, ◌∙◌, arith, subst}
 use Rattle.std.specs.Prelude.{vec_len}
 use Rattle.executor_core.specs.Tasks.{uncancelled_in}
-use Rattle.executor_core.specs.Machine.{Machine, Ends}
+use Rattle.executor_core.specs.Machine.{Machine}
+use Rattle.executor_core.specs.OwnSteps.{Ends}
 use Rattle.executor_core.proofs.Sweeping.{ends_nothing, searched_kept, sweeps_all, drops_count}
 use Rattle.executor_core.proofs.machine.Core.sweep.Goals as goal
 use Rattle.executor_core.proofs.machine.Core.sweep.Goals.{then-may_end, else-may_end, then-not-self, else-not-self}
