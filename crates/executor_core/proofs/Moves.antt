@@ -74,7 +74,7 @@ submits terms now ph.Done task cancelled kept = refl
 submits terms now ph.Failed task cancelled kept = refl
 submits terms now ph.Dropped task cancelled kept = refl
 
--- the due moment that a finish leaves is that of the run ahead, landed
+-- the due moment that a finish leaves is that of the run ahead, once it has ended
 pub past_is_landed : (timing : Timing) (due now : ℕ) → due_past timing due now ≡ due_landed timing (due_ahead timing due) now
 past_is_landed t.Once due now = refl
 past_is_landed (t.Rate period) due now = refl

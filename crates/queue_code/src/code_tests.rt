@@ -22,7 +22,7 @@ fn fault_of(alloc: Global, instrs: &[Instr]) -> Option<CodeFault> {
 
 /// 65,536 illegal submissions at 0.
 fn most_calls(alloc: Global) -> Result<Vec<Instr>, AllocError> {
-    let calls = [Instr::Illegal(0); 256];
+    let calls = [Instr::Ask(0); 256];
     let mut instrs = Vec::from_slice(alloc, &calls)?;
     for _ in 0..255u32 {
         instrs.extend_from_slice(&calls)?;
@@ -344,17 +344,14 @@ fn straight_codes_have_their_faults(rt: HostRuntime) -> Result<(), Fail> {
         fault_of(alloc, &[Instr::CancelFixed(0, 0), Instr::Halt]),
         Some(CodeFault::BadTask)
     );
+    assert_eq!(rt; fault_of(alloc, &[Instr::Ask(LONGEST), Instr::Halt]), None);
     assert_eq!(rt;
-        fault_of(alloc, &[Instr::Illegal(LONGEST), Instr::Halt]),
-        None
-    );
-    assert_eq!(rt;
-        fault_of(alloc, &[Instr::Illegal(LONGEST + 1), Instr::Halt]),
+        fault_of(alloc, &[Instr::Ask(LONGEST + 1), Instr::Halt]),
         Some(CodeFault::TooLarge)
     );
     let falls = [
         Instr::Submit(5, Timing::Once, 0),
-        Instr::Illegal(4),
+        Instr::Ask(4),
         Instr::Halt,
     ];
     assert_eq!(rt; fault_of(alloc, &falls), Some(CodeFault::Order));
@@ -362,7 +359,7 @@ fn straight_codes_have_their_faults(rt: HostRuntime) -> Result<(), Fail> {
     most.extend_from_slice(&[Instr::Halt])?;
     assert_eq!(rt; fault_of(alloc, &most), None);
     let mut too_many = most_calls(alloc)?;
-    too_many.extend_from_slice(&[Instr::Illegal(0), Instr::Halt])?;
+    too_many.extend_from_slice(&[Instr::Ask(0), Instr::Halt])?;
     assert_eq!(rt; fault_of(alloc, &too_many), Some(CodeFault::TooMany));
     Ok(())
 }
@@ -373,7 +370,7 @@ fn loops_have_their_faults(rt: HostRuntime) -> Result<(), Fail> {
     let nested = [
         Instr::Loop(1, 0),
         Instr::Loop(1, 0),
-        Instr::Illegal(0),
+        Instr::Ask(0),
         Instr::EndLoop,
         Instr::EndLoop,
         Instr::Halt,
@@ -383,7 +380,7 @@ fn loops_have_their_faults(rt: HostRuntime) -> Result<(), Fail> {
         fault_of(alloc, &[Instr::EndLoop, Instr::Halt]),
         Some(CodeFault::Unclosed)
     );
-    let open = [Instr::Loop(1, 0), Instr::Illegal(0), Instr::Halt];
+    let open = [Instr::Loop(1, 0), Instr::Ask(0), Instr::Halt];
     assert_eq!(rt; fault_of(alloc, &open), Some(CodeFault::Unclosed));
     let empty = [Instr::Loop(1, 0), Instr::EndLoop, Instr::Halt];
     assert_eq!(rt; fault_of(alloc, &empty), Some(CodeFault::Empty));
@@ -393,16 +390,16 @@ fn loops_have_their_faults(rt: HostRuntime) -> Result<(), Fail> {
     );
     let overlaps = [
         Instr::Loop(2, 3),
-        Instr::Illegal(0),
-        Instr::Illegal(5),
+        Instr::Ask(0),
+        Instr::Ask(5),
         Instr::EndLoop,
         Instr::Halt,
     ];
     assert_eq!(rt; fault_of(alloc, &overlaps), Some(CodeFault::Order));
     let touches = [
         Instr::Loop(2, 5),
-        Instr::Illegal(0),
-        Instr::Illegal(5),
+        Instr::Ask(0),
+        Instr::Ask(5),
         Instr::EndLoop,
         Instr::Halt,
     ];
@@ -410,7 +407,7 @@ fn loops_have_their_faults(rt: HostRuntime) -> Result<(), Fail> {
     for times in [0, 65_537] {
         let wrong = [
             Instr::Loop(times, 0),
-            Instr::Illegal(0),
+            Instr::Ask(0),
             Instr::EndLoop,
             Instr::Halt,
         ];

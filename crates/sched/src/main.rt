@@ -35,9 +35,9 @@
 //!
 //! # Memory and cost
 //!
-//! A run takes what a run takes, the text of the plan, and while the plan is read its tree. Its memory does not grow with
-//! the number of events, nor with the calls that a repeated block makes, but for the tables of its tasks. A check takes the
-//! text of the trace, and what a core takes.
+//! A run takes what [`sched_engine::run`] takes, the text of the plan, and while the plan is read its tree. Its memory does not
+//! grow with the number of events, nor with the calls that a repeated block makes, but for the tables of its tasks and for room
+//! for a line for each call that one clock reaches. A check takes the text of the trace, and what a core takes.
 #![tactic(auto)]
 
 mod arguments;

@@ -218,7 +218,7 @@ goes_only_one_way calls workers lines one other =
 
 -- ---- line by line
 
--- lines that go are gone on with by exactly the lines that stand next
+-- after lines that go, exactly the lines that stand next may follow
 pub goes_line_by_line : GoesLineByLine
 goes_line_by_line calls workers lines line g = (to, back)
   where

@@ -11,7 +11,7 @@ use Rattle.trace_check.specs.declared.finding.Finding.{Finding}
 use Rattle.trace_check.specs.Going.{Goes, AreWhole, StandsNext}
 use Rattle.trace_check.specs.Findings.{Conforms, Breaks, Finds}
 
--- lines that go are gone on with by exactly the lines that stand next
+-- after lines that go, exactly the lines that stand next may follow
 abbrev pub GoesLineByLine : Type 0
 GoesLineByLine = (calls : List Planned) (workers : ℕ) (lines : List Line) (line : Line) (goes : Goes calls workers lines)
     → Goes calls workers (line ∷ lines) ↔ StandsNext calls workers lines goes.past goes.owed line

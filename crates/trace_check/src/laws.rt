@@ -7,7 +7,7 @@ use crate::checking::MOST_BYTES;
 use crate::error::CheckError;
 use crate::finding::Finding;
 
-/// Lines that go are gone on with by exactly the lines that stand next.
+/// After lines that go, exactly the lines that stand next may follow.
 pub fn goes_line_by_line()
     ensures { GoesLineByLine }
 {}

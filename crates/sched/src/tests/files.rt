@@ -62,6 +62,20 @@ fn does_not_take_a_broken_file_for_its_front(rt: HostRuntime) {
     ends_given(&rt, given, 1, "", "sched: plan file not read\n");
 }
 
+/// A file that is at fault behind the bytes that are read of it.
+#[test]
+fn reads_no_byte_past_those_that_it_takes(rt: HostRuntime) -> Result<(), Fail> {
+    let most = MOST_OF_PLAN as usize;
+    let bytes = "#".repeat(rt.alloc(), most)?;
+    let broken = GivenFile {
+        rest: bytes.as_bytes(),
+        is_broken: true,
+    };
+    let text = plan_front(rt.alloc(), broken);
+    assert_eq!(rt; text.ok().map(|text| text.len()), Some(most));
+    Ok(())
+}
+
 #[test]
 fn does_not_take_a_missing_file_for_an_empty_one(rt: HostRuntime) {
     assert_eq!(rt;

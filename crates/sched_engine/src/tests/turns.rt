@@ -2,7 +2,7 @@
 use super::*;
 use std::cell::Cell;
 
-/// What both ends of a run see: how many lines were given and how many were written by now, and
+/// What both ends of a run see: how many lines were given and how many were written so far, and
 /// whether more was read while a line waited for its answer.
 #[derive(Drop)]
 struct Desk {

@@ -369,3 +369,30 @@ const NIGHTLY_TRACE: &str = "\
 604800000000000 clock
 604800000000000 start 0 idle
 ";
+
+#[test]
+fn audit(rt: HostRuntime) -> Result<(), Fail> {
+    let finding = found(&rt, AUDIT_PLAN, &[AUDIT_TRACE])?;
+    assert_eq!(rt; finding, Finding::Breaks(4));
+    Ok(())
+}
+
+const AUDIT_PLAN: &str = "\
+# One task that runs every 10 nanoseconds, 10 after it is submitted.
+version = 1
+
+[[block]]
+
+[[block.call]]
+op = \"rate\"
+name = \"beat\"
+first = 10
+period = 10
+";
+
+const AUDIT_TRACE: &str = "\
+0 submit 0 rate due 10
+25 clock
+25 start 0 task 0 run 0 due 10
+25 finish 0 task 0 run 0 again due 35
+";
