@@ -1,13 +1,13 @@
 -- A check that meets no fault counts the calls and the tasks of the code.
-use Rattle.std.proofs.Common.{◌≡◌, ℕ, zero, suc, ◌+◌, ◌*◌, ◌-◌, ◌≤◌, Bool, true, false, cond, eqb, List, [], ◌∷◌, ◌++◌, Option, Some, None, length, refl, sym, ap, subst, ◌∙◌, arith, length-append}
+use Rattle.std.proofs.Common.{◌≡◌, ℕ, suc, ◌+◌, ◌*◌, ◌-◌, ◌≤◌, Bool, true, false, cond, eqb, List, [], ◌∷◌, Option, Some, None, length, refl, sym, ap, subst, ◌∙◌, arith, length-append}
 use Rattle.queue_code.specs.declared.call.CodeCall.TheVariants as call
 use Rattle.queue_code.specs.declared.instr.Instr.{Instr}
-use Rattle.queue_code.specs.declared.instr.Instr.TheVariants.{Submit, Illegal, Loop, EndLoop, Halt}
+use Rattle.queue_code.specs.declared.instr.Instr.TheVariants.{Loop, EndLoop, Halt}
 use Rattle.queue_code.specs.declared.progress.OpenLoop.{OpenLoop}
 use Rattle.queue_code.specs.declared.progress.Progress.{Progress}
 use Rattle.queue_code.specs.Calls.{Planned, task_count}
-use Rattle.queue_code.specs.Codes.{call_of, in_front, tasks_by, tasks_in, pass, iterations, body_of, calls_from, calls_of}
-use Rattle.queue_code.specs.Checks.{offset_of, is_call, fault_of, AreTimed}
+use Rattle.queue_code.specs.Codes.{tasks_by, tasks_in, iterations, body_of, calls_from, calls_of}
+use Rattle.queue_code.specs.Checks.{offset_of, fault_of, AreTimed}
 use Rattle.queue_code.specs.Walks.{opening, first_fault, walked}
 use Rattle.queue_code.specs.Cursors.{IsCode}
 use Rattle.queue_code.proofs.Passing.{passes_all, passes_first, length_call}

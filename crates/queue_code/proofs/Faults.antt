@@ -1,19 +1,19 @@
 -- What is wrong with a list of instructions is what the check finds that goes over it once.
-use Rattle.std.proofs.Common.{◌≡◌, ℕ, zero, suc, ◌+◌, ◌*◌, ◌-◌, ◌<◌, ◌≤◌, ◌^◌, Bool, true, false, cond, eqb, leb, ltb, ◌&&◌, List, [], ◌∷◌, ◌++◌, Option, Some, None, inl, inr, length, take, drop, refl, sym, ap, subst, ◌∙◌, arith, append_assoc, append-nil, length-append}
+use Rattle.std.proofs.Common.{◌≡◌, ℕ, zero, suc, ◌+◌, ◌*◌, ◌-◌, ◌≤◌, Bool, true, false, cond, eqb, leb, ltb, ◌&&◌, List, [], ◌∷◌, ◌++◌, Option, Some, None, length, refl, sym, ap, subst, ◌∙◌, arith, append_assoc, append-nil, length-append}
 use Rattle.std.specs.List.{range_with_len}
 use Rattle.std.proofs.Math.Seq.{take-append_seam, drop-append_seam}
-use Rattle.std.proofs.lemmas.Bool.{ltb-false, eqb-false, le-ltb, or_parts, cases_Bool}
+use Rattle.std.proofs.lemmas.Bool.{ltb-false, le-ltb, or_parts}
 use Rattle.queue_code.specs.declared.fault.CodeFault.{CodeFault}
 use Rattle.queue_code.specs.declared.fault.CodeFault.TheVariants as fault
 use Rattle.queue_code.specs.declared.instr.Instr.{Instr}
-use Rattle.queue_code.specs.declared.instr.Instr.TheVariants.{Submit, Illegal, CancelFixed, CancelHere, SetPolicy, Shutdown, Ask, Loop, EndLoop, Halt}
+use Rattle.queue_code.specs.declared.instr.Instr.TheVariants.{CancelFixed, CancelHere, Loop, EndLoop, Halt}
 use Rattle.queue_code.specs.declared.progress.OpenLoop.{OpenLoop}
 use Rattle.queue_code.specs.declared.progress.Progress.{Progress}
 use Rattle.queue_code.specs.Calls.{Planned, task_count}
 use Rattle.queue_code.specs.Codes.{call_of, in_front, tasks_by, tasks_in, pass, iterations, body_of, calls_from, calls_of}
-use Rattle.queue_code.specs.Checks.{Begun, has_end, open_loop, calls_inside, calls_with, first_moment, last_from, last_moment, offset_of, is_call, is_early_halt, is_nested, is_unclosed, is_empty_loop, is_bad_task, is_too_large, is_out_of_order, is_too_many, checks_with, checks, first_failing, has_halt, fault_between, fault_at, or_else, first_of, fault_of}
+use Rattle.queue_code.specs.Checks.{Begun, has_end, open_loop, calls_inside, first_moment, last_from, last_moment, offset_of, is_call, is_early_halt, is_nested, is_unclosed, is_empty_loop, is_bad_task, is_too_large, is_out_of_order, is_too_many, checks_with, checks, first_failing, has_halt, fault_between, fault_at, or_else, first_of, fault_of}
 use Rattle.queue_code.specs.Walks as walks
-use Rattle.queue_code.proofs.Passing.{Passes, passes_all, length_call, in_front_append, last_halt}
+use Rattle.queue_code.proofs.Passing.{passes_all, length_call, in_front_append, last_halt}
 use Rattle.queue_code.proofs.Totals.{AreCalls, tasks_call, tasks_pass, tasks_turns, length_pass, length_turns, tasks_append, tasks_more, calls_more, pass_append, last_append, last_call, first_call, last_turns, if_zero, if_more}
 
 -- ---- instructions whose loops are closed, and of which none is a halt

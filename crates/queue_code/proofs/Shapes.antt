@@ -1,21 +1,21 @@
 -- A list of instructions is accepted exactly where it has the shape of a code and its calls are in order.
-use Rattle.std.proofs.Common.{◌≡◌, ℕ, zero, suc, ◌+◌, ◌*◌, ◌-◌, ◌<◌, ◌≤◌, ◌^◌, Bool, true, false, cond, eqb, ltb, leb, ◌&&◌, List, [], ◌∷◌, ◌++◌, Option, Some, None, length, is_some, refl, sym, ap, subst, ◌∙◌, arith, inl, inr, append_assoc, append-nil, length-append}
+use Rattle.std.proofs.Common.{◌≡◌, ℕ, zero, suc, ◌+◌, ◌*◌, ◌-◌, ◌<◌, ◌≤◌, ◌^◌, true, false, cond, eqb, ltb, ◌&&◌, List, [], ◌∷◌, ◌++◌, Option, Some, None, length, is_some, refl, sym, ap, subst, ◌∙◌, arith, inl, inr, append_assoc, append-nil, length-append}
 use Rattle.std.proofs.lemmas.Bool.{le-ltb, ltb-false, ltb-true, or_parts, or_from, cases_Bool}
 use Rattle.std.proofs.lemmas.Bool.Decides.{nat_tests}
 use Rattle.queue_code.specs.declared.fault.CodeFault.{CodeFault}
 use Rattle.queue_code.specs.declared.call.CodeCall.TheVariants as call
 use Rattle.queue_code.specs.declared.instr.Instr.{Instr}
-use Rattle.queue_code.specs.declared.instr.Instr.TheVariants.{Submit, Illegal, CancelFixed, CancelHere, SetPolicy, Shutdown, Ask, Loop, EndLoop, Halt}
+use Rattle.queue_code.specs.declared.instr.Instr.TheVariants.{Submit, Illegal, CancelFixed, CancelHere, Loop, EndLoop, Halt}
 use Rattle.queue_code.specs.declared.progress.OpenLoop.{OpenLoop}
 use Rattle.queue_code.specs.declared.progress.Progress.{Progress}
-use Rattle.queue_code.specs.Calls.{Planned, task_count, count_after, IsOrderlyFrom, IsOrderly}
-use Rattle.queue_code.specs.Codes.{call_of, in_front, tasks_by, tasks_in, pass, iterations, body_of, calls_from, calls_of}
-use Rattle.queue_code.specs.Checks.{first_moment, last_from, offset_of, is_call, first_failing, or_else, fault_of, AreTimed}
+use Rattle.queue_code.specs.Calls.{Planned, task_count, IsOrderlyFrom}
+use Rattle.queue_code.specs.Codes.{call_of, in_front, tasks_by, tasks_in, pass, iterations, body_of, calls_from}
+use Rattle.queue_code.specs.Checks.{first_moment, last_from, offset_of, is_call, first_failing, or_else}
 use Rattle.queue_code.specs.Walks.{last_shift, calls_after, is_bad_task, after, checks, first_fault}
 use Rattle.queue_code.specs.Cursors.{BeginsWithCall}
 use Rattle.queue_code.specs.CodeLaws.{IsShaped, AcceptedExactly}
 use Rattle.queue_code.proofs.Passing.{Passes, passes_all, passes_first, in_front_append, length_call, last_halt}
-use Rattle.queue_code.proofs.Totals.{AreCalls, tasks_pass, tasks_turns, length_pass, length_turns, last_append, last_call, first_call, last_turns, if_zero, if_more}
+use Rattle.queue_code.proofs.Totals.{AreCalls, tasks_pass, tasks_turns, length_turns, last_call, first_call, last_turns, if_more}
 use Rattle.queue_code.proofs.Faults.{fault_is}
 use Rattle.queue_code.proofs.Soundness.{met_in, met_out, begins, sound}
 use Rattle.queue_code.proofs.Accepting.{none_fails, leb_not}

@@ -54,7 +54,7 @@ abbrev pub first_moment : List Planned → ℕ
 first_moment [] = 0
 first_moment (p ∷ calls) = p.0
 
--- the moment of the last of some calls, and before them that of an earlier one
+-- the moment of the last of some calls, and where there is none that of the call before them
 abbrev pub last_from : ℕ → List Planned → ℕ
 last_from moment [] = moment
 last_from moment (p ∷ calls) = last_from p.0 calls
