@@ -162,6 +162,7 @@ policy_takes m at which value is still =
       said = call_reply m.calls (workers_of m) at s (c.SetPolicy which value) answer is said;
     }
 
+-- a policy that is set and sweeps nothing is one step of a core, and one line
 pub policy_steps : (m old : Machine) (moment at : ℕ) (which : Which) (value : Bool) (policies : Policies) (before lines : List Line) → slice_get m.calls m.made ≡ Some (at, c.SetPolicy which value) → setting_sweeps m.shut which value ≡ false →
     moment ≡ max m.moment at → policies ≡ set_policy which value m.policies → m ≡ old → lines ≡ before ++ answer_line moment (a.Policy which value) ∷ [] →
     Steps old (record m { made = m.made + 1; moment = moment; policies = policies }) before lines (h.Call ∷ [])

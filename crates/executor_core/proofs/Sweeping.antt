@@ -172,6 +172,7 @@ not_so : (b : Bool) → not b ≡ true → b ≡ false
 not_so true q = absurd (false≢true q)
 not_so false q = refl
 
+-- what is not false is true
 pub not_false : (b : Bool) → not b ≡ false → b ≡ true
 not_false true q = refl
 not_false false q = sym q
@@ -209,6 +210,7 @@ tasks_within (p ∷ calls) =
     let pick : (b : Bool) → cond b (1 + task_count calls) (task_count calls) ≤ suc (length calls) = elim [ true ↦ omega (arith, rest) | false ↦ omega (arith, rest) ] in
     pick (is_submission p.1)
 
+-- orderly calls submit no more tasks than there may be calls
 pub few_tasks : (calls : List Planned) → IsOrderly calls → task_count calls ≤ 65536
 few_tasks calls orderly = omega (arith, orderly.0, tasks_within calls)
 
@@ -249,6 +251,7 @@ phase_waits ph.Done q = absurd (false≢true q)
 phase_waits ph.Failed q = absurd (false≢true q)
 phase_waits ph.Dropped q = absurd (false≢true q)
 
+-- a task that waits for a run is in the phase of one
 pub waits_phase : (t : Task) → waits_with t ≡ true → t.phase ≡ ph.Waiting
 waits_phase t waits = phase_waits t.phase (and_left (is_waiting_phase t.phase) _ waits)
 

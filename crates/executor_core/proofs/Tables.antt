@@ -34,7 +34,7 @@ at_replicate (suc n) (suc j) x = at_replicate n j x
 
 -- submissions have their numbers
 
--- what a submission says, where so many submissions stand before the calls
+-- what a submission says, where this many submissions stand before the calls
 pub record Submission (calls : List Planned) (count n at task : ℕ) (timing : Timing) (delay : ℕ) : Type 0 where
   pub terms : terms_of calls task ≡ record { timing = timing; first = at + delay }
   pub number : task ≡ count + task_count (take n calls)

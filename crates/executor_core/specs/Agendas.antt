@@ -11,15 +11,15 @@ pub record Course : Type 0 where
   pub items : List Planned
   pub made : ℕ
 
--- how many calls of a code were made, where so many are left
+-- how many calls of a code were made, where this many are left
 abbrev pub made_of : List Instr → ℕ → ℕ
 made_of code left = length (calls_of code) - left
 
--- the calls of a code, of which so many are left
+-- the calls of a code, of which this many are left
 abbrev pub course_of : List Instr → ℕ → Course
 course_of code left = record { items = calls_of code; made = made_of code left }
 
--- so many calls of a code are left, this is the next one, and the cursor is behind it
+-- this many calls of a code are left, this is the next one, and the cursor is behind it
 pub record IsAhead (code : List Instr) (c : Cursor) (next : Option Planned) (left : ℕ) : Type 0 where
   pub cursor : IsCursorOf code c
   pub within : left ≤ length (calls_of code)

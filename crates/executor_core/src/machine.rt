@@ -242,7 +242,7 @@ impl<A: Allocator> Core<A> {
         Answer::Clock
     }
 
-    /// A core with tables for the tasks of a code and so many workers.
+    /// A core with tables for the tasks of a code and this many workers.
     fn with_tables(alloc: A, code: Code<A>, workers: u8, limit: u32) -> Result<Core<A>, AllocError>
     where
         A: Copy,

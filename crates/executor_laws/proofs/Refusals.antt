@@ -38,6 +38,7 @@ shut_call calls v c.Shutdown k shut q =
     pick v.shut q
 shut_call calls v c.Ask k shut q = false≢true q
 
+-- once the executor is shut, no answer accepts a task
 pub accepts_none : (calls : List Planned) (workers : ℕ) (v : View) (y : Happening) (k : ℕ) → v.shut ≡ true → is_submit k (reply calls workers v y).answer ≡ true → ⊥
 accepts_none calls workers v y k shut q =
     let s = submit_says calls workers v y k q in

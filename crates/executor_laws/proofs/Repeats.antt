@@ -236,6 +236,7 @@ nothing_starts_after_a_failure calls workers past between finish start v w k m n
 
 -- ---- cancels
 
+-- a cancelled task stays cancelled, whatever happens after that
 pub cancelled_stays : (k : ℕ) (between past : List HistoryEntry) → was_cancelled k past ≡ true → was_cancelled k (between ++ past) ≡ true
 cancelled_stays k [] past q = q
 cancelled_stays k (e ∷ between) past q =
@@ -279,6 +280,7 @@ call_cancels calls v c.Shutdown k q =
     absurd (pick v.shut q)
 call_cancels calls v c.Ask k q = absurd (false≢true q)
 
+-- a cancel that has an effect finds the task not cancelled
 pub cancel_says : (calls : List Planned) (workers : ℕ) (v : View) (y : Happening) (k : ℕ) → is_cancel k (reply calls workers v y).answer ≡ true → (v.fate k).cancelled ≡ false
 cancel_says calls workers v h.Call k =
     let pick : (p : Option Planned) → is_cancel k (option_map_or (λ p. called calls (record v { moment = max v.moment p.0 }) p.1) p (plain a.Clock)).answer ≡ true → (v.fate k).cancelled ≡ false =

@@ -114,6 +114,7 @@ meets_all calls s (a.Finish u j run outcome) sound found says k =
     λ q. subst (λ i. ((s.tasks i).phase ≡ ph.Running) × ((s.tasks i).cancelled ≡ true → outcome ≡ o.Dropped)) (eqb-true j k q) (sound.at_work u j found.0, says)
 meets_all calls s _ sound found says k = tt
 
+-- each answer in a sound state finds each task as the table of words says
 pub meets : (calls : List Planned) (workers : ℕ) (s : State) (happening : Happening) → IsSound s → (k : ℕ) → Meets k (s.tasks k) (reply_of calls workers s happening).answer
 meets calls workers s happening sound k = meets_all calls s (reply_of calls workers s happening).answer sound (reply_finds calls workers s happening sound) (says calls workers s happening) k
 
@@ -380,12 +381,14 @@ started_told ph.Dropped run = refl
 
 -- a task in this phase is seen to be run, or to wait
 
+-- a task in the phase of a run is seen to run
 pub runs_seen : (terms : Terms) (p : Phase) (run due : ℕ) (cancelled kept : Bool) → p ≡ ph.Running → is_running (seen_phase terms p run due cancelled kept) ≡ true
 runs_seen terms p run due cancelled kept is = ap (λ p. is_running (seen_phase terms p run due cancelled kept)) is ∙ ap not apart
   where
     apart : (1 + run == run) ≡ false
     apart = grind (arith, nat_tests)
 
+-- a task in the phase of waiting that is not cancelled is seen to wait
 pub waits_seen : (terms : Terms) (p : Phase) (run due : ℕ) (cancelled kept : Bool) → p ≡ ph.Waiting → cancelled ≡ false → is_waiting (seen_phase terms p run due cancelled kept) ≡ true
 waits_seen terms p run due cancelled kept is live = (λ i. is_waiting (seen_phase terms (is i) run due (live i) kept)) ∙ is_seen_waiting terms run due kept
 

@@ -31,6 +31,7 @@ pub record Submits (calls : List Planned) (v : View) (happening : Happening) (k 
   pub there : slice_get calls v.made ≡ Some call
   pub submits : IsSubmissionOf k call.1
 
+-- a call whose answer accepts task k is the submission of task k
 pub call_submits : (calls : List Planned) (v : View) (call : CodeCall) (k : ℕ) → is_submit k (called calls v call).answer ≡ true → IsSubmissionOf k call
 call_submits calls v (c.Submit task timing delay) k q =
     let pick : (b : Bool) → is_submit k (cond b (a.Refuse task refusal.Rejected) (a.Submit task (kind_of timing) (due_at (terms_of calls task) 0 None))) ≡ true → task ≡ k =
@@ -75,6 +76,7 @@ submit_says calls workers v (h.Cancel j) k q =
 
 -- ---- a task whose submission was accepted was submitted by a call that was made
 
+-- one happening more makes no fewer calls
 pub made_more : (y : Happening) (past : List Happening) → made past ≤ made (y ∷ past)
 made_more h.Call past = omega arith
 made_more (h.Clock t) past = omega arith
@@ -94,6 +96,7 @@ submitted_here calls past y k s = record {
   before = subst (λ z. made (happenings past) < made (z ∷ happenings past)) (sym s.is) (omega arith);
 }
 
+-- a task that was accepted was submitted by a call that was made
 pub was_submitted : (calls : List Planned) (workers : ℕ) (past : List HistoryEntry) (k : ℕ) → IsHistoryOf calls workers past → was_accepted k past ≡ true → WasSubmitted calls (happenings past) k
 was_submitted calls workers [] k m q = absurd (false≢true q)
 was_submitted calls workers (e ∷ past) k m q = elim (or_cases (is_submit k e.answer) (was_accepted k past) q) [

@@ -103,7 +103,7 @@ NoneIsEnabled = (calls : List Planned) (v : View)
 
 -- ---- the calls that a clock reaches
 
--- of the calls from `first` on, a clock of moment t reaches just those whose moment is at most t, and they
+-- of the calls from `first` on, a clock of moment t reaches exactly those whose moment is at most t, and they
 -- are a front of those calls
 abbrev pub ReachedIsAFront : Type 0
 ReachedIsAFront = (calls : List Planned) (first t : ℕ) → IsOrderly calls

@@ -46,7 +46,7 @@ pub fn flow_keeps_the_events()
     ensures { FlowKeepsTheEvents }
 {}
 
-/// A flow makes calls before accepted clocks alone, and there just those that the clock reaches.
+/// A flow makes calls before accepted clocks alone, and there exactly those that the clock reaches.
 pub fn flow_makes_what_is_reached()
     ensures { FlowMakesWhatIsReached }
 {}

@@ -47,7 +47,7 @@ instr_passes p firsts first repeated offset (ops.Fixed name delay (Some gap)) re
 instr_passes p firsts first repeated offset (ops.Fixed name delay None) rest limits below here fits = record { early = refl; nested = refl; unclosed = refl; empty = refl; task = refl; large = le-ltb _ _ fits.high; order = le-ltb _ _ fits.low; many = le-ltb _ _ fits.few }
 instr_passes p firsts first repeated offset op rest limits below here fits = record { early = refl; nested = refl; unclosed = refl; empty = refl; task = refl; large = le-ltb _ _ fits.high; order = le-ltb _ _ fits.low; many = le-ltb _ _ fits.few }
 
--- what is met after a call, where there are so many tasks then
+-- what is met after a call, where there are this many tasks then
 abbrev met : Met → ℕ → ℕ → Met
 met p offset tasks = record { open_loop = loop_after p.open_loop offset; calls = calls_after p.open_loop p.calls; tasks = tasks; last = offset }
 

@@ -82,6 +82,7 @@ target_below earlier firsts start before name target a (inr there) =
     let within = slice_get_within (names_of there.0.calls) target.sub name there.3 in
     rw r.1 (omega (arith, r.2, within, length-names_of 0 there.0.calls))
 
+-- an aimed call names a task that is made before it
 pub op_below : (earlier : PlanTree) (firsts : List ℕ) (start task : ℕ) (before : List Call) (op : Op) → AreFirsts earlier firsts start → task ≡ start + tasks_after_calls 0 before
     → IsAimed earlier before op → IsBelow firsts start task op
 op_below earlier firsts start task before (ops.Schedule name delay) a is aimed = tt
@@ -118,6 +119,7 @@ call_counts firsts start task ops.Ask = refl
 
 -- ---- one iteration
 
+-- the last offset, with one call more, is that call's
 pub last_offset-one_more : (offset : ℕ) (cs : List Call) (c : Call) → last_offset_from offset (cs ++ c ∷ []) ≡ c.at
 last_offset-one_more offset [] c = refl
 last_offset-one_more offset (d ∷ cs) c = last_offset-one_more d.at cs c
@@ -146,6 +148,7 @@ calls_run earlier h firsts base start before (c ∷ cs) task offset ordered a re
     let behind = subst (λ (n : ℕ). Runs n (base + c.at) (calls_at firsts base start (tasks_after task c.op) cs) (tasks_after_calls task (c ∷ cs)) end) counted rest in
     (forward, short, call_orderly firsts start task c.op one.limits below, behind)
 
+-- in a block that is repeated, an offset is no greater than its step
 pub offset_within : (h : Header) (offset : ℕ) → 1 < h.times → (h.times ≤ 1) ⊎ (offset ≤ h.every) → offset ≤ h.every
 offset_within h offset many (inl once) = absurd (omega (arith, many, once))
 offset_within h offset many (inr within) = within

@@ -108,7 +108,7 @@ fn number_in(starts: &[u32], target: &Target) -> u32 {
     number
 }
 
-/// Whether the code of the plan that a text writes makes the plan's calls, and so many.
+/// Whether the code of the plan that a text writes makes the plan's calls, and this many.
 fn makes_its_calls(rt: &impl AllocGlobal, text: &str, most: usize) -> Result<bool, Fail> {
     let plan = read_plan(rt.alloc(), text.as_bytes())?;
     let code = compile(rt.alloc(), &plan)?;

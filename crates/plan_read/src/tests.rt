@@ -65,7 +65,7 @@ fn tells(rt: &(impl AllocGlobal + Abort), text: &str, fault: &str) -> Result<(),
     Ok(())
 }
 
-/// Whether a plan has so many blocks, with so many calls in each.
+/// Whether a plan has this many blocks, with this many calls in each.
 fn has_sizes(plan: &Plan<Global>, blocks: usize, calls: usize) -> bool {
     plan.blocks().len() == blocks
         && plan

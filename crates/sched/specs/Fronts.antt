@@ -17,7 +17,7 @@ most_of_trace = 67108865
 abbrev pub longest_trace : ℕ
 longest_trace = 67108864
 
--- what is read of a file, of so many bytes at most
+-- what is read of a file, of this many bytes at most
 abbrev pub front : ℕ → List ℕ → List ℕ
 front most bytes = take most bytes
 

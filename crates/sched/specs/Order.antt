@@ -28,7 +28,7 @@ bytes_of read = unwrap_or read []
 abbrev pub plan_fault : List ℕ → Option Fault
 plan_fault text = option_map (λ fault. Run (x.Plan fault)) (fault_of_text text)
 
--- there may be so many workers
+-- there may be this many workers
 abbrev pub is_worker_count : ℕ → Bool
 is_worker_count workers = nat_le 1 workers && nat_le workers most_workers
 

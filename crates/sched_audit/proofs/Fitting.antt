@@ -125,7 +125,7 @@ count_after-le count (c.SetPolicy which value) = omega arith
 count_after-le count c.Shutdown = omega arith
 count_after-le count c.Ask = omega arith
 
--- a call stands in its order behind so many submissions, which are no more than the calls
+-- a call stands in its order behind this many submissions, which are no more than the calls
 call_in_order : (calls : List Planned) (count moment n : ℕ) (p : Planned) → IsOrderlyFrom count moment calls → slice_get calls n ≡ Some p → (before : ℕ) × (before ≤ count + length calls) × IsOrderlyCall before p.1
 call_in_order [] count moment n p o is = absurd (none-some p is)
 call_in_order (q ∷ calls) count moment zero p o is = (count, omega arith, subst (λ (r : Planned). IsOrderlyCall count r.1) (same_Some q p is) o.2)

@@ -35,16 +35,19 @@ other_flag true false other = refl
 other_flag false true other = refl
 other_flag false false other = absurd (other refl)
 
+-- a flag that is as wanted, and before which none is, is the first that a test finds
 pub found : (flags : List Bool) (wanted : Bool) (workers w : ℕ) (test : ℕ → Bool) → workers < 256 → w < workers → ((v : ℕ) → v < w → slice_index_or flags v false ≢ wanted) → slice_index_or flags w false ≡ wanted →
     ((v : ℕ) → v < 256 → test v ≡ (if wanted then slice_index_or flags v false else not (slice_index_or flags v false))) → Some w ≡ find test (range_with_len 0 workers)
 found flags wanted workers w test few l never is same =
     sym (first_some test 0 workers w (omega arith) (omega arith) (λ v low h. same v (omega arith) ∙ other_flag wanted (slice_index_or flags v false) (never v h)) (same w (omega arith) ∙ wanted_flag wanted (slice_index_or flags w false) is))
 
+-- where no flag is as wanted, a test finds none
 pub none_found : (flags : List Bool) (wanted : Bool) (workers w : ℕ) (test : ℕ → Bool) → workers < 256 → workers ≤ w → ((v : ℕ) → v < w → slice_index_or flags v false ≢ wanted) →
     ((v : ℕ) → v < 256 → test v ≡ (if wanted then slice_index_or flags v false else not (slice_index_or flags v false))) → None ≡ find test (range_with_len 0 workers)
 none_found flags wanted workers w test few l never same =
     sym (first_none test 0 workers (λ v low h. same v (omega arith) ∙ other_flag wanted (slice_index_or flags v false) (never v (omega arith))))
 
+-- truth values that compare equal are the same
 pub beq_same : (a b : Bool) → beq a b ≡ true → a ≡ b
 beq_same true true is = refl
 beq_same true false is = sym is

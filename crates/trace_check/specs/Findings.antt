@@ -7,7 +7,7 @@ use Rattle.trace_check.specs.Going.{Goes, AreWhole}
 use Rattle.trace_check.specs.declared.finding.Finding.{Finding}
 use Rattle.trace_check.specs.declared.finding.Finding.TheVariants as f
 
--- a text begins with so many lines that go
+-- a text begins with this many lines that go
 pub record BeginsWith (calls : List Planned) (workers : ℕ) (text : List ℕ) (n : ℕ) : Type 0 where
   pub lines : List Line
   pub count : length lines ≡ n

@@ -36,7 +36,7 @@ pub struct Checker<A: Allocator> {
     busy: Busy,
 }
 
-/// What is found of a text, held against the traces of a plan with so many workers, 1 to 64.
+/// What is found of a text, held against the traces of a plan with this many workers, 1 to 64.
 ///
 /// The text has at most [`MOST_BYTES`] bytes. It conforms exactly where it is a whole trace of the plan, and else breaks at a
 /// line, counted from 1: the first with which it begins no trace, or the one after its last where a line that ends a task is wanting. The errors are [`CheckError::Workers`] exactly where the number of

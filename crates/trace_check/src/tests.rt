@@ -10,7 +10,7 @@ use plan_read::read_plan;
 use std::process::Abort;
 use std::test::Fail;
 
-/// What a check of a text answers, under a plan and so many workers.
+/// What a check of a text answers, under a plan and this many workers.
 fn checked(
     rt: &(impl AllocGlobal + Abort),
     plan: &str,

@@ -31,7 +31,7 @@ fn events_take_no_memory(
     Ok(())
 }
 
-/// Gives a core of two workers these events, over a heap of its own, where its list has room for so many lines.
+/// Gives a core of two workers these events, over a heap of its own, where its list has room for this many lines.
 fn takes_no_memory(
     rt: &(impl AllocGlobal + Abort),
     instrs: &[Instr],

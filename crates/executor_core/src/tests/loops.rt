@@ -35,7 +35,7 @@ fn each_iteration_submits_and_cancels_its_own_task(rt: HostRuntime) -> Result<()
     Ok(())
 }
 
-/// Checks that a core over this heap asks so many times, and takes none of it.
+/// Checks that a core over this heap asks this many times, and takes none of it.
 fn asks_take_no_memory(
     rt: &(impl AllocGlobal + Abort),
     heap: &LocalHeap,
@@ -49,7 +49,7 @@ fn asks_take_no_memory(
     Ok(())
 }
 
-/// How much of a heap a core takes that asks so many times, before and after it has asked.
+/// How much of a heap a core takes that asks this many times, before and after it has asked.
 fn used_by_loop(rt: &(impl AllocGlobal + Abort), times: u32) -> Result<usize, Fail> {
     let heap = LocalHeap::new(rt.alloc(), 1 << 10)?;
     let instrs = [Instr::Loop(times, 1), Instr::Ask(0), Instr::EndLoop];

@@ -6,7 +6,7 @@ use std::alloc::Allocator;
 use std::process::Abort;
 use std::test::Fail;
 
-/// Gives a core of 70 tasks and so many workers a clock, a start of its last worker, and one of no worker.
+/// Gives a core of 70 tasks and this many workers a clock, a start of its last worker, and one of no worker.
 fn starts_last_worker<A: Allocator>(
     rt: &impl Abort,
     core: &mut Core<A>,

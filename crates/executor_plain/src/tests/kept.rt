@@ -68,7 +68,7 @@ fn a_kept_task_behind_the_one_that_starts_stays(rt: HostRuntime) -> Result<(), F
 }
 
 /// Of two tasks that are due at `first` and `second` one is cancelled. After a start at moment 7 with
-/// this answer so many tasks are queued.
+/// this answer, this many tasks are queued.
 fn meeting<A: Allocator + Copy>(
     rt: &impl Abort,
     alloc: A,
