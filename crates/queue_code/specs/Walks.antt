@@ -1,12 +1,14 @@
 -- How the check goes over a list of instructions, once and with a few numbers. It is a means of proof, and speaks of
 -- the check's own types: what is wrong with a list is defined in `Checks`, and `proofs/Faults` shows that this is the same.
-use Rattle.std.specs.Prelude.{ℕ, ◌+◌, ◌-◌, ◌*◌, ◌^◌, ◌==◌, nat_lt, nat_le, Bool, true, false, ◌&&◌, ◌||◌, if◌then◌else◌, List, [], ◌∷◌, Option, Some, None, is_some, is_none}
+use Rattle.std.specs.Prelude.{ℕ, ◌+◌, ◌-◌, ◌*◌, ◌==◌, nat_lt, nat_le, Bool, true, false, ◌&&◌, ◌||◌, if◌then◌else◌, List, [], ◌∷◌, Option, Some, None, is_some, is_none}
+use Rattle.sched_time.specs.Times.{longest}
 use Rattle.queue_code.specs.declared.fault.CodeFault.{CodeFault}
 use Rattle.queue_code.specs.declared.fault.CodeFault.TheVariants as fault
 use Rattle.queue_code.specs.declared.instr.Instr.{Instr}
 use Rattle.queue_code.specs.declared.instr.Instr.TheVariants.{Submit, CancelFixed, CancelHere, Loop, EndLoop, Halt}
 use Rattle.queue_code.specs.declared.progress.OpenLoop.{OpenLoop}
 use Rattle.queue_code.specs.declared.progress.Progress.{Progress}
+use Rattle.queue_code.specs.Calls.{most_calls}
 use Rattle.queue_code.specs.Codes.{tasks_by}
 use Rattle.queue_code.specs.Checks.{offset_of, is_call, is_early_halt, first_failing, or_else}
 
@@ -86,14 +88,14 @@ is_bad_task p i = false
 
 -- a call with this offset is made later than at 2^62 in the last iteration
 abbrev pub ends_late : Option OpenLoop → ℕ → Bool
-ends_late open_loop offset = nat_lt (2 ^ 62) (last_shift open_loop + offset)
+ends_late open_loop offset = nat_lt longest (last_shift open_loop + offset)
 
 -- TooLarge: a loop's step, a delay, or a call's moment in the last iteration is above 2^62
 abbrev pub is_too_large : Progress → Instr → Bool
-is_too_large p (Loop times every) = nat_lt (2 ^ 62) every
+is_too_large p (Loop times every) = nat_lt longest every
 is_too_large p EndLoop = false
 is_too_large p Halt = false
-is_too_large p (Submit offset timing delay) = nat_lt (2 ^ 62) delay || ends_late p.open_loop offset
+is_too_large p (Submit offset timing delay) = nat_lt longest delay || ends_late p.open_loop offset
 is_too_large p i = ends_late p.open_loop (offset_of i)
 
 -- an iteration of the loop begins before the one in front of it ends
@@ -110,10 +112,10 @@ is_out_of_order p i = is_call i && nat_lt (offset_of i) p.last
 -- TooMany: a loop that is not made 1 to 65,536 times; a call outside a loop, or the end of one, with more than 65,536
 -- calls so far
 abbrev pub is_too_many : Progress → Instr → Bool
-is_too_many p (Loop times every) = nat_lt times 1 || nat_lt 65536 times
+is_too_many p (Loop times every) = nat_lt times 1 || nat_lt most_calls times
 is_too_many p Halt = false
-is_too_many p EndLoop = nat_lt 65536 (after_loop p p.open_loop).calls
-is_too_many p i = nat_lt 65536 (calls_after p.open_loop p.calls)
+is_too_many p EndLoop = nat_lt most_calls (after_loop p p.open_loop).calls
+is_too_many p i = nat_lt most_calls (calls_after p.open_loop p.calls)
 
 -- the table of checks of an instruction, where `rest` comes behind it, in their order
 abbrev pub checks : Progress → Instr → List Instr → List (CodeFault × Bool)

@@ -2,10 +2,17 @@
 ghost use Rattle.std.specs.Prelude.{◌≡◌, true};
 ghost use Rattle.queue_code.specs.declared.fault.CodeFault.{CodeFault};
 ghost use Rattle.queue_code.specs.declared.instr.Instr.{Instr};
+ghost use Rattle.queue_code.specs.Calls.{most_calls};
 ghost use Rattle.queue_code.specs.CodeLaws.{LeastIndex, NothingWrong, CodesAreOrderly, AcceptedExactly};
 
 use crate::fault::CodeFault;
 use crate::instr::Instr;
+use crate::limits::MOST_CALLS;
+
+/// [`MOST_CALLS`](crate::MOST_CALLS) is the limit of which the contracts speak.
+pub fn most_calls_is_the_limit()
+    ensures { MOST_CALLS ≡ most_calls }
+{}
 
 /// Instructions that compare as equal are the same.
 pub fn equal_instrs_are_one()

@@ -1,5 +1,6 @@
 ghost use Rattle.std.specs.Prelude.{◌≡◌, ◌≢◌, ℕ, ◌+◌, ◌^◌, ◌<◌, ◌≤◌, ◌⊎◌, Some, None, IfSome, slice_get, length, drop, option_map};
-ghost use Rattle.queue_code.specs.Calls.{IsOrderlyCall};
+ghost use Rattle.sched_time.specs.Times.{longest};
+ghost use Rattle.queue_code.specs.Calls.{IsOrderlyCall, most_calls};
 ghost use Rattle.queue_code.specs.Codes.{calls_of, call_of};
 ghost use Rattle.queue_code.specs.Cursors.{IsCursorOf, IsCursorAt, IsOver, calls_left, steps_of, EndsNoLoop, IsPlain};
 
@@ -160,7 +161,7 @@ impl Cursor {
 
     /// The call of an instruction here, if it makes one.
     fn call_of(&self, instr: &Instr) -> Option<(u64, CodeCall)>
-        requires { IfSome (call_of self.now.base self.now.start self.now.tasks instr.now) (λ p. (p.0 ≤ 2 ^ 62) × IsOrderlyCall self.now.tasks p.1 × (self.now.tasks < 65536)) }
+        requires { IfSome (call_of self.now.base self.now.start self.now.tasks instr.now) (λ p. (p.0 ≤ longest) × IsOrderlyCall self.now.tasks p.1 × (self.now.tasks < most_calls)) }
         ensures { result ≡ call_of self.now.base self.now.start self.now.tasks instr.now }
     {
         let call = match instr {
