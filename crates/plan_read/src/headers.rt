@@ -6,7 +6,7 @@ ghost use Rattle.toml.specs.Data.{get_member};
 ghost use Rattle.sched_time.specs.Times.{longest, span_of};
 ghost use Rattle.plan_read.specs.Checks.{◌unless◌, first_failing, top, top_checks, header_checks};
 ghost use Rattle.plan_read.specs.Keys.{are_tables, fits, Tables};
-ghost use Rattle.plan_read.specs.Plans.{last_moment};
+ghost use Rattle.plan_read.specs.Plans.{last_moment, most_calls};
 ghost use Rattle.plan_read.specs.Reads.{Reads};
 ghost use Rattle.plan_read.specs.Values.{tables_in, tables_at, header_of};
 ghost use Rattle.plan_read.specs.declared.faults.PlanFaultKind.TheVariants as kinds;
@@ -48,7 +48,7 @@ pub fn read_top(table: &Table) -> Result<&[Value], Refusal>
 /// before it.
 #[tactic(auto, unfolding(crate::specs::Checks::header_checks, crate::specs::Values::header_of))]
 pub fn read_header(place: Place, end: u128, made: u64, table: &Table) -> Result<Header, Refusal>
-    requires { made ≤ 65536 }
+    requires { made ≤ most_calls }
     ensures { Reads (λ h. h) result (first_failing place (header_checks end made (table_view table.now))) (header_of (table_view table.now)) }
 {
     if !has_only_header_keys(table) {
@@ -61,7 +61,7 @@ pub fn read_header(place: Place, end: u128, made: u64, table: &Table) -> Result<
         return Err(place.fault(PlanFaultKind::BadUnit));
     };
     let times = integer_or(1, "times", table);
-    if times < 1 || times > 65_536 {
+    if times < 1 || times > MOST_CALLS as i64 {
         return Err(place.fault(PlanFaultKind::BadTimes));
     }
     if times > 1 && !has(table, "every") {

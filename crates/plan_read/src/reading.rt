@@ -4,7 +4,7 @@ ghost use Rattle.std.specs.Prelude.{◌≡◌, ◌≢◌, ◌⊎◌, ℕ, ◌+�
 ghost use Rattle.toml.specs.View.{table_view, items_view};
 ghost use Rattle.plan_read.specs.Checks.{first_failing, top, call_fault, calls_fault, block_fault, blocks_fault, fault_of};
 ghost use Rattle.plan_read.specs.Keys.{are_tables};
-ghost use Rattle.plan_read.specs.Plans.{PlanTree, tasks_after, tasks_after_calls, submissions_from, submissions_before, last_offset, end_of_block, end_of, made_by};
+ghost use Rattle.plan_read.specs.Plans.{PlanTree, most_blocks, most_block_calls, most_calls, tasks_after, tasks_after_calls, submissions_from, submissions_before, last_offset, end_of_block, end_of, made_by};
 ghost use Rattle.plan_read.specs.Reads.{Reads, Knows, out_of_memory};
 ghost use Rattle.plan_read.specs.Texts.{toml_checks, tree_at, fault_of_text, plan_of_text, TextWrites};
 ghost use Rattle.plan_read.specs.Values.{tables_in, next_call, calls_after, block_of, blocks_after, plan_of};
@@ -83,7 +83,7 @@ fn read_tree<A: Allocator + Copy>(alloc: A, table: &Table) -> Result<Plan<A>, Re
 #[tactic(auto, using(crate::proofs::Accepted::end_from_one_more, crate::proofs::Accepted::made_from_one_more))]
 fn read_blocks<A: Allocator + Copy>(alloc: A, tables: &[Value]) -> Result<Vec<Block<A>, A>, Refusal>
     requires tables { are_tables (items_view tables.now) ≡ true }
-    requires few { length tables.now ≤ 256 }
+    requires few { length tables.now ≤ most_blocks }
     ensures { Reads (λ v. v.items) result (blocks_fault [] (tables_in (items_view tables.now))) (blocks_after [] (tables_in (items_view tables.now))) }
 {
     let mut blocks = Vec::with_capacity(alloc, tables.len())?;
@@ -112,15 +112,15 @@ fn read_block<'a, A: Allocator + Copy>(
     names: &mut BTreeMap<&'a str, Site, A>,
     table: &'a Table,
 ) -> Result<Block<A>, Refusal>
-    requires blocks { length earlier.now < 256 }
+    requires blocks { length earlier.now < most_blocks }
     requires end { end ≡ end_of earlier.now }
     requires made { made ≡ made_by earlier.now }
-    requires few { made ≤ 65536 }
+    requires few { made ≤ most_calls }
     requires names { Knows names.old (submissions_from 0 earlier.now) }
     ensures block { Reads (λ b. b) result (block_fault earlier.now (table_view table.now)) (block_of earlier.now (table_view table.now)) }
     ensures names { IfOk result (λ b. Knows names.new (submissions_from 0 (earlier.now ++ b ∷ []))) }
     ensures times { IfOk result (λ b. 1 ≤ b.header.times) }
-    ensures few { IfOk result (λ b. made + b.header.times * length b.calls ≤ 65536) }
+    ensures few { IfOk result (λ b. made + b.header.times * length b.calls ≤ most_calls) }
 {
     let place = Place {
         block: earlier.len() as u32 + 1,
@@ -152,9 +152,9 @@ fn read_calls<'a, A: Allocator + Copy>(
     names: &mut BTreeMap<&'a str, Site, A>,
 ) -> Result<Vec<Call, A>, Refusal>
     requires times { 1 ≤ header.times }
-    requires blocks { length earlier.now < 256 }
+    requires blocks { length earlier.now < most_blocks }
     requires tables { are_tables (items_view tables.now) ≡ true }
-    requires few { length tables.now ≤ 256 }
+    requires few { length tables.now ≤ most_block_calls }
     requires names { Knows names.old (submissions_from 0 earlier.now) }
     ensures calls { Reads (λ v. v.items) result (calls_fault earlier.now header [] (tables_in (items_view tables.now))) (calls_after earlier.now header [] (tables_in (items_view tables.now))) }
     ensures names { IfOk result (λ v. Knows names.new (submissions_before earlier.now header v.items)) }
@@ -186,8 +186,8 @@ fn read_next<'a, A: Allocator + Copy>(
     table: &'a Table,
 ) -> Result<Call, Refusal>
     requires times { 1 ≤ header.times }
-    requires blocks { length earlier.now < 256 }
-    requires few { length before.now < 256 }
+    requires blocks { length earlier.now < most_blocks }
+    requires few { length before.now < most_block_calls }
     requires sub { sub ≡ tasks_after_calls 0 before.now }
     requires names { Knows names.old (submissions_before earlier.now header before.now) }
     ensures call { Reads (λ c. c) result (call_fault earlier.now header before.now (table_view table.now)) (next_call earlier.now header before.now (table_view table.now)) }
