@@ -5,6 +5,7 @@ use Rattle.sched_time.specs.declared.timing.Timing.TheVariants as t
 use Rattle.sched_time.specs.Times.{longest}
 use Rattle.queue_code.specs.declared.instr.Instr.{Instr}
 use Rattle.queue_code.specs.declared.instr.Instr.TheVariants as instr
+use Rattle.queue_code.specs.Calls.{most_calls}
 use Rattle.plan_read.specs.declared.plans.Call.{Call}
 use Rattle.plan_read.specs.declared.plans.Header.{Header}
 use Rattle.plan_read.specs.declared.plans.Op.{Op}
@@ -72,4 +73,4 @@ IsBelow firsts first limit ops.Ask = Unit {0}
 -- the numbers of some calls' instructions are in range: their offsets, and those of the targets of cancels
 abbrev pub AreInRange : List ℕ → ℕ → ℕ → List Call → Type 0
 AreInRange firsts first at [] = Unit {0}
-AreInRange firsts first at (c ∷ cs) = (at + c.at ≤ longest) × IsBelow firsts first 65536 c.op × AreInRange firsts first at cs
+AreInRange firsts first at (c ∷ cs) = (at + c.at ≤ longest) × IsBelow firsts first most_calls c.op × AreInRange firsts first at cs

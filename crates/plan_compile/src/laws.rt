@@ -1,7 +1,7 @@
-//! What holds of the calls of each plan.
-ghost use Rattle.std.specs.Prelude.{ℕ, List};
-ghost use Rattle.queue_code.specs.Calls.{IsOrderly};
-ghost use Rattle.plan_read.specs.Plans.{PlanTree};
+//! What holds of the calls of each plan, and of the limit on their number.
+ghost use Rattle.std.specs.Prelude.{◌≡◌, ℕ, List};
+ghost use Rattle.queue_code.specs.Calls.{IsOrderly, most_calls};
+ghost use Rattle.plan_read.specs.Plans.{PlanTree, most_calls as most_calls_of_plan};
 ghost use Rattle.plan_read.specs.Texts.{TextWrites};
 ghost use Rattle.plan_compile.specs.PlanCalls.{calls_of};
 
@@ -13,3 +13,8 @@ pub fn calls_are_in_order()
 {
     plans_are_ordered();
 }
+
+/// A plan may make as many calls as a code may: the two limits are one number.
+pub fn limits_agree()
+    ensures { most_calls_of_plan ≡ most_calls }
+{}

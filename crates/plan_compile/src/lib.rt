@@ -66,4 +66,4 @@ mod numbers;
 
 pub use compiling::compile;
 pub use fault::CompileFault;
-pub use laws::calls_are_in_order;
+pub use laws::{calls_are_in_order, limits_agree};
