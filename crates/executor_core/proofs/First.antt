@@ -4,7 +4,8 @@ use Rattle.std.specs.List.{list_any, range_with_len}
 use Rattle.std.proofs.lemmas.Bool.{false≢true, eqb-true, eq-eqb, or_cases, or_left, or_right}
 use Rattle.std.proofs.lemmas.Bool.Decides.{nat_tests}
 use Rattle.std.proofs.lemmas.Option.{none-some, same_Some}
-use Rattle.executor_core.specs.View.{View, is_enabled, first_enabled, earlier, precedes, comes_before}
+use Rattle.delay_queue.specs.Queues.{comes_before}
+use Rattle.executor_core.specs.View.{View, is_enabled, first_enabled, earlier, precedes}
 use Rattle.executor_core.proofs.Sound.{first_is_enabled}
 
 -- a number stands in a list

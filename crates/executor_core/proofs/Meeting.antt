@@ -8,10 +8,10 @@ use Rattle.std.proofs.lemmas.List.{length-set, map-set}
 use Rattle.std.proofs.lemmas.Option.{none-some, same_Some}
 use Rattle.delay_queue.specs.declared.entry.Entry.{Entry}
 use Rattle.delay_queue.specs.Queues as queues
+use Rattle.delay_queue.specs.Queues.{comes_before}
 use Rattle.queue_code.specs.Calls.{Planned, task_count, terms_of, due_at}
 use Rattle.executor_core.specs.declared.task.Phase.TheVariants as ph
 use Rattle.executor_core.specs.declared.task.Task.{Task}
-use Rattle.executor_core.specs.View.{comes_before}
 use Rattle.executor_core.specs.State.{State, vacant, view_of_state, seen_task}
 use Rattle.executor_core.specs.Machine.{Machine, state_of}
 use Rattle.executor_core.specs.Invariants.{IsWellFormedCore, IsSound, IsDue, held, queued}

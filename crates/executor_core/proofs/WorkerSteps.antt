@@ -21,8 +21,9 @@ use Rattle.executor_core.specs.declared.task.Task.{Task}
 use Rattle.sched_time.specs.declared.timing.Ending.{Ending}
 use Rattle.delay_queue.specs.declared.entry.Entry.{Entry}
 use Rattle.delay_queue.specs.Queues as queues
+use Rattle.delay_queue.specs.Queues.{comes_before}
 use Rattle.queue_code.specs.Calls.{Planned, Terms, terms_of, due_at, numbers, task_count}
-use Rattle.executor_core.specs.View.{is_waiting, is_enabled, first_enabled, comes_before}
+use Rattle.executor_core.specs.View.{is_waiting, is_enabled, first_enabled}
 use Rattle.executor_core.specs.Answers.{plain, started, finished, outcome_in, due_next, stops_periodic}
 use Rattle.executor_core.specs.Histories.{is_ended, kept_after, meets}
 use Rattle.executor_core.specs.State.{State, view_of_state, seen_phase, due_seen, due_ahead, due_past, next, reply_of, state_after, task_after, vacant, finish_task, end_task}

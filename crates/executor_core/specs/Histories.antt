@@ -12,8 +12,9 @@ use Rattle.executor_core.specs.declared.types.Outcome.{Outcome}
 use Rattle.executor_core.specs.declared.types.Outcome.TheVariants as o
 use Rattle.executor_core.specs.declared.types.Answer.{Answer}
 use Rattle.executor_core.specs.declared.types.Answer.TheVariants as a
+use Rattle.delay_queue.specs.Queues.{comes_before}
 use Rattle.queue_code.specs.Calls.{Planned, how_many, terms_of, due_at}
-use Rattle.executor_core.specs.View.{Fate, View, is_waiting, comes_before}
+use Rattle.executor_core.specs.View.{Fate, View, is_waiting}
 use Rattle.executor_core.specs.Answers.{Reply, reply, moment_after, is_accepted, default_policies, set_policy, setting_sweeps}
 
 -- a happening with its answer, and the tasks that the answer ends

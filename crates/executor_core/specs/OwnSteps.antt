@@ -9,7 +9,7 @@ use Rattle.executor_core.specs.declared.types.Outcome.{Outcome}
 use Rattle.executor_core.specs.declared.types.Outcome.TheVariants as o
 use Rattle.executor_core.specs.declared.task.Task.{Task}
 use Rattle.delay_queue.specs.declared.entry.Entry.{Entry}
-use Rattle.executor_core.specs.View.{comes_before}
+use Rattle.delay_queue.specs.Queues.{comes_before}
 use Rattle.executor_core.specs.Answers.{plain, is_swept, swept}
 use Rattle.executor_core.specs.Histories.{is_ended}
 use Rattle.executor_core.specs.State.{view_of_state, vacant, end_task, next, reply_of}

@@ -2,7 +2,8 @@
 -- the executor is shut.
 -- Where a definition names a class, its source is the Java SE 17 documentation of that class.
 -- Where it names no source, it is this project's rule.
-use Rattle.std.specs.Prelude.{ℕ, ◌==◌, ◌&&◌, ◌||◌, Bool, not, nat_lt, nat_le, if◌then◌else◌, List, [], ◌∷◌, Option, Some, None}
+use Rattle.std.specs.Prelude.{ℕ, ◌==◌, ◌&&◌, ◌||◌, Bool, not, nat_le, if◌then◌else◌, List, [], ◌∷◌, Option, Some, None}
+use Rattle.delay_queue.specs.Queues.{comes_before}
 use Rattle.executor_core.specs.declared.policies.Policies.{Policies}
 
 -- what is known of one task
@@ -61,11 +62,6 @@ is_live f = is_waiting f || (is_running f && not f.cancelled)
 -- real-time guarantees about when, after they are enabled, they will commence.")
 abbrev pub is_enabled : View → ℕ → Bool
 is_enabled v k = is_waiting (v.fate k) && nat_le (v.fate k).due v.moment
-
--- a due moment and a task number come before others: the earlier due moment first, and at the same one
--- the smaller number (this project's rule)
-abbrev pub comes_before : ℕ → ℕ → ℕ → ℕ → Bool
-comes_before due j other k = nat_lt due other || ((due == other) && nat_lt j k)
 
 -- tasks are ordered by due moment, and tasks with the same due moment by number: this project's rule
 -- (by due moment as in DelayQueue: "The head of the queue is that Delayed element whose delay expired

@@ -93,6 +93,7 @@
 
 mod agenda;
 mod error;
+mod laws;
 mod limits;
 mod machine;
 mod policies;
@@ -104,6 +105,8 @@ mod tests;
 mod types;
 
 pub use error::CoreError;
+pub use laws::most_workers_is_the_limit;
+pub use limits::MOST_WORKERS;
 pub use machine::Core;
 pub use policies::Policies;
 pub use task::{Phase, Task};

@@ -1,2 +1,2 @@
 /// The greatest number of workers.
-pub(crate) const MOST_WORKERS: u8 = 64;
+pub const MOST_WORKERS: u8 = 64;
