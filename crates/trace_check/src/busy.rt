@@ -8,10 +8,13 @@ ghost use Rattle.executor_core.specs.declared.types.Line.{Line as Said};
 use executor_core::{Answer, EventError, Happening, Outcome};
 use sched_time::{Ending, LONGEST};
 
+/// How many workers a line can name.
+const MOST_NAMED: usize = 256;
+
 /// Which workers are busy.
 #[derive(Drop)]
 pub struct Busy {
-    flags: [bool; 256],
+    flags: [bool; MOST_NAMED],
     workers: u8,
 }
 
@@ -22,7 +25,7 @@ impl Busy {
         ensures none { (w : ℕ) → w < most_named → slice_index_or result.flags w false ≡ false }
     {
         Busy {
-            flags: [false; 256],
+            flags: [false; MOST_NAMED],
             workers,
         }
     }

@@ -13,7 +13,7 @@ use crate::busy::Busy;
 use crate::coming::{happen, may_come};
 use crate::error::CheckError;
 use crate::finding::Finding;
-use executor_core::{Answer, Core, Line, Message};
+use executor_core::{Answer, Core, Line, MOST_WORKERS, Message};
 use plan_compile::compile;
 use plan_read::Plan;
 use std::alloc::Allocator;
@@ -21,9 +21,6 @@ use trace_text::split_line;
 
 /// The greatest number of bytes of a text that is checked.
 pub const MOST_BYTES: usize = 67_108_864;
-
-/// The greatest number of workers.
-const MOST_WORKERS: u8 = 64;
 
 /// A check under way.
 #[derive(Drop)]
