@@ -23,7 +23,7 @@ use Rattle.sched.specs.declared.arguments.RunArguments.{RunArguments}
 use Rattle.sched.specs.Answers.{ListedAsAsked, RanAsAsked, Tells}
 use Rattle.sched.specs.Faults.{IsToldAs}
 use Rattle.sched.specs.Findings.{IsCheckedAsAsked}
-use Rattle.sched.specs.Fronts.{longest_trace}
+use Rattle.trace_check.specs.Standing.{most_bytes}
 use Rattle.sched.specs.Order.{AnswersCheck, AnswersCode, AnswersRun, code_faults, first_of, is_worker_count, plan_fault, run_faults}
 
 -- what stays is kept
@@ -78,11 +78,11 @@ not_counted workers isnt = elim (cases_Bool (is_worker_count workers)) [
 ]
 
 -- a trace's length passes the test
-not_too_long : (n : ℕ) → n ≤ longest_trace → nat_le n longest_trace ≡ true
+not_too_long : (n : ℕ) → n ≤ most_bytes → nat_le n most_bytes ≡ true
 not_too_long n short = grind (arith, nat_tests)
 
 -- a greater length fails it
-too_long : (n : ℕ) → longest_trace < n → nat_le n longest_trace ≡ false
+too_long : (n : ℕ) → most_bytes < n → nat_le n most_bytes ≡ false
 too_long n long = grind (arith, nat_tests)
 
 -- ---- a check
@@ -106,12 +106,12 @@ check_wrong_plan text fault told IsPlan IsTrace workers contents why is read = e
 pub check_no_trace : (text : List ℕ) (plan : PlanTree) (fault : Fault) (IsPlan IsFront IsTrace : Option (List ℕ) → Type 0) (workers : ℕ) (contents : Option (List ℕ))
     → TextWrites text plan → IsPlan (Some text) → ((trace : Option (List ℕ)) → IsFront trace → IsTrace trace)
     → (fault ≡ TraceTooLong) ⊎ (fault ≡ Run x.Memory) ⊎ ((fault ≡ TraceFile) × IsFront None)
-    → (fault ≡ TraceTooLong → (trace : List ℕ) × IsFront (Some trace) × (longest_trace < length trace))
+    → (fault ≡ TraceTooLong → (trace : List ℕ) × IsFront (Some trace) × (most_bytes < length trace))
     → AnswersCheck (Err fault) IsPlan IsTrace workers contents contents
 check_no_trace text plan fault IsPlan IsFront IsTrace workers contents writes read gives (inl long) is_long =
     let found = is_long long in
     let none = no_plan_fault text plan writes in
-    let more : nat_le (length found.0) longest_trace ≡ false = too_long (length found.0) found.2 in
+    let more : nat_le (length found.0) most_bytes ≡ false = too_long (length found.0) found.2 in
     inr (record {
       plan = Some text;
       trace = Some found.0;
@@ -140,14 +140,14 @@ told_workers answer plan workers trace old new few wrong checked =
 
 -- both files were read
 pub check_both : (text : List ℕ) (plan : PlanTree) (trace : List ℕ) (answer : Result ℕ Fault) (IsPlan IsTrace : Option (List ℕ) → Type 0) (workers : ℕ) (old new : Option (List ℕ))
-    → TextWrites text plan → IsPlan (Some text) → IsTrace (Some trace) → length trace ≤ longest_trace
+    → TextWrites text plan → IsPlan (Some text) → IsTrace (Some trace) → length trace ≤ most_bytes
     → (¬ IsWorkerCount workers → answer ≡ Err (Run x.Workers))
     → IsCheckedAsAsked answer plan workers trace old new
     → AnswersCheck answer IsPlan IsTrace workers old new
 check_both text plan trace answer IsPlan IsTrace workers old new writes read trace_read short wrong checked =
     let none = no_plan_fault text plan writes in
     let is : plan_of_text text ≡ plan = (text_only text plan writes).1 in
-    let fits : nat_le (length trace) longest_trace ≡ true = not_too_long (length trace) short in
+    let fits : nat_le (length trace) most_bytes ≡ true = not_too_long (length trace) short in
     inr (record {
       plan = Some text;
       trace = Some trace;

@@ -10,6 +10,7 @@ use Rattle.clap.specs.declared.error.kind.ErrorKind.{ErrorKind}
 use Rattle.clap.specs.declared.error.kind.ErrorKind.TheVariants as k
 use Rattle.sched.specs.declared.fault_lines.Fault.{Fault}
 use Rattle.sched.specs.declared.fault_lines.Fault.TheVariants.{Run}
+use Rattle.executor_core.specs.Counts.{most_workers}
 use Rattle.sched_engine.specs.declared.report.RunError.TheVariants as x
 use Rattle.sched.specs.Faults.{status_of}
 
@@ -28,7 +29,7 @@ workers_rule = record (new_rule (codes "workers")) {
   value_names = 1;
   required = true;
   action = Some Set;
-  parser = Some (Signed (pos 1) (pos 64));
+  parser = Some (Signed (pos 1) (pos most_workers));
 }
 
 -- --limit N: 1 to 4294967295, and 1000000 where it is left out

@@ -1,21 +1,19 @@
--- Fronts: how much of a file is read, and how long a trace may be.
+-- Fronts: how much of a file is read.
 -- All of it is this project's rule.
-use Rattle.std.specs.Prelude.{◌≡◌, ◌≢◌, ℕ, List, Option, Some, None, Result, Ok, Err, IfSome, take, ⊤}
+use Rattle.std.specs.Prelude.{◌≡◌, ◌≢◌, ℕ, ◌+◌, List, Option, Some, None, Result, Ok, Err, IfSome, take, ⊤}
 use Rattle.std.specs.IoError.{error_kind}
 use Rattle.std.specs.declared.io.Error.{Error}
 use Rattle.std.specs.declared.io.ErrorKind.TheVariants.{OutOfMemory}
+use Rattle.plan_read.specs.Texts.{longest_text}
+use Rattle.trace_check.specs.Standing.{most_bytes}
 
 -- how many bytes of a plan file are read at most: one more than a plan text may have, which shows that the file is longer
 abbrev pub most_of_plan : ℕ
-most_of_plan = 1048577
+most_of_plan = longest_text + 1
 
 -- how many bytes of a trace file are read at most: one more than a trace may have
 abbrev pub most_of_trace : ℕ
-most_of_trace = 67108865
-
--- how many bytes a trace has at most
-abbrev pub longest_trace : ℕ
-longest_trace = 67108864
+most_of_trace = most_bytes + 1
 
 -- what is read of a file, of this many bytes at most
 abbrev pub front : ℕ → List ℕ → List ℕ

@@ -11,7 +11,7 @@ use Rattle.sched.specs.declared.fault_lines.Fault.{Fault}
 use Rattle.sched.specs.declared.fault_lines.Fault.TheVariants.{PlanFile, TraceFile, TraceTooLong, Run}
 use Rattle.sched.specs.Answers.{ListedAsAsked, RanAsAsked}
 use Rattle.sched.specs.Findings.{IsCheckedAsAsked}
-use Rattle.sched.specs.Fronts.{longest_trace}
+use Rattle.trace_check.specs.Standing.{most_bytes}
 
 -- ---- the lists. What was read of a file is its bytes, or nothing where it can't be read
 
@@ -54,7 +54,7 @@ check_faults plan trace workers =
     (PlanFile unless is_some plan)
     ∷ plan_fault (bytes_of plan)
     ∷ (TraceFile unless is_some trace)
-    ∷ (TraceTooLong unless nat_le (length (bytes_of trace)) longest_trace)
+    ∷ (TraceTooLong unless nat_le (length (bytes_of trace)) most_bytes)
     ∷ (Run x.Workers unless is_worker_count workers)
     ∷ []
 

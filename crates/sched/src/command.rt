@@ -5,6 +5,7 @@ ghost use Rattle.clap.specs.Words.{app_of, rule_of};
 ghost use Rattle.sched.specs.Commands.{check_app, code_app, limit_rule, plan_rule, run_app, sched_app, trace_rule, workers_rule};
 
 use clap::{Arg, ArgAction, Command, value_parser};
+use executor_core::MOST_WORKERS;
 use std::alloc::{AllocError, Global};
 
 /// What the help says below the commands: the exit statuses.
@@ -247,7 +248,7 @@ fn workers<'a>(alloc: Global) -> Arg<'a>
         .help("How many workers there are, 1 to 64")
         .required(true)
         .action(ArgAction::Set)
-        .value_parser(value_parser!(u8).range(1..65))
+        .value_parser(value_parser!(u8).range(1..i64::from(MOST_WORKERS) + 1))
 }
 
 /// `--limit N`, 1 to 4,294,967,295, and 1,000,000 where it is left out.

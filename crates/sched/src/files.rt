@@ -1,22 +1,25 @@
 //! The files that the program reads: plans and traces.
 
 ghost use Rattle.std.specs.Prelude.{◌≡◌, ℕ, ◌<◌, ◌≤◌, ◌⊎◌, List, None, Some, IfErr, IfOk, IfSome, IsErrOf, length};
-ghost use Rattle.sched.specs.Fronts.{IsReadOf, front, longest_trace, most_of_plan, most_of_trace};
+ghost use Rattle.sched.specs.Fronts.{IsReadOf, front, most_of_plan, most_of_trace};
+ghost use Rattle.trace_check.specs.Standing.{most_bytes};
 ghost use Rattle.sched.specs.Faults.{IsOrMemory};
 ghost use Rattle.sched.specs.declared.fault_lines.Fault.TheVariants.{PlanFile, Run, TraceFile, TraceTooLong};
 ghost use Rattle.sched_engine.specs.declared.report.RunError.TheVariants.{Memory};
 
 use crate::fault_lines::Fault;
+use plan_read::LONGEST_TEXT;
 use std::alloc::Global;
 use std::io;
 use std::io::Read;
+use trace_check::MOST_BYTES;
 
 /// How many bytes of a plan file are read at most: one more than a plan text may have, so that a
 /// longer file is seen to be too long.
-pub const MOST_OF_PLAN: u64 = 1_048_577;
+pub const MOST_OF_PLAN: u64 = LONGEST_TEXT as u64 + 1;
 
 /// How many bytes of a trace file are read at most: one more than a trace may have.
-pub const MOST_OF_TRACE: u64 = 67_108_865;
+pub const MOST_OF_TRACE: u64 = MOST_BYTES as u64 + 1;
 
 /// The text of a plan's file as the system opened it: its first [`MOST_OF_PLAN`] bytes. `Err` where it was not opened, where
 /// these can't be read, or where memory ran out.
@@ -43,8 +46,8 @@ pub fn plan_front<R: Read + Drop>(alloc: Global, reader: R) -> Result<Vec<u8>, F
 /// memory ran out, or where it has more than 67,108,864 bytes.
 pub fn trace_text<R: Read + Drop>(alloc: Global, opened: io::Result<R>) -> Result<Vec<u8>, Fault>
     ensures text { IfOk result (λ text. IsReadOf R.remaining most_of_trace opened (Some text.items)) }
-    ensures size { IfOk result (λ text. length text.items ≤ longest_trace) }
-    ensures long { IsErrOf result TraceTooLong → (text : List ℕ) × IsReadOf R.remaining most_of_trace opened (Some text) × (longest_trace < length text) }
+    ensures size { IfOk result (λ text. length text.items ≤ most_bytes) }
+    ensures long { IsErrOf result TraceTooLong → (text : List ℕ) × IsReadOf R.remaining most_of_trace opened (Some text) × (most_bytes < length text) }
     ensures fault { IfErr result (λ e. (e ≡ TraceTooLong) ⊎ (e ≡ Run Memory) ⊎ ((e ≡ TraceFile) × IsReadOf R.remaining most_of_trace opened None)) }
 {
     match opened {
@@ -57,8 +60,8 @@ pub fn trace_text<R: Read + Drop>(alloc: Global, opened: io::Result<R>) -> Resul
 /// out, or where there are more than 67,108,864; at most [`MOST_OF_TRACE`] of them are read.
 pub fn whole_trace<R: Read + Drop>(alloc: Global, reader: R) -> Result<Vec<u8>, Fault>
     ensures text { IfOk result (λ text. IfSome (R.remaining reader) (λ bytes. text.items ≡ bytes)) }
-    ensures size { IfOk result (λ text. length text.items ≤ longest_trace) }
-    ensures long { IsErrOf result TraceTooLong → IfSome (R.remaining reader) (λ bytes. longest_trace < length bytes) }
+    ensures size { IfOk result (λ text. length text.items ≤ most_bytes) }
+    ensures long { IsErrOf result TraceTooLong → IfSome (R.remaining reader) (λ bytes. most_bytes < length bytes) }
     ensures fault { IfErr result (λ e. (e ≡ TraceTooLong) ⊎ IsOrMemory TraceFile e) }
 {
     let text = front_of(alloc, reader, MOST_OF_TRACE, Fault::TraceFile)?;

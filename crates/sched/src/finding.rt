@@ -4,7 +4,7 @@ ghost use Rattle.std.specs.Prelude.{◌≡◌, ◌≤◌, ◌↔◌, IfOk, IsErr
 ghost use Rattle.executor_core.specs.Counts.{IsWorkerCount};
 ghost use Rattle.sched.specs.Faults.{status_of as fault_status};
 ghost use Rattle.sched.specs.Findings.{IsCheckedAsAsked, finding_text, finding_status};
-ghost use Rattle.sched.specs.Fronts.{longest_trace};
+ghost use Rattle.trace_check.specs.Standing.{most_bytes};
 
 use crate::fault_lines::Fault;
 use plan_read::Plan;
@@ -22,7 +22,7 @@ pub fn write_finding<A: Allocator + Copy, B: Allocator, W: Sink>(
     trace: &[u8],
     writer: &mut W,
 ) -> Result<u8, Fault>
-    requires { length trace.now ≤ longest_trace }
+    requires { length trace.now ≤ most_bytes }
     ensures found { IsCheckedAsAsked result plan.now workers trace.now (W.contents writer.old) (W.contents writer.new) }
     ensures workers { IsErrOf result (Fault.Run RunError.Workers) ↔ ¬ IsWorkerCount workers }
     ensures status { MatchResult result (λ s. s ≤ 1) (λ e. fault_status e ≡ 1) }

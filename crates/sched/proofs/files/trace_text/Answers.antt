@@ -3,7 +3,8 @@ use Rattle.std.specs.Prelude.{IfOk, IfSome}
 use Rattle.std.proofs.lemmas.List.{length-take, length-replicate, take_all}
 use Rattle.std.specs.declared.io.Error.{Error}
 use Rattle.sched.specs.Faults.{IsOrMemory}
-use Rattle.sched.specs.Fronts.{IsReadOf, longest_trace, most_of_trace}
+use Rattle.sched.specs.Fronts.{IsReadOf, most_of_trace}
+use Rattle.trace_check.specs.Standing.{most_bytes}
 use Rattle.sched.specs.declared.fault_lines.Fault.{Fault}
 use Rattle.sched.specs.declared.fault_lines.Fault.TheVariants.{TraceFile, TraceTooLong}
 use Rattle.sched.proofs.files.trace_text.Goals as goal
@@ -15,7 +16,7 @@ all_are_front most (Some bytes) text all short = all ∙ sym (take_all most byte
 
 -- what was read of a file that was opened
 read_all : {R V : Type 0} (remaining : R → Option (List ℕ)) (opened : Result R Error) (reader : R) (items : V → List ℕ) (result : Result V Fault)
-    → opened ≡ Ok reader → IfOk result (λ t. IfSome (remaining reader) (λ bytes. items t ≡ bytes)) → IfOk result (λ t. length (items t) ≤ longest_trace)
+    → opened ≡ Ok reader → IfOk result (λ t. IfSome (remaining reader) (λ bytes. items t ≡ bytes)) → IfOk result (λ t. length (items t) ≤ most_bytes)
     → IfOk result (λ t. IsReadOf remaining most_of_trace opened (Some (items t)))
 read_all remaining opened reader items (Ok t) is all short = rw is (all_are_front most_of_trace (remaining reader) (items t) all (omega (arith, short)))
 read_all remaining opened reader items (Err e) is all short = tt
@@ -36,7 +37,7 @@ returns-in-Ok-clause-text g c = read_all g.R.Read.remaining c.args.opened c.in-O
 
 pub returns-in-Ok-clause-long : goal.returns-in-Ok-clause-long
 returns-in-Ok-clause-long g c = λ q.
-    let found = front_is_long longest_trace most_of_trace (g.R.Read.remaining c.in-Ok.file) (omega arith) (c.whole_trace.ensures.long q) in
+    let found = front_is_long most_bytes most_of_trace (g.R.Read.remaining c.in-Ok.file) (omega arith) (c.whole_trace.ensures.long q) in
     (found.0, rw c.in-Ok.is found.1, found.2)
 
 pub returns-in-Err-clause-long : goal.returns-in-Err-clause-long

@@ -1,11 +1,11 @@
 use Rattle.std.proofs.Common.{ap, ◌≡◌, ◌<◌, ◌≤◌, ◌∙◌, arith, ℕ, List, length, Option, Some, None, take}
 use Rattle.std.specs.Prelude.{IfSome}
 use Rattle.std.proofs.lemmas.List.{length-take, take_all}
-use Rattle.sched.specs.Fronts.{longest_trace}
+use Rattle.trace_check.specs.Standing.{most_bytes}
 use Rattle.sched.proofs.files.whole_trace.Goals as goal
 
 -- a front with as many bytes as it may have shows that there are as many
-is_long : (known : Option (List ℕ)) (text : List ℕ) → IfSome known (λ bytes. text ≡ take 67108865 bytes) → 67108865 ≤ length text → IfSome known (λ bytes. longest_trace < length bytes)
+is_long : (known : Option (List ℕ)) (text : List ℕ) → IfSome known (λ bytes. text ≡ take 67108865 bytes) → 67108865 ≤ length text → IfSome known (λ bytes. most_bytes < length bytes)
 is_long None text front long = front
 is_long (Some bytes) text front long = omega (arith, ap length front, length-take 67108865 bytes, long)
 
