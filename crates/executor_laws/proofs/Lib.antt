@@ -11,5 +11,6 @@ pub mod Policies
 pub mod Refusals
 pub mod Termination
 pub mod Kept
+pub mod Asks
 pub mod Lines
 pub mod WordMoves

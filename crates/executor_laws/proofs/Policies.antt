@@ -230,7 +230,8 @@ shut_is_a_shutdown calls workers past m = (shutdown_found calls workers past m, 
 
 -- ---- sweeps
 
-ascends : (test : ℕ → Bool) (low first n : ℕ) → low ≤ first → AscendsFrom low (filter test (range_with_len first n))
+-- the numbers of a range that pass a test ascend
+pub ascends : (test : ℕ → Bool) (low first n : ℕ) → low ≤ first → AscendsFrom low (filter test (range_with_len first n))
 ascends test low first zero l = tt
 ascends test low first (suc n) l =
     let pick : (b : Bool) → AscendsFrom low (cond b (first ∷ filter test (range_with_len (first + 1) n)) (filter test (range_with_len (first + 1) n))) =
@@ -238,8 +239,8 @@ ascends test low first (suc n) l =
     in
     pick (test first)
 
--- the numbers of a range that pass a test
-ends_within : (test : ℕ → Bool) (n k : ℕ) → is_end k (filter test (range_with_len 0 n)) ≡ (nat_lt k n && test k)
+-- which the numbers of a range are that pass a test
+pub ends_within : (test : ℕ → Bool) (n k : ℕ) → is_end k (filter test (range_with_len 0 n)) ≡ (nat_lt k n && test k)
 ends_within test n k = by (nat_lt k n) refl
   where
     by : (b : Bool) → nat_lt k n ≡ b → is_end k (filter test (range_with_len 0 n)) ≡ (b && test k)

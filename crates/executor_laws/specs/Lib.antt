@@ -8,4 +8,5 @@ pub mod Positions
 pub mod Laws
 pub mod TaskWords
 pub mod Policies
+pub mod Asks
 pub mod NeedWrites

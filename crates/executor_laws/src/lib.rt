@@ -45,10 +45,11 @@ pub use laws::{
     runs_do_not_overlap, starts_are_in_order, states_answer, ties_go_by_submission,
 };
 pub use positions::{
-    finish_keeps_now, first_is_the_least, flow_keeps_the_events, flow_makes_what_is_reached,
-    flow_may_come, last_finish_is_the_last, lines_are_in_time, none_is_enabled,
-    now_is_the_greatest, reached_is_a_front, starts_exceed_finishes, tasks_are_submitted,
-    terms_are_its_own, waiting_is_a_task, waiting_is_due_in_time, work_is_the_last_start,
+    asks_by_position, finish_keeps_now, first_is_the_least, flow_keeps_the_events,
+    flow_makes_what_is_reached, flow_may_come, last_finish_is_the_last, lines_are_in_time,
+    none_is_enabled, now_is_the_greatest, reached_is_a_front, starts_exceed_finishes,
+    tasks_are_submitted, terms_are_its_own, waiting_is_a_task, waiting_is_due_in_time,
+    work_is_the_last_start,
 };
 pub use states::{
     cancelled_words_stay, errors_change_nothing, needs_move_words, ranks_do_not_fall,

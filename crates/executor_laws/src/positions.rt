@@ -1,5 +1,6 @@
 //! What the definitions by recursion say of the positions in a history.
 ghost use Rattle.executor_laws.specs.Positions.{WorkIsTheLastStart, StartsExceedFinishes, NowIsTheGreatest, FirstIsTheLeast, NoneIsEnabled, ReachedIsAFront, TasksAreSubmitted, TermsAreItsOwn, FlowKeepsTheEvents, FlowMakesWhatIsReached, FlowMayCome, WaitingIsATask, WaitingIsDueInTime, LinesAreInTime, LastFinishIsTheLast, FinishKeepsNow};
+ghost use Rattle.executor_laws.specs.Asks.{AsksByPosition};
 
 /// The work of a worker is the task of its last start, where no finish came after it.
 pub fn work_is_the_last_start()
@@ -80,4 +81,10 @@ pub fn last_finish_is_the_last()
 /// A finish does not move now.
 pub fn finish_keeps_now()
     ensures { FinishKeepsNow }
+{}
+
+/// An ask tells how many tasks wait or are kept, how many runs are under way, whether a shutdown was
+/// made, and whether after one nothing is queued or run: each by the positions before it.
+pub fn asks_by_position()
+    ensures { AsksByPosition }
 {}
