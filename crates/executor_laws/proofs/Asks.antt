@@ -17,7 +17,7 @@ use Rattle.executor_core.specs.View.{View, is_running, is_over, is_waiting, firs
 use Rattle.executor_core.specs.Answers.{plain, reply, called, kind_of, swept, started, finished, is_queued, queue_size, running_count, is_terminated, effect_on}
 use Rattle.executor_core.specs.Histories.{HistoryEntry, IsHistoryOf, view_of_history, starts, finishes, was_shut}
 use Rattle.executor_laws.specs.Policies.{KeptSince}
-use Rattle.executor_laws.specs.Asks.{Waits, IsUnderWay, AreSo, AsksByPosition}
+use Rattle.executor_laws.specs.Asks.{Waits, IsUnderWay, IsCountOf, AsksByPosition}
 use Rattle.executor_laws.proofs.StartLaws.{means_front}
 use Rattle.executor_laws.proofs.Replies.{end_parts}
 use Rattle.executor_laws.proofs.Policies.{ascends, ends_within, shut_is_a_shutdown}
@@ -79,7 +79,7 @@ count_is_length test (k ∷ ks) =
     pick (test k)
 
 -- the tasks of a plan that pass a test are counted, where no other number passes it
-counted : (calls : List Planned) (test : ℕ → Bool) (IsSo : ℕ → Type 0) → ((k : ℕ) → (test k ≡ true) ↔ IsSo k) → ((k : ℕ) → test k ≡ true → k < task_count calls) → AreSo IsSo (how_many test (numbers calls))
+counted : (calls : List Planned) (test : ℕ → Bool) (IsSo : ℕ → Type 0) → ((k : ℕ) → (test k ≡ true) ↔ IsSo k) → ((k : ℕ) → test k ≡ true → k < task_count calls) → IsCountOf IsSo (how_many test (numbers calls))
 counted calls test IsSo same within = record {
   those = filter test (numbers calls);
   ascending = ascends test 0 0 (task_count calls) (omega arith);
@@ -136,8 +136,8 @@ asks_by_position calls workers later past e queue running shut terminated o m is
     let tasks : (k : ℕ) → (is_queued (v.fate k) ≡ true → k < task_count calls) × (is_running (v.fate k) ≡ true → k < task_count calls) = λ k. queued_and_running_are_tasks calls workers past k o here.0 in
     let shutdown = shut_is_a_shutdown calls workers past here.0 in
     record {
-      queued = subst (AreSo (λ k. Waits past k ⊎ KeptSince calls past k)) (sym size) (counted calls (λ k. is_queued (v.fate k)) _ (λ k. queued calls workers past k here.0) (λ k. (tasks k).0));
-      run = subst (AreSo (IsUnderWay past)) (sym runs) (counted calls (λ k. is_running (v.fate k)) _ (under_way calls past) (λ k. (tasks k).1));
+      queued = subst (IsCountOf (λ k. Waits past k ⊎ KeptSince calls past k)) (sym size) (counted calls (λ k. is_queued (v.fate k)) _ (λ k. queued calls workers past k here.0) (λ k. (tasks k).0));
+      run = subst (IsCountOf (IsUnderWay past)) (sym runs) (counted calls (λ k. is_running (v.fate k)) _ (under_way calls past) (λ k. (tasks k).1));
       closed = (λ q. shutdown.0 (sym closed ∙ q), λ s. closed ∙ shutdown.1 s);
       over = (
         λ q.

@@ -21,8 +21,8 @@ pub record Waits (past : List HistoryEntry) (k : ℕ) : Type 0 where
 abbrev pub IsUnderWay : List HistoryEntry → ℕ → Type 0
 IsUnderWay past k = starts k past ≡ finishes k past → ⊥
 
--- just `count` numbers are so: ascending, they are a list of this length
-pub record AreSo (IsSo : ℕ → Type 0) (count : ℕ) : Type 0 where
+-- exactly `count` numbers are so: a list of this length has each of them once, ascending, and no other
+pub record IsCountOf (IsSo : ℕ → Type 0) (count : ℕ) : Type 0 where
   pub those : List ℕ
   pub ascending : AscendsFrom 0 those
   pub exact : (k : ℕ) → ((list_any (λ j. j == k) those ≡ true) ↔ IsSo k)
@@ -34,8 +34,8 @@ pub record TellsByPosition (calls : List Planned) (past : List HistoryEntry) (qu
   -- the tasks that wait, and those that were cancelled while they waited and are kept
   -- (ScheduledThreadPoolExecutor: "By default, such a cancelled task is not automatically removed from the work queue
   -- until its delay elapses.")
-  pub queued : AreSo (λ k. Waits past k ⊎ KeptSince calls past k) queue
-  pub run : AreSo (IsUnderWay past) running
+  pub queued : IsCountOf (λ k. Waits past k ⊎ KeptSince calls past k) queue
+  pub run : IsCountOf (IsUnderWay past) running
   -- (ExecutorService.isShutdown: "Returns true if this executor has been shut down.")
   pub closed : (shut ≡ true) ↔ ShutdownWasMade calls past
   -- (ExecutorService.isTerminated: "Returns true if all tasks have completed following shut down.")
