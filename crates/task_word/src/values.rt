@@ -15,8 +15,8 @@ pub(crate) const BIT: u64 = 1 << 63;
 /// The word of a task that a table keeps is [`Word::value`].
 #[derive(Clone, Copy, Debug, PartialEq, Eq)]
 pub struct Word {
-    phase: Phase,
     run: u32,
+    phase: Phase,
     marked: bool,
 }
 
