@@ -1,5 +1,5 @@
 -- A number read in one pass.
-use Rattle.std.proofs.Common.{◌≡◌, ℕ, ◌+◌, ◌-◌, ◌*◌, ◌^◌, ◌<◌, ◌≤◌, List, ◌++◌, take, drop, length, get_or, ap, ◌∙◌, sym, subst, refl, arith, inl, inr}
+use Rattle.std.proofs.Common.{◌≡◌, ℕ, ◌+◌, ◌-◌, ◌*◌, ◌%◌, ◌^◌, ◌<◌, ◌≤◌, List, ◌++◌, take, drop, length, get_or, ap, ◌∙◌, sym, subst, refl, arith, inl, inr}
 use Rattle.std.specs.Fmt.{decimal}
 use Rattle.std.specs.Char.{digit_value}
 use Rattle.std.specs.Int.{IsInRange}
@@ -66,6 +66,20 @@ below_power i value few small = omega (arith, small, power_le i 18 (omega arith)
 -- a digit more multiplies the limit by ten
 pub power_more : (i value digit : ℕ) → value < 10 ^ i → digit ≤ 9 → value * 10 + digit < 10 ^ (i + 1)
 power_more i value digit small single = omega (arith, small, single, power_next i)
+
+-- what a byte is that is at most 9 once 48 is taken off, round the greatest number
+pub record IsDigitCode (code : ℕ) : Type 0 where
+  pub low : 48 ≤ code
+  pub high : code ≤ 57
+  pub value : (code + 18446744073709551568) % 18446744073709551616 ≡ code - 48
+
+-- a byte that is at most 9 once 48 is taken off, round the greatest number, is a digit
+pub digit_within : (code : ℕ) → code < 256 → (code + 18446744073709551568) % 18446744073709551616 ≤ 9 → IsDigitCode code
+digit_within code byte small = record {
+  low = omega (arith, byte, small);
+  high = omega (arith, byte, small);
+  value = omega (arith, byte, small);
+}
 
 -- the twentieth of twenty digits
 pub twentieth : (line : List ℕ) → 20 ≤ length line → AllDigits 10 (take 20 line) → IsInRange 48 57 (get_or line 19 0)

@@ -6,6 +6,9 @@ ghost use Rattle.std.specs.Str.Parse.{AllDigits, digits_value};
 ghost use Rattle.trace_text.specs.Spelling.{EndsNumber};
 ghost use Rattle.trace_text.specs.Reading.{IsRead, IsUnread, number_then, Below};
 
+/// The code of the digit 0.
+const ZERO: u64 = b'0' as u64;
+
 /// What follows `word` at the front of `bytes`. `None` exactly when `bytes` does not begin with it.
 #[inline(always)]
 pub fn strip<'a>(bytes: &'a [u8], word: &[u8]) -> Option<&'a [u8]>
@@ -52,8 +55,8 @@ pub fn split_number(bytes: &[u8]) -> Option<(u64, &[u8])>
 {
     let mut value = 0u64;
     for i in 0..bytes.len() {
-        let code = bytes[i];
-        if code < b'0' || code > b'9' {
+        let digit = u64::from(bytes[i]).wrapping_sub(ZERO);
+        if digit > 9 {
             return number_up_to(bytes, i, value);
         }
         if i >= 19 {
@@ -62,7 +65,7 @@ pub fn split_number(bytes: &[u8]) -> Option<(u64, &[u8])>
                 None => None,
             };
         }
-        value = value * 10 + (code - b'0') as u64;
+        value = value * 10 + digit;
     }
     number_up_to(bytes, bytes.len(), value)
 }
