@@ -61,21 +61,31 @@ impl<A: Allocator> Core<A> {
         ensures yes { result ≡ effect.Yes → self.new ≡ record self.old { tasks = slice_set self.old.tasks task (cancelled_task self.old.policies.removes (slice_index_or self.old.tasks task vacant)) } }
         ensures no { result ≢ effect.Yes → self.new ≡ self.old }
     {
-        let place = task as usize;
-        let before = self.tasks.get(place);
-        let effect = effect_on(before);
+        let effect = effect_on(self.tasks.get(task as usize));
         if effect == CancelEffect::Yes {
-            self.tasks.cancel(place);
-            self.queue.remove(task);
-            if before.phase == Phase::Waiting && !self.policies.removes {
-                self.tasks.keep(place, true);
-                self.kept.insert(Entry {
-                    due: before.due,
-                    task,
-                });
-            }
+            self.cancel_live(task);
         }
         effect
+    }
+
+    /// Cancels a task that waits or is run, and is not cancelled. It stands apart, so that a cancel without effect is short.
+    #[inline(never)]
+    fn cancel_live(&mut self, task: u32)
+        requires known { task < length self.old.tasks }
+        requires live { effect_on (seen_task (terms_of self.old.calls task) (slice_index_or self.old.tasks task vacant)) ≡ effect.Yes }
+        ensures { self.new ≡ record self.old { tasks = slice_set self.old.tasks task (cancelled_task self.old.policies.removes (slice_index_or self.old.tasks task vacant)) } }
+    {
+        let place = task as usize;
+        let before = self.tasks.get(place);
+        self.tasks.cancel(place);
+        self.queue.remove(task);
+        if before.phase == Phase::Waiting && !self.policies.removes {
+            self.tasks.keep(place, true);
+            self.kept.insert(Entry {
+                due: before.due,
+                task,
+            });
+        }
     }
 }
 
