@@ -20,6 +20,7 @@ use Rattle.executor_core.specs.Tables.{one, is_running_phase, is_waiting_phase, 
 use Rattle.executor_core.specs.Machine.{Machine, state_of}
 use Rattle.executor_core.specs.Invariants.{queued, queued_phase, held, IsWellFormedCore}
 use Rattle.executor_core.specs.OwnSteps.{Takes}
+use Rattle.executor_core.specs.Sought.{Sought}
 use Rattle.executor_core.proofs.Flowing.{how_many-le}
 use Rattle.executor_core.proofs.Keeping.{kept_stays}
 use Rattle.executor_core.proofs.Calling.{called_state, passed, passed_steps}
@@ -147,9 +148,9 @@ two_queues (t ∷ tasks) gone =
 -- what an ask counts, and its step
 
 -- the entries of both queues are as many as the tasks that stand in the queue
-pub queue_counts : (m : Machine) (entries keeps : List (Option ℕ)) (searched : Bool) → IsWellFormedCore m entries keeps searched →
+pub queue_counts : (m : Machine) (entries keeps : List (Option ℕ)) (sought : Sought) → IsWellFormedCore m entries keeps sought →
     queues.entry_count entries + queues.entry_count keeps ≡ queue_size m.calls (view_of_state m.calls (state_of m))
-queue_counts m entries keeps searched kept =
+queue_counts m entries keeps sought kept =
     let v = view_of_state m.calls (state_of m) in
     let seen = count_all (λ k. is_queued (v.fate k)) (λ (t : Task). waits_with t || t.kept) m.tasks
     (λ k. ap (λ b. b || (slice_index_or m.tasks k vacant).kept) (seen_waits (terms_of m.calls k) (slice_index_or m.tasks k vacant) (kept.sound.over k))) in
@@ -159,9 +160,9 @@ queue_counts m entries keeps searched kept =
     ∙ (sym seen ∙ ap (λ n. how_many (λ k. is_queued (v.fate k)) (range_with_len 0 n)) kept.count)))
 
 -- the tasks whose run is under way are as many as those that are seen to be run
-pub run_counts : (m : Machine) (entries keeps : List (Option ℕ)) (searched : Bool) → IsWellFormedCore m entries keeps searched →
+pub run_counts : (m : Machine) (entries keeps : List (Option ℕ)) (sought : Sought) → IsWellFormedCore m entries keeps sought →
     running_in m.tasks ≡ running_count m.calls (view_of_state m.calls (state_of m))
-run_counts m entries keeps searched kept =
+run_counts m entries keeps sought kept =
     let v = view_of_state m.calls (state_of m) in
     let seen = count_all (λ k. is_running (v.fate k)) (λ (t : Task). is_running_phase t.phase) m.tasks (λ k. seen_runs (terms_of m.calls k) (slice_index_or m.tasks k vacant)) in
     sym seen ∙ ap (λ n. how_many (λ k. is_running (v.fate k)) (range_with_len 0 n)) kept.count
@@ -177,19 +178,19 @@ asked_state m at queue running shut terminated =
     }
 
 -- a core takes the step of a question, with the counts as the core has them
-pub ask_steps : (m old : Machine) (entries keeps : List (Option ℕ)) (searched : Bool) (moment at queue running : ℕ) (terminated : Bool) → IsWellFormedCore m entries keeps searched →
+pub ask_steps : (m old : Machine) (entries keeps : List (Option ℕ)) (sought : Sought) (moment at queue running : ℕ) (terminated : Bool) → IsWellFormedCore m entries keeps sought →
     slice_get m.calls m.made ≡ Some (at, c.Ask) → queue ≡ queues.entry_count entries + queues.entry_count keeps → running ≡ running_in m.tasks → terminated ≡ is_terminated m.shut queue running →
     moment ≡ max m.moment at → m ≡ old → Takes old (passed m moment) h.Call (a.Ask queue running m.shut terminated)
-ask_steps m old entries keeps searched moment at queue running terminated kept is stand run ends greatest same =
-    let queued_so = stand ∙ queue_counts m entries keeps searched kept in
-    let run_so = run ∙ run_counts m entries keeps searched kept in
+ask_steps m old entries keeps sought moment at queue running terminated kept is stand run ends greatest same =
+    let queued_so = stand ∙ queue_counts m entries keeps sought kept in
+    let run_so = run ∙ run_counts m entries keeps sought kept in
     passed_steps m old moment at c.Ask (a.Ask queue running m.shut terminated) is
     (sym (ap (λ b. plain (a.Ask queue running m.shut b)) ends ∙ (λ i. plain (a.Ask (queued_so i) (run_so i) m.shut (is_terminated m.shut (queued_so i) (run_so i))))))
     (asked_state m at queue running m.shut terminated) greatest same
 
 -- the counts are small enough
-pub counts_within : (m : Machine) (entries keeps : List (Option ℕ)) (searched : Bool) → IsWellFormedCore m entries keeps searched → (queues.entry_count entries + queues.entry_count keeps ≤ 65536) × (running_in m.tasks ≤ 65536)
-counts_within m entries keeps searched kept =
+pub counts_within : (m : Machine) (entries keeps : List (Option ℕ)) (sought : Sought) → IsWellFormedCore m entries keeps sought → (queues.entry_count entries + queues.entry_count keeps ≤ 65536) × (running_in m.tasks ≤ 65536)
+counts_within m entries keeps sought kept =
     let few : length m.tasks ≤ 65536 = omega (arith, kept.count, how_many-le (λ (p : Planned). is_submission p.1) m.calls, kept.orderly.0) in
     let all = (λ i. queues.entry_count (kept.queue i) + queues.entry_count (kept.keeping i)) ∙ ((λ i. count_entries queued m.tasks i + count_entries held m.tasks i) ∙ two_queues m.tasks (λ k held. (kept.sound.kept k held).1)) in
     (omega (arith, few, all, how_many-le (λ (t : Task). waits_with t || t.kept) m.tasks), omega (arith, few, how_many-le (λ (t : Task). is_running_phase t.phase) m.tasks))

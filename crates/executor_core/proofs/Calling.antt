@@ -15,6 +15,7 @@ use Rattle.executor_core.specs.State.{State, view_of_state, next, reply_of, stat
 use Rattle.executor_core.specs.Machine.{Machine, workers_of, state_of}
 use Rattle.executor_core.specs.Invariants.{IsWellFormedCore}
 use Rattle.executor_core.specs.OwnSteps.{Takes}
+use Rattle.executor_core.specs.Sought.{Sought}
 use Rattle.executor_core.proofs.Tables.{call_moment, count_grows}
 
 -- what a call made at some moment looks at
@@ -50,10 +51,10 @@ kept_so true = refl
 kept_so false = refl
 
 -- a core that made a call, at a moment that is not before it, stays well formed
-pub made_kept : (m : Machine) (entries keeps : List (Option ℕ)) (searched : Bool) (moment at : ℕ) (call : CodeCall) (policies : Policies) (shut : Bool) → IsWellFormedCore m entries keeps searched →
+pub made_kept : (m : Machine) (entries keeps : List (Option ℕ)) (sought : Sought) (moment at : ℕ) (call : CodeCall) (policies : Policies) (shut : Bool) → IsWellFormedCore m entries keeps sought →
     slice_get m.calls m.made ≡ Some (at, call) → moment ≡ max m.moment at → (m.shut ≡ true → shut ≡ true) →
-    IsWellFormedCore (record m { made = m.made + 1; moment = moment; policies = policies; shut = shut }) entries keeps searched
-made_kept m entries keeps searched moment at call policies shut kept is greatest shuts =
+    IsWellFormedCore (record m { made = m.made + 1; moment = moment; policies = policies; shut = shut }) entries keeps sought
+made_kept m entries keeps sought moment at call policies shut kept is greatest shuts =
     let near = call_moment m.calls 0 0 m.made at call kept.orderly.1 is in
     let later : m.moment ≤ moment = grind (arith, greatest) in
     record {
@@ -68,10 +69,12 @@ made_kept m entries keeps searched moment at call policies shut kept is greatest
       keeping = kept.keeping;
       timing = kept.timing;
       delayed = λ q. (shuts (kept.delayed q).0, λ k waits live once. omega (arith, (kept.delayed q).1 k waits live once, later));
+      periodic = λ q. (shuts (kept.periodic q).0, (kept.periodic q).1);
+      noted = kept.noted;
       fresh = λ k above.
           let more : task_count (take (m.made + 1) m.calls) ≡ task_count (take (suc m.made) m.calls) = ap (λ n. task_count (take n m.calls)) (add-one m.made) in
           kept.fresh k (omega (arith, above, more, count_grows m.calls m.made));
-      sound = record { at_work = kept.sound.at_work; apart = kept.sound.apart; reached = λ k runs. omega (arith, kept.sound.reached k runs, later); over = kept.sound.over; kept = kept.sound.kept };
+      sound = record { at_work = kept.sound.at_work; apart = kept.sound.apart; staffed = kept.sound.staffed; reached = λ k runs. omega (arith, kept.sound.reached k runs, later); over = kept.sound.over; kept = kept.sound.kept };
       due = kept.due;
       runs = kept.runs;
     }
@@ -81,9 +84,9 @@ abbrev pub passed : Machine → ℕ → Machine
 passed m moment = record m { made = m.made + 1; moment = moment }
 
 -- a core stays well formed where its next call changes no task
-pub passed_kept : (m : Machine) (entries keeps : List (Option ℕ)) (searched : Bool) (moment at : ℕ) (call : CodeCall) → IsWellFormedCore m entries keeps searched →
-    slice_get m.calls m.made ≡ Some (at, call) → moment ≡ max m.moment at → IsWellFormedCore (passed m moment) entries keeps searched
-passed_kept m entries keeps searched moment at call kept is greatest = made_kept m entries keeps searched moment at call m.policies m.shut kept is greatest (λ q. q)
+pub passed_kept : (m : Machine) (entries keeps : List (Option ℕ)) (sought : Sought) (moment at : ℕ) (call : CodeCall) → IsWellFormedCore m entries keeps sought →
+    slice_get m.calls m.made ≡ Some (at, call) → moment ≡ max m.moment at → IsWellFormedCore (passed m moment) entries keeps sought
+passed_kept m entries keeps sought moment at call kept is greatest = made_kept m entries keeps sought moment at call m.policies m.shut kept is greatest (λ q. q)
 
 -- the step of a call that changes no task
 passed_takes : (m : Machine) (at : ℕ) (call : CodeCall) (answer : Answer) → slice_get m.calls m.made ≡ Some (at, call) → called m.calls (view_at m.calls (state_of m) at) call ≡ plain answer →

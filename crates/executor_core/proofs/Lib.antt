@@ -24,4 +24,5 @@ pub mod Events
 pub mod Errors
 pub mod Within
 pub mod Sweeping
+pub mod Noting
 pub mod SweepSteps

@@ -16,7 +16,9 @@ use Rattle.executor_core.specs.State.{State, vacant, view_of_state, seen_task}
 use Rattle.executor_core.specs.Machine.{Machine, state_of}
 use Rattle.executor_core.specs.Invariants.{IsWellFormedCore, IsSound, IsDue, held, queued}
 use Rattle.executor_core.specs.OwnSteps.{LeavesMet, is_met}
-use Rattle.executor_core.proofs.Tables.{at_set}
+use Rattle.executor_core.specs.Sought.{Sought}
+use Rattle.executor_core.proofs.Tables.{at_set, noted_at}
+use Rattle.executor_core.specs.Tables.{goes_on}
 
 -- the queue of kept tasks
 
@@ -90,6 +92,7 @@ pub sound_apart : (s n : State) → KeptApart s n → IsSound s → ((k : ℕ) �
 sound_apart s n apart sound kept = record {
   at_work = λ w k q. phase k ∙ sound.at_work w k (sym (apart.workers w) ∙ q);
   apart = λ v w k p q. sound.apart v w k (sym (apart.workers v) ∙ p) (sym (apart.workers w) ∙ q);
+  staffed = λ k q. let w = sound.staffed k (sym (phase k) ∙ q) in (w.0, apart.workers w.0 ∙ w.1);
   reached = λ k q. omega (arith, ap (λ (t : Task). t.due) (apart.tasks k), apart.moment, sound.reached k (sym (phase k) ∙ q));
   over = λ k q. cancelled k ∙ sound.over k (sym (phase k) ∙ q);
   kept = λ k q. (phase k ∙ (kept k q).0, cancelled k ∙ (kept k q).1);
@@ -111,9 +114,9 @@ pub fewer_apart : (m : Machine) (tasks : List Task) → KeepsFewer m.tasks tasks
 fewer_apart m tasks few = record { moment = refl; workers = λ w. refl; tasks = few.each }
 
 -- dropping kept tasks keeps a core well formed
-pub fewer_keeps : (m : Machine) (entries keeps left : List (Option ℕ)) (searched : Bool) (tasks : List Task) → IsWellFormedCore m entries keeps searched → KeepsFewer m.tasks tasks → left ≡ map held tasks →
-    IsWellFormedCore (record m { tasks = tasks }) entries left searched
-fewer_keeps m entries keeps left searched tasks kept few is =
+pub fewer_keeps : (m : Machine) (entries keeps left : List (Option ℕ)) (sought : Sought) (tasks : List Task) → IsWellFormedCore m entries keeps sought → KeepsFewer m.tasks tasks → left ≡ map held tasks →
+    IsWellFormedCore (record m { tasks = tasks }) entries left sought
+fewer_keeps m entries keeps left sought tasks kept few is =
     let apart = fewer_apart m tasks few in
     record {
       orderly = kept.orderly;
@@ -127,6 +130,8 @@ fewer_keeps m entries keeps left searched tasks kept few is =
       keeping = is;
       timing = λ k used. ap (λ (t : Task). t.timing) (few.each k) ∙ kept.timing k (λ q. used (phase k ∙ q));
       delayed = λ q. ((kept.delayed q).0, λ k waits live once. omega (arith, due k, (kept.delayed q).1 k (sym (phase k) ∙ waits) (sym (cancelled k) ∙ live) (sym (timing k) ∙ once)));
+      periodic = λ q. ((kept.periodic q).0, λ k on. (kept.periodic q).1 k (sym (ap goes_on (few.each k)) ∙ on));
+      noted = noted_at sought _ _ _ _ few.size refl kept.noted;
       fresh = λ k above. few.each k ∙ fresh k above;
       sound = sound_apart (state_of m) (state_of (record m { tasks = tasks })) apart kept.sound (λ k q. kept.sound.kept k (few.fewer k q));
       due = due_apart m.calls (state_of m) (state_of (record m { tasks = tasks })) apart kept.due;

@@ -29,6 +29,7 @@ use Rattle.executor_core.specs.Tables.{waits_with}
 use Rattle.executor_core.specs.Needs.{need_of, need_of_answer, need_of_cancel, need_of_finish, IsRipe}
 use Rattle.executor_core.specs.Machine.{Machine, workers_of, state_of}
 use Rattle.executor_core.specs.Invariants.{IsWellFormedCore, queued_phase, held}
+use Rattle.executor_core.specs.Sought.{Sought}
 use Rattle.executor_core.proofs.Calling.{view_at}
 use Rattle.executor_core.proofs.Opens.{tells_none}
 use Rattle.executor_core.proofs.Flowing.{all_reached}
@@ -85,23 +86,23 @@ all_made calls made t p orderly is later i q there l =
 -- ---- what a start and a finish move
 
 -- a start that gets a task
-pub started_needs : (m old : Machine) (entries keeps : List (Option ℕ)) (searched : Bool) (w : ℕ) (e : Entry) → m ≡ old → IsWellFormedCore m entries keeps searched → Gets m entries w e →
+pub started_needs : (m old : Machine) (entries keeps : List (Option ℕ)) (sought : Sought) (w : ℕ) (e : Entry) → m ≡ old → IsWellFormedCore m entries keeps sought → Gets m entries w e →
     n.Start e.task ≡ need_of old.calls (workers_of old) (state_of old) (h.Start w)
-started_needs m old entries keeps searched w e same kept gets = needs_of m old (h.Start w) (n.Start e.task) same (start_needs m entries keeps searched w e kept gets)
+started_needs m old entries keeps sought w e same kept gets = needs_of m old (h.Start w) (n.Start e.task) same (start_needs m entries keeps sought w e kept gets)
 
 -- a start that gets none
-pub idle_needs : (m old : Machine) (entries keeps : List (Option ℕ)) (searched : Bool) (w : ℕ) → m ≡ old → IsWellFormedCore m entries keeps searched → w < workers_of m → slice_index_or m.work w None ≡ None → NoneIsDue entries m.moment →
+pub idle_needs : (m old : Machine) (entries keeps : List (Option ℕ)) (sought : Sought) (w : ℕ) → m ≡ old → IsWellFormedCore m entries keeps sought → w < workers_of m → slice_index_or m.work w None ≡ None → NoneIsDue entries m.moment →
     n.Nothing ≡ need_of old.calls (workers_of old) (state_of old) (h.Start w)
-idle_needs m old entries keeps searched w same kept l free none =
+idle_needs m old entries keeps sought w same kept l free none =
     let first = none_is_first m kept.sound (subst (λ q. NoneIsDue q m.moment) kept.queue none) in
     needs_of m old (h.Start w) n.Nothing same (ap (λ r. need_of_answer m.shut r.answer) (idle_starts m.calls (workers_of m) w (state_of m) l free first))
 
 -- a finish of a worker that works
-pub finished_needs : (m old : Machine) (entries keeps : List (Option ℕ)) (searched : Bool) (w k : ℕ) (ending : Ending) (outcome : Outcome) (task : Task) (need : Need) → m ≡ old → IsWellFormedCore m entries keeps searched →
+pub finished_needs : (m old : Machine) (entries keeps : List (Option ℕ)) (sought : Sought) (w k : ℕ) (ending : Ending) (outcome : Outcome) (task : Task) (need : Need) → m ≡ old → IsWellFormedCore m entries keeps sought →
     Ran m w k ending outcome (due_past task.timing task.due m.moment) task → need ≡ need_of_finish k outcome → need ≡ need_of old.calls (workers_of old) (state_of old) (h.Finish w ending)
-finished_needs m old entries keeps searched w k ending outcome task need same kept ran is =
+finished_needs m old entries keeps sought w k ending outcome task need same kept ran is =
     let due = due_past task.timing task.due m.moment in
-    let takes = finish_takes m entries keeps searched w k task.run due ending outcome task (finished_in m k outcome due) kept ran refl refl in
+    let takes = finish_takes m entries keeps sought w k task.run due ending outcome task (finished_in m k outcome due) kept ran refl refl in
     needs_of m old (h.Finish w ending) need same (ap (λ r. need_of_answer m.shut r.answer) takes.said ∙ sym is)
 
 -- ---- which entries are due
@@ -143,9 +144,9 @@ either true b q = inl refl
 either false b q = inr q
 
 -- a task of the queue is ripe where its entry is due
-pub queue_ripe : (m old : Machine) (entries keeps : List (Option ℕ)) (searched : Bool) (e : Entry) → m ≡ old → IsWellFormedCore m entries keeps searched → IsLeast entries e.due e.task → e.due ≤ m.moment →
+pub queue_ripe : (m old : Machine) (entries keeps : List (Option ℕ)) (sought : Sought) (e : Entry) → m ≡ old → IsWellFormedCore m entries keeps sought → IsLeast entries e.due e.task → e.due ≤ m.moment →
     IsRipe old.calls (view_of_state old.calls (state_of old))
-queue_ripe m old entries keeps searched e same kept least due =
+queue_ripe m old entries keeps sought e same kept least due =
     let t = slice_index_or m.tasks e.task vacant in
     let terms = terms_of m.calls e.task in
     let here = in_queue m.tasks e.task e.due (sym (ap (λ q. slice_index_or q e.task None) kept.queue) ∙ least.there) in
@@ -163,9 +164,9 @@ held_is t d q = by t.kept refl q
     by false is q = absurd (none-some d q)
 
 -- a kept task is ripe where its entry is due
-pub kept_ripe : (m old : Machine) (entries keeps : List (Option ℕ)) (searched : Bool) (e : Entry) → m ≡ old → IsWellFormedCore m entries keeps searched → IsLeast keeps e.due e.task → e.due ≤ m.moment →
+pub kept_ripe : (m old : Machine) (entries keeps : List (Option ℕ)) (sought : Sought) (e : Entry) → m ≡ old → IsWellFormedCore m entries keeps sought → IsLeast keeps e.due e.task → e.due ≤ m.moment →
     IsRipe old.calls (view_of_state old.calls (state_of old))
-kept_ripe m old entries keeps searched e same kept least due =
+kept_ripe m old entries keeps sought e same kept least due =
     let t = slice_index_or m.tasks e.task vacant in
     let terms = terms_of m.calls e.task in
     let here = held_is t e.due (sym (held_at m.tasks e.task) ∙ (sym (ap (λ q. slice_index_or q e.task None) kept.keeping) ∙ least.there)) in
@@ -174,9 +175,9 @@ kept_ripe m old entries keeps searched e same kept least due =
     (e.task, ap (λ b. is_waiting (seen_task terms t) || b) here.0 ∙ or_right (is_waiting (seen_task terms t)), omega (arith, due, here.1, ap (λ p. due_seen terms p t.due) waits.0))
 
 -- where no entry is due, no task is ripe
-pub none_ripe : (m old : Machine) (entries keeps : List (Option ℕ)) (searched : Bool) → m ≡ old → IsWellFormedCore m entries keeps searched → NoneIsDue entries m.moment → NoneIsDue keeps m.moment →
+pub none_ripe : (m old : Machine) (entries keeps : List (Option ℕ)) (sought : Sought) → m ≡ old → IsWellFormedCore m entries keeps sought → NoneIsDue entries m.moment → NoneIsDue keeps m.moment →
     IsRipe old.calls (view_of_state old.calls (state_of old)) → ⊥
-none_ripe m old entries keeps searched same kept none unkept ripe =
+none_ripe m old entries keeps sought same kept none unkept ripe =
     let (k, stands, due) = subst (λ (x : Machine). IsRipe x.calls (view_of_state x.calls (state_of x))) (sym same) ripe in
     let t = slice_index_or m.tasks k vacant in
     let terms = terms_of m.calls k in
@@ -193,10 +194,10 @@ none_ripe m old entries keeps searched same kept none unkept ripe =
 -- ---- which tasks a call ends
 
 -- a task is one of those that a sweep ends where it waits and the policies do not let it run
-pub ends_so : (m old : Machine) (entries keeps : List (Option ℕ)) (searched : Bool) (k now : ℕ) (policies : Policies) (b : Bool) → m ≡ old → IsWellFormedCore m entries keeps searched →
+pub ends_so : (m old : Machine) (entries keeps : List (Option ℕ)) (sought : Sought) (k now : ℕ) (policies : Policies) (b : Bool) → m ≡ old → IsWellFormedCore m entries keeps sought →
     b ≡ (waits_with (slice_index_or m.tasks k vacant) && is_ended_by policies now (slice_index_or m.tasks k vacant).timing (slice_index_or m.tasks k vacant).due) →
     b ≡ is_end k (swept old.calls (record (view_of_state old.calls (state_of old)) { moment = now }) policies)
-ends_so m old entries keeps searched k now policies b same kept is =
+ends_so m old entries keeps sought k now policies b same kept is =
     let test : ℕ → Bool = is_swept m.calls (record (view_of_state m.calls (state_of m)) { moment = now }) policies in
     let at : (j : ℕ) → test j ≡ (waits_with (slice_index_or m.tasks j vacant) && is_ended_by policies now (slice_index_or m.tasks j vacant).timing (slice_index_or m.tasks j vacant).due) =
     λ j. swept_under (terms_of m.calls j) (slice_index_or m.tasks j vacant) policies now (kept.sound.over j) (kept.timing j)

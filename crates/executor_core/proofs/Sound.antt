@@ -215,6 +215,49 @@ at_work_after calls s (a.Finish v j n outcome) sound f w k q =
     pick (v == w) refl q
 at_work_after calls s _ sound f w k q = sound.at_work w k q
 
+-- no finish leaves a run under way
+pub no_run_again : (timing : Timing) (now : ℕ) (outcome : Outcome) (task : Task) → (finish_task timing now outcome task).phase ≡ ph.Running → ⊥
+no_run_again timing now (o.Done value) task q = cc
+no_run_again timing now (o.Failed code) task q = cc
+no_run_again timing now o.Dropped task q = cc
+no_run_again timing now o.Ended task q = cc
+no_run_again timing now (o.Again due) task q = cc
+
+-- a task that runs after an answer is that of a worker
+staffed_after : (calls : List Planned) (s : State) (answer : Answer) → IsSound s → Finds calls s answer → (k : ℕ) → phase_after calls s answer k ≡ ph.Running → (w : ℕ) × (work_after w answer (s.workers w) ≡ Some k)
+staffed_after calls s (a.Submit j kind due) sound f k = λ q. sound.staffed k (submitted (j == k) q)
+  where
+    unsubmitted : (p : Phase) (task : Task) → task.phase ≡ p → (submit_phase (terms_of calls k).timing due p task).phase ≡ ph.Running → task.phase ≡ ph.Running
+    unsubmitted ph.Vacant task is q = absurd cc
+    unsubmitted ph.Waiting task is q = q
+    unsubmitted ph.Running task is q = q
+    unsubmitted ph.Done task is q = q
+    unsubmitted ph.Failed task is q = q
+    unsubmitted ph.Dropped task is q = q
+
+    submitted : (b : Bool) → (cond b (submit_phase (terms_of calls k).timing due (s.tasks k).phase (s.tasks k)) (s.tasks k)).phase ≡ ph.Running → (s.tasks k).phase ≡ ph.Running
+    submitted true q = unsubmitted (s.tasks k).phase (s.tasks k) refl q
+    submitted false q = q
+staffed_after calls s (a.Start v j n due) sound f k = λ q. by (j == k) refl q
+  where
+    other : (w : ℕ) (b : Bool) → (v == w) ≡ b → s.workers w ≡ Some k → cond b (Some j) (s.workers w) ≡ Some k
+    other w true same q = absurd (none-some k (sym f.0 ∙ (ap s.workers (eqb-true v w same) ∙ q)))
+    other w false apart q = q
+
+    by : (b : Bool) → (j == k) ≡ b → (cond b (record (s.tasks k) { phase = ph.Running }) (s.tasks k)).phase ≡ ph.Running → (w : ℕ) × (work_after w (a.Start v j n due) (s.workers w) ≡ Some k)
+    by true same q = (v, ap (λ b. cond b (Some j) (s.workers v)) (eq-eqb v v refl) ∙ ap Some (eqb-true j k same))
+    by false apart q = let old = sound.staffed k q in (old.0, other old.0 (v == old.0) refl old.1)
+staffed_after calls s (a.Finish v j n outcome) sound f k = λ q. by (j == k) refl q
+  where
+    other : (w : ℕ) (b : Bool) → (v == w) ≡ b → (j == k) ≡ false → s.workers w ≡ Some k → cond b None (s.workers w) ≡ Some k
+    other w true same apart q = absurd (false≢true (sym apart ∙ eq-eqb j k (same_Some j k (sym f.0 ∙ (ap s.workers (eqb-true v w same) ∙ q)))))
+    other w false same apart q = q
+
+    by : (b : Bool) → (j == k) ≡ b → (cond b (finish_task (terms_of calls k).timing s.moment outcome (s.tasks k)) (s.tasks k)).phase ≡ ph.Running → (w : ℕ) × (work_after w (a.Finish v j n outcome) (s.workers w) ≡ Some k)
+    by true same q = absurd (no_run_again (terms_of calls k).timing s.moment outcome (s.tasks k) q)
+    by false apart q = let old = sound.staffed k q in (old.0, other old.0 (v == old.0) refl apart old.1)
+staffed_after calls s _ sound f k = sound.staffed k
+
 apart_after : (calls : List Planned) (s : State) (answer : Answer) → IsSound s → Finds calls s answer → (v w k : ℕ) →
     work_after v answer (s.workers v) ≡ Some k → work_after w answer (s.workers w) ≡ Some k → v ≡ w
 apart_after calls s (a.Start u j n due) sound f v w k p q =
@@ -253,14 +296,6 @@ later now next (h.Clock moment) =
 later now next (h.Start worker) = omega arith
 later now next (h.Finish worker ending) = omega arith
 later now next (h.Cancel task) = omega arith
-
--- no finish leaves a run under way
-pub no_run_again : (timing : Timing) (now : ℕ) (outcome : Outcome) (task : Task) → (finish_task timing now outcome task).phase ≡ ph.Running → ⊥
-no_run_again timing now (o.Done value) task q = cc
-no_run_again timing now (o.Failed code) task q = cc
-no_run_again timing now o.Dropped task q = cc
-no_run_again timing now o.Ended task q = cc
-no_run_again timing now (o.Again due) task q = cc
 
 -- the due moment of a task that runs after an answer was reached
 run_reached : (calls : List Planned) (s : State) (answer : Answer) → IsSound s → Finds calls s answer → (k : ℕ) → phase_after calls s answer k ≡ ph.Running →
@@ -392,6 +427,7 @@ pub sound_stays : (calls : List Planned) (s : State) (happening : Happening) (r 
 sound_stays calls s happening r sound f = record {
   at_work = at_work_after calls s r.answer sound f;
   apart = apart_after calls s r.answer sound f;
+  staffed = staffed_after calls s r.answer sound f;
   over = over_after calls s r sound f;
   kept = kept_sound calls s r sound f;
   reached = λ k runs. omega (arith, run_reached calls s r.answer sound f k runs, later s.moment (slice_get calls s.made) happening);

@@ -24,9 +24,10 @@ use Rattle.executor_core.specs.Tasks.{uncancelled_in}
 use Rattle.executor_core.specs.Machine.{Machine, workers_of, state_of}
 use Rattle.executor_core.specs.Invariants.{IsWellFormedCore, queued, held}
 use Rattle.executor_core.specs.OwnSteps.{Takes}
+use Rattle.executor_core.specs.Sought.{Sought}
 use Rattle.executor_core.proofs.Keeping.{kept_stays}
 use Rattle.executor_core.proofs.Agree.{still_true}
-use Rattle.executor_core.proofs.Tables.{at_set, submission, runs_set, uncancelled_set}
+use Rattle.executor_core.proofs.Tables.{at_set, submission, runs_set, uncancelled_set, noted_at}
 use Rattle.executor_core.proofs.Calling.{view_at, called_state, call_reply, call_state, kept_so, passed, passed_steps}
 
 -- a call that is refused
@@ -91,9 +92,9 @@ submitted_at m task k due timing low fresh timed = at_set m.tasks task k (waitin
     by false apart = λ i. record (slice_index_or m.tasks k vacant) { kept = kept_so (slice_index_or m.tasks k vacant).kept i }
 
 -- the step of a submission
-submit_takes : (m : Machine) (entries keeps : List (Option ℕ)) (searched : Bool) (at task delay : ℕ) (timing : Timing) (kind : Kind) → IsWellFormedCore m entries keeps searched →
+submit_takes : (m : Machine) (entries keeps : List (Option ℕ)) (sought : Sought) (at task delay : ℕ) (timing : Timing) (kind : Kind) → IsWellFormedCore m entries keeps sought →
     slice_get m.calls m.made ≡ Some (at, c.Submit task timing delay) → m.shut ≡ false → kind ≡ kind_of timing → Takes m (submitted m (max m.moment at) task timing (at + delay)) h.Call (a.Submit task kind (at + delay))
-submit_takes m entries keeps searched at task delay timing kind kept is opened how =
+submit_takes m entries keeps sought at task delay timing kind kept is opened how =
     let sub = submission m.calls 0 0 m.made at task timing delay kept.orderly.1 is in
     let one : m.made + 1 ≡ 1 + m.made = omega arith in
     let low : task < length m.tasks = omega (arith, sub.below, kept.count) in
@@ -112,14 +113,14 @@ submit_takes m entries keeps searched at task delay timing kind kept is opened h
     }
 
 -- what stays true after a submission
-submit_kept : (m : Machine) (entries keeps : List (Option ℕ)) (searched : Bool) (at task delay : ℕ) (timing : Timing) → IsWellFormedCore m entries keeps searched →
-    slice_get m.calls m.made ≡ Some (at, c.Submit task timing delay) → m.shut ≡ false → IsWellFormedCore (submitted m (max m.moment at) task timing (at + delay)) (set entries task (Some (at + delay))) keeps searched
-submit_kept m entries keeps searched at task delay timing kept is opened =
+submit_kept : (m : Machine) (entries keeps : List (Option ℕ)) (sought : Sought) (at task delay : ℕ) (timing : Timing) → IsWellFormedCore m entries keeps sought →
+    slice_get m.calls m.made ≡ Some (at, c.Submit task timing delay) → m.shut ≡ false → IsWellFormedCore (submitted m (max m.moment at) task timing (at + delay)) (set entries task (Some (at + delay))) keeps sought
+submit_kept m entries keeps sought at task delay timing kept is opened =
     let sub = submission m.calls 0 0 m.made at task timing delay kept.orderly.1 is in
     let low : task < length m.tasks = omega (arith, sub.below, kept.count) in
     let fresh = kept.fresh task (omega (arith, sub.number)) in
-    let takes = submit_takes m entries keeps searched at task delay timing (kind_of timing) kept is opened refl in
-    let still = still_true m (submitted m (max m.moment at) task timing (at + delay)) entries keeps searched h.Call kept refl takes.state in
+    let takes = submit_takes m entries keeps sought at task delay timing (kind_of timing) kept is opened refl in
+    let still = still_true m (submitted m (max m.moment at) task timing (at + delay)) entries keeps sought h.Call kept refl takes.state in
     record {
       orderly = kept.orderly;
       made = omega (arith, slice_get_within m.calls m.made (at, c.Submit task timing delay) is);
@@ -132,6 +133,8 @@ submit_kept m entries keeps searched at task delay timing kept is opened =
       keeping = kept.keeping ∙ sym (map-set_same held m.tasks task (waiting timing (at + delay)) vacant (sym (ap held fresh)));
       timing = still.timing;
       delayed = still.delayed;
+      periodic = still.periodic;
+      noted = noted_at sought _ _ _ _ (length-set m.tasks task (waiting timing (at + delay))) refl kept.noted;
       fresh = λ k above.
           let more : task_count (take (m.made + 1) m.calls) ≡ task + 1 = ap (λ n. task_count (take n m.calls)) (add-one m.made) ∙ (omega arith ∙ sub.more) in
           at_set m.tasks task k (waiting timing (at + delay)) vacant low
@@ -147,22 +150,22 @@ submit_kept m entries keeps searched at task delay timing kept is opened =
 -- the same, with what a call gives
 
 -- a core whose tables the code has written at a submission stays well formed
-pub submit_keeps_in : (m : Machine) (entries entries' keeps : List (Option ℕ)) (searched : Bool) (moment at task delay : ℕ) (timing : Timing) (tasks : List Task) → IsWellFormedCore m entries keeps searched →
+pub submit_keeps_in : (m : Machine) (entries entries' keeps : List (Option ℕ)) (sought : Sought) (moment at task delay : ℕ) (timing : Timing) (tasks : List Task) → IsWellFormedCore m entries keeps sought →
     slice_get m.calls m.made ≡ Some (at, c.Submit task timing delay) → m.shut ≡ false → moment ≡ max m.moment at → entries' ≡ set entries task (Some (at + delay)) → tasks ≡ set m.tasks task (waiting timing (at + delay)) →
-    IsWellFormedCore (record m { made = m.made + 1; moment = moment; tasks = tasks }) entries' keeps searched
-submit_keeps_in m entries entries' keeps searched moment at task delay timing tasks kept is opened greatest put written =
-    subst (λ l. IsWellFormedCore (record m { made = m.made + 1; moment = moment; tasks = l }) entries' keeps searched) (sym written)
-    (subst (λ q. IsWellFormedCore (submitted m moment task timing (at + delay)) q keeps searched) (sym put)
-    (subst (λ n. IsWellFormedCore (submitted m n task timing (at + delay)) (set entries task (Some (at + delay))) keeps searched) (sym greatest) (submit_kept m entries keeps searched at task delay timing kept is opened)))
+    IsWellFormedCore (record m { made = m.made + 1; moment = moment; tasks = tasks }) entries' keeps sought
+submit_keeps_in m entries entries' keeps sought moment at task delay timing tasks kept is opened greatest put written =
+    subst (λ l. IsWellFormedCore (record m { made = m.made + 1; moment = moment; tasks = l }) entries' keeps sought) (sym written)
+    (subst (λ q. IsWellFormedCore (submitted m moment task timing (at + delay)) q keeps sought) (sym put)
+    (subst (λ n. IsWellFormedCore (submitted m n task timing (at + delay)) (set entries task (Some (at + delay))) keeps sought) (sym greatest) (submit_kept m entries keeps sought at task delay timing kept is opened)))
 
 -- a core whose table the code has written takes the step of a submission
-pub submit_steps_in : (m old : Machine) (entries keeps : List (Option ℕ)) (searched : Bool) (moment at task delay : ℕ) (timing : Timing) (kind : Kind) (tasks : List Task) → IsWellFormedCore m entries keeps searched →
+pub submit_steps_in : (m old : Machine) (entries keeps : List (Option ℕ)) (sought : Sought) (moment at task delay : ℕ) (timing : Timing) (kind : Kind) (tasks : List Task) → IsWellFormedCore m entries keeps sought →
     slice_get m.calls m.made ≡ Some (at, c.Submit task timing delay) → m.shut ≡ false → kind ≡ kind_of timing → moment ≡ max m.moment at → m ≡ old → tasks ≡ set m.tasks task (waiting timing (at + delay)) →
     Takes old (record m { made = m.made + 1; moment = moment; tasks = tasks }) h.Call (a.Submit task kind (at + delay))
-submit_steps_in m old entries keeps searched moment at task delay timing kind tasks kept is opened how greatest same written =
+submit_steps_in m old entries keeps sought moment at task delay timing kind tasks kept is opened how greatest same written =
     subst (λ l. Takes old (record m { made = m.made + 1; moment = moment; tasks = l }) h.Call (a.Submit task kind (at + delay))) (sym written)
     (subst (λ x. Takes x (submitted m moment task timing (at + delay)) h.Call (a.Submit task kind (at + delay))) same
-    (subst (λ n. Takes m (submitted m n task timing (at + delay)) h.Call (a.Submit task kind (at + delay))) (sym greatest) (submit_takes m entries keeps searched at task delay timing kind kept is opened how)))
+    (subst (λ n. Takes m (submitted m n task timing (at + delay)) h.Call (a.Submit task kind (at + delay))) (sym greatest) (submit_takes m entries keeps sought at task delay timing kind kept is opened how)))
 
 -- a submission makes no more tasks that are not cancelled
 pub submit_fewer : (m old : Machine) (task due : ℕ) (timing : Timing) (tasks : List Task) → task < length m.tasks → slice_index_or m.tasks task vacant ≡ vacant → m ≡ old → tasks ≡ set m.tasks task (waiting timing due) →

@@ -16,17 +16,18 @@ use Rattle.executor_core.specs.declared.task.Phase.TheVariants as ph
 use Rattle.executor_core.specs.declared.task.Task.{Task}
 use Rattle.executor_core.specs.declared.types.Line.{Line}
 use Rattle.queue_code.specs.Calls.{Planned, Terms, terms_of, due_at, task_count, is_submission, IsOrderly, how_many}
-use Rattle.executor_core.specs.View.{is_waiting}
+use Rattle.executor_core.specs.View.{is_running, is_waiting}
 use Rattle.executor_core.specs.Answers.{is_swept, is_ended_by, swept}
 use Rattle.executor_core.specs.Histories.{is_end}
 use Rattle.executor_core.specs.State.{vacant, seen_task, seen_phase, due_seen, view_of_state}
 use Rattle.executor_core.specs.Flows.{end_line}
 use Rattle.executor_core.specs.Tasks.{uncancelled_in}
-use Rattle.executor_core.specs.Tables.{waits_with, waits_again, is_waiting_phase, is_periodic, periodic_in}
+use Rattle.executor_core.specs.Tables.{waits_with, waits_again, is_waiting_phase, is_periodic, periodic_in, goes_on, is_live_phase}
 use Rattle.executor_core.specs.Machine.{Machine, state_of}
 use Rattle.executor_core.specs.Invariants.{IsWellFormedCore, NoneDelayed, queued, held}
 use Rattle.executor_core.specs.OwnSteps.{Ends, Drops, Sweeps}
-use Rattle.executor_core.proofs.Tables.{at_set, queued_at, held_at}
+use Rattle.executor_core.specs.Sought.{Sought}
+use Rattle.executor_core.proofs.Tables.{at_set, queued_at, held_at, noted_at, goes_parts, goes_from}
 
 and_none : (b : Bool) → (b && false) ≡ false
 and_none true = refl
@@ -81,7 +82,8 @@ filter_more test a (suc n) j at = by (test a) _ _ _ (filter_more test (a + 1) n 
     by true xs ys zs same = ap (λ l. a ∷ l) same
     by false xs ys zs same = same
 
-filter_next : (test : ℕ → Bool) (n : ℕ) → filter test (range_with_len 0 (n + 1)) ≡ filter test (range_with_len 0 n) ++ cond (test n) (n ∷ []) []
+-- the same from the first number on
+pub filter_next : (test : ℕ → Bool) (n : ℕ) → filter test (range_with_len 0 (n + 1)) ≡ filter test (range_with_len 0 n) ++ cond (test n) (n ∷ []) []
 filter_next test n = ap (λ j. filter test (range_with_len 0 j)) (add-one n) ∙ filter_more test 0 n n (omega arith)
 
 -- where no number passes a test, none is left
@@ -117,10 +119,19 @@ quieter_set tasks k t low one = record {
     by true j same = subst (λ i. IsQuieter (slice_index_or tasks i vacant) t) (eqb-true k j same) one
     by false j apart = quiet (slice_index_or tasks j vacant)
 
+-- what goes on went on before
+quieter_goes : (before after : Task) → IsQuieter before after → goes_on after ≡ true → goes_on before ≡ true
+quieter_goes before after quieter on =
+    let parts = goes_parts after.phase after.cancelled after.timing on in
+    goes_from before.phase before.cancelled before.timing
+    (sym (ap (λ (t : Task). is_live_phase t.phase) quieter.same) ∙ parts.0)
+    (false_from_ne_true before.cancelled (λ is. false≢true (sym parts.1 ∙ quieter.cancelled is)))
+    (sym (ap (λ (t : Task). is_periodic t.timing) quieter.same) ∙ parts.2)
+
 -- a core with such tasks stays well formed, where its queues are those of the tasks
-pub quieter_kept : (m : Machine) (entries keeps entries' keeps' : List (Option ℕ)) (searched : Bool) (tasks : List Task) → IsWellFormedCore m entries keeps searched → AreQuieter m.tasks tasks → entries' ≡ map queued tasks → keeps' ≡ map held tasks →
-    IsWellFormedCore (record m { tasks = tasks }) entries' keeps' searched
-quieter_kept m entries keeps entries' keeps' searched tasks kept quieter queue keeping =
+pub quieter_kept : (m : Machine) (entries keeps entries' keeps' : List (Option ℕ)) (sought : Sought) (tasks : List Task) → IsWellFormedCore m entries keeps sought → AreQuieter m.tasks tasks → entries' ≡ map queued tasks → keeps' ≡ map held tasks →
+    IsWellFormedCore (record m { tasks = tasks }) entries' keeps' sought
+quieter_kept m entries keeps entries' keeps' sought tasks kept quieter queue keeping =
     let phase : (k : ℕ) → (slice_index_or tasks k vacant).phase ≡ (slice_index_or m.tasks k vacant).phase = λ k. ap (λ (t : Task). t.phase) (quieter.each k).same in
     let run : (k : ℕ) → (slice_index_or tasks k vacant).run ≡ (slice_index_or m.tasks k vacant).run = λ k. ap (λ (t : Task). t.run) (quieter.each k).same in
     let due : (k : ℕ) → (slice_index_or tasks k vacant).due ≡ (slice_index_or m.tasks k vacant).due = λ k. ap (λ (t : Task). t.due) (quieter.each k).same in
@@ -143,10 +154,13 @@ quieter_kept m entries keeps entries' keeps' searched tasks kept quieter queue k
                 let was : (slice_index_or m.tasks k vacant).cancelled ≡ false = false_from_ne_true _ (λ is. false≢true (sym live ∙ (quieter.each k).cancelled is)) in
                 omega (arith, due k, none k (sym (phase k) ∙ waits) was (sym (timing k) ∙ once)),
           );
+      periodic = λ q. ((kept.periodic q).0, λ k on. (kept.periodic q).1 k (quieter_goes _ _ (quieter.each k) on));
+      noted = noted_at sought _ _ _ _ quieter.size refl kept.noted;
       fresh = λ k above. (quieter.each k).fresh (kept.fresh k above);
       sound = record {
         at_work = λ w k busy. phase k ∙ kept.sound.at_work w k busy;
         apart = kept.sound.apart;
+        staffed = λ k runs. kept.sound.staffed k (sym (phase k) ∙ runs);
         reached = λ k runs. omega (arith, due k, kept.sound.reached k (sym (phase k) ∙ runs));
         over = λ k dropped. (quieter.each k).cancelled (kept.sound.over k (sym (phase k) ∙ dropped));
         kept = λ k is. let was = kept.sound.kept k ((quieter.each k).kept is) in (phase k ∙ was.0, (quieter.each k).cancelled was.1);
@@ -164,7 +178,8 @@ pub and_left : (b c : Bool) → (b && c) ≡ true → b ≡ true
 and_left true c q = refl
 and_left false c q = q
 
-and_right : (b c : Bool) → (b && c) ≡ true → c ≡ true
+-- the other one too
+pub and_right : (b c : Bool) → (b && c) ≡ true → c ≡ true
 and_right true c q = q
 and_right false c q = absurd (false≢true q)
 
@@ -190,17 +205,17 @@ ends_quietly t waits = record {
 }
 
 -- the core stays well formed where a task that waits is ended
-pub end_kept : (m : Machine) (entries left keeps : List (Option ℕ)) (searched : Bool) (k : ℕ) (tasks : List Task) → IsWellFormedCore m entries keeps searched → k < length m.tasks →
+pub end_kept : (m : Machine) (entries left keeps : List (Option ℕ)) (sought : Sought) (k : ℕ) (tasks : List Task) → IsWellFormedCore m entries keeps sought → k < length m.tasks →
     waits_with (slice_index_or m.tasks k vacant) ≡ true → left ≡ set entries k None → tasks ≡ set m.tasks k (record (slice_index_or m.tasks k vacant) { cancelled = true }) →
-    IsWellFormedCore (record m { tasks = tasks }) left keeps searched
-end_kept m entries left keeps searched k tasks kept low waits gone is =
+    IsWellFormedCore (record m { tasks = tasks }) left keeps sought
+end_kept m entries left keeps sought k tasks kept low waits gone is =
     let t = slice_index_or m.tasks k vacant in
     let ended : Task = record t { cancelled = true } in
-    let whole = quieter_kept m entries keeps left keeps searched (set m.tasks k ended) kept (quieter_set m.tasks k ended low (ends_quietly t waits))
+    let whole = quieter_kept m entries keeps left keeps sought (set m.tasks k ended) kept (quieter_set m.tasks k ended low (ends_quietly t waits))
     (gone ∙ (ap (λ l. set l k None) kept.queue ∙ sym (map-set queued m.tasks k ended)))
     (kept.keeping ∙ sym (map-set_same held m.tasks k ended vacant refl))
     in
-    subst (λ l. IsWellFormedCore (record m { tasks = l }) left keeps searched) (sym is) whole
+    subst (λ l. IsWellFormedCore (record m { tasks = l }) left keeps sought) (sym is) whole
 
 -- a plan has few tasks
 tasks_within : (calls : List Planned) → task_count calls ≤ length calls
@@ -275,19 +290,19 @@ swept_under terms t policies moment over timing =
     ap (λ b. b && is_ended_by policies moment terms.timing (due_seen terms t.phase t.due)) (seen_waiting terms t over) ∙ pick (waits_with t) refl
 
 -- a sweep ends the tasks that wait and that the policies do not let run
-pub swept_is : (m : Machine) (entries keeps : List (Option ℕ)) (searched : Bool) (k : ℕ) → IsWellFormedCore m entries keeps searched →
+pub swept_is : (m : Machine) (entries keeps : List (Option ℕ)) (sought : Sought) (k : ℕ) → IsWellFormedCore m entries keeps sought →
     sweeps_at m k ≡ (waits_with (slice_index_or m.tasks k vacant) && is_ended_by m.policies m.moment (slice_index_or m.tasks k vacant).timing (slice_index_or m.tasks k vacant).due)
-swept_is m entries keeps searched k kept = swept_under (terms_of m.calls k) (slice_index_or m.tasks k vacant) m.policies m.moment (kept.sound.over k) (kept.timing k)
+swept_is m entries keeps sought k kept = swept_under (terms_of m.calls k) (slice_index_or m.tasks k vacant) m.policies m.moment (kept.sound.over k) (kept.timing k)
 
 -- what waits on a sweep
 
 -- what a sweep of a core ends waits
-pub swept_waits : (m : Machine) (entries keeps : List (Option ℕ)) (searched : Bool) (k : ℕ) → IsWellFormedCore m entries keeps searched → sweeps_at m k ≡ true → waits_with (slice_index_or m.tasks k vacant) ≡ true
-swept_waits m entries keeps searched k kept swept = and_left (waits_with (slice_index_or m.tasks k vacant)) _ (sym (swept_is m entries keeps searched k kept) ∙ swept)
+pub swept_waits : (m : Machine) (entries keeps : List (Option ℕ)) (sought : Sought) (k : ℕ) → IsWellFormedCore m entries keeps sought → sweeps_at m k ≡ true → waits_with (slice_index_or m.tasks k vacant) ≡ true
+swept_waits m entries keeps sought k kept swept = and_left (waits_with (slice_index_or m.tasks k vacant)) _ (sym (swept_is m entries keeps sought k kept) ∙ swept)
 
 -- the same, of the core that is seen
-pub swept_waits_in : (m cur : Machine) (entries keeps : List (Option ℕ)) (searched : Bool) (k : ℕ) → IsWellFormedCore m entries keeps searched → m ≡ cur → sweeps_at cur k ≡ true → waits_with (slice_index_or cur.tasks k vacant) ≡ true
-swept_waits_in m cur entries keeps searched k kept is swept = swept_waits cur entries keeps searched k (subst (λ x. IsWellFormedCore x entries keeps searched) is kept) swept
+pub swept_waits_in : (m cur : Machine) (entries keeps : List (Option ℕ)) (sought : Sought) (k : ℕ) → IsWellFormedCore m entries keeps sought → m ≡ cur → sweeps_at cur k ≡ true → waits_with (slice_index_or cur.tasks k vacant) ≡ true
+swept_waits_in m cur entries keeps sought k kept is swept = swept_waits cur entries keeps sought k (subst (λ x. IsWellFormedCore x entries keeps sought) is kept) swept
 
 -- where none is counted, none passes the test
 none_counted : (test : Task → Bool) (tasks : List Task) (k : ℕ) → test vacant ≡ false → how_many test tasks ≡ 0 → test (slice_index_or tasks k vacant) ≡ false
@@ -300,9 +315,9 @@ none_counted test (t ∷ tasks) (suc k) past none =
     none_counted test tasks k past (pick (test t) none)
 
 -- no task is ended where periodic tasks go on, or none waits, and delayed ones are run, or none is left
-pub none_swept : (m : Machine) (entries keeps : List (Option ℕ)) (searched : Bool) → IsWellFormedCore m entries keeps searched →
-    (m.policies.continues ≡ true) ⊎ (periodic_in m.tasks ≡ 0) → (m.policies.executes ≡ true) ⊎ (searched ≡ true) → (k : ℕ) → sweeps_at m k ≡ false
-none_swept m entries keeps searched kept periodic delayed k =
+pub none_swept : (m : Machine) (entries keeps : List (Option ℕ)) (sought : Sought) → IsWellFormedCore m entries keeps sought →
+    (m.policies.continues ≡ true) ⊎ (periodic_in m.tasks ≡ 0) → (m.policies.executes ≡ true) ⊎ (sought.delayed ≡ true) → (k : ℕ) → sweeps_at m k ≡ false
+none_swept m entries keeps sought kept periodic delayed k =
     let t = slice_index_or m.tasks k vacant in
     let again : is_periodic t.timing ≡ true → waits_with t ≡ true → not m.policies.continues ≡ false =
     λ more waits. elim periodic [
@@ -316,8 +331,8 @@ none_swept m entries keeps searched kept periodic delayed k =
     let once : t.timing ≡ how.Once → waits_with t ≡ true → (not m.policies.executes && nat_lt m.moment t.due) ≡ false =
     λ one waits. elim delayed [
       | inl runs ↦ ap (λ b. not b && nat_lt m.moment t.due) runs
-      | inr sought ↦
-          let due : t.due ≤ m.moment = (kept.delayed sought).1 k (waits_phase t waits) (waits_uncancelled t waits) one in
+      | inr done ↦
+          let due : t.due ≤ m.moment = (kept.delayed done).1 k (waits_phase t waits) (waits_uncancelled t waits) one in
           ap (λ b. not m.policies.executes && b) (le-ltb m.moment t.due due) ∙ and_none (not m.policies.executes)
     ]
     in
@@ -329,7 +344,7 @@ none_swept m entries keeps searched kept periodic delayed k =
     ]
     in
     let pick : (b : Bool) → waits_with t ≡ b → (b && is_ended_by m.policies m.moment t.timing t.due) ≡ false = elim [ true ↦ λ waits. by t.timing refl waits | false ↦ λ idle. refl ] in
-    swept_is m entries keeps searched k kept ∙ pick (waits_with t) refl
+    swept_is m entries keeps sought k kept ∙ pick (waits_with t) refl
 
 -- tasks that are ended, one after another
 
@@ -470,11 +485,11 @@ dropped_quietly before after dropped = record {
 }
 
 -- the core stays well formed where tasks are kept no more
-pub dropped_kept : (m cur : Machine) (entries entries' keeps keeps' : List (Option ℕ)) (searched searched' : Bool) → IsWellFormedCore m entries keeps searched → cur ≡ record m { tasks = cur.tasks } → entries' ≡ entries → searched' ≡ searched →
-    AreDropped m.tasks cur.tasks → keeps' ≡ map held cur.tasks → IsWellFormedCore cur entries' keeps' searched'
-dropped_kept m cur entries entries' keeps keeps' searched searched' kept rest same_entries same_searched dropped keeping =
-    let whole = quieter_kept m entries keeps entries keeps' searched cur.tasks kept (record { size = dropped.size; each = λ k. dropped_quietly _ _ (dropped.each k) }) (kept.queue ∙ same_queued m.tasks cur.tasks dropped) keeping in
-    subst (λ s. IsWellFormedCore cur entries' keeps' s) (sym same_searched) (subst (λ l. IsWellFormedCore cur l keeps' searched) (sym same_entries) (subst (λ (x : Machine). IsWellFormedCore x entries keeps' searched) (sym rest) whole))
+pub dropped_kept : (m cur : Machine) (entries entries' keeps keeps' : List (Option ℕ)) (sought sought' : Sought) → IsWellFormedCore m entries keeps sought → cur ≡ record m { tasks = cur.tasks } → entries' ≡ entries → sought' ≡ sought →
+    AreDropped m.tasks cur.tasks → keeps' ≡ map held cur.tasks → IsWellFormedCore cur entries' keeps' sought'
+dropped_kept m cur entries entries' keeps keeps' sought sought' kept rest same_entries same_sought dropped keeping =
+    let whole = quieter_kept m entries keeps entries keeps' sought cur.tasks kept (record { size = dropped.size; each = λ k. dropped_quietly _ _ (dropped.each k) }) (kept.queue ∙ same_queued m.tasks cur.tasks dropped) keeping in
+    subst (λ s. IsWellFormedCore cur entries' keeps' s) (sym same_sought) (subst (λ l. IsWellFormedCore cur l keeps' sought) (sym same_entries) (subst (λ (x : Machine). IsWellFormedCore x entries keeps' sought) (sym rest) whole))
 
 -- where the queue of kept tasks is empty, none is kept
 pub drops : (m old cur : Machine) (keeps : List (Option ℕ)) → m ≡ old → cur ≡ record m { tasks = cur.tasks } → AreDropped m.tasks cur.tasks → keeps ≡ map held cur.tasks → IsEmpty keeps → Drops old cur
@@ -520,49 +535,74 @@ all_below m k =
     high_le : (k n : ℕ) → nat_lt k n ≡ false → n ≤ k
     high_le k n q = grind (arith, nat_tests, q)
 
--- where delayed tasks are not run, none waits once the tasks are ended
-pub none_delayed : (old cur : Machine) (entries keeps : List (Option ℕ)) (searched : Bool) (before lines : List Line) → IsWellFormedCore old entries keeps searched → Ends old cur before lines (length old.tasks) →
-    old.policies.executes ≡ false → NoneDelayed (state_of cur)
-none_delayed old cur entries keeps searched before lines kept ends off k waits live once =
+-- a cancelled task is not ended
+cancelled_stays : (m : Machine) (k : ℕ) (t : Task) → t.cancelled ≡ true → sweeps_task m k t ≡ false
+cancelled_stays m k t over =
+    let f = seen_task (terms_of m.calls k) t in
+    let e = is_ended_by m.policies m.moment (terms_of m.calls k).timing f.due in
+    (λ i. (f.accepted && (not (is_running f) && not (over i || (f.failed || f.done)))) && e)
+    ∙ (ap (λ b. (f.accepted && b) && e) (and_none (not (is_running f))) ∙ ap (λ b. b && e) (and_none f.accepted))
+
+-- once the tasks are ended, none is left to end
+pub all_ended : (old cur : Machine) (before lines : List Line) → Ends old cur before lines (length old.tasks) → (k : ℕ) → sweeps_at cur k ≡ false
+all_ended old cur before lines ends k =
     let t = slice_index_or old.tasks k vacant in
-    let same = ends.each k in
-    let neither = or_neither (nat_lt k (length old.tasks) && sweeps_at old k) t.cancelled (sym (ap (λ (x : Task). x.cancelled) same) ∙ live) in
-    let unswept : sweeps_at old k ≡ false = sym (all_below old k) ∙ neither.0 in
-    let phase : t.phase ≡ ph.Waiting = sym (ap (λ (x : Task). x.phase) same) ∙ waits in
-    let timing : t.timing ≡ how.Once = sym (ap (λ (x : Task). x.timing) same) ∙ once in
-    let waiting : waits_with t ≡ true = λ i. is_waiting_phase (phase i) && not (neither.1 i) in
-    let test : nat_lt old.moment t.due ≡ false =
-    (λ i. sym waiting i && (not (sym off i) && nat_lt old.moment t.due)) ∙ ((λ i. waits_with t && is_ended_by old.policies old.moment (sym timing i) t.due) ∙ (sym (swept_is old entries keeps searched k kept) ∙ unswept))
+    let pick : (b : Bool) → sweeps_at old k ≡ b → sweeps_task old k (record t { cancelled = b || t.cancelled }) ≡ false =
+    elim [ true ↦ λ q. cancelled_stays old k (record t { cancelled = true }) refl | false ↦ λ q. q ]
     in
-    let moment : cur.moment ≡ old.moment = ap (λ (x : Machine). x.moment) ends.rest in
-    omega (arith, not_after old.moment t.due test, moment, ap (λ (x : Task). x.due) same)
+    ap (λ m. sweeps_at m k) ends.rest
+    ∙ (ap (λ x. sweeps_task old k x) (ends.each k ∙ ap (λ b. record t { cancelled = b || t.cancelled }) (all_below old k)) ∙ pick (sweeps_at old k) refl)
+
+-- where delayed tasks are not run, and none is left to end, none waits
+pub none_delayed : (m : Machine) (entries keeps : List (Option ℕ)) (sought : Sought) → IsWellFormedCore m entries keeps sought → m.policies.executes ≡ false → ((k : ℕ) → sweeps_at m k ≡ false) → NoneDelayed (state_of m)
+none_delayed m entries keeps sought kept off swept k waits live once =
+    let t = slice_index_or m.tasks k vacant in
+    let waiting : waits_with t ≡ true = λ i. is_waiting_phase (waits i) && not (live i) in
+    let test : nat_lt m.moment t.due ≡ false =
+    (λ i. sym waiting i && (not (sym off i) && nat_lt m.moment t.due)) ∙ ((λ i. waits_with t && is_ended_by m.policies m.moment (sym once i) t.due) ∙ (sym (swept_is m entries keeps sought k kept) ∙ swept k))
+    in
+    not_after m.moment t.due test
   where
     not_after : (now due : ℕ) → nat_lt now due ≡ false → due ≤ now
     not_after now due q = grind (arith, nat_tests, q)
 
--- the core stays well formed once it is noted that none is left
-pub searched_kept : (m old cur now : Machine) (entries keeps entries' keeps' : List (Option ℕ)) (searched searched' : Bool) (before lines : List Line) → IsWellFormedCore m entries keeps searched → m ≡ old → Ends old cur before lines (length old.tasks) →
-    IsWellFormedCore now entries' keeps' searched' → now ≡ cur → old.shut ≡ true → now.policies.executes ≡ false → IsWellFormedCore now entries' keeps' true
-searched_kept m old cur now entries keeps entries' keeps' searched searched' before lines kept is ends still same shut off =
-    let policies : now.policies ≡ old.policies = ap (λ (x : Machine). x.policies) same ∙ ap (λ (x : Machine). x.policies) ends.rest in
-    let none = none_delayed old cur entries keeps searched before lines (subst (λ x. IsWellFormedCore x entries keeps searched) is kept) ends (ap (λ (p : Policies). p.executes) (sym policies) ∙ off) in
-    record {
-      orderly = still.orderly;
-      made = still.made;
-      some = still.some;
-      few = still.few;
-      taken = still.taken;
-      moment = still.moment;
-      count = still.count;
-      queue = still.queue;
-      keeping = still.keeping;
-      timing = still.timing;
-      delayed = λ q. (ap (λ (x : Machine). x.shut) same ∙ (ap (λ (x : Machine). x.shut) ends.rest ∙ shut), subst (λ x. NoneDelayed (state_of x)) (sym same) none);
-      fresh = still.fresh;
-      sound = still.sound;
-      due = still.due;
-      runs = still.runs;
-    }
+-- where periodic tasks do not go on, and none is left to end, no periodic task waits
+pub none_again : (m : Machine) (entries keeps : List (Option ℕ)) (sought : Sought) → IsWellFormedCore m entries keeps sought → m.policies.continues ≡ false → ((k : ℕ) → sweeps_at m k ≡ false) → (k : ℕ) → waits_again (slice_index_or m.tasks k vacant) ≡ false
+none_again m entries keeps sought kept off swept k =
+    let t = slice_index_or m.tasks k vacant in
+    let stays : (waits_with t && is_ended_by m.policies m.moment t.timing t.due) ≡ false = sym (swept_is m entries keeps sought k kept) ∙ swept k in
+    let ends : (timing : Timing) → is_periodic timing ≡ true → is_ended_by m.policies m.moment timing t.due ≡ true =
+    elim [ how.Once ↦ λ q. absurd (false≢true q) | how.Rate period ↦ λ q. ap not off | how.Fixed delay ↦ λ q. ap not off ]
+    in
+    false_from_ne_true (waits_again t) (λ is.
+    let waiting : is_waiting_phase t.phase ≡ true = and_left (is_waiting_phase t.phase) _ is in
+    let rest = and_right (is_waiting_phase t.phase) _ is in
+    let live = and_left (not t.cancelled) (is_periodic t.timing) rest in
+    let more = and_right (not t.cancelled) (is_periodic t.timing) rest in
+    false≢true (sym stays ∙ (λ i. (waiting i && live i) && ends t.timing more i)))
+
+-- the core stays well formed once it is noted that no delayed task is left
+pub searched_kept : (m : Machine) (entries keeps : List (Option ℕ)) (sought now : Sought) → IsWellFormedCore m entries keeps sought → m.shut ≡ true → NoneDelayed (state_of m) → now ≡ record sought { delayed = true } →
+    IsWellFormedCore m entries keeps now
+searched_kept m entries keeps sought now kept shut none is = subst (IsWellFormedCore m entries keeps) (sym is) (record {
+  orderly = kept.orderly;
+  made = kept.made;
+  some = kept.some;
+  few = kept.few;
+  taken = kept.taken;
+  moment = kept.moment;
+  count = kept.count;
+  queue = kept.queue;
+  keeping = kept.keeping;
+  timing = kept.timing;
+  delayed = λ q. (shut, none);
+  periodic = kept.periodic;
+  noted = record { ascending = kept.noted.ascending; below = kept.noted.below; few = kept.noted.few; room = kept.noted.room; none = kept.noted.none };
+  fresh = kept.fresh;
+  sound = kept.sound;
+  due = kept.due;
+  runs = kept.runs;
+})
 
 -- a sweep: the tasks are ended, and then those that are kept are dropped
 pub sweeps_all : (m old cur now new : Machine) (before lines : List Line) → length m.tasks ≡ task_count m.calls → m ≡ old → Ends old cur before lines (length old.tasks) → now ≡ cur → Drops now new → Sweeps old new before lines

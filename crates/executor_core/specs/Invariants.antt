@@ -10,6 +10,7 @@ use Rattle.queue_code.specs.Calls.{Planned, IsOrderly, task_count, terms_of, due
 use Rattle.executor_core.specs.Counts.{most_workers}
 use Rattle.executor_core.specs.View.{View}
 use Rattle.executor_core.specs.State.{State, view_of_state, vacant}
+use Rattle.executor_core.specs.Sought.{Sought, AreNoted, OnlyThese}
 use Rattle.executor_core.specs.Machine.{Machine, workers_of, state_of}
 
 -- the due moment of a task that waits for a run
@@ -25,11 +26,12 @@ queued task = if task.cancelled then None else queued_phase task.phase task.due
 abbrev pub held : Task → Option ℕ
 held task = if task.kept then Some task.due else None
 
--- a busy worker's task runs, no two workers have one task, the due moment of a run that is under way was
--- reached, a task whose run was dropped was cancelled, and a kept one was cancelled while it waited
+-- a busy worker's task runs, no two workers have one task, each task that runs is that of some worker, the due moment
+-- of a run that is under way was reached, a task whose run was dropped was cancelled, and a kept one was cancelled while it waited
 pub record IsSound (s : State) : Type 0 where
   pub at_work : (w k : ℕ) → s.workers w ≡ Some k → (s.tasks k).phase ≡ ph.Running
   pub apart : (v w k : ℕ) → s.workers v ≡ Some k → s.workers w ≡ Some k → v ≡ w
+  pub staffed : (k : ℕ) → (s.tasks k).phase ≡ ph.Running → (w : ℕ) × (s.workers w ≡ Some k)
   pub reached : (k : ℕ) → (s.tasks k).phase ≡ ph.Running → (s.tasks k).due ≤ s.moment
   pub over : (k : ℕ) → (s.tasks k).phase ≡ ph.Dropped → (s.tasks k).cancelled ≡ true
   pub kept : (k : ℕ) → (s.tasks k).kept ≡ true → ((s.tasks k).phase ≡ ph.Waiting) × ((s.tasks k).cancelled ≡ true)
@@ -51,9 +53,8 @@ pub record RunsBelow (count : ℕ) (tasks : List Task) : Type 0 where
   pub all : (k : ℕ) → (slice_index_or tasks k vacant).run ≤ count
   pub begun : (k : ℕ) → (slice_index_or tasks k vacant).phase ≡ ph.Running → (slice_index_or tasks k vacant).run < count
 
--- what stays true of a core, with the entries of its two queues by task number, and whether a sweep has ended the
--- delayed tasks
-pub record IsWellFormedCore (m : Machine) (entries kept : List (Option ℕ)) (searched : Bool) : Type 0 where
+-- what stays true of a core, with the entries of its two queues by task number, and what sweeps have looked for
+pub record IsWellFormedCore (m : Machine) (entries kept : List (Option ℕ)) (sought : Sought) : Type 0 where
   pub orderly : IsOrderly m.calls
   pub made : m.made ≤ length m.calls
   pub some : 0 < workers_of m
@@ -65,7 +66,10 @@ pub record IsWellFormedCore (m : Machine) (entries kept : List (Option ℕ)) (se
   pub keeping : kept ≡ map held m.tasks
   pub timing : TimingsAgree m.calls (state_of m)
   -- once the delayed tasks were ended, none comes
-  pub delayed : searched ≡ true → (m.shut ≡ true) × NoneDelayed (state_of m)
+  pub delayed : sought.delayed ≡ true → (m.shut ≡ true) × NoneDelayed (state_of m)
+  -- once the periodic tasks that waited were ended, only those that ran then go on
+  pub periodic : sought.periodic ≡ true → (m.shut ≡ true) × OnlyThese sought.going (state_of m)
+  pub noted : AreNoted sought (length m.tasks) (workers_of m)
   -- what no call made submits is vacant
   pub fresh : (k : ℕ) → task_count (take m.made m.calls) ≤ k → slice_index_or m.tasks k vacant ≡ vacant
   pub sound : IsSound (state_of m)

@@ -14,6 +14,7 @@ pub mod Tasks
 pub mod Tables
 pub mod Flows
 pub mod Within
+pub mod Sought
 pub mod Machine
 pub mod OwnSteps
 pub mod Invariants

@@ -80,15 +80,16 @@
 //!
 //! # Memory and cost
 //!
-//! `Core::new` takes all memory that the core needs for itself: for each task some 80 bytes, and 8 for each worker. It
+//! `Core::new` takes all memory that the core needs for itself: for each task some 80 bytes, and 12 for each worker. It
 //! keeps the code, and fetches the calls from it one after the other: however often a loop of the code is made, its
 //! calls take no memory. `event` takes memory for lines alone, and none where the list has room for one line, one for
 //! each call that is left and one for each task that is not cancelled. A clock costs what the calls that it reaches
 //! cost; a submission, a start, a finish and a cancel cost what the queue of waiting tasks does
 //! (see [`DelayQueue`](delay_queue::DelayQueue)), and a start also what the kept tasks that leave cost. Setting a policy
-//! that does not sweep and asking how far the executor is cost the same whatever it holds. A sweep that may end a task goes over all tasks
-//! once; one that has none to end, since no periodic task waits and the delayed ones were ended before, costs nothing but
-//! the kept tasks that leave.
+//! that does not sweep and asking how far the executor is cost the same whatever it holds. The first sweep at
+//! which delayed tasks are not executed goes over all tasks at most once, and the first at which periodic tasks do not
+//! continue at most twice. A later one looks at no more tasks than there are workers, which are periodic tasks that ran at
+//! that one, and finds each by a binary search; where no periodic task waits it costs nothing but the kept tasks that leave.
 #![tactic(auto)]
 
 mod agenda;
@@ -97,6 +98,7 @@ mod laws;
 mod limits;
 mod machine;
 mod policies;
+mod sought;
 mod tallies;
 mod task;
 mod tasks;

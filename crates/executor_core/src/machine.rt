@@ -20,6 +20,7 @@ use crate::agenda::Agenda;
 use crate::error::CoreError;
 use crate::limits::MOST_WORKERS;
 use crate::policies::Policies;
+use crate::sought::Sought;
 use crate::tasks::Tasks;
 use crate::types::{Answer, Event, EventError, Line, Message};
 use delay_queue::DelayQueue;
@@ -44,8 +45,7 @@ pub struct Core<A: Allocator> {
     policies: Policies,
     /// A shutdown call was made.
     shut: bool,
-    /// A sweep has ended the delayed tasks, and no more come.
-    searched: bool,
+    sought: Sought<A>,
     limit: u32,
     taken: u32,
 }
@@ -58,7 +58,7 @@ impl<A: Allocator> Model for Core<A> {
 
     ghost view = { λ c. record { calls = c.calls.items; limit = c.limit; taken = c.taken; made = c.calls.made; moment = c.moment; tasks = c.tasks; work = c.work.items; policies = c.policies; shut = c.shut } };
 
-    ghost invariant = { λ c. IsWellFormedCore (record { calls = c.calls.items; limit = c.limit; taken = c.taken; made = c.calls.made; moment = c.moment; tasks = c.tasks; work = c.work.items; policies = c.policies; shut = c.shut }) c.queue.entries c.kept.entries c.searched };
+    ghost invariant = { λ c. IsWellFormedCore (record { calls = c.calls.items; limit = c.limit; taken = c.taken; made = c.calls.made; moment = c.moment; tasks = c.tasks; work = c.work.items; policies = c.policies; shut = c.shut }) c.queue.entries c.kept.entries c.sought };
 }
 
 impl<A: Allocator> Core<A> {
@@ -254,6 +254,7 @@ impl<A: Allocator> Core<A> {
         let work = Vec::from_elem(alloc, None, workers as usize)?;
         let queue = DelayQueue::new(alloc, count).map_err(|_| AllocError)?;
         let kept = DelayQueue::new(alloc, count).map_err(|_| AllocError)?;
+        let sought = Sought::new(alloc, workers as usize)?;
         let calls = Agenda::new(code);
         Ok(Core {
             calls,
@@ -264,7 +265,7 @@ impl<A: Allocator> Core<A> {
             kept,
             policies: Policies::defaults(),
             shut: false,
-            searched: false,
+            sought,
             limit,
             taken: 0,
         })

@@ -89,7 +89,10 @@ impl<A: Allocator> Core<A> {
             self.end_tasks(out);
         }
         if !self.policies.executes {
-            self.searched = true;
+            self.note_delayed();
+        }
+        if !self.policies.continues {
+            self.note_periodic();
         }
         self.drop_kept();
     }
@@ -99,7 +102,7 @@ impl<A: Allocator> Core<A> {
         ensures { result ≡ false → (k : ℕ) → is_swept self.now.calls (view_of_state self.now.calls (state_of self.now)) self.now.policies k ≡ false }
     {
         (!self.policies.continues && self.tasks.periodic() > 0)
-            || (!self.policies.executes && !self.searched)
+            || (!self.policies.executes && !self.sought.delayed())
     }
 
     /// Ends each task that a sweep ends, in ascending number.
@@ -109,13 +112,47 @@ impl<A: Allocator> Core<A> {
         ensures room { vec_len out.new + uncancelled_in self.new.tasks ≤ vec_len out.old + uncancelled_in self.old.tasks }
         ensures capacity { vec_capacity out.new ≡ vec_capacity out.old }
     {
-        let mut task = 0;
+        let mut task = self.candidate(0);
         while task < self.tasks.len() {
             if self.is_swept(task) {
                 self.end(task, out);
             }
-            task += 1;
+            task = self.candidate(task + 1);
         }
+    }
+
+    /// The first task from this number on that a sweep may end, or how many tasks there are where none is left. Once
+    /// sweeps have looked for both sorts of tasks that they end, it is one of those that were noted then.
+    fn candidate(&self, from: usize) -> usize
+        requires { from ≤ length self.now.tasks }
+        ensures from { from ≤ result }
+        ensures within { result ≤ length self.now.tasks }
+        ensures passed { (k : ℕ) → from ≤ k → k < result → is_swept self.now.calls (view_of_state self.now.calls (state_of self.now)) self.now.policies k ≡ false }
+    {
+        if self.sought.periodic() && (self.policies.executes || self.sought.delayed()) {
+            return self.sought.first_from(from).unwrap_or(self.tasks.len());
+        }
+        from
+    }
+
+    /// Notes that a sweep has ended the delayed tasks.
+    fn note_delayed(&mut self)
+        requires shut { self.old.shut ≡ true }
+        requires policy { self.old.policies.executes ≡ false }
+        requires swept { (k : ℕ) → is_swept self.old.calls (view_of_state self.old.calls (state_of self.old)) self.old.policies k ≡ false }
+        ensures { self.new ≡ self.old }
+    {
+        self.sought.note_delayed();
+    }
+
+    /// Notes that a sweep has ended the periodic tasks that waited, and which ones go on, where none did so before.
+    fn note_periodic(&mut self)
+        requires shut { self.old.shut ≡ true }
+        requires policy { self.old.policies.continues ≡ false }
+        requires swept { (k : ℕ) → is_swept self.old.calls (view_of_state self.old.calls (state_of self.old)) self.old.policies k ≡ false }
+        ensures { self.new ≡ self.old }
+    {
+        self.sought.note_periodic(&self.tasks);
     }
 
     /// Whether a sweep ends a task.

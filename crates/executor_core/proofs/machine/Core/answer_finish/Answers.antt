@@ -15,7 +15,7 @@ get-task-requires g c =
     let k = c.in-Some.number in
     let l : c.args.worker < length m.work.items = omega (arith, c.if-place-len.false, c.len.ensures, m.work.ok.0) in
     let busy : slice_index_or m.work.items c.args.worker None ≡ Some k = sym (read_at m.work.items c.args.worker c.index.result.now None l c.index.ensures) ∙ c.in-Some.is in
-    work_within _ m.queue.entries m.kept.entries m.searched c.args.worker k c.self.invariant busy
+    work_within _ m.queue.entries m.kept.entries m.sought c.args.worker k c.self.invariant busy
 
 pub end_run-requires-clause-known : goal.end_run-requires-clause-known
 end_run-requires-clause-known g c =
@@ -23,7 +23,7 @@ end_run-requires-clause-known g c =
     let k = c.in-Some.number in
     let l : c.args.worker < length m.work.items = omega (arith, c.if-place-len.false, c.len.ensures, m.work.ok.0) in
     let busy : slice_index_or m.work.items c.args.worker None ≡ Some k = sym (read_at m.work.items c.args.worker c.index.result.now None l c.index.ensures) ∙ c.in-Some.is in
-    work_within _ m.queue.entries m.kept.entries m.searched c.args.worker k c.self.invariant busy
+    work_within _ m.queue.entries m.kept.entries m.sought c.args.worker k c.self.invariant busy
 
 pub queue_if_again-requires-clause-known : goal.queue_if_again-requires-clause-known
 queue_if_again-requires-clause-known g c =
@@ -31,7 +31,7 @@ queue_if_again-requires-clause-known g c =
     let k = c.in-Some.number in
     let l : c.args.worker < length m.work.items = omega (arith, c.if-place-len.false, c.len.ensures, m.work.ok.0) in
     let busy : slice_index_or m.work.items c.args.worker None ≡ Some k = sym (read_at m.work.items c.args.worker c.index.result.now None l c.index.ensures) ∙ c.in-Some.is in
-    omega (arith, work_within _ m.queue.entries m.kept.entries m.searched c.args.worker k c.self.invariant busy, ap length c.self.invariant.queue ∙ length-map m.tasks queued)
+    omega (arith, work_within _ m.queue.entries m.kept.entries m.sought c.args.worker k c.self.invariant busy, ap length c.self.invariant.queue ∙ length-map m.tasks queued)
 
 pub queue_if_again-requires-clause-absent : goal.queue_if_again-requires-clause-absent
 queue_if_again-requires-clause-absent g c =
@@ -39,7 +39,7 @@ queue_if_again-requires-clause-absent g c =
     let k = c.in-Some.number in
     let l : c.args.worker < length m.work.items = omega (arith, c.if-place-len.false, c.len.ensures, m.work.ok.0) in
     let busy : slice_index_or m.work.items c.args.worker None ≡ Some k = sym (read_at m.work.items c.args.worker c.index.result.now None l c.index.ensures) ∙ c.in-Some.is in
-    run_unqueued _ m.queue.entries m.kept.entries m.searched c.args.worker k c.self.invariant busy
+    run_unqueued _ m.queue.entries m.kept.entries m.sought c.args.worker k c.self.invariant busy
 
 pub invariant_of-self : goal.invariant_of-self
 invariant_of-self g c =
@@ -51,7 +51,7 @@ invariant_of-self g c =
     let task = c.get-task.result in
     let next : c.unwrap_or-due.result ≡ due_past task.timing task.due m.moment = search rules in
     let out = c.outcome_in-outcome.ensures task.timing task.due m.moment c.next_due-next.ensures ∙ ap (λ b. outcome_in task.cancelled b task.timing (due_past task.timing task.due m.moment) c.args.ending) stops in
-    finish_keeps _ m.queue.entries m.kept.entries c.queue_if_again.new.queue.entries m.searched c.args.worker k c.unwrap_or-due.result c.args.ending c.outcome_in-outcome.result task c.end_run.new.tasks c.self.invariant
+    finish_keeps _ m.queue.entries m.kept.entries c.queue_if_again.new.queue.entries m.sought c.args.worker k c.unwrap_or-due.result c.args.ending c.outcome_in-outcome.result task c.end_run.new.tasks c.self.invariant
     (record { worker = l; busy = busy; is = c.get-task.ensures; out = out; next = next }) c.end_run.ensures c.queue_if_again.ensures
 
 pub returns-clause-step : goal.returns-clause-step
@@ -65,5 +65,5 @@ returns-clause-step g c =
     let next : c.unwrap_or-due.result ≡ due_past task.timing task.due m.moment = search rules in
     let out = c.outcome_in-outcome.ensures task.timing task.due m.moment c.next_due-next.ensures ∙ ap (λ b. outcome_in task.cancelled b task.timing (due_past task.timing task.due m.moment) c.args.ending) stops in
     of_view _ c.args.self.now _ _ _ c.self.view_is
-    (finish_takes _ m.queue.entries m.kept.entries m.searched c.args.worker k c.from.result c.unwrap_or-due.result c.args.ending c.outcome_in-outcome.result task c.end_run.new.tasks c.self.invariant
+    (finish_takes _ m.queue.entries m.kept.entries m.sought c.args.worker k c.from.result c.unwrap_or-due.result c.args.ending c.outcome_in-outcome.result task c.end_run.new.tasks c.self.invariant
     (record { worker = l; busy = busy; is = c.get-task.ensures; out = out; next = next }) c.end_run.ensures c.from.ensures)

@@ -10,28 +10,28 @@ use Rattle.executor_core.proofs.machine.Core.ask.Goals as goal
 pub overflow_add-queue : goal.overflow_add-queue
 overflow_add-queue g c =
     let m = c.self.inside in
-    omega (arith, (counts_within _ m.queue.entries m.kept.entries m.searched c.self.invariant).0, c.len.ensures, c.len-2.ensures)
+    omega (arith, (counts_within _ m.queue.entries m.kept.entries m.sought c.self.invariant).0, c.len.ensures, c.len-2.ensures)
 
 pub overflow_cast-result : goal.overflow_cast-result
 overflow_cast-result g c =
     let m = c.self.inside in
-    omega (arith, (counts_within _ m.queue.entries m.kept.entries m.searched c.self.invariant).0, c.len.ensures, c.len-2.ensures)
+    omega (arith, (counts_within _ m.queue.entries m.kept.entries m.sought c.self.invariant).0, c.len.ensures, c.len-2.ensures)
 
 pub overflow_cast-result-2 : goal.overflow_cast-result-2
 overflow_cast-result-2 g c =
     let m = c.self.inside in
-    omega (arith, (counts_within _ m.queue.entries m.kept.entries m.searched c.self.invariant).1, c.running-running.ensures)
+    omega (arith, (counts_within _ m.queue.entries m.kept.entries m.sought c.self.invariant).1, c.running-running.ensures)
 
 pub invariant_of-self : goal.invariant_of-self
 invariant_of-self g c =
     let m = c.self.inside in
     let is : slice_get m.calls.items m.calls.made ≡ Some (c.args.moment, call.Ask) = ap (λ x. slice_get x.calls x.made) c.self.view_is ∙ c.requires in
-    rw c.pass.ensures (passed_kept _ m.queue.entries m.kept.entries m.searched c.max-self-inside.result c.args.moment call.Ask c.self.invariant is c.max-self-inside.ensures)
+    rw c.pass.ensures (passed_kept _ m.queue.entries m.kept.entries m.sought c.max-self-inside.result c.args.moment call.Ask c.self.invariant is c.max-self-inside.ensures)
 
 pub returns-clause-step : goal.returns-clause-step
 returns-clause-step g c =
     let m = c.self.inside in
     let is : slice_get m.calls.items m.calls.made ≡ Some (c.args.moment, call.Ask) = ap (λ x. slice_get x.calls x.made) c.self.view_is ∙ c.requires in
     let ends : c.if-queue-eq0.result ≡ is_terminated m.shut (c.len.result + c.len-2.result) c.running-running.result = grind (arith, nat_tests, c.if-queue-eq0.branch, c.if-self.branch) in
-    rw c.pass.ensures (ask_steps _ c.args.self.now m.queue.entries m.kept.entries m.searched c.max-self-inside.result c.args.moment (c.len.result + c.len-2.result) c.running-running.result c.if-queue-eq0.result c.self.invariant is
+    rw c.pass.ensures (ask_steps _ c.args.self.now m.queue.entries m.kept.entries m.sought c.max-self-inside.result c.args.moment (c.len.result + c.len-2.result) c.running-running.result c.if-queue-eq0.result c.self.invariant is
     (λ i. c.len.ensures i + c.len-2.ensures i) c.running-running.ensures ends c.max-self-inside.ensures c.self.view_is)

@@ -20,7 +20,7 @@ invariant_of-self g c =
     let old = c.args.self.now in
     let did = c.cancel_task-effect.ensures in
     let same = c.self-2.view_is ∙ is_cancelled_so old c.cancel_task-effect.new.self c.args.task c.cancel_task-effect.result did.yes did.no in
-    rw c.pass.ensures (passed_kept _ c.self-2.inside.queue.entries c.self-2.inside.kept.entries c.self-2.inside.searched c.max-now.result c.args.moment (call.Cancel c.args.task) c.self-2.invariant (ap (λ x. slice_get x.calls x.made) same ∙ c.requires)
+    rw c.pass.ensures (passed_kept _ c.self-2.inside.queue.entries c.self-2.inside.kept.entries c.self-2.inside.sought c.max-now.result c.args.moment (call.Cancel c.args.task) c.self-2.invariant (ap (λ x. slice_get x.calls x.made) same ∙ c.requires)
     (c.max-now.ensures ∙ ap (λ n. max n c.args.moment) (ap (λ (x : Machine). x.moment) c.self.view_is ∙ sym (ap (λ x. x.moment) same))))
 
 pub returns-clause-step : goal.returns-clause-step

@@ -18,7 +18,7 @@ invariant_of-self g c =
     sym (subst (λ (x : Machine). effect_on (seen_task (terms_of x.calls c.args.task) (slice_index_or x.tasks c.args.task vacant)) ≡ effect.Yes) (sym c.self.view_is) c.requires.live)
     in
     let waits : (slice_index_or m.tasks c.args.task vacant).phase ≡ ph.Waiting = sym (ap (λ (x : Task). x.phase) c.get-before.ensures) ∙ search rules in
-    staying_kept _ m.queue.entries c.remove.new.self.entries m.kept.entries c.insert.new.self.entries m.searched c.args.task c.get-before.result.due c.cancel.new.self c.keep.new.self
+    staying_kept _ m.queue.entries c.remove.new.self.entries m.kept.entries c.insert.new.self.entries m.sought c.args.task c.get-before.result.due c.cancel.new.self c.keep.new.self
     c.self.invariant low live c.remove.ensures.removed waits c.if-not-self.true (ap (λ (x : Task). x.due) c.get-before.ensures) c.insert.ensures.inserted c.cancel.ensures c.keep.ensures
 
 pub invariant_of-self-else-not-self : goal.invariant_of-self-else-not-self
@@ -28,7 +28,7 @@ invariant_of-self-else-not-self g c =
     let live : effect.Yes ≡ effect_on (seen_task (terms_of m.calls.items c.args.task) (slice_index_or m.tasks c.args.task vacant)) =
     sym (subst (λ (x : Machine). effect_on (seen_task (terms_of x.calls c.args.task) (slice_index_or x.tasks c.args.task vacant)) ≡ effect.Yes) (sym c.self.view_is) c.requires.live)
     in
-    leaving_kept _ m.queue.entries c.remove.new.self.entries m.kept.entries m.searched c.args.task c.cancel.new.self c.self.invariant low live c.remove.ensures.removed (λ q. c.if-not-self.false) c.cancel.ensures
+    leaving_kept _ m.queue.entries c.remove.new.self.entries m.kept.entries m.sought c.args.task c.cancel.new.self c.self.invariant low live c.remove.ensures.removed (λ q. c.if-not-self.false) c.cancel.ensures
 
 pub invariant_of-self-else-eq : goal.invariant_of-self-else-eq
 invariant_of-self-else-eq g c =
@@ -38,7 +38,7 @@ invariant_of-self-else-eq g c =
     sym (subst (λ (x : Machine). effect_on (seen_task (terms_of x.calls c.args.task) (slice_index_or x.tasks c.args.task vacant)) ≡ effect.Yes) (sym c.self.view_is) c.requires.live)
     in
     let other : c.get-before.result.phase ≢ ph.Waiting = λ q. search rules in
-    leaving_kept _ m.queue.entries c.remove.new.self.entries m.kept.entries m.searched c.args.task c.cancel.new.self c.self.invariant low live c.remove.ensures.removed
+    leaving_kept _ m.queue.entries c.remove.new.self.entries m.kept.entries m.sought c.args.task c.cancel.new.self c.self.invariant low live c.remove.ensures.removed
     (λ q. absurd (other (ap (λ (x : Task). x.phase) c.get-before.ensures ∙ q))) c.cancel.ensures
 
 pub returns-then-not-self : goal.returns-then-not-self

@@ -18,9 +18,9 @@ loop-entry-preserved g c =
 pub invariant_of-self : goal.invariant_of-self
 invariant_of-self g c =
     let kept = c.loop-entry.invariant in
-    dropped_kept _ _ c.self.inside.queue.entries c.loop-entry.self-inside.queue.entries c.self.inside.kept.entries c.loop-entry.self-inside.kept.entries c.self.inside.searched c.loop-entry.self-inside.searched c.self.invariant
+    dropped_kept _ _ c.self.inside.queue.entries c.loop-entry.self-inside.queue.entries c.self.inside.kept.entries c.loop-entry.self-inside.kept.entries c.self.inside.sought c.loop-entry.self-inside.sought c.self.invariant
     (λ i. record { calls = (kept.rest i).calls.items; limit = (kept.rest i).limit; taken = (kept.rest i).taken; made = (kept.rest i).calls.made; moment = (kept.rest i).moment; tasks = c.loop-entry.self-inside.tasks; work = (kept.rest i).work.items; policies = (kept.rest i).policies; shut = (kept.rest i).shut })
-    (λ i. (kept.rest i).queue.entries) (λ i. (kept.rest i).searched) kept.dropped kept.keeping
+    (λ i. (kept.rest i).queue.entries) (λ i. (kept.rest i).sought) kept.dropped kept.keeping
 
 pub returns : goal.returns
 returns g c =

@@ -10,9 +10,9 @@ use Rattle.executor_core.proofs.machine.Core.drop_met.Goals as goal
 pub invariant_of-self : goal.invariant_of-self
 invariant_of-self g c =
     let meeting = c.loop-entry.invariant.meeting in
-    subst (λ x. IsWellFormedCore (record { calls = x.calls.items; limit = x.limit; taken = x.taken; made = x.calls.made; moment = x.moment; tasks = x.tasks; work = x.work.items; policies = x.policies; shut = x.shut }) x.queue.entries x.kept.entries x.searched)
+    subst (λ x. IsWellFormedCore (record { calls = x.calls.items; limit = x.limit; taken = x.taken; made = x.calls.made; moment = x.moment; tasks = x.tasks; work = x.work.items; policies = x.policies; shut = x.shut }) x.queue.entries x.kept.entries x.sought)
     (sym c.loop-entry.invariant.rest)
-    (fewer_keeps _ c.self.inside.queue.entries c.self.inside.kept.entries c.loop-entry.self-inside.kept.entries c.self.inside.searched c.loop-entry.self-inside.tasks c.self.invariant meeting.fewer meeting.keeping)
+    (fewer_keeps _ c.self.inside.queue.entries c.self.inside.kept.entries c.loop-entry.self-inside.kept.entries c.self.inside.sought c.loop-entry.self-inside.tasks c.self.invariant meeting.fewer meeting.keeping)
 
 pub returns-then-not-is_met-clause-tasks : goal.returns-then-not-is_met-clause-tasks
 returns-then-not-is_met-clause-tasks g c =
@@ -39,9 +39,9 @@ loop-entry-preserved g c =
 pub invariant_of-self-in_default : goal.invariant_of-self-in_default
 invariant_of-self-in_default g c =
     let meeting = c.loop-entry.invariant.meeting in
-    subst (λ x. IsWellFormedCore (record { calls = x.calls.items; limit = x.limit; taken = x.taken; made = x.calls.made; moment = x.moment; tasks = x.tasks; work = x.work.items; policies = x.policies; shut = x.shut }) x.queue.entries x.kept.entries x.searched)
+    subst (λ x. IsWellFormedCore (record { calls = x.calls.items; limit = x.limit; taken = x.taken; made = x.calls.made; moment = x.moment; tasks = x.tasks; work = x.work.items; policies = x.policies; shut = x.shut }) x.queue.entries x.kept.entries x.sought)
     (sym c.loop-entry.invariant.rest)
-    (fewer_keeps _ c.self.inside.queue.entries c.self.inside.kept.entries c.loop-entry.self-inside.kept.entries c.self.inside.searched c.loop-entry.self-inside.tasks c.self.invariant meeting.fewer meeting.keeping)
+    (fewer_keeps _ c.self.inside.queue.entries c.self.inside.kept.entries c.loop-entry.self-inside.kept.entries c.self.inside.sought c.loop-entry.self-inside.tasks c.self.invariant meeting.fewer meeting.keeping)
 
 pub returns-clause-tasks : goal.returns-clause-tasks
 returns-clause-tasks g c =

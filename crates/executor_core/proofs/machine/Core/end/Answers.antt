@@ -21,4 +21,4 @@ invariant_of-self g c =
     let m = c.self.inside in
     let low : c.args.task < length m.tasks = subst (λ (x : Machine). c.args.task < length x.tasks) (sym c.self.view_is) c.requires.known in
     let waits : waits_with (slice_index_or m.tasks c.args.task vacant) ≡ true = subst (λ (x : Machine). waits_with (slice_index_or x.tasks c.args.task vacant) ≡ true) (sym c.self.view_is) c.requires.waits in
-    end_kept _ m.queue.entries c.remove.new.self.entries m.kept.entries m.searched c.args.task c.cancel.new.self c.self.invariant low waits c.remove.ensures.removed c.cancel.ensures
+    end_kept _ m.queue.entries c.remove.new.self.entries m.kept.entries m.sought c.args.task c.cancel.new.self c.self.invariant low waits c.remove.ensures.removed c.cancel.ensures

@@ -14,7 +14,7 @@ returns-then-not-has g c =
     let k = c.args.task in
     let high : length m.tasks ≤ k = elim (cases_lt k (length m.tasks)) [ inl low ↦ absurd (false≢true (c.if-not-has.ensures.1 low)) | inr high ↦ high ] in
     let test = λ (t : Task). waits_with t && is_ended_by c.args.policies c.args.now t.timing t.due in
-    ends_so _ c.args.self.now m.queue.entries m.kept.entries m.searched k c.args.now c.args.policies false c.self.view_is c.self.invariant (sym (ap test (get_or_past m.tasks k vacant high)))
+    ends_so _ c.args.self.now m.queue.entries m.kept.entries m.sought k c.args.now c.args.policies false c.self.view_is c.self.invariant (sym (ap test (get_or_past m.tasks k vacant high)))
 
 pub returns-then-waits : goal.returns-then-waits
 returns-then-waits g c =
@@ -23,7 +23,7 @@ returns-then-waits g c =
     let t = c.get-task.result in
     let test = λ (x : Task). waits_with x && is_ended_by c.args.policies c.args.now x.timing x.due in
     let here = c.is_ended_by.ensures ∙ ap (λ b. b && is_ended_by c.args.policies c.args.now t.timing t.due) (sym c.if-waits.true ∙ c.waits.ensures) in
-    ends_so _ c.args.self.now m.queue.entries m.kept.entries m.searched k c.args.now c.args.policies c.is_ended_by.result c.self.view_is c.self.invariant (here ∙ ap test c.get-task.ensures)
+    ends_so _ c.args.self.now m.queue.entries m.kept.entries m.sought k c.args.now c.args.policies c.is_ended_by.result c.self.view_is c.self.invariant (here ∙ ap test c.get-task.ensures)
 
 pub returns-else-waits : goal.returns-else-waits
 returns-else-waits g c =
@@ -33,4 +33,4 @@ returns-else-waits g c =
     let test = λ (x : Task). waits_with x && is_ended_by c.args.policies c.args.now x.timing x.due in
     let idle = sym c.waits.ensures ∙ c.if-waits.false in
     let here = c.if-waits.false ∙ sym (ap (λ b. b && is_ended_by c.args.policies c.args.now t.timing t.due) idle) in
-    ends_so _ c.args.self.now m.queue.entries m.kept.entries m.searched k c.args.now c.args.policies c.waits.result c.self.view_is c.self.invariant (here ∙ ap test c.get-task.ensures)
+    ends_so _ c.args.self.now m.queue.entries m.kept.entries m.sought k c.args.now c.args.policies c.waits.result c.self.view_is c.self.invariant (here ∙ ap test c.get-task.ensures)

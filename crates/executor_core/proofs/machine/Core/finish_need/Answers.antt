@@ -14,7 +14,7 @@ get-task-requires g c =
     let k = c.in-Some.number in
     let l : c.args.worker < length m.work.items = omega (arith, c.if-place-len.false, c.len.ensures, m.work.ok.0) in
     let busy : slice_index_or m.work.items c.args.worker None ≡ Some k = sym (read_at m.work.items c.args.worker c.index.result.now None l c.index.ensures) ∙ c.in-Some.is in
-    work_within _ m.queue.entries m.kept.entries m.searched c.args.worker k c.self.invariant busy
+    work_within _ m.queue.entries m.kept.entries m.sought c.args.worker k c.self.invariant busy
 
 pub returns : goal.returns
 returns g c =
@@ -25,5 +25,5 @@ returns g c =
     let stops : c.if-self.stops ≡ stops_periodic m.shut m.policies = elim c.if-self.branch [ then-self w ↦ search rules | else-self w ↦ search rules ] in
     let task = c.get-task.result in
     let out = c.outcome_in.ensures task.timing task.due m.moment c.next_due-next.ensures ∙ ap (λ b. outcome_in task.cancelled b task.timing (due_past task.timing task.due m.moment) c.args.ending) stops in
-    finished_needs _ c.args.self.now m.queue.entries m.kept.entries m.searched c.args.worker k c.args.ending c.outcome_in.result task c.need_of_finish.result c.self.view_is c.self.invariant
+    finished_needs _ c.args.self.now m.queue.entries m.kept.entries m.sought c.args.worker k c.args.ending c.outcome_in.result task c.need_of_finish.result c.self.view_is c.self.invariant
     (record { worker = l; busy = busy; is = c.get-task.ensures; out = out; next = refl }) c.need_of_finish.ensures

@@ -18,7 +18,7 @@ returns-then-not-self-2 g c = λ sought.
     ]
     in
     subst (λ (x : Machine). (k : ℕ) → sweeps_at x k ≡ false) c.self.view_is
-    (none_swept _ m.queue.entries m.kept.entries m.searched c.self.invariant periodic (inr (not_false m.searched sought)))
+    (none_swept _ m.queue.entries m.kept.entries m.sought c.self.invariant periodic (inr (sym c.delayed.ensures ∙ not_false c.delayed.result sought)))
 
 pub returns-else-not-self-2 : goal.returns-else-not-self-2
 returns-else-not-self-2 g c = λ runs.
@@ -29,4 +29,4 @@ returns-else-not-self-2 g c = λ runs.
     ]
     in
     subst (λ (x : Machine). (k : ℕ) → sweeps_at x k ≡ false) c.self.view_is
-    (none_swept _ m.queue.entries m.kept.entries m.searched c.self.invariant periodic (inl c.if-not-self-2.false))
+    (none_swept _ m.queue.entries m.kept.entries m.sought c.self.invariant periodic (inl c.if-not-self-2.false))

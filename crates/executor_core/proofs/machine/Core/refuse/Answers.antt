@@ -10,7 +10,7 @@ pub invariant_of-self : goal.invariant_of-self
 invariant_of-self g c =
     let m = c.self.inside in
     let is : slice_get m.calls.items m.calls.made ≡ Some (c.args.moment, call.Illegal c.args.task) = ap (λ x. slice_get x.calls x.made) c.self.view_is ∙ c.requires in
-    rw c.pass.ensures (passed_kept _ m.queue.entries m.kept.entries m.searched c.max-self-inside.result c.args.moment (call.Illegal c.args.task) c.self.invariant is c.max-self-inside.ensures)
+    rw c.pass.ensures (passed_kept _ m.queue.entries m.kept.entries m.sought c.max-self-inside.result c.args.moment (call.Illegal c.args.task) c.self.invariant is c.max-self-inside.ensures)
 
 pub returns-clause-step : goal.returns-clause-step
 returns-clause-step g c =

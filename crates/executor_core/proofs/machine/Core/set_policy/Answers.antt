@@ -9,13 +9,13 @@ pub invariant_of-self : goal.invariant_of-self
 invariant_of-self g c =
     let m = c.self.inside in
     let is : slice_get m.calls.items m.calls.made ≡ Some (c.args.moment, call.SetPolicy c.args.which c.args.value) = ap (λ x. slice_get x.calls x.made) c.self.view_is ∙ c.requires.call in
-    rw c.pass.ensures (made_kept _ m.queue.entries m.kept.entries m.searched c.max-self-inside.result c.args.moment (call.SetPolicy c.args.which c.args.value) c.with-self-inside.result m.shut c.self.invariant is c.max-self-inside.ensures (λ q. q))
+    rw c.pass.ensures (made_kept _ m.queue.entries m.kept.entries m.sought c.max-self-inside.result c.args.moment (call.SetPolicy c.args.which c.args.value) c.with-self-inside.result m.shut c.self.invariant is c.max-self-inside.ensures (λ q. q))
 
 pub invariant_of-self-else-setting_sweeps : goal.invariant_of-self-else-setting_sweeps
 invariant_of-self-else-setting_sweeps g c =
     let m = c.self.inside in
     let is : slice_get m.calls.items m.calls.made ≡ Some (c.args.moment, call.SetPolicy c.args.which c.args.value) = ap (λ x. slice_get x.calls x.made) c.self.view_is ∙ c.requires.call in
-    rw c.pass.ensures (made_kept _ m.queue.entries m.kept.entries m.searched c.max-self-inside.result c.args.moment (call.SetPolicy c.args.which c.args.value) c.with-self-inside.result m.shut c.self.invariant is c.max-self-inside.ensures (λ q. q))
+    rw c.pass.ensures (made_kept _ m.queue.entries m.kept.entries m.sought c.max-self-inside.result c.args.moment (call.SetPolicy c.args.which c.args.value) c.with-self-inside.result m.shut c.self.invariant is c.max-self-inside.ensures (λ q. q))
 
 pub returns-then-setting_sweeps-clause-steps : goal.returns-then-setting_sweeps-clause-steps
 returns-then-setting_sweeps-clause-steps g c =

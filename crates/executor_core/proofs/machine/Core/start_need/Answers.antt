@@ -10,7 +10,7 @@ returns-in-Some g c =
     let l : c.args.worker < length m.work.items = omega (arith, c.if-place-len.false, c.len.ensures, m.work.ok.0) in
     let read = read_at m.work.items c.args.worker c.index.result.now None l c.index.ensures in
     let free : slice_index_or m.work.items c.args.worker None ≡ None = sym read ∙ none_of c.index.result.now c.if-is_some.ensures in
-    started_needs _ c.args.self.now m.queue.entries m.kept.entries m.searched c.args.worker c.in-Some.entry c.self.view_is c.self.invariant
+    started_needs _ c.args.self.now m.queue.entries m.kept.entries m.sought c.args.worker c.in-Some.entry c.self.view_is c.self.invariant
     (record { worker = l; free = free; least = c.in-Some.ensures.least; due = c.in-Some.ensures.due })
 
 pub returns-in-None : goal.returns-in-None
@@ -19,4 +19,4 @@ returns-in-None g c =
     let l : c.args.worker < length m.work.items = omega (arith, c.if-place-len.false, c.len.ensures, m.work.ok.0) in
     let read = read_at m.work.items c.args.worker c.index.result.now None l c.index.ensures in
     let free : slice_index_or m.work.items c.args.worker None ≡ None = sym read ∙ none_of c.index.result.now c.if-is_some.ensures in
-    idle_needs _ c.args.self.now m.queue.entries m.kept.entries m.searched c.args.worker c.self.view_is c.self.invariant l free c.in-None.ensures.none
+    idle_needs _ c.args.self.now m.queue.entries m.kept.entries m.sought c.args.worker c.self.view_is c.self.invariant l free c.in-None.ensures.none

@@ -47,20 +47,20 @@ pub invariant_of-self : goal.invariant_of-self
 invariant_of-self g c =
     let m = c.self.inside in
     let is : slice_get m.calls.items m.calls.made ≡ Some (c.args.moment, call.Submit c.args.task c.args.timing c.args.delay) = ap (λ x. slice_get x.calls x.made) c.self.view_is ∙ c.requires in
-    rw c.pass.ensures (passed_kept _ m.queue.entries m.kept.entries m.searched c.max-self-inside.result c.args.moment (call.Submit c.args.task c.args.timing c.args.delay) c.self.invariant is c.max-self-inside.ensures)
+    rw c.pass.ensures (passed_kept _ m.queue.entries m.kept.entries m.sought c.max-self-inside.result c.args.moment (call.Submit c.args.task c.args.timing c.args.delay) c.self.invariant is c.max-self-inside.ensures)
 
 pub invariant_of-self-2 : goal.invariant_of-self-2
 invariant_of-self-2 g c =
     let m = c.self.inside in
     let is : slice_get m.calls.items m.calls.made ≡ Some (c.args.moment, call.Submit c.args.task c.args.timing c.args.delay) = ap (λ x. slice_get x.calls x.made) c.self.view_is ∙ c.requires in
-    rw c.pass.ensures (submit_keeps_in _ m.queue.entries c.insert.new.self.entries m.kept.entries m.searched c.max-self-inside.result c.args.moment c.args.task c.args.delay c.args.timing c.submit.new.self
+    rw c.pass.ensures (submit_keeps_in _ m.queue.entries c.insert.new.self.entries m.kept.entries m.sought c.max-self-inside.result c.args.moment c.args.task c.args.delay c.args.timing c.submit.new.self
     c.self.invariant is c.if-self.false c.max-self-inside.ensures c.insert.ensures.inserted c.submit.ensures)
 
 pub returns-clause-step : goal.returns-clause-step
 returns-clause-step g c =
     let m = c.self.inside in
     let is : slice_get m.calls.items m.calls.made ≡ Some (c.args.moment, call.Submit c.args.task c.args.timing c.args.delay) = ap (λ x. slice_get x.calls x.made) c.self.view_is ∙ c.requires in
-    rw c.pass.ensures (submit_steps_in _ c.args.self.now m.queue.entries m.kept.entries m.searched c.max-self-inside.result c.args.moment c.args.task c.args.delay c.args.timing c.kind_of-kind.result c.submit.new.self
+    rw c.pass.ensures (submit_steps_in _ c.args.self.now m.queue.entries m.kept.entries m.sought c.max-self-inside.result c.args.moment c.args.task c.args.delay c.args.timing c.kind_of-kind.result c.submit.new.self
     c.self.invariant is c.if-self.false c.kind_of-kind.ensures c.max-self-inside.ensures c.self.view_is c.submit.ensures)
 
 pub returns-clause-uncancelled : goal.returns-clause-uncancelled

@@ -1,0 +1,14 @@
+use Rattle.std.proofs.Common.{◌≡◌, ℕ, true, false, ap, sym, ◌∙◌, subst}
+use Rattle.executor_core.specs.Machine.{Machine}
+use Rattle.executor_core.proofs.Sweeping.{sweeps_at, none_delayed, searched_kept}
+use Rattle.executor_core.proofs.machine.Core.note_delayed.Goals as goal
+
+pub invariant_of-self : goal.invariant_of-self
+invariant_of-self g c =
+    let m = c.self.inside in
+    let is = sym c.self.view_is in
+    let shut = ap (λ (x : Machine). x.shut) c.self.view_is ∙ c.requires.shut in
+    let off = ap (λ (x : Machine). x.policies.executes) c.self.view_is ∙ c.requires.policy in
+    let swept = subst (λ (x : Machine). (k : ℕ) → sweeps_at x k ≡ false) is c.requires.swept in
+    let none = none_delayed _ m.queue.entries m.kept.entries m.sought c.self.invariant off swept in
+    searched_kept _ m.queue.entries m.kept.entries m.sought c.note_delayed.new.self c.self.invariant shut none c.note_delayed.ensures
