@@ -1,5 +1,5 @@
 -- The periodic tasks that go on after a sweep has ended those that waited, and what a later sweep may end.
-use Rattle.std.proofs.Common.{zero, suc, ◌≡◌, ◌≢◌, ℕ, ◌+◌, ◌-◌, ◌<◌, ◌≤◌, ◌==◌, ◌&&◌, ◌||◌, nat_le, nat_lt, Bool, true, false, cond, List, [], ◌∷◌, ◌++◌, length, map, ◌⊎◌, inl, inr, Option, Some, None, add-one, append_assoc, refl, sym, ap, ◌∙◌, arith, subst}
+use Rattle.std.proofs.Common.{zero, suc, ◌≡◌, ◌≢◌, ℕ, ◌+◌, ◌-◌, ◌<◌, ◌≤◌, ◌==◌, ◌&&◌, ◌||◌, nat_lt, Bool, true, false, cond, List, [], ◌∷◌, ◌++◌, length, ◌⊎◌, inl, inr, Option, Some, None, refl, sym, ap, ◌∙◌, arith, subst}
 use Rattle.std.specs.Prelude.{slice_index_or, not, IfSome, IfNone}
 use Rattle.std.specs.Option.{unwrap_or}
 use Rattle.std.specs.List.{filter, range_with_len}
@@ -8,7 +8,6 @@ use Rattle.std.proofs.lemmas.Bool.{false≢true, eqb-true, eq-eqb, cases_lt, cas
 use Rattle.std.proofs.lemmas.Bool.Decides.{nat_tests}
 use Rattle.std.proofs.lemmas.List.{append-nil, get_or_past, length-append}
 use Rattle.std.proofs.lemmas.Option.{none-some, same_Some}
-use Rattle.executor_core.specs.declared.policies.Policies.{Policies}
 use Rattle.executor_core.specs.declared.task.Phase.{Phase}
 use Rattle.executor_core.specs.declared.task.Phase.TheVariants as ph
 use Rattle.executor_core.specs.declared.task.Task.{Task}
@@ -19,8 +18,8 @@ use Rattle.executor_core.specs.Answers.{is_ended_by}
 use Rattle.executor_core.specs.Histories.{is_end}
 use Rattle.executor_core.specs.State.{vacant}
 use Rattle.executor_core.specs.Tables.{goes_on, is_live_phase, is_periodic, is_waiting_phase, waits_again, waits_with}
-use Rattle.executor_core.specs.Machine.{Machine, state_of, workers_of}
-use Rattle.executor_core.specs.Sought.{Sought, AreNoted, OnlyThese}
+use Rattle.executor_core.specs.Machine.{Machine, workers_of}
+use Rattle.executor_core.specs.Sought.{Sought}
 use Rattle.executor_core.specs.Invariants.{IsWellFormedCore}
 use Rattle.executor_core.specs.OwnSteps.{Ends}
 use Rattle.executor_core.proofs.Tables.{goes_parts, goes_from}

@@ -1,6 +1,6 @@
 -- What stays true of each core: its invariant, and what it rests on. No contract of a public call cites it but through
 -- the invariant of `Core`. All of it is this project's rule.
-use Rattle.std.specs.Prelude.{◌≡◌, ◌≢◌, ℕ, ◌<◌, ◌≤◌, Bool, true, false, if◌then◌else◌, List, length, map, take, Option, Some, None, slice_index_or}
+use Rattle.std.specs.Prelude.{◌≡◌, ◌≢◌, ℕ, ◌<◌, ◌≤◌, true, false, if◌then◌else◌, List, length, map, take, Option, Some, None, slice_index_or}
 use Rattle.sched_time.specs.Times.{longest}
 use Rattle.sched_time.specs.declared.timing.Timing.TheVariants as t
 use Rattle.executor_core.specs.declared.task.Phase.{Phase}

@@ -1,7 +1,6 @@
 -- What sweeps have looked for, so that later ones need not. All of it is this project's rule.
 use Rattle.std.specs.Prelude.{◌≡◌, ℕ, ◌<◌, ◌≤◌, Bool, true, false, List, [], length}
 use Rattle.std.specs.List.Sorted.{IsNonDecreasingBy}
-use Rattle.executor_core.specs.declared.task.Task.{Task}
 use Rattle.executor_core.specs.Histories.{is_end}
 use Rattle.executor_core.specs.State.{State}
 use Rattle.executor_core.specs.Tables.{goes_on}

@@ -1,8 +1,8 @@
 //! The lines of the tasks that a shutdown ends.
-use super::{lines_after, nanos};
+use super::{lines_after, nanos, submission};
 use crate::{Answer, Event, Line, Message};
 use queue_code::Instr;
-use sched_time::Timing;
+use sched_time::{Ending, Timing, Which};
 use std::alloc::Global;
 use std::process::Abort;
 use std::test::Fail;
@@ -39,5 +39,139 @@ fn one_clock_ends_a_thousand_tasks(rt: HostRuntime) -> Result<(), Fail> {
     }
     line_says(&rt, out.get(2_001), Message::Answer(asked));
     line_says(&rt, out.get(2_002), Message::Answer(Answer::Clock));
+    Ok(())
+}
+
+/// What the lines say of finished runs and of ended tasks, each with its moment.
+fn finishes_and_ends(alloc: Global, lines: &[Line]) -> Result<String, Fail> {
+    let mut text = String::new(alloc);
+    for line in lines {
+        match line.message {
+            Message::Answer(Answer::Finish { task, outcome, .. }) => {
+                write!(text, "{} {task} {outcome:?}; ", line.moment)?;
+            }
+            Message::End(task) => write!(text, "{} {task} ends; ", line.moment)?,
+            Message::Answer(_) => {}
+        }
+    }
+    Ok(text)
+}
+
+/// An instruction that sets whether periodic tasks go on.
+fn go_on(moment: u64, value: bool) -> Instr {
+    Instr::SetPolicy(moment, Which::Continue, value)
+}
+
+/// The end of a run with a value.
+fn ends(worker: u8) -> Event {
+    Event::Finish(worker, Ending::Value(7))
+}
+
+/// Five periodic tasks that are due at once and one that is not, a shutdown, and two sweeps after it.
+fn plan_with_three_sweeps() -> Result<[Instr; 11], Fail> {
+    let rate = Timing::Rate(nanos(5)?);
+    Ok([
+        Instr::Submit(0, rate, 0),
+        Instr::Submit(0, rate, 0),
+        Instr::Submit(0, Timing::Fixed(nanos(5)?), 0),
+        Instr::Submit(0, Timing::Fixed(nanos(5)?), 0),
+        Instr::Submit(0, rate, 0),
+        Instr::Submit(0, rate, 9),
+        Instr::Shutdown(1),
+        go_on(2, true),
+        go_on(4, false),
+        go_on(6, true),
+        go_on(8, false),
+    ])
+}
+
+#[test]
+fn later_sweeps_end_the_tasks_that_ran_at_the_first(rt: HostRuntime) -> Result<(), Fail> {
+    let events = [
+        Event::Clock(0),
+        Event::Start(0),
+        Event::Start(1),
+        Event::Start(2),
+        Event::Start(3),
+        Event::Start(4),
+        Event::Clock(2),
+        ends(3),
+        ends(1),
+        Event::Finish(0, Ending::Fault(9)),
+        Event::Cancel(2),
+        ends(2),
+        Event::Clock(6),
+        ends(4),
+        Event::Clock(8),
+    ];
+    let lines = lines_after(&rt, &plan_with_three_sweeps()?, 5, &events)?;
+    assert_eq!(rt;
+        finishes_and_ends(rt.alloc(), &lines)?.as_str(),
+        "1 5 ends; 2 3 Again(7); 2 1 Again(5); 2 0 Failed(9); 2 2 Dropped; \
+         4 1 ends; 4 3 ends; 6 4 Again(5); 8 4 ends; "
+    );
+    Ok(())
+}
+
+#[test]
+fn a_task_that_is_cancelled_while_it_waits_again_is_not_ended(rt: HostRuntime) -> Result<(), Fail> {
+    let events = [
+        Event::Clock(0),
+        Event::Start(0),
+        Event::Start(1),
+        Event::Clock(2),
+        ends(1),
+        ends(0),
+        Event::Cancel(0),
+        Event::Clock(8),
+    ];
+    let lines = lines_after(&rt, &plan_with_three_sweeps()?, 2, &events)?;
+    assert_eq!(rt;
+        finishes_and_ends(rt.alloc(), &lines)?.as_str(),
+        "1 2 ends; 1 3 ends; 1 4 ends; 1 5 ends; 2 1 Again(5); 2 0 Again(5); 4 1 ends; "
+    );
+    Ok(())
+}
+
+#[test]
+fn delayed_tasks_are_ended_after_the_periodic_ones(rt: HostRuntime) -> Result<(), Fail> {
+    let instrs = [
+        Instr::Submit(0, Timing::Rate(nanos(5)?), 0),
+        submission(0, 20),
+        Instr::Shutdown(1),
+        go_on(2, true),
+        Instr::SetPolicy(3, Which::Execute, false),
+        go_on(4, false),
+    ];
+    let events = [
+        Event::Clock(0),
+        Event::Start(0),
+        Event::Clock(2),
+        ends(0),
+        Event::Clock(4),
+    ];
+    let lines = lines_after(&rt, &instrs, 1, &events)?;
+    assert_eq!(rt;
+        finishes_and_ends(rt.alloc(), &lines)?.as_str(),
+        "2 0 Again(5); 3 1 ends; 4 0 ends; "
+    );
+    Ok(())
+}
+
+#[test]
+fn periodic_tasks_are_ended_after_the_delayed_ones(rt: HostRuntime) -> Result<(), Fail> {
+    let instrs = [
+        Instr::Submit(0, Timing::Rate(nanos(5)?), 9),
+        submission(0, 20),
+        go_on(0, true),
+        Instr::Shutdown(1),
+        Instr::SetPolicy(2, Which::Execute, false),
+        go_on(3, false),
+    ];
+    let lines = lines_after(&rt, &instrs, 1, &[Event::Clock(3)])?;
+    assert_eq!(rt;
+        finishes_and_ends(rt.alloc(), &lines)?.as_str(),
+        "2 1 ends; 3 0 ends; "
+    );
     Ok(())
 }

@@ -1,4 +1,4 @@
-use Rattle.std.proofs.Common.{◌≡◌, ℕ, ◌⊎◌, inl, inr, true, false, sym, ◌∙◌, subst}
+use Rattle.std.proofs.Common.{◌≡◌, ◌⊎◌, inl, inr, true, false, sym, ◌∙◌, subst}
 use Rattle.executor_core.specs.Machine.{Machine}
 use Rattle.executor_core.proofs.Sweeping.{sweeps_at}
 use Rattle.executor_core.proofs.Noting.{passed_over, unnoted_stays}

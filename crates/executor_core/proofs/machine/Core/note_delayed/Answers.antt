@@ -1,4 +1,4 @@
-use Rattle.std.proofs.Common.{◌≡◌, ℕ, true, false, ap, sym, ◌∙◌, subst}
+use Rattle.std.proofs.Common.{◌≡◌, ℕ, false, ap, sym, ◌∙◌, subst}
 use Rattle.executor_core.specs.Machine.{Machine}
 use Rattle.executor_core.proofs.Sweeping.{sweeps_at, none_delayed, searched_kept}
 use Rattle.executor_core.proofs.machine.Core.note_delayed.Goals as goal

@@ -1,4 +1,4 @@
-use Rattle.std.proofs.Common.{◌≡◌, ℕ, true, false, arith, ap, sym, ◌∙◌, subst}
+use Rattle.std.proofs.Common.{◌≡◌, ℕ, false, arith, ap, sym, ◌∙◌, subst}
 use Rattle.executor_core.specs.Machine.{Machine}
 use Rattle.executor_core.proofs.Sweeping.{few_tasks, sweeps_at, none_again}
 use Rattle.executor_core.proofs.Noting.{going_few, going_kept}
