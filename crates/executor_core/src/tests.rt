@@ -67,6 +67,18 @@ fn refusal_of<A: Allocator, B: Allocator>(
     core.event(event, out).err()
 }
 
+/// The lines with which a core answers these events, which it takes.
+fn lines_of(
+    rt: &(impl AllocGlobal + Abort),
+    core: &mut Core<Global>,
+    events: &[Event],
+) -> Result<Vec<Line>, Fail> {
+    let mut out = Vec::new(rt.alloc());
+    give(core, events, &mut out)?;
+    assert_eq!(rt; core.taken() as usize, events.len());
+    Ok(out)
+}
+
 /// The lines with which a core of these instructions answers these events, which it takes.
 fn lines_after(
     rt: &(impl AllocGlobal + Abort),
@@ -75,10 +87,7 @@ fn lines_after(
     events: &[Event],
 ) -> Result<Vec<Line>, Fail> {
     let mut core = core_of(rt.alloc(), instrs, workers, u32::MAX)?;
-    let mut out = Vec::new(rt.alloc());
-    give(&mut core, events, &mut out)?;
-    assert_eq!(rt; core.taken() as usize, events.len());
-    Ok(out)
+    lines_of(rt, &mut core, events)
 }
 
 #[test]
@@ -95,18 +104,24 @@ fn each_error_says_what_is_wrong(rt: HostRuntime) -> Result<(), Fail> {
     Ok(())
 }
 
-/// The lines of code at the head of this crate's documentation.
-fn example(alloc: Global) -> Result<Vec<Line>, Fail> {
-    let instrs = vec![in alloc; Instr::Submit(0, Timing::Once, 5), Instr::Halt]?;
-    let mut core = Core::new(alloc, Code::check(alloc, instrs)?, 1, 100)?;
-    let mut lines = Vec::new(alloc);
+/// The events of the code at the head of this crate's documentation.
+fn give_example(core: &mut Core<Global>, lines: &mut Vec<Line>) -> Result<(), Fail> {
     for event in [
         Event::Clock(5),
         Event::Start(0),
         Event::Finish(0, Ending::Value(7)),
     ] {
-        core.event(event, &mut lines)?;
+        core.event(event, lines)?;
     }
+    Ok(())
+}
+
+/// The lines of code at the head of this crate's documentation.
+fn example(alloc: Global) -> Result<Vec<Line>, Fail> {
+    let instrs = vec![in alloc; Instr::Submit(0, Timing::Once, 5), Instr::Halt]?;
+    let mut core = Core::new(alloc, Code::check(alloc, instrs)?, 1, 100)?;
+    let mut lines = Vec::new(alloc);
+    give_example(&mut core, &mut lines)?;
     Ok(lines)
 }
 

@@ -8,8 +8,34 @@ use std::alloc::{AllocGlobal, Global};
 use std::process::Abort;
 use std::test::Fail;
 
-/// Gives a core these events, and checks that none takes memory, and that they come to these numbers: the lines, the
-/// moment, the events and the tasks.
+/// Gives a core these events, and checks after each of them that this much of its heap is used.
+fn give_while_used(
+    rt: &impl Abort,
+    heap: &LocalHeap,
+    core: &mut Core<&LocalHeap>,
+    out: &mut Vec<Line, &LocalHeap>,
+    events: &[Event],
+    used: usize,
+) -> Result<(), Fail> {
+    for event in events {
+        give(core, &[*event], out)?;
+        assert_eq!(rt; heap.used(), used);
+    }
+    Ok(())
+}
+
+/// Checks that a core and its list come to these numbers: the lines, the moment, the events and the tasks.
+fn comes_to(
+    rt: &impl Abort,
+    core: &Core<&LocalHeap>,
+    out: &Vec<Line, &LocalHeap>,
+    wanted: (usize, u64, u32, usize),
+) {
+    let numbers = (out.len(), core.now(), core.taken(), core.tasks());
+    assert_eq!(rt; numbers, wanted);
+}
+
+/// Gives a core these events, and checks that none takes memory, and that they come to these numbers.
 fn events_take_no_memory(
     rt: &impl Abort,
     heap: &LocalHeap,
@@ -20,12 +46,8 @@ fn events_take_no_memory(
 ) -> Result<(), Fail> {
     let room = out.capacity();
     let used = heap.used();
-    for event in events {
-        give(core, &[*event], out)?;
-        assert_eq!(rt; heap.used(), used);
-    }
-    let numbers = (out.len(), core.now(), core.taken(), core.tasks());
-    assert_eq!(rt; numbers, wanted);
+    give_while_used(rt, heap, core, out, events, used)?;
+    comes_to(rt, core, out, wanted);
     assert_eq!(rt; (out.capacity(), core.words().len()), (room, core.tasks()));
     assert_eq!(rt; heap.used(), used);
     Ok(())

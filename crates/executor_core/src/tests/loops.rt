@@ -49,13 +49,18 @@ fn asks_take_no_memory(
     Ok(())
 }
 
-/// How much of a heap a core takes that asks this many times, before and after it has asked.
+/// How much of this heap a core takes that asks this many times, before and after it has asked.
+fn used_of(rt: &(impl AllocGlobal + Abort), heap: &LocalHeap, times: u32) -> Result<usize, Fail> {
+    let instrs = [Instr::Loop(times, 1), Instr::Ask(0), Instr::EndLoop];
+    let mut core = core_of(heap, &instrs, 1, 9)?;
+    asks_take_no_memory(rt, heap, &mut core, times)?;
+    Ok(heap.used())
+}
+
+/// How much of a heap of its own a core takes that asks this many times.
 fn used_by_loop(rt: &(impl AllocGlobal + Abort), times: u32) -> Result<usize, Fail> {
     let heap = LocalHeap::new(rt.alloc(), 1 << 10)?;
-    let instrs = [Instr::Loop(times, 1), Instr::Ask(0), Instr::EndLoop];
-    let mut core = core_of(&heap, &instrs, 1, 9)?;
-    asks_take_no_memory(rt, &heap, &mut core, times)?;
-    Ok(heap.used())
+    used_of(rt, &heap, times)
 }
 
 #[test]

@@ -8,19 +8,34 @@ use std::process::Abort;
 use std::test::Fail;
 use task_word::{Phase, Word};
 
+/// The letter of a phase.
+fn letter_of(phase: Phase) -> char {
+    match phase {
+        Phase::Vacant => 'v',
+        Phase::New => 'n',
+        Phase::Running => 'r',
+        Phase::Done => 'd',
+        Phase::Failed => 'f',
+    }
+}
+
+/// The mark of a cancelled word; none of another.
+fn mark_of(word: Word) -> &'static str {
+    if word.is_cancelled() { "!" } else { "" }
+}
+
+/// Adds a word in short: its phase and its run, and a mark where it is cancelled.
+fn add_short(text: &mut String, word: Word) -> Result<(), Fail> {
+    let phase = letter_of(word.phase());
+    write!(text, " {phase}{}{}", word.run(), mark_of(word))?;
+    Ok(())
+}
+
 /// The words in short: of each its phase and its run, and a mark where it is cancelled.
 fn short_words(alloc: Global, words: &[Word]) -> Result<String, Fail> {
     let mut text = String::new(alloc);
     for word in words {
-        let phase = match word.phase() {
-            Phase::Vacant => 'v',
-            Phase::New => 'n',
-            Phase::Running => 'r',
-            Phase::Done => 'd',
-            Phase::Failed => 'f',
-        };
-        let mark = if word.is_cancelled() { "!" } else { "" };
-        write!(text, " {phase}{}{mark}", word.run())?;
+        add_short(&mut text, *word)?;
     }
     Ok(text)
 }
@@ -231,6 +246,21 @@ fn two_timers<A: Allocator + Copy>(alloc: A) -> Result<Core<A>, Fail> {
     core_of(alloc, &calls, 1, 100)
 }
 
+/// Checks what a core needs for the calls up to a moment, and makes its next call where there is one.
+fn call_needs<A: Allocator, B: Allocator>(
+    rt: &impl Abort,
+    core: &mut Core<A>,
+    out: &mut Vec<Line, B>,
+    moment: u64,
+    need: Option<Need>,
+) -> Result<(), Fail> {
+    assert_eq!(rt; core.call_need(moment), need, "at {moment}");
+    if need.is_some() {
+        take(rt, core, Happening::Call, out)?;
+    }
+    Ok(())
+}
+
 /// Checks what a core needs for the calls up to each of these moments, and makes its next call where there is one.
 fn calls_need<A: Allocator>(
     rt: &(impl AllocGlobal + Abort),
@@ -239,10 +269,7 @@ fn calls_need<A: Allocator>(
 ) -> Result<(), Fail> {
     let mut out = Vec::new(rt.alloc());
     for (moment, need) in steps {
-        assert_eq!(rt; core.call_need(*moment), *need, "at {moment}");
-        if need.is_some() {
-            take(rt, core, Happening::Call, &mut out)?;
-        }
+        call_needs(rt, core, &mut out, *moment, *need)?;
     }
     Ok(())
 }

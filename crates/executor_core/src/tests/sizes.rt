@@ -100,26 +100,36 @@ fn a_core_is_refused_for_its_numbers(rt: HostRuntime) -> Result<(), Fail> {
     Ok(())
 }
 
-#[test]
-fn more_than_65536_lines_stay_in_one_list(rt: HostRuntime) -> Result<(), Fail> {
-    let instrs = submissions(rt.alloc(), MOST_CALLS as u32)?;
-    let mut events = Vec::new(rt.alloc());
-    events.push(Event::Clock(1))?;
-    assert_eq!(rt; lines_after(&rt, &instrs, 64, &events)?.len(), 65_537);
+/// Adds a start of each of 64 workers.
+fn add_starts(events: &mut Vec<Event>) -> Result<(), Fail> {
     for worker in 0..64 {
         events.push(Event::Start(worker))?;
     }
-    let out = lines_after(&rt, &instrs, 64, &events)?;
+    Ok(())
+}
+
+/// Checks that there are 65,601 lines, with the start of the last of 64 workers behind the others.
+fn end_with_the_last_start(rt: &impl Abort, lines: &[Line]) {
     let last = Answer::Start {
         worker: 63,
         task: 63,
         run: 0,
         due: 0,
     };
-    assert_eq!(rt; out.len(), 65_601);
+    assert_eq!(rt; lines.len(), 65_601);
     assert_eq!(rt;
-        out.get(65_600).map(|line| line.message),
+        lines.get(65_600).map(|line| line.message),
         Some(Message::Answer(last))
     );
+}
+
+#[test]
+fn more_than_65536_lines_stay_in_one_list(rt: HostRuntime) -> Result<(), Fail> {
+    let instrs = submissions(rt.alloc(), MOST_CALLS as u32)?;
+    let mut events = Vec::new(rt.alloc());
+    events.push(Event::Clock(1))?;
+    assert_eq!(rt; lines_after(&rt, &instrs, 64, &events)?.len(), 65_537);
+    add_starts(&mut events)?;
+    end_with_the_last_start(&rt, &lines_after(&rt, &instrs, 64, &events)?);
     Ok(())
 }

@@ -8,18 +8,40 @@ use std::process::Abort;
 use std::test::Fail;
 use task_word::Word;
 
+/// The mark of a cancelled word; none of another.
+fn mark_of(word: Word) -> &'static str {
+    if word.is_cancelled() {
+        " cancelled"
+    } else {
+        ""
+    }
+}
+
+/// Adds what a word says: its phase, its run, and a mark where it is cancelled.
+fn add_word(text: &mut String, word: Word) -> Result<(), Fail> {
+    write!(text, "{:?} {}{};", word.phase(), word.run(), mark_of(word))?;
+    Ok(())
+}
+
 /// What the words say: of each its phase, its run, and a mark where it is cancelled.
 fn text_of_words(alloc: Global, words: &[Word]) -> Result<String, Fail> {
     let mut text = String::new(alloc);
     for word in words {
-        let mark = if word.is_cancelled() {
-            " cancelled"
-        } else {
-            ""
-        };
-        write!(text, "{:?} {}{mark};", word.phase(), word.run())?;
+        add_word(&mut text, *word)?;
     }
     Ok(text)
+}
+
+/// Checks what words say after an event.
+fn words_are(
+    rt: &(impl AllocGlobal + Abort),
+    words: &[Word],
+    said: &str,
+    event: Event,
+) -> Result<(), Fail> {
+    let text = text_of_words(rt.alloc(), words)?;
+    assert_eq!(rt; text.as_str(), said, "after {event:?}");
+    Ok(())
 }
 
 /// Checks what the words of a core say after each of these events.
@@ -31,8 +53,7 @@ fn words_say_after<A: Allocator>(
 ) -> Result<(), Fail> {
     for (event, said) in steps {
         give(core, &[*event], out)?;
-        let text = text_of_words(rt.alloc(), core.words())?;
-        assert_eq!(rt; text.as_str(), *said, "after {event:?}");
+        words_are(rt, core.words(), said, *event)?;
     }
     Ok(())
 }
