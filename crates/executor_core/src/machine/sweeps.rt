@@ -2,6 +2,7 @@
 ghost use Rattle.std.specs.Prelude.{◌≡◌, ◌+◌, ◌<◌, ◌≤◌, ℕ, [], ◌∷◌, ◌++◌, length, Some, slice_get, slice_set, slice_index_or, true, false, vec_len, vec_capacity};
 ghost use Rattle.executor_core.specs.declared.types.Happening.TheVariants as happening;
 ghost use Rattle.queue_code.specs.declared.call.CodeCall.TheVariants as call;
+ghost use Rattle.queue_code.specs.Calls.{task_count};
 ghost use Rattle.executor_core.specs.Answers.{is_swept, is_ended_by, setting_sweeps, swept};
 ghost use Rattle.executor_core.specs.Histories.{is_end};
 ghost use Rattle.executor_core.specs.Flows.{end_line};
@@ -87,19 +88,15 @@ impl<A: Allocator> Core<A> {
     {
         if self.may_end() {
             self.end_tasks(out);
-        }
-        if !self.policies.executes {
-            self.note_delayed();
-        }
-        if !self.policies.continues {
-            self.note_periodic();
+            self.note_search();
         }
         self.drop_kept();
     }
 
     /// Whether there may be a task that a sweep ends.
     fn may_end(&self) -> bool
-        ensures { result ≡ false → (k : ℕ) → is_swept self.now.calls (view_of_state self.now.calls (state_of self.now)) self.now.policies k ≡ false }
+        ensures none { result ≡ false → (k : ℕ) → is_swept self.now.calls (view_of_state self.now.calls (state_of self.now)) self.now.policies k ≡ false }
+        ensures tasks { length self.now.tasks ≡ task_count self.now.calls }
     {
         (!self.policies.continues && self.tasks.periodic() > 0)
             || (!self.policies.executes && !self.sought.delayed())
@@ -133,6 +130,20 @@ impl<A: Allocator> Core<A> {
             return self.sought.first_from(from).unwrap_or(self.tasks.len());
         }
         from
+    }
+
+    /// Notes what a sweep has looked for and ended, under the present policies.
+    fn note_search(&mut self)
+        requires shut { self.old.shut ≡ true }
+        requires swept { (k : ℕ) → is_swept self.old.calls (view_of_state self.old.calls (state_of self.old)) self.old.policies k ≡ false }
+        ensures { self.new ≡ self.old }
+    {
+        if !self.policies.executes {
+            self.note_delayed();
+        }
+        if !self.policies.continues {
+            self.note_periodic();
+        }
     }
 
     /// Notes that a sweep has ended the delayed tasks.

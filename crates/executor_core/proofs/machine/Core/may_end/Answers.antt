@@ -9,8 +9,8 @@ use Rattle.executor_core.proofs.machine.Core.may_end.Goals.{then-not-self, else-
 none_above : (n : ℕ) → nat_lt 0 n ≡ false → n ≡ 0
 none_above n q = grind (arith, nat_tests, q)
 
-pub returns-then-not-self-2 : goal.returns-then-not-self-2
-returns-then-not-self-2 g c = λ sought.
+pub returns-then-not-self-2-clause-none : goal.returns-then-not-self-2-clause-none
+returns-then-not-self-2-clause-none g c = λ sought.
     let m = c.self.inside in
     let periodic : (m.policies.continues ≡ true) ⊎ (periodic_in m.tasks ≡ 0) = elim c.if-not-self.branch [
       | then-not-self w ↦ inr (sym w.periodic.ensures ∙ none_above w.periodic.result (sym w.value-is ∙ c.if-periodic-gt0.false))
@@ -20,8 +20,8 @@ returns-then-not-self-2 g c = λ sought.
     subst (λ (x : Machine). (k : ℕ) → sweeps_at x k ≡ false) c.self.view_is
     (none_swept _ m.queue.entries m.kept.entries m.sought c.self.invariant periodic (inr (sym c.delayed.ensures ∙ not_false c.delayed.result sought)))
 
-pub returns-else-not-self-2 : goal.returns-else-not-self-2
-returns-else-not-self-2 g c = λ runs.
+pub returns-else-not-self-2-clause-none : goal.returns-else-not-self-2-clause-none
+returns-else-not-self-2-clause-none g c = λ runs.
     let m = c.self.inside in
     let periodic : (m.policies.continues ≡ true) ⊎ (periodic_in m.tasks ≡ 0) = elim c.if-not-self.branch [
       | then-not-self w ↦ inr (sym w.periodic.ensures ∙ none_above w.periodic.result (sym w.value-is ∙ c.if-periodic-gt0.false))
