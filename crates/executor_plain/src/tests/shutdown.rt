@@ -141,3 +141,67 @@ fn a_run_under_way_at_a_shutdown_goes_on_to_its_end(rt: HostRuntime) -> Result<(
     }
     Ok(())
 }
+
+/// A worker finished the first run of a task.
+fn finished_by(worker: u8, task: u32, outcome: Outcome) -> Answer {
+    Answer::Finish {
+        worker,
+        task,
+        run: 0,
+        outcome,
+    }
+}
+
+#[test]
+fn a_later_sweep_ends_tasks_that_ran_at_the_first(rt: HostRuntime) -> Result<(), Fail> {
+    let rate = Timing::Rate(nanos(5)?);
+    let calls = [
+        periodic(0, 0, rate, 0),
+        periodic(0, 1, rate, 0),
+        periodic(0, 2, rate, 0),
+        periodic(0, 3, rate, 9),
+        (1, CodeCall::Shutdown),
+        setting(2, Which::Continue, true),
+        setting(4, Which::Continue, false),
+        setting(6, Which::Continue, true),
+        setting(8, Which::Continue, false),
+    ];
+    let events = [
+        Event::Clock(0),
+        Event::Start(0),
+        Event::Start(1),
+        Event::Start(2),
+        Event::Clock(2),
+        Event::Finish(2, Ending::Value(1)),
+        Event::Finish(1, Ending::Value(1)),
+        Event::Clock(6),
+        Event::Finish(0, Ending::Value(1)),
+        Event::Clock(8),
+    ];
+    let lines = [
+        line(0, taken_in(0, Kind::Rate, 0)),
+        line(0, taken_in(1, Kind::Rate, 0)),
+        line(0, taken_in(2, Kind::Rate, 0)),
+        line(0, taken_in(3, Kind::Rate, 9)),
+        line(0, Answer::Clock),
+        line(0, run_started(0, 0, 0, 0)),
+        line(0, run_started(1, 1, 0, 0)),
+        line(0, run_started(2, 2, 0, 0)),
+        line(1, Answer::Shutdown),
+        end(1, 3),
+        line(2, set(Which::Continue, true)),
+        line(2, Answer::Clock),
+        line(2, finished_by(2, 2, Outcome::Again(5))),
+        line(2, finished_by(1, 1, Outcome::Again(5))),
+        line(4, set(Which::Continue, false)),
+        end(4, 1),
+        end(4, 2),
+        line(6, set(Which::Continue, true)),
+        line(6, Answer::Clock),
+        line(6, finished_by(0, 0, Outcome::Again(5))),
+        line(8, set(Which::Continue, false)),
+        end(8, 0),
+        line(8, Answer::Clock),
+    ];
+    compare_with(&rt, rt.alloc(), &calls, 3, &events, &lines)
+}
