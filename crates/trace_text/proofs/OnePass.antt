@@ -81,6 +81,20 @@ digit_within code byte small = record {
   value = omega (arith, byte, small);
 }
 
+-- a place where a digit stands is within the bytes
+pub digit_inside : (bytes : List ℕ) (at : ℕ) → IsInRange 48 57 (get_or bytes at 0) → at < length bytes
+digit_inside bytes at digit =
+    elim (cases_lt at (length bytes)) [
+      | inl less ↦ less
+      | inr past ↦ absurd (omega (arith, digit, get_or_past bytes at 0 past))
+    ]
+
+-- nineteen digits and the one behind them are twenty
+pub twenty_in_front : (bytes : List ℕ) (at : ℕ) → at ≡ 19 → IsInRange 48 57 (get_or bytes at 0) → AllDigits 10 (take at bytes) → AllDigits 10 (take 20 bytes)
+twenty_in_front bytes at here digit all =
+    subst (λ k. AllDigits 10 (take (k + 1) bytes)) here
+    (digits_next bytes at (get_or bytes at 0) (digit_inside bytes at digit) refl (omega (arith, digit)) (omega (arith, digit)) all)
+
 -- the twentieth of twenty digits
 pub twentieth : (line : List ℕ) → 20 ≤ length line → AllDigits 10 (take 20 line) → IsInRange 48 57 (get_or line 19 0)
 twentieth line within all =

@@ -1,9 +1,9 @@
 //! The events that lines spell.
-ghost use Rattle.std.specs.Prelude.{◌≡◌, ◌≢◌, ℕ, ◌++◌, MatchOption, codes};
+ghost use Rattle.std.specs.Prelude.{◌≡◌, ◌≢◌, ℕ, ◌^◌, ◌++◌, MatchOption, codes};
 ghost use Rattle.trace_text.specs.Spelling.{Spells, event_line, ending_line, FitsEvent, FitsEnding};
-ghost use Rattle.trace_text.specs.Reading.{IsRead, IsUnread};
+ghost use Rattle.trace_text.specs.Reading.{IsRead, IsUnread, number_then, Below};
 
-use crate::scan::{code_before, number_before, split_number, strip_word, worker_before};
+use crate::scan::{split_number, strip, strip_word};
 use executor_core::Event;
 use sched_time::Ending;
 
@@ -28,7 +28,7 @@ pub fn split_event(bytes: &[u8]) -> Option<(Event, &[u8])>
     ensures { MatchOption result (IsUnread event_line FitsEvent bytes.now) (λ r. IsRead event_line FitsEvent bytes.now r.0 r.1.now) }
 {
     if let Some(rest) = strip_word(bytes, *b"start ") {
-        let Some((worker, rest)) = worker_before(rest, b"\n") else {
+        let Some((worker, rest)) = last_worker(rest) else {
             return None;
         };
         return Some((Event::Start(worker), rest));
@@ -37,13 +37,13 @@ pub fn split_event(bytes: &[u8]) -> Option<(Event, &[u8])>
         return split_finish(rest);
     }
     if let Some(rest) = strip_word(bytes, *b"clock ") {
-        let Some((moment, rest)) = number_before(rest, b"\n") else {
+        let Some((moment, rest)) = last_number(rest) else {
             return None;
         };
         return Some((Event::Clock(moment), rest));
     }
     if let Some(rest) = strip_word(bytes, *b"cancel ") {
-        let Some((task, rest)) = code_before(rest, b"\n") else {
+        let Some((task, rest)) = last_code(rest) else {
             return None;
         };
         return Some((Event::Cancel(task), rest));
@@ -74,18 +74,63 @@ fn split_ending(bytes: &[u8]) -> Option<(Ending, &[u8])>
     ensures { MatchOption result (IsUnread ending_line FitsEnding bytes.now) (λ r. IsRead ending_line FitsEnding bytes.now r.0 r.1.now) }
 {
     if let Some(rest) = strip_word(bytes, *b" ok ") {
-        let Some((value, rest)) = number_before(rest, b"\n") else {
+        let Some((value, rest)) = last_number(rest) else {
             return None;
         };
         return Some((Ending::Value(value), rest));
     }
     if let Some(rest) = strip_word(bytes, *b" fail ") {
-        let Some((code, rest)) = code_before(rest, b"\n") else {
+        let Some((code, rest)) = last_code(rest) else {
             return None;
         };
         return Some((Ending::Fault(code), rest));
     }
     None
+}
+
+/// The number at the end of a line, below 2^64, and what follows the newline behind it. `None` exactly when they
+/// are not there.
+#[inline(always)]
+fn last_number(bytes: &[u8]) -> Option<(u64, &[u8])>
+    ensures { MatchOption result (IsUnread (number_then (codes "\n")) (Below (2 ^ 64)) bytes.now) (λ r. IsRead (number_then (codes "\n")) (Below (2 ^ 64)) bytes.now r.0 r.1.now) }
+{
+    let Some((number, rest)) = split_number(bytes) else {
+        return None;
+    };
+    let Some(rest) = strip(rest, b"\n") else {
+        return None;
+    };
+    Some((number, rest))
+}
+
+/// The code or task at the end of a line, below 2^32, and what follows the newline behind it. `None` exactly when they
+/// are not there.
+#[inline(always)]
+fn last_code(bytes: &[u8]) -> Option<(u32, &[u8])>
+    ensures { MatchOption result (IsUnread (number_then (codes "\n")) (Below (2 ^ 32)) bytes.now) (λ r. IsRead (number_then (codes "\n")) (Below (2 ^ 32)) bytes.now r.0 r.1.now) }
+{
+    let Some((number, rest)) = last_number(bytes) else {
+        return None;
+    };
+    if number > u32::MAX as u64 {
+        return None;
+    }
+    Some((number as u32, rest))
+}
+
+/// The worker at the end of a line, below 2^8, and what follows the newline behind it. `None` exactly when they
+/// are not there.
+#[inline(always)]
+fn last_worker(bytes: &[u8]) -> Option<(u8, &[u8])>
+    ensures { MatchOption result (IsUnread (number_then (codes "\n")) (Below (2 ^ 8)) bytes.now) (λ r. IsRead (number_then (codes "\n")) (Below (2 ^ 8)) bytes.now r.0 r.1.now) }
+{
+    let Some((number, rest)) = last_number(bytes) else {
+        return None;
+    };
+    if number > u8::MAX as u64 {
+        return None;
+    }
+    Some((number as u8, rest))
 }
 
 #[cfg(test)]

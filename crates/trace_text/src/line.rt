@@ -4,7 +4,7 @@ ghost use Rattle.trace_text.specs.Spelling.{SpellsLine, line_text, FitsLine};
 ghost use Rattle.trace_text.specs.Reading.{IsRead, IsUnread};
 
 use crate::message::split_message;
-use crate::scan::split_number;
+use crate::scan::split_number_by_loop;
 use executor_core::Line;
 
 /// The line of a trace that some bytes spell, given with its newline and nothing after it. `None` exactly when they spell none
@@ -28,7 +28,7 @@ pub fn read_line(line: &[u8]) -> Option<Line>
 pub fn split_line(bytes: &[u8]) -> Option<(Line, &[u8])>
     ensures { MatchOption result (IsUnread line_text FitsLine bytes.now) (λ r. IsRead line_text FitsLine bytes.now r.0 r.1.now) }
 {
-    let Some((moment, rest)) = split_number(bytes) else {
+    let Some((moment, rest)) = split_number_by_loop(bytes) else {
         return None;
     };
     let Some((message, rest)) = split_message(rest) else {

@@ -70,6 +70,32 @@ pub fn split_number(bytes: &[u8]) -> Option<(u64, &[u8])>
     number_up_to(bytes, bytes.len(), value)
 }
 
+/// The number at the front and what follows it, as [`split_number`] has them. Its loop stays a loop where that one is written
+/// out digit by digit: it is the better of the two where a line has several numbers, or long ones.
+#[inline(always)]
+pub fn split_number_by_loop(bytes: &[u8]) -> Option<(u64, &[u8])>
+    ensures { MatchOption result
+        ((n : ℕ) (rest : List ℕ) → n < 2 ^ 64 → EndsNumber rest → bytes.now ≢ decimal n ++ rest)
+        (λ r. (bytes.now ≡ decimal r.0 ++ r.1.now) × EndsNumber r.1.now × (r.0 < 2 ^ 64)) }
+{
+    let most = bytes.len().min(19);
+    let mut value = 0u64;
+    for i in 0..most {
+        let digit = u64::from(bytes[i]).wrapping_sub(ZERO);
+        if digit > 9 {
+            return number_up_to(bytes, i, value);
+        }
+        value = value * 10 + digit;
+    }
+    if !has_digit_at(bytes, most) {
+        return number_up_to(bytes, most, value);
+    }
+    match twenty_digits(bytes, value) {
+        Some(whole) => number_up_to(bytes, 20, whole),
+        None => None,
+    }
+}
+
 /// The number of the `end` digits at the front, whose value is `value`, and what follows them.
 #[inline(always)]
 fn number_up_to(bytes: &[u8], end: usize, value: u64) -> Option<(u64, &[u8])>
@@ -128,7 +154,7 @@ pub fn number_before<'a>(bytes: &'a [u8], word: &[u8]) -> Option<(u64, &'a [u8])
     requires some { 0 < length word.now }
     ensures { MatchOption result (IsUnread (number_then word.now) (Below (2 ^ 64)) bytes.now) (λ r. IsRead (number_then word.now) (Below (2 ^ 64)) bytes.now r.0 r.1.now) }
 {
-    let Some((number, rest)) = split_number(bytes) else {
+    let Some((number, rest)) = split_number_by_loop(bytes) else {
         return None;
     };
     let Some(rest) = strip(rest, word) else {
