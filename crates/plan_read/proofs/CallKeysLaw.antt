@@ -1,5 +1,5 @@
 -- The pass over the keys of a call's table.
-use Rattle.std.proofs.Common.{◌≡◌, ℕ, Bool, false, if◌then◌else◌, List, [], ◌∷◌, ◌++◌, String, Global, Option, Some, None, Less, Greater, nat_cmp, string_bytes, bytes_eq, refl, sym, ap, ◌∙◌, inl, inr}
+use Rattle.std.proofs.Common.{◌≡◌, ◌≢◌, ℕ, Bool, false, if◌then◌else◌, List, [], ◌∷◌, ◌++◌, String, Global, Option, Some, None, Less, Greater, nat_cmp, string_bytes, bytes_eq, refl, sym, ap, ◌∙◌, inl, inr}
 use Rattle.std.proofs.lemmas.Bool.{cases_Bool}
 use Rattle.std.proofs.lemmas.Cmp.{nat_list_cmp_total}
 use Rattle.std.proofs.lemmas.Map.Text.{is_eq-slice_cmp}
@@ -17,6 +17,7 @@ use Rattle.toml.specs.declared.value.Value.{Value}
 use Rattle.plan_read.specs.declared.call_keys.CallKey.{CallKey}
 use Rattle.plan_read.specs.declared.call_keys.CallKey.TheVariants as keys
 use Rattle.plan_read.specs.declared.call_keys.Row.{Row}
+use Rattle.plan_read.proofs.Words.{differs}
 use Rattle.plan_read.specs.CallKeys.{word_of, call_key_of_word, slot, with_slot, with_entry}
 
 abbrev pub Entry : Type 0
@@ -34,6 +35,16 @@ named_by_word keys.First = refl
 named_by_word keys.Period = refl
 named_by_word keys.Which = refl
 named_by_word keys.Value = refl
+
+-- a word that is a key's names it
+pub names_key : (w : List ℕ) (k : CallKey) → w ≡ word_of k → Some k ≡ call_key_of_word w
+names_key w k is = sym (ap call_key_of_word is ∙ named_by_word k)
+
+-- a word that is no key's names none
+pub names_none : (w : List ℕ) → ((k : CallKey) → w ≢ word_of k) → None ≡ call_key_of_word w
+names_none w other =
+    let apart = λ (k : CallKey). differs w (word_of k) (other k) in
+    rw (apart keys.Op, apart keys.At, apart keys.Name, apart keys.Delay, apart keys.First, apart keys.Period, apart keys.Which, apart keys.Value) refl
 
 one_word : (w : List ℕ) (j k : CallKey) (rest : Option CallKey) → (rest ≡ Some k → w ≡ word_of k) → (if bytes_eq w (word_of j) then Some j else rest) ≡ Some k → w ≡ word_of k
 one_word w j k rest more h =

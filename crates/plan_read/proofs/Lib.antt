@@ -13,4 +13,5 @@ pub mod NameLaw
 pub mod NameText
 pub mod Found
 pub mod OrderLaw
+pub mod Words
 pub mod CallKeysLaw

@@ -1,7 +1,7 @@
 //! The keys of a call, and what stands at them.
 
 ghost use Rattle.std.specs.Prelude.{◌≡◌};
-ghost use Rattle.plan_read.specs.CallKeys.{call_key_of_word, slot, with_entry, Holds};
+ghost use Rattle.plan_read.specs.CallKeys.{call_key_of_word, slot, with_slot, with_entry, Holds};
 
 use toml::{Table, Value};
 
@@ -55,32 +55,41 @@ impl<'a> Row<'a> {
     fn with(self, key: Option<CallKey>, value: &'a Value) -> Row<'a>
         ensures { result ≡ with_entry key value.entry self.entry }
     {
-        let found = Some(value);
         match key {
             None => self,
-            Some(CallKey::Op) => Row { op: found, ..self },
-            Some(CallKey::At) => Row { at: found, ..self },
-            Some(CallKey::Name) => Row {
+            Some(key) => self.with_slot(key, value),
+        }
+    }
+
+    /// This row with a value at a key.
+    fn with_slot(self, key: CallKey, value: &'a Value) -> Row<'a>
+        ensures { result ≡ with_slot key value.entry self.entry }
+    {
+        let found = Some(value);
+        match key {
+            CallKey::Op => Row { op: found, ..self },
+            CallKey::At => Row { at: found, ..self },
+            CallKey::Name => Row {
                 name: found,
                 ..self
             },
-            Some(CallKey::Delay) => Row {
+            CallKey::Delay => Row {
                 delay: found,
                 ..self
             },
-            Some(CallKey::First) => Row {
+            CallKey::First => Row {
                 first: found,
                 ..self
             },
-            Some(CallKey::Period) => Row {
+            CallKey::Period => Row {
                 period: found,
                 ..self
             },
-            Some(CallKey::Which) => Row {
+            CallKey::Which => Row {
                 which: found,
                 ..self
             },
-            Some(CallKey::Value) => Row {
+            CallKey::Value => Row {
                 value: found,
                 ..self
             },

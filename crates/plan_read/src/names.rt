@@ -73,5 +73,5 @@ fn has_name_bytes(bytes: &[u8]) -> bool
 fn is_name_byte(b: u8) -> bool
     ensures { result ≡ is_name_byte b }
 {
-    matches!(b, b'a'..=b'z' | b'A'..=b'Z' | b'0'..=b'9' | b'-' | b'_')
+    b.is_ascii_lowercase() || b.is_ascii_uppercase() || b.is_ascii_digit() || b == b'-' || b == b'_'
 }
