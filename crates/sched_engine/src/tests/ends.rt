@@ -9,6 +9,7 @@ use linked_list_allocator::LocalHeap;
 use std::alloc::{Allocator, Global};
 use std::io;
 use std::io::{ErrorKind, Read, Write};
+use std::process::Abort;
 use std::test::Fail;
 use trace_text::{Front, front_event};
 
@@ -108,22 +109,49 @@ fn answers_each_fault_at_once(rt: HostRuntime) -> Result<(), Fail> {
     Ok(())
 }
 
+/// Takes the event in front of what is held, and adds its size, or else holds more; answers whether none is left.
+fn take_or_fill(
+    source: &mut Pieces<'_>,
+    held: &mut Held<Global>,
+    sizes: &mut Vec<usize>,
+) -> Result<bool, Fail> {
+    if let Front::Event(_, size) = front_event(held.bytes()) {
+        sizes.push(size)?;
+        held.skip(size);
+        return Ok(false);
+    }
+    Ok(held.bytes().len() < 64 && held.fill(source) == Filled::End)
+}
+
+/// Takes the events of a source in at most 40 steps, and adds the size of each.
+fn take_all(
+    source: &mut Pieces<'_>,
+    held: &mut Held<Global>,
+    sizes: &mut Vec<usize>,
+) -> Result<(), Fail> {
+    for _ in 0..40u32 {
+        if take_or_fill(source, held, sizes)? {
+            break;
+        }
+    }
+    Ok(())
+}
+
+/// Holds a text of two events in pieces of at most so many bytes, and takes both.
+fn holds(rt: &(impl AllocGlobal + Abort), most: usize) -> Result<(), Fail> {
+    let mut source = Pieces::new(b"start 1\nclock 22\n", most);
+    let mut held = Held::new(rt.alloc())?;
+    let mut sizes = Vec::new(rt.alloc());
+    take_all(&mut source, &mut held, &mut sizes)?;
+    assert!(rt; sizes.as_slice() == [8, 9].as_slice());
+    assert!(rt; held.bytes().is_empty());
+    Ok(())
+}
+
 #[test]
 fn holds_pieces(rt: HostRuntime) -> Result<(), Fail> {
     for most in 1..20usize {
-        let mut source = Pieces::new(b"start 1\nclock 22\n", most);
-        let mut held = Held::new(rt.alloc())?;
-        let mut sizes = Vec::new(rt.alloc());
-        for _ in 0..40u32 {
-            if let Front::Event(_, size) = front_event(held.bytes()) {
-                sizes.push(size)?;
-                held.skip(size);
-            } else if held.bytes().len() < 64 && held.fill(&mut source) == Filled::End {
-                break;
-            }
-        }
-        assert!(rt; sizes.as_slice() == [8, 9].as_slice());
-        assert!(rt; held.bytes().is_empty());
+        holds(&rt, most)?;
     }
     Ok(())
 }

@@ -82,6 +82,22 @@ pub struct TroubledRow<'a> {
     pub greatest: usize,
 }
 
+/// Checks what a run came to: its answer, how often it read and wrote, and what it wrote.
+fn came_to(
+    rt: &impl Abort,
+    row: &TroubledRow<'_>,
+    answer: Result<Report, RunError>,
+    reads: u32,
+    writes: u32,
+    taken: &[u8],
+) {
+    assert!(rt; answer == row.answer, "{answer:?}");
+    assert!(rt; row.read_trouble == 0 || reads == row.read_trouble);
+    assert!(rt; row.write_trouble == 0 || writes == row.write_trouble);
+    assert!(rt; row.text.as_bytes().starts_with(taken));
+    assert!(rt; row.least <= taken.len() && taken.len() <= row.greatest);
+}
+
 /// Checks a run, and that an end in trouble is called no more.
 pub fn answers_in_trouble(rt: &(impl AllocGlobal + Abort), row: &TroubledRow<'_>) {
     let mut reader = Reading::new(Giving {
@@ -108,11 +124,7 @@ pub fn answers_in_trouble(rt: &(impl AllocGlobal + Abort), row: &TroubledRow<'_>
     );
     let reads = reader.into_inner().calls;
     let Taking { taken, calls, .. } = writer.into_inner();
-    assert!(rt; answer == row.answer, "{answer:?}");
-    assert!(rt; row.read_trouble == 0 || reads == row.read_trouble);
-    assert!(rt; row.write_trouble == 0 || calls == row.write_trouble);
-    assert!(rt; row.text.as_bytes().starts_with(&taken));
-    assert!(rt; row.least <= taken.len() && taken.len() <= row.greatest);
+    came_to(rt, row, answer, reads, calls, &taken);
 }
 
 #[test]
