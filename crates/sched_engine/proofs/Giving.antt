@@ -45,6 +45,10 @@ gives_front a b contents more rest all n given within appends is =
     let front : Appends b.contents contents (take n (b.text ++ rest)) = subst (Appends b.contents contents) (sym (take-append-le n b.text rest within)) appends in
     (length given.0 + n, subst (λ (l : List ℕ). Appends a.contents contents (take (length given.0 + n) l)) (sym whole) (gave_front a.contents b.contents contents given.0 (b.text ++ rest) n given.1 front))
 
+-- the text of some lines, and then of more
+pub lines_text-append : (xs ys : List Line) → lines_text (xs ++ ys) ≡ lines_text xs ++ lines_text ys
+lines_text-append xs ys = flat_map-append line_text xs ys
+
 -- the text of one line more
 pub lines_on : (lines : List Line) (i : ℕ) (d : Line) → i < length lines → lines_text (take (i + 1) lines) ≡ lines_text (take i lines) ++ line_text (slice_index_or lines i d)
 lines_on lines i d low =
@@ -53,4 +57,4 @@ lines_on lines i d low =
 
 -- the text of some lines is that of the first of them, and then of the others
 pub lines_split : (lines : List Line) (i : ℕ) → lines_text lines ≡ lines_text (take i lines) ++ lines_text (drop i lines)
-lines_split lines i = ap lines_text (sym (take-append-drop i lines)) ∙ flat_map-append line_text (take i lines) (drop i lines)
+lines_split lines i = ap lines_text (sym (take-append-drop i lines)) ∙ lines_text-append (take i lines) (drop i lines)

@@ -3,7 +3,6 @@ use Rattle.std.proofs.Common.{◌≡◌, ℕ, ◌+◌, ◌-◌, ◌*◌, ◌^◌
 use Rattle.std.specs.Prelude.{replicate}
 use Rattle.std.proofs.Math.Seq.{drop-append_seam}
 use Rattle.std.proofs.lemmas.List.{drop-drop, length-replicate, take-append-le}
-use Rattle.std.proofs.lemmas.List.Concat.{flat_map-append}
 use Rattle.std.proofs.lemmas.List.Elements.{All-nil, All-cons}
 use Rattle.executor_core.specs.declared.Event.{Event}
 use Rattle.executor_core.specs.declared.Event.TheVariants as v
@@ -12,16 +11,16 @@ use Rattle.executor_core.specs.declared.Happening.TheVariants as h
 use Rattle.executor_core.specs.declared.Line.{Line}
 use Rattle.queue_code.specs.Calls.{Planned, IsOrderly}
 use Rattle.executor_core.specs.Histories.{HistoryEntry, happenings, made, now_of, IsHistoryOf}
-use Rattle.executor_core.specs.Flows.{flow, part_of, calls_before, history_from, history_of, lines_of}
-use Rattle.executor_core.specs.Machine.{Machine, workers_of, Stands, Continues, Steps}
+use Rattle.executor_core.specs.Flows.{flow, part_of, calls_before, history_from, history_of, lines_from, lines_of}
+use Rattle.executor_core.specs.Machine.{Machine, state_of, workers_of, Stands, Continues}
 use Rattle.trace_text.proofs.Texts.{take_add}
-use Rattle.executor_core.proofs.Flowing.{flow_means, history_more, stands_agrees, made_past, made-calls, happenings_from}
-use Rattle.trace_text.specs.Spelling.{event_line, FitsEvent, lines_text, line_text}
+use Rattle.executor_core.proofs.Flowing.{flow_means, history_more, lines_follow, stands_agrees, made_past, made-calls, happenings_from}
+use Rattle.trace_text.specs.Spelling.{event_line, FitsEvent, lines_text}
 use Rattle.sched_engine.specs.Inputs.{input_of}
-use Rattle.sched_engine.specs.Pieces.{Gives, Output}
+use Rattle.sched_engine.specs.Pieces.{Output}
 use Rattle.sched_engine.specs.Running.{text_of}
-use Rattle.sched_engine.specs.Turns.{TakesEvent, Extends, IsAnswered, IsStanding}
-use Rattle.sched_engine.proofs.Giving.{gives_both, gives_none}
+use Rattle.sched_engine.specs.Turns.{TakesEvent, Extends, IsAnswered, IsStanding, answers_to}
+use Rattle.sched_engine.proofs.Giving.{gives_both, gives_none, lines_text-append}
 use Rattle.sched_engine.proofs.LineCounts.{lines_by_calls}
 
 -- the lines of some events and of more after them
@@ -77,19 +76,16 @@ lines_few calls workers events o =
 
 -- ---- one event more
 
--- the core took an event, and the text of its lines was given out
-pub takes_event : (mid new : Machine) (event : Event) (before after : Output) (none lines : List Line) → none ≡ [] → Steps mid new none lines (part_of mid.calls mid.made mid.moment event) → new.taken ≡ mid.taken + 1 →
-    ((past : List HistoryEntry) → IsHistoryOf mid.calls (workers_of mid) past → Stands mid past → Continues mid new none lines event past) → Gives before after (lines_text lines) → TakesEvent mid new event before after (length lines)
-takes_event mid new event before after none lines clear steps one history given = record {
-  calls = steps.calls;
-  limit = steps.limit;
-  workers = steps.workers;
-  taken = one;
-  lines = lines;
-  history = subst (λ (l : List Line). (past : List HistoryEntry) → IsHistoryOf mid.calls (workers_of mid) past → Stands mid past → Continues mid new l lines event past) clear history;
-  written = given;
-  counted = refl;
-}
+-- the history of one event more is that of the events before, and of the event's part of the flow from where the core is
+event_joins : (m : Machine) (event : Event) (events : List Event) → IsOrderly m.calls → Stands m (history_of m.calls (workers_of m) events) →
+    history_from m.calls (workers_of m) (history_of m.calls (workers_of m) events) (part_of m.calls m.made m.moment event) ≡ history_of m.calls (workers_of m) (event ∷ events)
+event_joins m event events o stands =
+    let calls = m.calls in
+    let workers = workers_of m in
+    let past = history_of calls workers events in
+    let part : part_of calls m.made m.moment event ≡ part_of calls (made (happenings past)) (now_of calls (happenings past)) event =
+    ap (λ w. part_of calls w.made w.moment event) (stands_agrees m past (flow_means calls workers events o) stands).view in
+    ap (history_from calls workers past) part ∙ sym (history_more calls workers events event)
 
 -- the history of one event more, and its lines
 pub continue_history : (m new : Machine) (lines : List Line) (event : Event) (events : List Event) → IsOrderly m.calls → Stands m (history_of m.calls (workers_of m) events) →
@@ -98,20 +94,23 @@ pub continue_history : (m new : Machine) (lines : List Line) (event : Event) (ev
     × (lines_of m.calls (history_of m.calls (workers_of m) (event ∷ events)) ≡ lines_of m.calls (history_of m.calls (workers_of m) events) ++ lines)
 continue_history m new lines event events o stands goes =
     let calls = m.calls in
-    let workers = workers_of m in
-    let past = history_of calls workers events in
-    let means = flow_means calls workers events o in
-    let step = goes past means stands in
-    let part : part_of calls m.made m.moment event ≡ part_of calls (made (happenings past)) (now_of calls (happenings past)) event =
-    ap (λ w. part_of calls w.made w.moment event) (stands_agrees m past means stands).view in
-    let longer : history_from calls workers past (part_of calls m.made m.moment event) ≡ history_of calls workers (event ∷ events) =
-    ap (history_from calls workers past) part ∙ sym (history_more calls workers events event) in (
+    let past = history_of calls (workers_of m) events in
+    let step = goes past (flow_means calls (workers_of m) events o) stands in
+    let longer = event_joins m event events o stands in (
       subst (Stands new) longer step.stands,
       ap (lines_of calls) (sym longer) ∙ (step.spoken ∙ ap (λ l. lines_of calls past ++ l) (sym step.given)),
     )
 
-lines_text-append : (xs ys : List Line) → lines_text (xs ++ ys) ≡ lines_text xs ++ lines_text ys
-lines_text-append xs ys = flat_map-append line_text xs ys
+-- the text of one event more
+pub event_says : (m : Machine) (event : Event) (events : List Event) → IsOrderly m.calls → Stands m (history_of m.calls (workers_of m) events) →
+    text_of m.calls (history_of m.calls (workers_of m) (event ∷ events)) ≡ text_of m.calls (history_of m.calls (workers_of m) events) ++ lines_text (answers_to m (part_of m.calls m.made m.moment event))
+event_says m event events o stands =
+    let calls = m.calls in
+    let workers = workers_of m in
+    let past = history_of calls workers events in
+    let part = part_of calls m.made m.moment event in
+    ap lines_text (ap (lines_of calls) (sym (event_joins m event events o stands)) ∙ lines_follow calls workers (state_of m) past part (stands_agrees m past (flow_means calls workers events o) stands))
+    ∙ lines_text-append (lines_of calls past) (lines_from calls workers (state_of m) part)
 
 -- the history before, and the answers to one event more
 extends_more : (old mid new : Machine) (more events : List Event) (event : Event) (before after : Output) (text : List ℕ) (count n : ℕ) → mid.calls ≡ old.calls → workers_of mid ≡ workers_of old → IsOrderly old.calls →
@@ -154,8 +153,14 @@ answered_more old mid new held before put after taken size count n event a fits 
 }
 
 -- the rest behind the line of an event, which stood at the front of `rest`
-next_is : (event : Event) (rest next : List ℕ) → rest ≡ event_line event ++ next → drop (length (event_line event)) rest ≡ next
+pub next_is : (event : Event) (rest next : List ℕ) → rest ≡ event_line event ++ next → drop (length (event_line event)) rest ≡ next
 next_is event rest next front = ap (drop (length (event_line event))) front ∙ drop-append_seam (event_line event) next
+
+-- the line of an event, which stood at the front of `rest`
+pub line_is : (event : Event) (rest next : List ℕ) → rest ≡ event_line event ++ next → take (length (event_line event)) rest ≡ event_line event
+line_is event rest next front =
+    let size = length (event_line event) in
+    ap (take size) front ∙ (take-append-le size (event_line event) next (omega arith) ∙ take_all size (event_line event) (omega arith))
 
 -- how many bytes were taken
 taken_more : (event : Event) (held rest next : List ℕ) → length rest ≤ length held → rest ≡ event_line event ++ next → length held - length next ≡ length held - length rest + length (event_line event)

@@ -6,4 +6,5 @@ pub mod Rooms
 pub mod Turns
 pub mod OneText
 pub mod Giving
+pub mod Stepping
 pub mod InMemory

@@ -1,27 +1,27 @@
 -- Turns: what a read, the answers to what it brought, and a write make of a run, and how a run ends.
 use Rattle.std.proofs.Common.{◌≡◌, ℕ, zero, suc, ◌+◌, ◌-◌, ◌*◌, ◌^◌, ◌<◌, ◌≤◌, List, [], ◌∷◌, ◌++◌, take, drop, length, Option, Some, None, Result, Ok, Err, MatchResult, inr, refl, ap, ◌∙◌, sym, subst, arith, append_assoc, append-nil, length-append, length-drop, take-append-drop}
-use Rattle.std.proofs.lemmas.List.Elements.{All-append, All-nil}
+use Rattle.std.proofs.lemmas.List.Elements.{All-append, All-cons, All-nil}
 use Rattle.std.specs.Io.KnownBytes.{Consumes, Appends, Keeps, IsAtEnd, prepend_known}
 use Rattle.executor_core.specs.declared.Event.{Event}
 use Rattle.queue_code.specs.Calls.{Planned, IsOrderly}
-use Rattle.executor_core.specs.Flows.{history_of, lines_of}
+use Rattle.executor_core.specs.Flows.{history_of, lines_of, part_of}
 use Rattle.executor_core.specs.Machine.{Machine, workers_of, Stands}
 use Rattle.executor_core.proofs.Flowing.{flow_means}
-use Rattle.trace_text.specs.Spelling.{IsLine, event_line, FitsEvent}
+use Rattle.trace_text.specs.Spelling.{IsLine, event_line, lines_text, FitsEvent}
 use Rattle.sched_engine.specs.declared.report.Report.{Report}
 use Rattle.sched_engine.specs.declared.engine.Turn.{Turn}
 use Rattle.sched_engine.specs.declared.engine.Turn.TheVariants as t
 use Rattle.sched_engine.specs.declared.report.RunError.{RunError}
 use Rattle.sched_engine.specs.declared.report.RunError.TheVariants as x
-use Rattle.sched_engine.specs.Inputs.{input_of, IsRefused, BeginsWithEvent}
+use Rattle.sched_engine.specs.Inputs.{AreEvents, input_of, IsRefused, BeginsWithEvent}
 use Rattle.sched_engine.specs.Running.{IsAccepted, IsTrace, Ran, Runs, Taken, piece, text_of}
 use Rattle.sched_engine.specs.Pieces.{Output}
-use Rattle.sched_engine.specs.Turns.{Done, Extends, IsAnswered, IsBetweenTurns, IsCut, IsStanding, Opens, Progress, Setting, Turns}
+use Rattle.sched_engine.specs.Turns.{CutsSteps, Done, Extends, IsAnswered, IsBetweenTurns, IsCut, IsStanding, Opens, Progress, Setting, Turns, answers_to}
 use Rattle.trace_text.specs.Reading.{most_event_bytes}
 use Rattle.trace_text.proofs.Fronts.{unread_part}
 use Rattle.sched_engine.proofs.Runs.{at_end, so_far, read_so_far, came, took, gave, gave_front}
 use Rattle.sched_engine.proofs.Giving.{wrote_none}
-use Rattle.sched_engine.proofs.Inputs.{input_of-append, lines_few, flow_happens}
+use Rattle.sched_engine.proofs.Inputs.{event_says, input_of-append, line_is, lines_few, next_is, flow_happens}
 
 -- the history of some events is their trace
 pub trace_of : (calls : List Planned) (workers : ℕ) (events : List Event) → IsOrderly calls → IsTrace calls workers events (history_of calls workers events)
@@ -154,23 +154,31 @@ first at text workers limit opens none blank nought = record {
 all_written : (run : Setting) (at : Progress) → (done : Done run at) → at.text ≡ [] → Appends run.contents at.contents (text_of run.calls (history_of run.calls run.workers done.events))
 all_written run at done none = subst (Appends run.contents at.contents) (sym (done.says ∙ (ap (λ l. done.before ++ l) none ∙ append-nil done.before))) done.written
 
+-- some events were taken, and more of the input may follow what is held
+taken_of : (run : Setting) (left : Option (List ℕ)) (held : List ℕ) (events : List Event) (IsAhead IsRest : List ℕ → Type 0) (Gives : ℕ → ℕ → List ℕ → Type 0) → AreEvents events → Consumes run.input (prepend_known held left) (input_of events) →
+    length events ≤ run.limit → IsOrderly run.calls → length held ≤ piece → IsAhead held → ((more : List ℕ) → IsRest (held ++ more)) →
+    Gives (length events) (length (lines_of run.calls (history_of run.calls run.workers events))) (text_of run.calls (history_of run.calls run.workers events)) →
+    Taken run.calls run.workers run.limit run.input left IsAhead IsRest Gives
+taken_of run left held events IsAhead IsRest Gives fit read within orderly near stops rest gives = record {
+  events = events;
+  fit = fit;
+  past = history_of run.calls run.workers events;
+  trace = trace_of run.calls run.workers events orderly;
+  ahead = held;
+  read = read_so_far run.input left held (input_of events) read;
+  near = near;
+  stops = stops;
+  splits = so_far run.input left held (input_of events) IsRest read rest;
+  within = within;
+  gives = gives;
+}
+
 -- what was taken so far, where more of the input may follow
 taken_so_far : (run : Setting) (at : Progress) (IsAhead IsRest : List ℕ → Type 0) (Gives : ℕ → ℕ → List ℕ → Type 0) → (done : Done run at) → length at.held ≤ piece → IsAhead at.held → ((more : List ℕ) → IsRest (at.held ++ more)) →
     Gives (length done.events) (length (lines_of run.calls (history_of run.calls run.workers done.events))) (text_of run.calls (history_of run.calls run.workers done.events)) →
     Taken run.calls run.workers run.limit run.input at.left IsAhead IsRest Gives
-taken_so_far run at IsAhead IsRest Gives done near stops rest gives = record {
-  events = done.events;
-  fit = done.fit;
-  past = history_of run.calls run.workers done.events;
-  trace = trace_of run.calls run.workers done.events done.orderly;
-  ahead = at.held;
-  read = read_so_far run.input at.left at.held (input_of done.events) done.read;
-  near = near;
-  stops = stops;
-  splits = so_far run.input at.left at.held (input_of done.events) IsRest done.read rest;
-  within = omega (arith, done.taken, done.within);
-  gives = gives;
-}
+taken_so_far run at IsAhead IsRest Gives done near stops rest gives =
+    taken_of run at.left at.held done.events IsAhead IsRest Gives done.fit done.read (omega (arith, done.taken, done.within)) done.orderly near stops rest gives
 
 -- the same where the input has ended
 taken_at_end : (run : Setting) (at : Progress) (IsAhead IsRest : List ℕ → Type 0) (Gives : ℕ → ℕ → List ℕ → Type 0) → (done : Done run at) → IsAtEnd at.left → length at.held ≤ piece → IsAhead at.held → IsRest at.held →
@@ -239,12 +247,30 @@ unwritten run at contents n done near appends =
     taken_so_far run at (λ ahead. Unit {0}) (λ rest. Unit {0}) (λ events lines trace. (k : ℕ) × Appends run.contents contents (take k trace)) done near tt (λ more. tt)
     (length done.before + n, subst (λ (l : List ℕ). Appends run.contents contents (take (length done.before + n) l)) (sym done.says) (gave_front run.contents at.contents contents done.before at.text n done.written appends))
 
+-- a fault of the writer, after a front of the text at hand and of the text of one event more
+cut_in : (run : Setting) (at : Progress) (contents : Option (List ℕ)) (event : Event) (rest : List ℕ) → Done run at → length at.held ≤ piece → at.core.taken < at.core.limit → FitsEvent event → at.held ≡ event_line event ++ rest →
+    CutsSteps at.core (part_of at.core.calls at.core.made at.core.moment event) (record { contents = at.contents; text = at.text }) contents → Runs (Err x.Write) run.calls run.workers run.limit run.input at.left run.contents contents
+cut_in run at contents event rest done near below fits further cut =
+    let events = event ∷ done.events in
+    let text = lines_text (answers_to at.core (part_of at.core.calls at.core.made at.core.moment event)) in
+    let P : List Planned → ℕ → Type 0 = λ calls workers. Stands at.core (history_of calls workers done.events)
+    → text_of calls (history_of calls workers events) ≡ text_of calls (history_of calls workers done.events) ++ text in
+    let more : P run.calls run.workers =
+    subst (P run.calls) done.workers (subst (λ calls. P calls (workers_of at.core)) done.calls (event_says at.core event done.events (subst IsOrderly (sym done.calls) done.orderly))) in
+    let says : text_of run.calls (history_of run.calls run.workers events) ≡ done.before ++ (at.text ++ text) = more done.stands ∙ (ap (λ l. l ++ text) done.says ∙ append_assoc done.before at.text text) in
+    let read : Consumes run.input (prepend_known rest at.left) (input_of events) =
+    subst (λ (l : List ℕ). Consumes run.input (prepend_known l at.left) (input_of events)) (next_is event at.held rest further)
+    (took run.input at.left at.held (input_of done.events) (event_line event) (length (event_line event)) done.read (line_is event at.held rest further)) in
+    taken_of run at.left rest events (λ ahead. Unit {0}) (λ rest. Unit {0}) (λ events lines trace. (k : ℕ) × Appends run.contents contents (take k trace)) (All-cons FitsEvent event done.events fits done.fit) read
+    (omega (arith, below, done.limit, done.taken)) done.orderly (omega (arith, near, ap length further, length-append (event_line event) rest)) tt (λ more. tt)
+    (length done.before + cut.0, subst (λ (l : List ℕ). Appends run.contents contents (take (length done.before + cut.0) l)) (sym says) (gave_front run.contents at.contents contents done.before (at.text ++ text) cut.0 done.written cut.1))
+
 -- a fault of the writer, after a front of the text at hand and of the text of more events
 pub cut_short : (run : Setting) (at : Progress) (contents : Option (List ℕ)) → Done run at → length at.held ≤ piece → IsCut at.core at.held (record { contents = at.contents; text = at.text }) contents →
     Runs (Err x.Write) run.calls run.workers run.limit run.input at.left run.contents contents
 cut_short run at contents done near cut =
-    let whole : Progress = record { left = at.left; held = drop cut.taken at.held; text = cut.whole.text; contents = cut.whole.contents; core = cut.core; count = at.count + cut.count } in
-    unwritten run whole contents cut.front.0 (answered run at cut.core cut.taken cut.count cut.whole done cut.answered cut.within) (omega (arith, near, length-drop cut.taken at.held)) cut.front.1
+    let whole : Progress = record { left = at.left; held = drop cut.taken at.held; text = cut.after.text; contents = cut.after.contents; core = cut.core; count = at.count + cut.count } in
+    cut_in run whole contents cut.event cut.rest (answered run at cut.core cut.taken cut.count cut.after done cut.answered (omega (arith, cut.below))) (omega (arith, near, length-drop cut.taken at.held)) cut.below cut.fits cut.further cut.front
 
 -- ---- turns end
 

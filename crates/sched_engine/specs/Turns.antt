@@ -3,12 +3,13 @@
 use Rattle.std.specs.Prelude.{◌≡◌, ℕ, ◌+◌, ◌-◌, ◌*◌, ◌^◌, ◌<◌, ◌≤◌, List, [], ◌++◌, Option, Result, Ok, Err, drop, length, take}
 use Rattle.std.specs.Io.KnownBytes.{Appends, Consumes, prepend_known}
 use Rattle.executor_core.specs.declared.Event.{Event}
+use Rattle.executor_core.specs.declared.Happening.{Happening}
 use Rattle.executor_core.specs.declared.Line.{Line}
 use Rattle.queue_code.specs.Calls.{Planned, IsOrderly}
 use Rattle.executor_core.specs.Histories.{HistoryEntry, IsHistoryOf}
-use Rattle.executor_core.specs.Flows.{history_of, lines_of}
-use Rattle.executor_core.specs.Machine.{Machine, room_of, workers_of, Stands, Continues}
-use Rattle.trace_text.specs.Spelling.{IsLine, lines_text}
+use Rattle.executor_core.specs.Flows.{history_of, lines_from, lines_of, part_of}
+use Rattle.executor_core.specs.Machine.{Machine, room_of, state_of, workers_of, Stands, Steps, Continues}
+use Rattle.trace_text.specs.Spelling.{FitsEvent, IsLine, event_line, lines_text}
 use Rattle.trace_text.specs.Reading.{most_event_bytes}
 use Rattle.sched_engine.specs.declared.answering.PieceEnd.{PieceEnd}
 use Rattle.sched_engine.specs.declared.answering.PieceEnd.TheVariants as e
@@ -18,6 +19,22 @@ use Rattle.sched_engine.specs.declared.report.RunError.{RunError}
 use Rattle.sched_engine.specs.Inputs.{input_of, AreEvents, IsRefused, BeginsWithEvent}
 use Rattle.sched_engine.specs.Pieces.{Gives, Output}
 use Rattle.sched_engine.specs.Running.{IsAccepted, Runs, text_of}
+
+-- ---- some happenings
+
+-- the lines that answer some happenings, which stand the newest first, from where the core is
+abbrev pub answers_to : Machine → List Happening → List Line
+answers_to m happened = lines_from m.calls (workers_of m) (state_of m) happened
+
+-- the core took the steps of some happenings, and the text of their lines was given out
+pub record GivesSteps (old new : Machine) (happened : List Happening) (before after : Output) (count : ℕ) : Type 0 where
+  pub steps : Steps old new [] (answers_to old happened) happened
+  pub written : Gives before after (lines_text (answers_to old happened))
+  pub counted : count ≡ length (answers_to old happened)
+
+-- of the text at hand, and of that of the lines of some happenings behind it, a front was written
+abbrev pub CutsSteps : Machine → List Happening → Output → Option (List ℕ) → Type 0
+CutsSteps old happened before contents = (n : ℕ) × Appends before.contents contents (take n (before.text ++ lines_text (answers_to old happened)))
 
 -- ---- one event, and the events of a piece
 
@@ -71,15 +88,20 @@ pub record WantsRoom (old : Machine) (held : List ℕ) (before : Output) (capaci
   pub below : core.taken < core.limit
   pub short : capacity < room_of core
 
--- some events at the front of the bytes that are held were answered, and of the text of all that a front was written
+-- some events at the front of the bytes that are held were answered, and of the text at hand then, and of that of the answer to
+-- a further one behind it, a front was written
 pub record IsCut (old : Machine) (held : List ℕ) (before : Output) (contents : Option (List ℕ)) : Type 0 where
   pub core : Machine
   pub taken : ℕ
-  pub whole : Output
+  pub after : Output
   pub count : ℕ
-  pub answered : IsAnswered old core held taken before whole count
-  pub within : core.taken ≤ core.limit
-  pub front : (n : ℕ) × Appends whole.contents contents (take n whole.text)
+  pub answered : IsAnswered old core held taken before after count
+  pub below : core.taken < core.limit
+  pub event : Event
+  pub fits : FitsEvent event
+  pub rest : List ℕ
+  pub further : drop taken held ≡ event_line event ++ rest
+  pub front : CutsSteps core (part_of core.calls core.made core.moment event) after contents
 
 -- the core is where some events led it
 pub record IsStanding (core : Machine) : Type 0 where

@@ -1,16 +1,15 @@
 //! The answering: events in, the text of the lines that answer them out. It knows of no reader.
-ghost use Rattle.std.specs.Prelude.{◌≡◌, ◌+◌, ◌<◌, ◌≤◌, ◌↔◌, ◌⊎◌, IfErr, IfOk, IsErrOf, IsOk, List, OnErr, OnOk, drop, vec_capacity, vec_len};
-ghost use Rattle.executor_core.specs.Flows.{part_of};
-ghost use Rattle.executor_core.specs.Histories.{HistoryEntry, IsHistoryOf};
-ghost use Rattle.executor_core.specs.Machine.{Machine, Continues, Stands, Steps, room_of, workers_of};
+ghost use Rattle.std.specs.Prelude.{◌≡◌, ◌≤◌, [], IfErr, IfOk, IsTrue, drop, vec_capacity};
+ghost use Rattle.executor_core.specs.Machine.{Machine};
 ghost use Rattle.sched_engine.specs.Inputs.{IsRefused};
 ghost use Rattle.sched_engine.specs.Running.{CountsWriter};
 ghost use Rattle.sched_engine.specs.Turns.{IsAnswered, IsCut, IsPieceEnd, IsStanding, WantsRoom};
 
 use crate::draft::Draft;
 use crate::ends::Sink;
+use crate::one_event::answer_event;
 use crate::report::RunError;
-use executor_core::{Core, CoreError, Event, Line};
+use executor_core::{Core, Event, Line};
 use std::alloc::Allocator;
 use trace_text::{Front, front_event, split_event};
 
@@ -37,30 +36,14 @@ pub struct Answered {
     pub end: PieceEnd,
 }
 
-/// Gives an event to the core, as [`Core::event`] takes it. The kinds of events are told apart here,
-/// so that each is answered by code that was made for it alone.
-#[inline(always)]
-fn take_event<A: Allocator>(
-    core: &mut Core<A>,
-    event: Event,
-    lines: &mut Vec<Line, A>,
-) -> Result<(), CoreError>
-    ensures full { IsErrOf result CoreError.Full ↔ (core.old.taken ≡ core.old.limit) }
-    ensures others { IfErr result (λ e. (e ≡ CoreError.Full) ⊎ (e ≡ CoreError.Memory)) }
-    ensures room { vec_len lines.old + room_of core.old ≤ vec_capacity lines.old → core.old.taken < core.old.limit → IsOk result }
-    ensures capacity { vec_len lines.old + room_of core.old ≤ vec_capacity lines.old → vec_capacity lines.new ≡ vec_capacity lines.old }
-    ensures refused { OnErr result (core.new ≡ core.old) }
-    ensures taken { OnOk result (core.new.taken ≡ core.old.taken + 1) }
-    ensures steps { OnOk result (Steps core.old core.new lines.old.items lines.new.items (part_of core.old.calls core.old.made core.old.moment event)) }
-    ensures history { OnOk result ((past : List HistoryEntry) → IsHistoryOf core.old.calls (workers_of core.old) past → Stands core.old past
-        → Continues core.old core.new lines.old.items lines.new.items event past) }
+/// Empties a list of lines, and makes room in it for this many. `false` is want of memory.
+fn make_room<A: Allocator>(lines: &mut Vec<Line, A>, count: usize) -> bool
+    ensures clear { lines.new.items ≡ [] }
+    ensures room { IsTrue result → count ≤ vec_capacity lines.new }
+    ensures enough { count ≤ vec_capacity lines.old → IsTrue result × (vec_capacity lines.new ≡ vec_capacity lines.old) }
 {
-    match event {
-        Event::Clock(moment) => core.event(Event::Clock(moment), lines),
-        Event::Start(worker) => core.event(Event::Start(worker), lines),
-        Event::Finish(worker, ending) => core.event(Event::Finish(worker, ending), lines),
-        Event::Cancel(task) => core.event(Event::Cancel(task), lines),
-    }
+    lines.clear();
+    count <= lines.capacity() || lines.reserve(count).is_ok()
 }
 
 /// Answers the events whose lines stand at the front of the bytes that are held, up to the first
@@ -90,18 +73,17 @@ pub fn answer_events<A: Allocator, W: Sink>(
         let Some((event, behind)) = split_event(rest) else {
             break end_of(rest);
         };
-        lines.clear();
-        match take_event(core, event, lines) {
-            Ok(()) => {}
-            Err(CoreError::Full) => break PieceEnd::Full,
-            Err(CoreError::Memory) => break PieceEnd::Memory,
-            Err(_) => unreachable!(),
+        if core.full() {
+            break PieceEnd::Full;
         }
-        if !draft.give_lines(lines, writer) {
+        if !make_room(lines, core.room()) {
+            break PieceEnd::Memory;
+        }
+        let Some(more) = answer_event(core, event, lines, draft, writer) else {
             return Err(RunError::Write);
-        }
+        };
         rest = behind;
-        count += lines.len() as u64;
+        count += more;
     };
     Ok(Answered {
         bytes: held.len() - rest.len(),

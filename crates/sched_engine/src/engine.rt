@@ -99,7 +99,7 @@ pub enum Turn {
 pub struct Engine<A: Allocator> {
     core: Core<A>,
     held: Held<A>,
-    /// The lines that answer the event at hand.
+    /// The lines of the call or event at hand, with room for all that the event may have.
     lines: Vec<Line, A>,
     /// The text of the answers that was not written yet.
     draft: Draft<A>,

@@ -51,8 +51,9 @@
 //! A run takes two buffers of 64 KiB, what the plan's core takes, and room for the lines of one
 //! event, which is one for each call left and each task not cancelled; what the reading of the plan
 //! took is given back before the first event is read. Once these have grown, an event takes no
-//! memory, and a run's memory does not grow with its input. A text that is longer than its buffer is
-//! written as it comes. A byte of input is looked at once or twice, and again at each read while its
+//! memory, and a run's memory does not grow with its input. The calls that a clock reaches are made
+//! one at a time, each with its lines given out, so of the room for lines no more is written than
+//! the lines of one call take. A text that is longer than its buffer is written as it comes. A byte of input is looked at once or twice, and again at each read while its
 //! line is not whole.
 #![tactic(auto)]
 
@@ -65,6 +66,7 @@ mod in_memory;
 mod laws;
 mod listing;
 mod memory;
+mod one_event;
 mod readers;
 mod report;
 #[cfg(test)]

@@ -3,7 +3,7 @@ ghost use Rattle.std.specs.Prelude.{◌≡◌, ℕ, Some, slice_get, ◌<◌, �
 ghost use Rattle.executor_core.specs.declared.types.Happening.TheVariants as happening;
 ghost use Rattle.sched_time.specs.Times.{longest};
 ghost use Rattle.delay_queue.specs.Queues.{IsLeast, NoneIsDue};
-ghost use Rattle.executor_core.specs.Flows.{AreMade};
+ghost use Rattle.executor_core.specs.Flows.{AreMade, ReachesNext, reached};
 ghost use Rattle.executor_core.specs.Histories.{is_end};
 ghost use Rattle.executor_core.specs.State.{reply_of, view_of_state};
 ghost use Rattle.executor_core.specs.Needs.{need_of, need_of_cancel, need_of_finish, IsRipe};
@@ -27,6 +27,8 @@ impl<A: Allocator> Core<A> {
         ensures none { (result ≡ None) ↔ AreMade self.now.calls self.now.made moment }
         ensures last { result ≡ None → longest ≤ moment → length self.now.calls ≤ self.now.made }
         ensures left { IfSome result (λ _. self.now.made < length self.now.calls) }
+        ensures next { IfSome result (λ _. ReachesNext self.now.calls self.now.made moment) }
+        ensures over { result ≡ None → reached self.now.calls self.now.made moment ≡ 0 }
         ensures need { IfSome result (λ need. need ≡ need_of self.now.calls (workers_of self.now) (state_of self.now) happening.Call) }
     {
         let (at, call) = self.next_call()?;
