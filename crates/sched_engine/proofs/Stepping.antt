@@ -12,17 +12,13 @@ use Rattle.executor_core.specs.Flows.{part_of, lines_from}
 use Rattle.executor_core.specs.State.{after_from}
 use Rattle.executor_core.specs.Machine.{Machine, Counts, Steps, state_of, workers_of}
 use Rattle.executor_core.proofs.Events.{event_taken}
-use Rattle.executor_core.proofs.Flowing.{core_continues, lines_from-append, no_steps, steps_then}
+use Rattle.executor_core.proofs.Flowing.{core_continues, lines_from-append, steps_then}
 use Rattle.trace_text.specs.Spelling.{lines_text}
 use Rattle.sched_engine.specs.Pieces.{Gives, Output}
 use Rattle.sched_engine.specs.Turns.{CutsSteps, GivesSteps, TakesEvent, answers_to}
 use Rattle.sched_engine.proofs.Giving.{gives_both, gives_front, gives_none, gives_put, lines_text-append}
 
 -- ---- steps
-
--- nothing happened
-pub gives_no_steps : (m : Machine) (out : Output) → GivesSteps m m [] out out 0
-gives_no_steps m out = record { steps = no_steps m []; written = gives_none out; counted = refl }
 
 -- the same steps, whatever lines stand before theirs
 behind : (old new : Machine) (before lines : List Line) (hs : List Happening) → Steps old new [] lines hs → Steps old new before (before ++ lines) hs
