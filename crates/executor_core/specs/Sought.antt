@@ -1,4 +1,5 @@
--- What sweeps have looked for, so that later ones need not. All of it is this project's rule.
+-- What sweeps have looked for, so that later ones need not. No contract of a public call cites it but through the
+-- invariant of `Core`. All of it is this project's rule.
 use Rattle.std.specs.Prelude.{◌≡◌, ℕ, ◌<◌, ◌≤◌, Bool, true, false, List, [], length}
 use Rattle.std.specs.List.Sorted.{IsNonDecreasingBy}
 use Rattle.executor_core.specs.Histories.{is_end}
@@ -21,6 +22,6 @@ pub record AreNoted (sought : Sought) (count workers : ℕ) : Type 0 where
   pub room : workers ≤ sought.room
   pub none : sought.periodic ≡ false → sought.going ≡ []
 
--- each periodic task that waits for a run, or has one under way, is one of these
+-- each periodic task that waits for a run or has one under way, and is not cancelled, is one of these
 abbrev pub OnlyThese : List ℕ → State → Type 0
 OnlyThese going s = (k : ℕ) → goes_on (s.tasks k) ≡ true → is_end k going ≡ true

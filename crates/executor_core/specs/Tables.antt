@@ -1,5 +1,5 @@
 -- How a core keeps its tasks: in two tables, with numbers beside them. No contract of a public call cites it but through
--- the view of `Core`. All of it is this project's rule.
+-- the view or the invariant of `Core`. All of it is this project's rule.
 use Rattle.std.specs.Prelude.{◌≡◌, ℕ, ◌+◌, ◌^◌, ◌<◌, ◌≤◌, ◌&&◌, ◌||◌, Bool, true, false, not, List, [], ◌∷◌, length}
 use Rattle.sched_time.specs.declared.timing.Timing.{Timing}
 use Rattle.sched_time.specs.declared.timing.Timing.TheVariants as t
@@ -71,7 +71,7 @@ is_live_phase ph.Waiting = true
 is_live_phase ph.Running = true
 is_live_phase _ = false
 
--- a periodic task waits for a run, or has one under way
+-- a task is periodic, waits for a run or has one under way, and is not cancelled
 abbrev pub goes_on : Task → Bool
 goes_on task = is_live_phase task.phase && (not task.cancelled && is_periodic task.timing)
 

@@ -87,9 +87,10 @@
 //! cost; a submission, a start, a finish and a cancel cost what the queue of waiting tasks does
 //! (see [`DelayQueue`](delay_queue::DelayQueue)), and a start also what the kept tasks that leave cost. Setting a policy
 //! that does not sweep and asking how far the executor is cost the same whatever it holds. The first sweep at
-//! which delayed tasks are not executed goes over all tasks at most once, and the first at which periodic tasks do not
-//! continue at most twice. A later one looks at no more tasks than there are workers, which are periodic tasks that ran at
-//! that one, and finds each by a binary search; where no periodic task waits it costs nothing but the kept tasks that leave.
+//! which delayed tasks are not executed goes over all tasks once, and so does the first that finds periodic tasks to end,
+//! which goes over them once more to note those that run. Each other sweep looks at no more tasks than there are workers,
+//! those that were noted, and finds each by a binary search; where it has nothing to end it costs nothing but the kept
+//! tasks that leave.
 #![tactic(auto)]
 
 mod agenda;

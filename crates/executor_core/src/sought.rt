@@ -107,7 +107,7 @@ impl<A: Allocator> Sought<A> {
     }
 }
 
-/// Whether a periodic task waits for a run, or has one under way.
+/// Whether a task is periodic, waits for a run or has one under way, and is not cancelled.
 fn goes_on(task: &Task) -> bool
     ensures { result ≡ goes_on task.now }
 {

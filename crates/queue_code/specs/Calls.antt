@@ -14,7 +14,7 @@ use Rattle.queue_code.specs.declared.call.CodeCall.TheVariants as c
 abbrev pub Planned : Type 0
 Planned = ℕ × CodeCall
 
--- the greatest number of calls, and so of tasks (this project's limit)
+-- the greatest number of calls, and so of tasks and of the iterations of a loop (this project's limit)
 abbrev pub most_calls : ℕ
 most_calls = 65536
 

@@ -49,7 +49,7 @@
 //! # Memory and cost
 //!
 //! A run takes two buffers of 64 KiB, what the plan's core takes, and room for the lines of one
-//! event, which is one for each call left and each task not cancelled; what the reading of the plan
+//! event, which is one, one for each call left and one for each task not cancelled; what the reading of the plan
 //! took is given back before the first event is read. Once these have grown, an event takes no
 //! memory, and a run's memory does not grow with its input. The calls that a clock reaches are made
 //! one at a time, each with its lines given out, so of the room for lines no more is written than

@@ -1,4 +1,4 @@
-//! One event: the calls of the plan that it finds due, each with its lines given out before the next one is made, and
+//! One event: the calls of the plan that it reaches, each with its lines given out before the next one is made, and
 //! then the event itself.
 ghost use Rattle.std.specs.Prelude.{◌≡◌, ℕ, ◌+◌, ◌<◌, ◌≤◌, [], ◌∷◌, IfNone, IfSome, replicate, vec_capacity, vec_len};
 ghost use Rattle.queue_code.specs.Calls.{IsOrderly};
@@ -45,7 +45,7 @@ pub fn answer_event<A: Allocator, W: Sink>(
     Some(called + lines.len() as u64)
 }
 
-/// Makes the calls that are made just before an event, and gives out the text of their lines. The answer is the number
+/// Makes the calls that an accepted clock reaches, and none for another event, and gives out the text of their lines. The answer is the number
 /// of these lines. `None` is a fault of the sink, after a front of that text was written.
 #[inline(always)]
 fn give_calls_before<A: Allocator, W: Sink>(

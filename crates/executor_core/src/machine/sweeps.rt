@@ -119,7 +119,7 @@ impl<A: Allocator> Core<A> {
     }
 
     /// The first task from this number on that a sweep may end, or how many tasks there are where none is left. Once
-    /// sweeps have looked for both sorts of tasks that they end, it is one of those that were noted then.
+    /// sweeps have looked for each sort of tasks that the policies now end, it is one of those that were noted then.
     fn candidate(&self, from: usize) -> usize
         requires { from ≤ length self.now.tasks }
         ensures from { from ≤ result }
