@@ -18,7 +18,7 @@ use Rattle.plan_read.specs.declared.call_keys.CallKey.{CallKey}
 use Rattle.plan_read.specs.declared.call_keys.CallKey.TheVariants as keys
 use Rattle.plan_read.specs.declared.call_keys.Row.{Row}
 use Rattle.plan_read.proofs.Words.{differs}
-use Rattle.plan_read.specs.CallKeys.{word_of, call_key_of_word, slot, with_slot, with_entry}
+use Rattle.plan_read.specs.CallKeys.{word_of, call_key_of_word, slot, with_slot}
 
 abbrev pub Entry : Type 0
 Entry = String Global × Value
@@ -131,13 +131,6 @@ kept all done e more r j v is sorted named same h k =
           rw (slot_with j k v r, t) (rw (own, same) there))
       | inr f ↦ rw (slot_with j k v r, f) (keeps all done e (slot k r) (word_of k) (rw word f) (h k))
     ]
-
--- after one entry more
-pub entered : (all done : List Entry) (e : Entry) (more : List Entry) (r : Row) (o : Option CallKey) (v : Bor Value) → all ≡ done ++ e ∷ more → IsStrictlySortedBy string_cmp (keys_of all)
-    → call_key_of_word (string_bytes e.0) ≡ o → v.now ≡ e.1 → ((k : CallKey) → Sees all done (slot k r) (word_of k))
-    → (k : CallKey) → Sees all (done ++ e ∷ []) (slot k (with_entry o v r)) (word_of k)
-entered all done e more r None v is sorted named same h = passed_over all done e r named h
-entered all done e more r (Some j) v is sorted named same h = kept all done e more r j v is sorted named same h
 
 -- after all entries
 pub held : (all : List Entry) (o : Option (Bor Value)) (w : List ℕ) → Sees all all o w → option_map (λ v. v.now) o ≡ lookup (at_word w) all

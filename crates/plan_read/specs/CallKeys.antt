@@ -54,11 +54,6 @@ with_slot keys.Period v r = record { op = r.op; at = r.at; name = r.name; delay 
 with_slot keys.Which v r = record { op = r.op; at = r.at; name = r.name; delay = r.delay; first = r.first; period = r.period; which = Some v; value = r.value }
 with_slot keys.Value v r = record { op = r.op; at = r.at; name = r.name; delay = r.delay; first = r.first; period = r.period; which = r.which; value = Some v }
 
--- a row with a value at a key, and the row itself where there is no key
-abbrev pub with_entry : Option CallKey → Bor Value → Row → Row
-with_entry None v row = row
-with_entry (Some key) v row = with_slot key v row
-
 -- a row has what stands at the keys of a table
 abbrev pub Holds : Row → BTreeMap (String Global) Value → Type 0
 Holds row table = (key : CallKey) → option_map (λ v. v.now) (slot key row) ≡ get_by_text table (word_of key)

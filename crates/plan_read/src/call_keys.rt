@@ -1,7 +1,7 @@
 //! The keys of a call, and what stands at them.
 
 ghost use Rattle.std.specs.Prelude.{◌≡◌};
-ghost use Rattle.plan_read.specs.CallKeys.{call_key_of_word, slot, with_slot, with_entry, Holds};
+ghost use Rattle.plan_read.specs.CallKeys.{call_key_of_word, slot, with_slot, Holds};
 
 use toml::{Table, Value};
 
@@ -51,18 +51,8 @@ pub struct Row<'a> {
 }
 
 impl<'a> Row<'a> {
-    /// This row with a value at a key, and this row where there is no key.
-    fn with(self, key: Option<CallKey>, value: &'a Value) -> Row<'a>
-        ensures { result ≡ with_entry key value.entry self.entry }
-    {
-        match key {
-            None => self,
-            Some(key) => self.with_slot(key, value),
-        }
-    }
-
     /// This row with a value at a key.
-    fn with_slot(self, key: CallKey, value: &'a Value) -> Row<'a>
+    fn with(self, key: CallKey, value: &'a Value) -> Row<'a>
         ensures { result ≡ with_slot key value.entry self.entry }
     {
         let found = Some(value);
@@ -128,7 +118,9 @@ pub fn row_of(table: &Table) -> Row<'_>
         value: None,
     };
     for (key, value) in table {
-        row = row.with(CallKey::of_word(key.as_str()), value);
+        if let Some(key) = CallKey::of_word(key.as_str()) {
+            row = row.with(key, value);
+        }
     }
     row
 }

@@ -1,17 +1,10 @@
 //! Laws on the definitions, and on the comparisons of what is public.
 
 ghost use Rattle.std.specs.Prelude.{◌≡◌, true};
-ghost use Rattle.plan_read.specs.Texts.{longest_text};
 ghost use Rattle.plan_read.specs.Laws.{WritesOrFails, NeverBoth, WritesOne, NamesDiffer, TargetsStandBefore, PlansAreOrdered};
 
 use crate::faults::{PlanFault, PlanFaultKind};
-use crate::limits::LONGEST_TEXT;
 use crate::plans::Target;
-
-/// [`LONGEST_TEXT`](crate::LONGEST_TEXT) is the limit of which the contracts speak.
-pub fn longest_text_is_the_limit()
-    ensures { LONGEST_TEXT ≡ longest_text }
-{}
 
 /// A tree writes a plan or has a fault, and never both; and it writes at most one plan.
 pub fn trees_write_or_fail()

@@ -109,8 +109,8 @@ mod verbs;
 
 pub use faults::{PlanFault, PlanFaultKind};
 pub use laws::{
-    comparisons_leave_nothing_out, longest_text_is_the_limit, names_differ, plans_are_ordered,
-    targets_stand_before, trees_write_or_fail,
+    comparisons_leave_nothing_out, names_differ, plans_are_ordered, targets_stand_before,
+    trees_write_or_fail,
 };
 pub use limits::LONGEST_TEXT;
 pub use names::Name;

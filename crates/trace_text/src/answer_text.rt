@@ -140,7 +140,7 @@ fn put_ask(
 }
 
 /// Puts a worker that starts a run.
-#[inline(always)]
+#[inline(never)]
 fn put_start(buffer: &mut [u8], at: usize, worker: u8, task: u32, run: u64, due: u64) -> usize
     requires { at + ANSWER_ROOM ≤ length buffer.old }
     ensures end { result ≤ at + ANSWER_ROOM }
@@ -170,7 +170,7 @@ fn put_idle(buffer: &mut [u8], at: usize, worker: u8) -> usize
 }
 
 /// Puts a worker whose run ended, and what it led to.
-#[inline(always)]
+#[inline(never)]
 fn put_finish(
     buffer: &mut [u8],
     at: usize,

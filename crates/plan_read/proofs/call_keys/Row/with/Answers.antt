@@ -1,5 +1,5 @@
 use Rattle.std.proofs.Common.{refl}
-use Rattle.plan_read.proofs.call_keys.Row.with_slot.Goals as goal
+use Rattle.plan_read.proofs.call_keys.Row.with.Goals as goal
 
 pub returns-in-Op : goal.returns-in-Op
 returns-in-Op c = rw c.in-Op.is refl
