@@ -582,9 +582,9 @@ none_again m entries keeps sought kept off swept k =
     false≢true (sym stays ∙ (λ i. (waiting i && live i) && ends t.timing more i)))
 
 -- the core stays well formed once it is noted that no delayed task is left
-pub searched_kept : (m : Machine) (entries keeps : List (Option ℕ)) (sought now : Sought) → IsWellFormedCore m entries keeps sought → m.shut ≡ true → NoneDelayed (state_of m) → now ≡ record sought { delayed = true } →
+pub delayed_is_noted : (m : Machine) (entries keeps : List (Option ℕ)) (sought now : Sought) → IsWellFormedCore m entries keeps sought → m.shut ≡ true → NoneDelayed (state_of m) → now ≡ record sought { delayed = true } →
     IsWellFormedCore m entries keeps now
-searched_kept m entries keeps sought now kept shut none is = subst (IsWellFormedCore m entries keeps) (sym is) (record {
+delayed_is_noted m entries keeps sought now kept shut none is = subst (IsWellFormedCore m entries keeps) (sym is) (record {
   orderly = kept.orderly;
   made = kept.made;
   some = kept.some;

@@ -137,9 +137,9 @@ asks_by_position calls workers later past e queue running shut terminated o m is
     let shutdown = shut_is_a_shutdown calls workers past here.0 in
     record {
       queued = subst (IsCountOf (λ k. Waits past k ⊎ KeptSince calls past k)) (sym size) (counted calls (λ k. is_queued (v.fate k)) _ (λ k. queued calls workers past k here.0) (λ k. (tasks k).0));
-      run = subst (IsCountOf (IsUnderWay past)) (sym runs) (counted calls (λ k. is_running (v.fate k)) _ (under_way calls past) (λ k. (tasks k).1));
-      closed = (λ q. shutdown.0 (sym closed ∙ q), λ s. closed ∙ shutdown.1 s);
-      over = (
+      unfinished = subst (IsCountOf (IsUnderWay past)) (sym runs) (counted calls (λ k. is_running (v.fate k)) _ (under_way calls past) (λ k. (tasks k).1));
+      shut_down = (λ q. shutdown.0 (sym closed ∙ q), λ s. closed ∙ shutdown.1 s);
+      ended = (
         λ q.
             let parts = and_parts v.shut ((queue_size calls v == 0) && (running_count calls v == 0)) (sym over ∙ q) in
             let none = and_parts (queue_size calls v == 0) (running_count calls v == 0) parts.1 in

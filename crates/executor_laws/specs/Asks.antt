@@ -35,11 +35,11 @@ pub record TellsByPosition (calls : List Planned) (past : List HistoryEntry) (qu
   -- (ScheduledThreadPoolExecutor: "By default, such a cancelled task is not automatically removed from the work queue
   -- until its delay elapses.")
   pub queued : IsCountOf (λ k. Waits past k ⊎ KeptSince calls past k) queue
-  pub run : IsCountOf (IsUnderWay past) running
+  pub unfinished : IsCountOf (IsUnderWay past) running
   -- (ExecutorService.isShutdown: "Returns true if this executor has been shut down.")
-  pub closed : (shut ≡ true) ↔ ShutdownWasMade calls past
+  pub shut_down : (shut ≡ true) ↔ ShutdownWasMade calls past
   -- (ExecutorService.isTerminated: "Returns true if all tasks have completed following shut down.")
-  pub over : (terminated ≡ true) ↔ (ShutdownWasMade calls past × (queue ≡ 0) × (running ≡ 0))
+  pub ended : (terminated ≡ true) ↔ (ShutdownWasMade calls past × (queue ≡ 0) × (running ≡ 0))
 
 -- each answer to an ask is so, by the positions before it
 abbrev pub AsksByPosition : Type 0

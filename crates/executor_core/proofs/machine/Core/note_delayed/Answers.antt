@@ -1,6 +1,6 @@
 use Rattle.std.proofs.Common.{◌≡◌, ℕ, false, ap, sym, ◌∙◌, subst}
 use Rattle.executor_core.specs.Machine.{Machine}
-use Rattle.executor_core.proofs.Sweeping.{sweeps_at, none_delayed, searched_kept}
+use Rattle.executor_core.proofs.Sweeping.{sweeps_at, none_delayed, delayed_is_noted}
 use Rattle.executor_core.proofs.machine.Core.note_delayed.Goals as goal
 
 pub invariant_of-self : goal.invariant_of-self
@@ -11,4 +11,4 @@ invariant_of-self g c =
     let off = ap (λ (x : Machine). x.policies.executes) c.self.view_is ∙ c.requires.policy in
     let swept = subst (λ (x : Machine). (k : ℕ) → sweeps_at x k ≡ false) is c.requires.swept in
     let none = none_delayed _ m.queue.entries m.kept.entries m.sought c.self.invariant off swept in
-    searched_kept _ m.queue.entries m.kept.entries m.sought c.note_delayed.new.self c.self.invariant shut none c.note_delayed.ensures
+    delayed_is_noted _ m.queue.entries m.kept.entries m.sought c.note_delayed.new.self c.self.invariant shut none c.note_delayed.ensures
