@@ -90,6 +90,27 @@ fn lines_after(
     lines_of(rt, &mut core, events)
 }
 
+/// What these lines say, each with its moment.
+fn text_of_lines(alloc: Global, lines: &[Line]) -> Result<String, Fail> {
+    let mut text = String::new(alloc);
+    for line in lines {
+        writeln!(text, "{} {:?}", line.moment, line.message)?;
+    }
+    Ok(text)
+}
+
+/// Checks what the lines say with which a core of one worker answers these events, which it takes.
+fn says_after(
+    rt: &(impl AllocGlobal + Abort),
+    instrs: &[Instr],
+    events: &[Event],
+    said: &str,
+) -> Result<(), Fail> {
+    let lines = lines_after(rt, instrs, 1, events)?;
+    assert_eq!(rt; text_of_lines(rt.alloc(), &lines)?.as_str(), said);
+    Ok(())
+}
+
 #[test]
 fn each_error_says_what_is_wrong(rt: HostRuntime) -> Result<(), Fail> {
     let texts = [
@@ -104,39 +125,21 @@ fn each_error_says_what_is_wrong(rt: HostRuntime) -> Result<(), Fail> {
     Ok(())
 }
 
-/// The events of the code at the head of this crate's documentation.
-fn give_example(core: &mut Core<Global>, lines: &mut Vec<Line>) -> Result<(), Fail> {
-    for event in [
+/// What the code at the head of this crate's documentation prints.
+#[test]
+fn a_task_runs_once_its_delay_has_passed(rt: HostRuntime) -> Result<(), Fail> {
+    let events = [
         Event::Clock(5),
         Event::Start(0),
         Event::Finish(0, Ending::Value(7)),
-    ] {
-        core.event(event, lines)?;
-    }
-    Ok(())
-}
-
-/// The lines of code at the head of this crate's documentation.
-fn example(alloc: Global) -> Result<Vec<Line>, Fail> {
-    let instrs = vec![in alloc; Instr::Submit(0, Timing::Once, 5), Instr::Halt]?;
-    let mut core = Core::new(alloc, Code::check(alloc, instrs)?, 1, 100)?;
-    let mut lines = Vec::new(alloc);
-    give_example(&mut core, &mut lines)?;
-    Ok(lines)
-}
-
-#[test]
-fn a_task_runs_once_its_delay_has_passed(rt: HostRuntime) -> Result<(), Fail> {
-    let mut text = String::new(rt.alloc());
-    for line in &example(rt.alloc())? {
-        writeln!(text, "{} {:?}", line.moment, line.message)?;
-    }
-    assert_eq!(rt;
-        text.as_str(),
+    ];
+    says_after(
+        &rt,
+        &[submission(0, 5)],
+        &events,
         "0 Answer(Submit { task: 0, kind: Schedule, due: 5 })\n\
          5 Answer(Clock)\n\
          5 Answer(Start { worker: 0, task: 0, run: 0, due: 5 })\n\
-         5 Answer(Finish { worker: 0, task: 0, run: 0, outcome: Done(7) })\n"
-    );
-    Ok(())
+         5 Answer(Finish { worker: 0, task: 0, run: 0, outcome: Done(7) })\n",
+    )
 }

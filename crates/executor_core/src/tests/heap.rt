@@ -35,21 +35,23 @@ fn comes_to(
     assert_eq!(rt; numbers, wanted);
 }
 
-/// Gives a core these events, and checks that none takes memory, and that they come to these numbers.
+/// Gives a core these events, and checks that none takes memory, that the list keeps this much room, and that they come
+/// to these numbers.
 fn events_take_no_memory(
     rt: &impl Abort,
     heap: &LocalHeap,
     core: &mut Core<&LocalHeap>,
     out: &mut Vec<Line, &LocalHeap>,
+    room: usize,
     events: &[Event],
     wanted: (usize, u64, u32, usize),
 ) -> Result<(), Fail> {
-    let room = out.capacity();
     let used = heap.used();
+    assert_eq!(rt; out.capacity(), room);
     give_while_used(rt, heap, core, out, events, used)?;
     comes_to(rt, core, out, wanted);
-    assert_eq!(rt; (out.capacity(), core.words().len()), (room, core.tasks()));
-    assert_eq!(rt; heap.used(), used);
+    let kept = (out.capacity(), core.words().len(), heap.used());
+    assert_eq!(rt; kept, (room, core.tasks(), used));
     Ok(())
 }
 
@@ -64,8 +66,7 @@ fn takes_no_memory(
     let heap = LocalHeap::new(rt.alloc(), 1 << 16)?;
     let mut out = Vec::with_capacity(&heap, room)?;
     let mut core = core_of(&heap, instrs, 2, 100)?;
-    assert_eq!(rt; out.capacity(), room);
-    events_take_no_memory(rt, &heap, &mut core, &mut out, events, wanted)
+    events_take_no_memory(rt, &heap, &mut core, &mut out, room, events, wanted)
 }
 
 #[test]

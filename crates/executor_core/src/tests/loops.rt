@@ -1,5 +1,5 @@
 //! Cores of codes with loops.
-use super::{core_of, give, lines_after};
+use super::{core_of, give, says_after};
 use crate::{Core, Event};
 use linked_list_allocator::LocalHeap;
 use queue_code::Instr;
@@ -17,12 +17,10 @@ fn each_iteration_submits_and_cancels_its_own_task(rt: HostRuntime) -> Result<()
         Instr::EndLoop,
     ];
     let events = [Event::Clock(110), Event::Clock(130)];
-    let mut text = String::new(rt.alloc());
-    for line in &lines_after(&rt, &instrs, 1, &events)? {
-        writeln!(text, "{} {:?}", line.moment, line.message)?;
-    }
-    assert_eq!(rt;
-        text.as_str(),
+    says_after(
+        &rt,
+        &instrs,
+        &events,
         "100 Answer(Submit { task: 0, kind: Schedule, due: 150 })\n\
          104 Answer(Cancel { task: 0, effect: Yes })\n\
          110 Answer(Submit { task: 1, kind: Schedule, due: 160 })\n\
@@ -30,31 +28,29 @@ fn each_iteration_submits_and_cancels_its_own_task(rt: HostRuntime) -> Result<()
          114 Answer(Cancel { task: 1, effect: Yes })\n\
          120 Answer(Submit { task: 2, kind: Schedule, due: 170 })\n\
          124 Answer(Cancel { task: 2, effect: Yes })\n\
-         130 Answer(Clock)\n"
-    );
-    Ok(())
+         130 Answer(Clock)\n",
+    )
 }
 
-/// Checks that a core over this heap asks this many times, and takes none of it.
+/// How much of its heap a core has taken that asks this many times, as much after it as before.
 fn asks_take_no_memory(
     rt: &(impl AllocGlobal + Abort),
     heap: &LocalHeap,
     core: &mut Core<&LocalHeap>,
     times: u32,
-) -> Result<(), Fail> {
+) -> Result<usize, Fail> {
     let used = heap.used();
     let mut out = Vec::new(rt.alloc());
     give(core, &[Event::Clock(65_536)], &mut out)?;
     assert_eq!(rt; (out.len(), heap.used()), (times as usize + 1, used));
-    Ok(())
+    Ok(used)
 }
 
 /// How much of this heap a core takes that asks this many times, before and after it has asked.
 fn used_of(rt: &(impl AllocGlobal + Abort), heap: &LocalHeap, times: u32) -> Result<usize, Fail> {
     let instrs = [Instr::Loop(times, 1), Instr::Ask(0), Instr::EndLoop];
     let mut core = core_of(heap, &instrs, 1, 9)?;
-    asks_take_no_memory(rt, heap, &mut core, times)?;
-    Ok(heap.used())
+    asks_take_no_memory(rt, heap, &mut core, times)
 }
 
 /// How much of a heap of its own a core takes that asks this many times.

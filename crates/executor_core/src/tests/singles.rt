@@ -76,6 +76,41 @@ fn take<A: Allocator, B: Allocator>(
     Ok(())
 }
 
+/// Checks what a core needs for a happening.
+fn need_is<A: Allocator>(
+    rt: &impl Abort,
+    core: &Core<A>,
+    happening: Happening,
+    need: Option<Need>,
+) {
+    assert_eq!(rt; need_for(core, happening), need, "of {happening:?}");
+}
+
+/// Checks what words say in short after a happening.
+fn short_words_are(
+    rt: &(impl AllocGlobal + Abort),
+    words: &[Word],
+    said: &str,
+    happening: Happening,
+) -> Result<(), Fail> {
+    let text = short_words(rt.alloc(), words)?;
+    assert_eq!(rt; text.as_str(), said, "after {happening:?}");
+    Ok(())
+}
+
+/// Has one thing happen to a core, and checks what is needed for it, and what the words say after it.
+fn need_says<A: Allocator, B: Allocator>(
+    rt: &(impl AllocGlobal + Abort),
+    core: &mut Core<A>,
+    step: &(Happening, Option<Need>, &str),
+    out: &mut Vec<Line, B>,
+) -> Result<(), Fail> {
+    let (happening, need, words) = *step;
+    need_is(rt, core, happening, need);
+    take(rt, core, happening, out)?;
+    short_words_are(rt, core.words(), words, happening)
+}
+
 /// Has these things happen to a core, and checks what is needed for each, and what the words say after it.
 fn needs_say<A: Allocator>(
     rt: &(impl AllocGlobal + Abort),
@@ -83,11 +118,8 @@ fn needs_say<A: Allocator>(
     steps: &[(Happening, Option<Need>, &str)],
 ) -> Result<(), Fail> {
     let mut out = Vec::new(rt.alloc());
-    for (happening, need, words) in steps {
-        assert_eq!(rt; need_for(core, *happening), *need, "of {happening:?}");
-        take(rt, core, *happening, &mut out)?;
-        let text = short_words(rt.alloc(), core.words())?;
-        assert_eq!(rt; text.as_str(), *words, "after {happening:?}");
+    for step in steps {
+        need_says(rt, core, step, &mut out)?;
     }
     Ok(())
 }
@@ -185,15 +217,22 @@ fn last_steps() -> [(Happening, Option<Need>, &'static str); 8] {
     ]
 }
 
-#[test]
-fn needs_name_the_moves_of_words(rt: HostRuntime) -> Result<(), Fail> {
-    let mut core = core_of(rt.alloc(), &all_calls()?, 1, 100)?;
-    needs_say(&rt, &mut core, &first_steps())?;
-    needs_say(&rt, &mut core, &value_steps())?;
-    needs_say(&rt, &mut core, &fault_steps())?;
-    needs_say(&rt, &mut core, &last_steps())?;
+/// Has all these things happen to a core, and checks its numbers at the end.
+fn all_needs_say<A: Allocator>(
+    rt: &(impl AllocGlobal + Abort),
+    core: &mut Core<A>,
+) -> Result<(), Fail> {
+    needs_say(rt, core, &first_steps())?;
+    needs_say(rt, core, &value_steps())?;
+    needs_say(rt, core, &fault_steps())?;
+    needs_say(rt, core, &last_steps())?;
     assert_eq!(rt; (core.taken(), core.now(), core.room()), (32, 9, 5));
     Ok(())
+}
+
+#[test]
+fn needs_name_the_moves_of_words(rt: HostRuntime) -> Result<(), Fail> {
+    all_needs_say(&rt, &mut core_of(rt.alloc(), &all_calls()?, 1, 100)?)
 }
 
 /// Checks which of four tasks the next call would end.
@@ -326,12 +365,13 @@ fn a_kept_task_is_ripe_until_a_start_meets_it(rt: HostRuntime) -> Result<(), Fai
     ripe_after(&rt, &mut two_timers(rt.alloc())?, &steps)
 }
 
-/// Checks the room of a core, and how many lines were said, after each of these happenings.
+/// Checks that a core has room for 6 lines, and then its room and how many lines were said after each of these happenings.
 fn room_after<A: Allocator>(
     rt: &(impl AllocGlobal + Abort),
     core: &mut Core<A>,
     steps: &[(Happening, usize, usize)],
 ) -> Result<(), Fail> {
+    assert_eq!(rt; core.room(), 6);
     let mut out = Vec::new(rt.alloc());
     for (happening, room, lines) in steps {
         take(rt, core, *happening, &mut out)?;
@@ -355,9 +395,7 @@ fn room_falls_with_calls_and_cancels(rt: HostRuntime) -> Result<(), Fail> {
         (Happening::Clock(9), 2, 5),
         (Happening::Cancel(1), 1, 6),
     ];
-    let mut core = two_timers(rt.alloc())?;
-    assert_eq!(rt; core.room(), 6);
-    room_after(&rt, &mut core, &steps)
+    room_after(&rt, &mut two_timers(rt.alloc())?, &steps)
 }
 
 /// Moves the clock of a core to each of these moments, and checks after each whether the core is full.
@@ -388,11 +426,18 @@ fn takes_no_more<A: Allocator, B: Allocator>(
     );
 }
 
+/// Moves the clock of a core twice, which fills it, and checks that it takes no more.
+fn fills_with_two<A: Allocator>(
+    rt: &(impl AllocGlobal + Abort),
+    core: &mut Core<A>,
+) -> Result<(), Fail> {
+    let mut out = Vec::new(rt.alloc());
+    full_after(rt, core, &[(1, false), (2, true)], &mut out)?;
+    takes_no_more(rt, core, 2, &mut out);
+    Ok(())
+}
+
 #[test]
 fn no_event_is_counted_past_the_limit(rt: HostRuntime) -> Result<(), Fail> {
-    let mut core = core_of(rt.alloc(), &[], 1, 2)?;
-    let mut out = Vec::new(rt.alloc());
-    full_after(&rt, &mut core, &[(1, false), (2, true)], &mut out)?;
-    takes_no_more(&rt, &mut core, 2, &mut out);
-    Ok(())
+    fills_with_two(&rt, &mut core_of(rt.alloc(), &[], 1, 2)?)
 }

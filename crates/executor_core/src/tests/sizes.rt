@@ -1,8 +1,8 @@
 //! Cores and lines of several sizes, with ample memory.
 use super::{code_of, core_of, give, lines_after, refusal_of, submissions};
 use crate::{Answer, Core, CoreError, Event, Line, Message};
-use queue_code::MOST_CALLS;
-use std::alloc::Allocator;
+use queue_code::{Instr, MOST_CALLS};
+use std::alloc::{AllocGlobal, Allocator};
 use std::process::Abort;
 use std::test::Fail;
 
@@ -24,12 +24,21 @@ fn starts_last_worker<A: Allocator>(
     Ok(())
 }
 
+/// Has a core of these 70 tasks and this many workers start its last worker.
+fn last_worker_starts(
+    rt: &(impl AllocGlobal + Abort),
+    instrs: &[Instr],
+    workers: u8,
+) -> Result<(), Fail> {
+    let mut core = core_of(rt.alloc(), instrs, workers, u32::MAX)?;
+    starts_last_worker(rt, &mut core, workers, &mut Vec::new(rt.alloc()))
+}
+
 #[test]
 fn cores_of_each_number_of_workers(rt: HostRuntime) -> Result<(), Fail> {
     let instrs = submissions(rt.alloc(), 70)?;
     for workers in 1..=64 {
-        let mut core = core_of(rt.alloc(), &instrs, workers, u32::MAX)?;
-        starts_last_worker(&rt, &mut core, workers, &mut Vec::new(rt.alloc()))?;
+        last_worker_starts(&rt, &instrs, workers)?;
     }
     Ok(())
 }

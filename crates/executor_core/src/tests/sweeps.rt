@@ -3,7 +3,7 @@ use super::{lines_after, nanos, submission};
 use crate::{Answer, Event, Line, Message};
 use queue_code::Instr;
 use sched_time::{Ending, Timing, Which};
-use std::alloc::Global;
+use std::alloc::{AllocGlobal, Global};
 use std::process::Abort;
 use std::test::Fail;
 
@@ -22,23 +22,27 @@ fn line_says(rt: &impl Abort, line: Option<&Line>, message: Message) {
     assert_eq!(rt; line.copied(), Some(Line { moment, message }));
 }
 
-#[test]
-fn one_clock_ends_a_thousand_tasks(rt: HostRuntime) -> Result<(), Fail> {
-    let instrs = plan_with_shutdown(rt.alloc())?;
-    let out = lines_after(&rt, &instrs, 1, &[Event::Clock(3)])?;
+/// Checks the lines of a thousand tasks that end, and of the calls before and behind them.
+fn thousand_end(rt: &impl Abort, lines: &[Line]) {
     let asked = Answer::Ask {
         queue: 0,
         running: 0,
         shutdown: true,
         terminated: true,
     };
-    assert_eq!(rt; out.len(), 2_003);
-    line_says(&rt, out.get(1_000), Message::Answer(Answer::Shutdown));
+    assert_eq!(rt; lines.len(), 2_003);
+    line_says(rt, lines.get(1_000), Message::Answer(Answer::Shutdown));
     for task in 0..1_000u32 {
-        line_says(&rt, out.get(1_001 + task as usize), Message::End(task));
+        line_says(rt, lines.get(1_001 + task as usize), Message::End(task));
     }
-    line_says(&rt, out.get(2_001), Message::Answer(asked));
-    line_says(&rt, out.get(2_002), Message::Answer(Answer::Clock));
+    line_says(rt, lines.get(2_001), Message::Answer(asked));
+    line_says(rt, lines.get(2_002), Message::Answer(Answer::Clock));
+}
+
+#[test]
+fn one_clock_ends_a_thousand_tasks(rt: HostRuntime) -> Result<(), Fail> {
+    let instrs = plan_with_shutdown(rt.alloc())?;
+    thousand_end(&rt, &lines_after(&rt, &instrs, 1, &[Event::Clock(3)])?);
     Ok(())
 }
 
@@ -55,6 +59,19 @@ fn finishes_and_ends(alloc: Global, lines: &[Line]) -> Result<String, Fail> {
         }
     }
     Ok(text)
+}
+
+/// Checks what the lines say of finished runs and of ended tasks with which a core answers these events, which it takes.
+fn finishes_and_ends_are(
+    rt: &(impl AllocGlobal + Abort),
+    instrs: &[Instr],
+    workers: u8,
+    events: &[Event],
+    said: &str,
+) -> Result<(), Fail> {
+    let lines = lines_after(rt, instrs, workers, events)?;
+    assert_eq!(rt; finishes_and_ends(rt.alloc(), &lines)?.as_str(), said);
+    Ok(())
 }
 
 /// An instruction that sets whether periodic tasks go on.
@@ -104,13 +121,14 @@ fn later_sweeps_end_the_tasks_that_ran_at_the_first(rt: HostRuntime) -> Result<(
         ends(4),
         Event::Clock(8),
     ];
-    let lines = lines_after(&rt, &plan_with_three_sweeps()?, 5, &events)?;
-    assert_eq!(rt;
-        finishes_and_ends(rt.alloc(), &lines)?.as_str(),
+    finishes_and_ends_are(
+        &rt,
+        &plan_with_three_sweeps()?,
+        5,
+        &events,
         "1 5 ends; 2 3 Again(7); 2 1 Again(5); 2 0 Failed(9); 2 2 Dropped; \
-         4 1 ends; 4 3 ends; 6 4 Again(5); 8 4 ends; "
-    );
-    Ok(())
+         4 1 ends; 4 3 ends; 6 4 Again(5); 8 4 ends; ",
+    )
 }
 
 #[test]
@@ -125,12 +143,13 @@ fn a_task_that_is_cancelled_while_it_waits_again_is_not_ended(rt: HostRuntime) -
         Event::Cancel(0),
         Event::Clock(8),
     ];
-    let lines = lines_after(&rt, &plan_with_three_sweeps()?, 2, &events)?;
-    assert_eq!(rt;
-        finishes_and_ends(rt.alloc(), &lines)?.as_str(),
-        "1 2 ends; 1 3 ends; 1 4 ends; 1 5 ends; 2 1 Again(5); 2 0 Again(5); 4 1 ends; "
-    );
-    Ok(())
+    finishes_and_ends_are(
+        &rt,
+        &plan_with_three_sweeps()?,
+        2,
+        &events,
+        "1 2 ends; 1 3 ends; 1 4 ends; 1 5 ends; 2 1 Again(5); 2 0 Again(5); 4 1 ends; ",
+    )
 }
 
 #[test]
@@ -150,12 +169,13 @@ fn delayed_tasks_are_ended_after_the_periodic_ones(rt: HostRuntime) -> Result<()
         ends(0),
         Event::Clock(4),
     ];
-    let lines = lines_after(&rt, &instrs, 1, &events)?;
-    assert_eq!(rt;
-        finishes_and_ends(rt.alloc(), &lines)?.as_str(),
-        "2 0 Again(5); 3 1 ends; 4 0 ends; "
-    );
-    Ok(())
+    finishes_and_ends_are(
+        &rt,
+        &instrs,
+        1,
+        &events,
+        "2 0 Again(5); 3 1 ends; 4 0 ends; ",
+    )
 }
 
 #[test]
@@ -168,10 +188,5 @@ fn periodic_tasks_are_ended_after_the_delayed_ones(rt: HostRuntime) -> Result<()
         Instr::SetPolicy(2, Which::Execute, false),
         go_on(3, false),
     ];
-    let lines = lines_after(&rt, &instrs, 1, &[Event::Clock(3)])?;
-    assert_eq!(rt;
-        finishes_and_ends(rt.alloc(), &lines)?.as_str(),
-        "2 1 ends; 3 0 ends; "
-    );
-    Ok(())
+    finishes_and_ends_are(&rt, &instrs, 1, &[Event::Clock(3)], "2 1 ends; 3 0 ends; ")
 }

@@ -32,28 +32,30 @@ fn text_of_words(alloc: Global, words: &[Word]) -> Result<String, Fail> {
     Ok(text)
 }
 
-/// Checks what words say after an event.
+/// Checks what words say after an event, or before any.
 fn words_are(
     rt: &(impl AllocGlobal + Abort),
     words: &[Word],
     said: &str,
-    event: Event,
+    event: Option<Event>,
 ) -> Result<(), Fail> {
     let text = text_of_words(rt.alloc(), words)?;
     assert_eq!(rt; text.as_str(), said, "after {event:?}");
     Ok(())
 }
 
-/// Checks what the words of a core say after each of these events.
+/// Checks what the words of a core say before any event, and after each of these.
 fn words_say_after<A: Allocator>(
     rt: &(impl AllocGlobal + Abort),
     core: &mut Core<A>,
     out: &mut Vec<Line>,
+    opening: &str,
     steps: &[(Event, &str)],
 ) -> Result<(), Fail> {
+    words_are(rt, core.words(), opening, None)?;
     for (event, said) in steps {
         give(core, &[*event], out)?;
-        words_are(rt, core.words(), said, *event)?;
+        words_are(rt, core.words(), said, Some(*event))?;
     }
     Ok(())
 }
@@ -66,9 +68,7 @@ fn words_say(
     steps: &[(Event, &str)],
 ) -> Result<(), Fail> {
     let mut core = core_of(rt.alloc(), instrs, 1, 100)?;
-    let text = text_of_words(rt.alloc(), core.words())?;
-    assert_eq!(rt; text.as_str(), opening);
-    words_say_after(rt, &mut core, &mut Vec::new(rt.alloc()), steps)
+    words_say_after(rt, &mut core, &mut Vec::new(rt.alloc()), opening, steps)
 }
 
 #[test]
