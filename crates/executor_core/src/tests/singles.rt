@@ -289,10 +289,10 @@ fn two_timers<A: Allocator + Copy>(alloc: A) -> Result<Core<A>, Fail> {
 fn call_needs<A: Allocator, B: Allocator>(
     rt: &impl Abort,
     core: &mut Core<A>,
+    step: &(u64, Option<Need>),
     out: &mut Vec<Line, B>,
-    moment: u64,
-    need: Option<Need>,
 ) -> Result<(), Fail> {
+    let (moment, need) = *step;
     assert_eq!(rt; core.call_need(moment), need, "at {moment}");
     if need.is_some() {
         take(rt, core, Happening::Call, out)?;
@@ -307,8 +307,8 @@ fn calls_need<A: Allocator>(
     steps: &[(u64, Option<Need>)],
 ) -> Result<(), Fail> {
     let mut out = Vec::new(rt.alloc());
-    for (moment, need) in steps {
-        call_needs(rt, core, &mut out, *moment, *need)?;
+    for step in steps {
+        call_needs(rt, core, step, &mut out)?;
     }
     Ok(())
 }
@@ -325,6 +325,19 @@ fn calls_are_needed_from_their_moments_on(rt: HostRuntime) -> Result<(), Fail> {
     calls_need(&rt, &mut two_timers(rt.alloc())?, &steps)
 }
 
+/// Has one thing happen to a core, and checks whether a task of it is ripe after it.
+fn ripe_after_one<A: Allocator, B: Allocator>(
+    rt: &impl Abort,
+    core: &mut Core<A>,
+    step: &(Happening, bool),
+    out: &mut Vec<Line, B>,
+) -> Result<(), Fail> {
+    let (happening, wanted) = *step;
+    take(rt, core, happening, out)?;
+    assert_eq!(rt; core.ripe(), wanted, "after {happening:?}");
+    Ok(())
+}
+
 /// Checks whether a task of a core is ripe after each of these happenings; none is before them.
 fn ripe_after<A: Allocator>(
     rt: &(impl AllocGlobal + Abort),
@@ -333,9 +346,8 @@ fn ripe_after<A: Allocator>(
 ) -> Result<(), Fail> {
     let mut out = Vec::new(rt.alloc());
     assert!(rt; !core.ripe());
-    for (happening, wanted) in steps {
-        take(rt, core, *happening, &mut out)?;
-        assert_eq!(rt; core.ripe(), *wanted, "after {happening:?}");
+    for step in steps {
+        ripe_after_one(rt, core, step, &mut out)?;
     }
     Ok(())
 }
@@ -365,6 +377,23 @@ fn a_kept_task_is_ripe_until_a_start_meets_it(rt: HostRuntime) -> Result<(), Fai
     ripe_after(&rt, &mut two_timers(rt.alloc())?, &steps)
 }
 
+/// Has one thing happen to a core, and checks its room and how many lines were said after it.
+fn room_after_one<A: Allocator, B: Allocator>(
+    rt: &impl Abort,
+    core: &mut Core<A>,
+    step: &(Happening, usize, usize),
+    out: &mut Vec<Line, B>,
+) -> Result<(), Fail> {
+    let (happening, room, lines) = *step;
+    take(rt, core, happening, out)?;
+    assert_eq!(rt;
+        (core.room(), out.len()),
+        (room, lines),
+        "after {happening:?}"
+    );
+    Ok(())
+}
+
 /// Checks that a core has room for 6 lines, and then its room and how many lines were said after each of these happenings.
 fn room_after<A: Allocator>(
     rt: &(impl AllocGlobal + Abort),
@@ -373,13 +402,8 @@ fn room_after<A: Allocator>(
 ) -> Result<(), Fail> {
     assert_eq!(rt; core.room(), 6);
     let mut out = Vec::new(rt.alloc());
-    for (happening, room, lines) in steps {
-        take(rt, core, *happening, &mut out)?;
-        assert_eq!(rt;
-            (core.room(), out.len()),
-            (*room, *lines),
-            "after {happening:?}"
-        );
+    for step in steps {
+        room_after_one(rt, core, step, &mut out)?;
     }
     Ok(())
 }

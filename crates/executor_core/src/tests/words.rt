@@ -44,6 +44,18 @@ fn words_are(
     Ok(())
 }
 
+/// Gives a core an event, and checks what its words say after it.
+fn words_say_after_one<A: Allocator>(
+    rt: &(impl AllocGlobal + Abort),
+    core: &mut Core<A>,
+    step: &(Event, &str),
+    out: &mut Vec<Line>,
+) -> Result<(), Fail> {
+    let (event, said) = *step;
+    give(core, &[event], out)?;
+    words_are(rt, core.words(), said, Some(event))
+}
+
 /// Checks what the words of a core say before any event, and after each of these.
 fn words_say_after<A: Allocator>(
     rt: &(impl AllocGlobal + Abort),
@@ -53,9 +65,8 @@ fn words_say_after<A: Allocator>(
     steps: &[(Event, &str)],
 ) -> Result<(), Fail> {
     words_are(rt, core.words(), opening, None)?;
-    for (event, said) in steps {
-        give(core, &[*event], out)?;
-        words_are(rt, core.words(), said, Some(*event))?;
+    for step in steps {
+        words_say_after_one(rt, core, step, out)?;
     }
     Ok(())
 }
