@@ -125,21 +125,36 @@ fn each_error_says_what_is_wrong(rt: HostRuntime) -> Result<(), Fail> {
     Ok(())
 }
 
-/// What the code at the head of this crate's documentation prints.
-#[test]
-fn a_task_runs_once_its_delay_has_passed(rt: HostRuntime) -> Result<(), Fail> {
-    let events = [
+/// The events of the code at the head of this crate's documentation.
+fn give_example(core: &mut Core<Global>, lines: &mut Vec<Line>) -> Result<(), Fail> {
+    for event in [
         Event::Clock(5),
         Event::Start(0),
         Event::Finish(0, Ending::Value(7)),
-    ];
-    says_after(
-        &rt,
-        &[submission(0, 5)],
-        &events,
+    ] {
+        core.event(event, lines)?;
+    }
+    Ok(())
+}
+
+/// The lines of code at the head of this crate's documentation.
+fn example(alloc: Global) -> Result<Vec<Line>, Fail> {
+    let instrs = vec![in alloc; Instr::Submit(0, Timing::Once, 5), Instr::Halt]?;
+    let mut core = Core::new(alloc, Code::check(alloc, instrs)?, 1, 100)?;
+    let mut lines = Vec::new(alloc);
+    give_example(&mut core, &mut lines)?;
+    Ok(lines)
+}
+
+#[test]
+fn a_task_runs_once_its_delay_has_passed(rt: HostRuntime) -> Result<(), Fail> {
+    let lines = example(rt.alloc())?;
+    assert_eq!(rt;
+        text_of_lines(rt.alloc(), &lines)?.as_str(),
         "0 Answer(Submit { task: 0, kind: Schedule, due: 5 })\n\
          5 Answer(Clock)\n\
          5 Answer(Start { worker: 0, task: 0, run: 0, due: 5 })\n\
-         5 Answer(Finish { worker: 0, task: 0, run: 0, outcome: Done(7) })\n",
-    )
+         5 Answer(Finish { worker: 0, task: 0, run: 0, outcome: Done(7) })\n"
+    );
+    Ok(())
 }
