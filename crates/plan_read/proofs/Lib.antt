@@ -6,6 +6,7 @@ pub mod Turns
 pub mod Accepted
 pub mod Holding
 pub mod HeaderLaw
+pub mod HeaderReads
 pub mod CallLaw
 pub mod TreeLaw
 pub mod TextLaw
