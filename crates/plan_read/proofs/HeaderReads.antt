@@ -7,11 +7,11 @@ use Rattle.plan_read.specs.declared.faults.PlanFault.{PlanFault}
 use lib.IntN.{nat_abs}
 use lib.Signed.{lt_z}
 
--- the first number is not at most the second
+-- the test whether a number is at most another fails where it is past it
 pub past : (a b : ℕ) → b < a → nat_le a b ≡ false
 past a b h = grind (arith, nat_tests)
 
--- it is
+-- and holds where it is within it
 pub within : (a b : ℕ) → a ≤ b → nat_le a b ≡ true
 within a b h = grind (arith, nat_tests)
 
