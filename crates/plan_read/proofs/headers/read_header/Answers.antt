@@ -150,8 +150,7 @@ returns c =
     let units = units_are z least in
     let every : c.nanos-every.result ≡ span_of c.integer_or-every.result c.in-Some.unit = c.nanos-every.ensures.value ∙ every_read.1 in
     let fewer = rw units at (simp to_z-of_z at c.if-made-times-gt-MOST_CALLS.false) in
-    let few : (nat_le calls 256 && nat_le (c.args.made + delay_units z * calls) 65536) ≡ true = rw (within calls 256 c.if-calls-gt-MOST_BLOCK_CALLS.false, within (c.args.made + delay_units z * calls) 65536 fewer) refl in
-    (
+    let few : (nat_le calls 256 && nat_le (c.args.made + delay_units z * calls) 65536) ≡ true = rw (within calls 256 c.if-calls-gt-MOST_BLOCK_CALLS.false, within (c.args.made + delay_units z * calls) 65536 fewer) refl in (
       rw (← c.has_only_header_keys.ensures, c.if-not-has_only_header_keys.false, ← c.is_typed_header.ensures, c.if-not-is_typed_header.false, ← c.text_or.ensures, ← c.unit_of_word.ensures, c.in-Some.is, ← c.integer_or-times.ensures, range, given, ← c.integer_or-at.ensures, at_least, ← c.integer_or-every.ensures, every_least, at_short, every_short, ← at, within c.args.end c.nanos-at.result after, ← count, few) refl,
       simp to_z-of_z (rw (units, ← c.text_or.ensures, ← c.unit_of_word.ensures, c.in-Some.is, ← c.integer_or-times.ensures, ← c.integer_or-at.ensures, ← c.integer_or-every.ensures, ← at, ← every) refl),
     )
