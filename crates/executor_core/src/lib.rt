@@ -103,8 +103,6 @@ mod sought;
 mod tallies;
 mod task;
 mod tasks;
-#[cfg(test)]
-mod tests;
 mod types;
 
 pub use error::CoreError;

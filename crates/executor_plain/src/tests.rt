@@ -1,5 +1,6 @@
 mod asking;
 mod cancels;
+mod cores;
 mod kept;
 mod policies;
 mod runs;
@@ -10,7 +11,9 @@ ghost use Rattle.std.specs.Prelude.{◌≡◌, IfOk};
 ghost use Rattle.queue_code.specs.Codes.{calls_of};
 
 use crate::trace;
-use executor_core::{Answer, CancelEffect, Core, Event, Kind, Line, Message, Outcome, Refusal};
+use executor_core::{
+    Answer, CancelEffect, Core, CoreError, Event, Kind, Line, Message, Outcome, Refusal,
+};
 use queue_code::{Code, CodeCall, CodeFault, Cursor, Instr};
 use sched_time::{Span, Timing, Unit, Which, span};
 use std::alloc::{AllocError, Allocator};
@@ -213,17 +216,52 @@ fn compare_with<A: Allocator + Copy>(
     lines: &[Line],
 ) -> Result<(), Fail> {
     let code = code_of(alloc, calls)?;
-    // Its calls are in order, as the plain program asks.
+    compare_plain(rt, alloc, &code, calls, workers, events, lines)?;
+    compare_core(rt, alloc, code, workers, events, lines)
+}
+
+/// A code makes these calls, and the plain program gives these lines.
+fn compare_plain<A: Allocator + Copy>(
+    rt: &impl Abort,
+    alloc: A,
+    code: &Code<A>,
+    calls: &[(u64, CodeCall)],
+    workers: u8,
+    events: &[Event],
+    lines: &[Line],
+) -> Result<(), Fail> {
+    // The calls are in order, as the plain program asks.
     let _count = code.calls();
-    let made = made_by(alloc, &code)?;
-    assert_eq!(rt; made.as_slice(), calls);
+    let made = made_by(alloc, code)?;
     let plain = trace(alloc, &made, workers, events)?;
-    assert_eq!(rt; plain.as_slice(), lines);
+    assert_eq!(rt; (made.as_slice(), plain.as_slice()), (calls, lines));
+    Ok(())
+}
+
+/// A core gives these lines.
+fn compare_core<A: Allocator + Copy>(
+    rt: &impl Abort,
+    alloc: A,
+    code: Code<A>,
+    workers: u8,
+    events: &[Event],
+    lines: &[Line],
+) -> Result<(), Fail> {
     let mut core = Core::new(alloc, code, workers, 100)?;
     let mut out = Vec::new(alloc);
-    for event in events {
-        core.event(*event, &mut out)?;
-    }
+    take_events(&mut core, events, &mut out)?;
     assert_eq!(rt; out.as_slice(), lines);
+    Ok(())
+}
+
+/// A core takes these events.
+fn take_events<A: Allocator>(
+    core: &mut Core<A>,
+    events: &[Event],
+    out: &mut Vec<Line, A>,
+) -> Result<(), CoreError> {
+    for event in events {
+        core.event(*event, out)?;
+    }
     Ok(())
 }

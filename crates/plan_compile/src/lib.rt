@@ -63,6 +63,8 @@ mod fault;
 mod instrs;
 mod laws;
 mod numbers;
+#[cfg(test)]
+mod plan_tests;
 
 pub use compiling::compile;
 pub use fault::CompileFault;

@@ -102,8 +102,6 @@ mod reading;
 mod room;
 mod sites;
 mod tables;
-#[cfg(test)]
-mod tests;
 mod units;
 mod verbs;
 

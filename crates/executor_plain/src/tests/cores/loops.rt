@@ -1,6 +1,6 @@
 //! Cores of codes with loops.
 use super::{core_of, give, says_after};
-use crate::{Core, Event};
+use executor_core::{Core, Event};
 use linked_list_allocator::LocalHeap;
 use queue_code::Instr;
 use sched_time::Timing;

@@ -1,5 +1,5 @@
 //! Plan texts by hand: each fault at each of its places, limits, and what a plan keeps.
-use crate::{Block, Call, Op, Plan, PlanFault, PlanFaultKind, read_plan};
+use plan_read::{Block, Call, Op, Plan, PlanFault, PlanFaultKind, read_plan};
 use sched_time::Span;
 use std::alloc::Global;
 use std::process::Abort;

@@ -1,6 +1,6 @@
 //! Single happenings, and what is told before each of them.
 use super::{core_of, nanos, refusal_of, submission};
-use crate::{Core, CoreError, Event, Happening, Line, Need};
+use executor_core::{Core, CoreError, Event, Happening, Line, Need};
 use queue_code::Instr;
 use sched_time::{Ending, Timing, Which};
 use std::alloc::{AllocGlobal, Allocator, Global};

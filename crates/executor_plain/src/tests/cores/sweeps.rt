@@ -1,6 +1,6 @@
 //! The lines of the tasks that a shutdown ends.
 use super::{lines_after, nanos, submission};
-use crate::{Answer, Event, Line, Message};
+use executor_core::{Answer, Event, Line, Message};
 use queue_code::Instr;
 use sched_time::{Ending, Timing, Which};
 use std::alloc::{AllocGlobal, Global};

@@ -1,3 +1,4 @@
+//! Cores by themselves, as their callers see them.
 mod heap;
 mod loops;
 mod singles;
@@ -5,7 +6,7 @@ mod sizes;
 mod sweeps;
 mod words;
 
-use super::*;
+use executor_core::{Core, CoreError, Event, Line};
 use queue_code::{Code, Instr};
 use sched_time::{Ending, Span, Timing, Unit, span};
 use std::alloc::{AllocGlobal, Allocator, Global};
@@ -125,7 +126,7 @@ fn each_error_says_what_is_wrong(rt: HostRuntime) -> Result<(), Fail> {
     Ok(())
 }
 
-/// The events of the code at the head of this crate's documentation.
+/// The events of the code at the head of the core's documentation.
 fn give_example(core: &mut Core<Global>, lines: &mut Vec<Line>) -> Result<(), Fail> {
     for event in [
         Event::Clock(5),
@@ -137,7 +138,7 @@ fn give_example(core: &mut Core<Global>, lines: &mut Vec<Line>) -> Result<(), Fa
     Ok(())
 }
 
-/// The lines of code at the head of this crate's documentation.
+/// The lines of code at the head of the core's documentation.
 fn example(alloc: Global) -> Result<Vec<Line>, Fail> {
     let instrs = vec![in alloc; Instr::Submit(0, Timing::Once, 5), Instr::Halt]?;
     let mut core = Core::new(alloc, Code::check(alloc, instrs)?, 1, 100)?;
