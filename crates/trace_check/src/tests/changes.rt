@@ -44,6 +44,25 @@ fn changed(alloc: Global, text: &[u8], at: usize, instead: &[u8]) -> Result<Vec<
     Ok(changed)
 }
 
+/// Checks a trace with other bytes in the place of one, and answers whether it is another text that conforms.
+fn conforms_with(
+    rt: &(impl AllocGlobal + Abort),
+    plan: &Plan<Global>,
+    calls: &[(u64, CodeCall)],
+    workers: u8,
+    trace: &[u8],
+    at: usize,
+    instead: &[u8],
+) -> Result<bool, Fail>
+    requires orderly { IsOrderly calls.now }
+    requires within { at < length trace.now }
+{
+    let text = changed(rt.alloc(), trace, at, instead)?;
+    let found = found_by_both(rt.alloc(), plan, calls, workers, &text)?;
+    assert!(rt; found.is_some(), "{at}: {instead:?}");
+    Ok(found == Some(Finding::Conforms) && text.as_slice() != trace)
+}
+
 /// Checks the texts that differ from a trace at one place, and answers how many of them conform.
 fn conforming_at(
     rt: &(impl AllocGlobal + Abort),
@@ -59,10 +78,7 @@ fn conforming_at(
     let code = trace[at];
     let mut conforming = 0usize;
     for instead in [b"".as_slice(), b"0", b"9", b" ", b"\n", b"x", &[code, code]] {
-        let text = changed(rt.alloc(), trace, at, instead)?;
-        let found = found_by_both(rt.alloc(), plan, calls, workers, &text)?;
-        assert!(rt; found.is_some(), "{at}: {instead:?}");
-        if found == Some(Finding::Conforms) && text.as_slice() != trace {
+        if conforms_with(rt, plan, calls, workers, trace, at, instead)? {
             conforming = conforming.saturating_add(1);
         }
     }
@@ -104,12 +120,6 @@ fn with_line_changed(
     Ok(text)
 }
 
-/// Adds a line with its newline.
-fn add_line(text: &mut String, line: &str) -> Result<(), AllocError> {
-    text.push_str(line)?;
-    text.push('\n')
-}
-
 /// The line at a place, counted from 0.
 fn line_at(trace: &str, at: usize) -> &str {
     let mut here = 0usize;
@@ -120,6 +130,24 @@ fn line_at(trace: &str, at: usize) -> &str {
         here = here.saturating_add(1);
     }
     ""
+}
+
+/// Checks a trace with a change of the line at a place.
+fn finds_line_change(
+    rt: &(impl AllocGlobal + Abort),
+    plan: &Plan<Global>,
+    calls: &[(u64, CodeCall)],
+    workers: u8,
+    trace: &str,
+    at: usize,
+    change: LineChange,
+) -> Result<(), Fail>
+    requires { IsOrderly calls.now }
+{
+    let text = with_line_changed(rt.alloc(), trace, at, change)?;
+    let found = found_by_both(rt.alloc(), plan, calls, workers, text.as_bytes())?;
+    assert!(rt; found.is_some(), "{at}: {change:?}");
+    Ok(())
 }
 
 /// Checks the texts that differ from a trace by one line.
@@ -138,9 +166,7 @@ fn finds_line_changes(
             LineChange::Doubled,
             LineChange::PutBehindTheNext,
         ] {
-            let text = with_line_changed(rt.alloc(), trace, at, change)?;
-            let found = found_by_both(rt.alloc(), plan, calls, workers, text.as_bytes())?;
-            assert!(rt; found.is_some(), "{at}: {change:?}");
+            finds_line_change(rt, plan, calls, workers, trace, at, change)?;
         }
     }
     Ok(())

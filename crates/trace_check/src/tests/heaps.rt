@@ -18,6 +18,21 @@ fn checked_over(
     answer
 }
 
+/// Whether a check over a heap of this size is refused memory; else it has this finding.
+fn is_refused(
+    rt: &(impl AllocGlobal + Abort),
+    plan: &Plan<Global>,
+    text: &[u8],
+    finding: Finding,
+    size: usize,
+) -> Result<bool, Fail> {
+    let heap = LocalHeap::new(rt.alloc(), size)?;
+    let answer = checked_over(rt, &heap, plan, text);
+    let is_refused = answer == Err(CheckError::Memory);
+    assert!(rt; is_refused || answer == Ok(finding), "{size}: {answer:?}");
+    Ok(is_refused)
+}
+
 /// Checks a text over heaps from one that has room for hardly anything up to one that has room for all, so that each
 /// growth is the first that is refused in one of them: where the check is refused memory it answers nothing else.
 fn refuses_or_finds(
@@ -29,16 +44,11 @@ fn refuses_or_finds(
     let mut refused = 0u32;
     let mut found = 0u32;
     for step in 0..200usize {
-        let heap = LocalHeap::new(rt.alloc(), 64 + 16 * step)?;
-        match checked_over(rt, &heap, &plan, text.as_bytes()) {
-            Err(error) => {
-                assert_eq!(rt; (error, found), (CheckError::Memory, 0), "{step}");
-                refused = refused.saturating_add(1);
-            }
-            Ok(one) => {
-                assert_eq!(rt; one, finding, "{step}");
-                found = found.saturating_add(1);
-            }
+        if is_refused(rt, &plan, text.as_bytes(), finding, 64 + 16 * step)? {
+            assert_eq!(rt; found, 0, "{step}");
+            refused = refused.saturating_add(1);
+        } else {
+            found = found.saturating_add(1);
         }
     }
     assert!(rt; refused > 0 && found > 0, "{refused} {found}");
