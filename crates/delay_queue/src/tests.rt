@@ -13,28 +13,32 @@ fn the_least_comes_out_once_it_is_due(rt: HostRuntime) -> Result<(), Fail> {
     queue.insert(Entry { due: 5, task: 0 });
     queue.insert(Entry { due: 5, task: 1 });
     queue.insert(Entry { due: 3, task: 2 });
-    assert_eq!(rt; queue.len(), 3);
-    assert_eq!(rt; queue.due_of(2), Some(3));
-    assert_eq!(rt; queue.peek(), Some(Entry { due: 3, task: 2 }));
-    assert_eq!(rt; queue.poll(2), None);
-    assert_eq!(rt; queue.poll(3), Some(Entry { due: 3, task: 2 }));
-    assert_eq!(rt; queue.poll(5), Some(Entry { due: 5, task: 0 }));
-    assert_eq!(rt; queue.remove(1), true);
-    assert_eq!(rt; queue.remove(1), false);
-    assert_eq!(rt; queue.len(), 0);
+    let least = Some(Entry { due: 3, task: 2 });
+    assert_eq!(rt;
+        (queue.len(), queue.due_of(2), queue.peek()),
+        (3, Some(3), least)
+    );
+    let polled = [queue.poll(2), queue.poll(3), queue.poll(5)];
+    assert_eq!(rt; polled, [None, least, Some(Entry { due: 5, task: 0 })]);
+    let removed = [queue.remove(1), queue.remove(1)];
+    assert_eq!(rt; (removed, queue.len()), ([true, false], 0));
     Ok(())
 }
 
 #[test]
 fn a_queue_for_no_task_is_empty(rt: HostRuntime) -> Result<(), Fail> {
     let mut queue = DelayQueue::new(rt.alloc(), 0)?;
-    assert_eq!(rt; queue.is_empty(), true);
-    assert_eq!(rt; queue.peek(), None);
-    assert_eq!(rt; queue.poll(u64::MAX), None);
-    assert_eq!(rt; queue.remove(0), false);
-    assert_eq!(rt; queue.contains(0), false);
-    assert_eq!(rt; queue.due_of(u32::MAX), None);
-    assert_eq!(rt; queue.touched(), 0);
+    let polled = queue.poll(u64::MAX);
+    assert_eq!(rt;
+        (queue.is_empty(), queue.peek(), polled),
+        (true, None, None)
+    );
+    let removed = queue.remove(0);
+    let found = (queue.contains(0), queue.due_of(u32::MAX));
+    assert_eq!(rt;
+        (removed, found, queue.touched()),
+        (false, (false, None), 0)
+    );
     Ok(())
 }
 
