@@ -32,13 +32,14 @@ pub record IsCountOf (IsSo : ℕ → Type 0) (count : ℕ) : Type 0 where
 -- shut and is terminated
 pub record TellsByPosition (calls : List Planned) (past : List HistoryEntry) (queue running : ℕ) (shut terminated : Bool) : Type 0 where
   -- the tasks that wait, and those that were cancelled while they waited and are kept
-  -- (ScheduledThreadPoolExecutor: "By default, such a cancelled task is not automatically removed from the work queue
-  -- until its delay elapses.")
+  -- (this project's rule, after ScheduledThreadPoolExecutor: "By default, such a cancelled task is not automatically
+  -- removed from the work queue until its delay elapses.")
   pub queued : IsCountOf (λ k. Waits past k ⊎ KeptSince calls past k) queue
   pub unfinished : IsCountOf (IsUnderWay past) running
-  -- (ExecutorService.isShutdown: "Returns true if this executor has been shut down.")
+  -- (this project's rule, after ExecutorService.isShutdown: "Returns true if this executor has been shut down.")
   pub shut_down : (shut ≡ true) ↔ ShutdownWasMade calls past
-  -- (ExecutorService.isTerminated: "Returns true if all tasks have completed following shut down.")
+  -- (this project's rule, after ExecutorService.isTerminated: "Returns true if all tasks have completed following shut
+  -- down.")
   pub ended : (terminated ≡ true) ↔ (ShutdownWasMade calls past × (queue ≡ 0) × (running ≡ 0))
 
 -- each answer to an ask is so, by the positions before it

@@ -120,8 +120,8 @@ A listing has a line for each instruction, with its index in front:
   loop N every E          begins a loop of N iterations, each E after the other
   endloop                 ends the loop
   halt                    ends the code
-All times are nanoseconds. A call is made at O, and in a loop at O after the
-iteration begins.
+All times are nanoseconds. A call is made at O, and in iteration R of a loop,
+counted from 0, at O + R * E.
 
 Exit status:
   0  the listing was printed
