@@ -1,6 +1,6 @@
 //! The calls of a code, as a core makes them one after the other.
-ghost use Rattle.std.specs.Prelude.{◌≡◌, ◌+◌, ◌-◌, ◌<◌, length, slice_get};
-ghost use Rattle.queue_code.specs.Calls.{IsOrderly};
+ghost use Rattle.std.specs.Prelude.{◌≡◌, ◌+◌, ◌-◌, ◌<◌, Some, length, max, slice_get};
+ghost use Rattle.queue_code.specs.Calls.{IsOrderly, Planned};
 ghost use Rattle.queue_code.specs.Codes.{calls_of};
 
 use queue_code::{Code, CodeCall, Cursor};
@@ -60,12 +60,18 @@ impl<A: Allocator> Agenda<A> {
         self.left
     }
 
-    /// The next call is made.
-    pub(crate) fn pass(&mut self)
+    /// The next call is made. The answer is the moment after it, where it was `now`: the greater of that and the call's own.
+    pub(crate) fn pass(&mut self, now: u64) -> u64
         requires { self.old.made < length self.old.items }
-        ensures { self.new ≡ record self.old { made = self.old.made + 1 } }
+        ensures passed { self.new ≡ record self.old { made = self.old.made + 1 } }
+        ensures moment { (call : Planned) → slice_get self.old.items self.old.made ≡ Some call → result ≡ max now call.0 }
     {
+        let at = match self.next {
+            Some((at, _)) => at,
+            None => now,
+        };
         self.next = self.cursor.fetch(&self.code);
         self.left -= 1;
+        now.max(at)
     }
 }

@@ -13,7 +13,6 @@ use std::test::Fail;
 
 mod cancels;
 mod ends;
-mod examples;
 mod listings;
 mod long_runs;
 mod periodic;

@@ -1,5 +1,5 @@
 //! The calls of the plan, as a core makes them.
-ghost use Rattle.std.specs.Prelude.{◌≡◌, ◌+◌, ◌<◌, ◌≤◌, [], ◌∷◌, length, Some, slice_get, IsTrue, false, vec_len, vec_capacity};
+ghost use Rattle.std.specs.Prelude.{◌≡◌, ℕ, ◌+◌, ◌<◌, ◌≤◌, [], ◌∷◌, length, Some, slice_get, IsTrue, false, vec_len, vec_capacity};
 ghost use Rattle.executor_core.specs.declared.types.Happening.TheVariants as happening;
 ghost use Rattle.queue_code.specs.declared.call.CodeCall.TheVariants as call;
 ghost use Rattle.queue_code.specs.Calls.{IsOrderly};
@@ -56,17 +56,17 @@ impl<A: Allocator> Core<A> {
         };
         let answer = match call {
             CodeCall::SetPolicy { which, value } => {
-                return self.set_policy(moment, which, value, out);
+                return self.set_policy(which, value, out);
             }
-            CodeCall::Shutdown => return self.shut_down(moment, out),
+            CodeCall::Shutdown => return self.shut_down(out),
             CodeCall::Submit {
                 task,
                 timing,
                 delay,
             } => self.submit(moment, task, timing, delay),
-            CodeCall::Illegal { task } => self.refuse(moment, task),
-            CodeCall::Cancel { task } => self.cancel_by_plan(moment, task),
-            CodeCall::Ask => self.ask(moment),
+            CodeCall::Illegal { task } => self.refuse(task),
+            CodeCall::Cancel { task } => self.cancel_by_plan(task),
+            CodeCall::Ask => self.ask(),
         };
         out.push_reserved(Line {
             moment: self.moment,
@@ -81,8 +81,7 @@ impl<A: Allocator> Core<A> {
         ensures made { self.new.made ≡ self.old.made + 1 }
         ensures uncancelled { uncancelled_in self.new.tasks ≤ uncancelled_in self.old.tasks }
     {
-        self.calls.pass();
-        self.moment = self.moment.max(moment);
+        self.moment = self.calls.pass(self.moment);
         if self.shut {
             return Answer::Refuse {
                 task,
@@ -97,14 +96,13 @@ impl<A: Allocator> Core<A> {
     }
 
     /// The next call asks for a task with an illegal period.
-    fn refuse(&mut self, moment: u64, task: u32) -> Answer
-        requires { slice_get self.old.calls self.old.made ≡ Some (moment, call.Illegal task) }
+    fn refuse(&mut self, task: u32) -> Answer
+        requires { (at : ℕ) × (slice_get self.old.calls self.old.made ≡ Some (at, call.Illegal task)) }
         ensures step { Takes self.old self.new happening.Call result }
         ensures made { self.new.made ≡ self.old.made + 1 }
         ensures uncancelled { uncancelled_in self.new.tasks ≤ uncancelled_in self.old.tasks }
     {
-        self.calls.pass();
-        self.moment = self.moment.max(moment);
+        self.moment = self.calls.pass(self.moment);
         Answer::Refuse {
             task,
             refusal: Refusal::Illegal,
@@ -112,28 +110,26 @@ impl<A: Allocator> Core<A> {
     }
 
     /// The next call cancels a task.
-    fn cancel_by_plan(&mut self, moment: u64, task: u32) -> Answer
-        requires { slice_get self.old.calls self.old.made ≡ Some (moment, call.Cancel task) }
+    fn cancel_by_plan(&mut self, task: u32) -> Answer
+        requires { (at : ℕ) × (slice_get self.old.calls self.old.made ≡ Some (at, call.Cancel task)) }
         ensures step { Takes self.old self.new happening.Call result }
         ensures made { self.new.made ≡ self.old.made + 1 }
         ensures uncancelled { uncancelled_in self.new.tasks ≤ uncancelled_in self.old.tasks }
     {
-        let now = self.moment.max(moment);
+        let before = self.moment;
         let effect = self.cancel_task(task);
-        self.calls.pass();
-        self.moment = now;
+        self.moment = self.calls.pass(before);
         Answer::Cancel { task, effect }
     }
 
     /// The next call asks how far the executor is.
-    fn ask(&mut self, moment: u64) -> Answer
-        requires { slice_get self.old.calls self.old.made ≡ Some (moment, call.Ask) }
+    fn ask(&mut self) -> Answer
+        requires { (at : ℕ) × (slice_get self.old.calls self.old.made ≡ Some (at, call.Ask)) }
         ensures step { Takes self.old self.new happening.Call result }
         ensures made { self.new.made ≡ self.old.made + 1 }
         ensures uncancelled { uncancelled_in self.new.tasks ≤ uncancelled_in self.old.tasks }
     {
-        self.calls.pass();
-        self.moment = self.moment.max(moment);
+        self.moment = self.calls.pass(self.moment);
         let queue = self.queue.len() + self.kept.len();
         let running = self.tasks.running();
         Answer::Ask {

@@ -25,12 +25,11 @@ impl<A: Allocator> Core<A> {
     #[cold]
     pub(super) fn set_policy<B: Allocator>(
         &mut self,
-        moment: u64,
         which: Which,
         value: bool,
         out: &mut Vec<Line, B>,
     )
-        requires call { slice_get self.old.calls self.old.made ≡ Some (moment, call.SetPolicy which value) }
+        requires call { (at : ℕ) × (slice_get self.old.calls self.old.made ≡ Some (at, call.SetPolicy which value)) }
         requires room { vec_len out.old + room_of self.old ≤ vec_capacity out.old }
         ensures steps { Steps self.old self.new out.old.items out.new.items (happening.Call ∷ []) }
         ensures made { self.new.made ≡ self.old.made + 1 }
@@ -39,8 +38,7 @@ impl<A: Allocator> Core<A> {
         ensures room { vec_len out.new + room_of self.new ≤ vec_len out.old + room_of self.old }
         ensures capacity { vec_capacity out.new ≡ vec_capacity out.old }
     {
-        self.calls.pass();
-        self.moment = self.moment.max(moment);
+        self.moment = self.calls.pass(self.moment);
         self.policies = self.policies.with(which, value);
         out.push_reserved(Line {
             moment: self.moment,
@@ -53,8 +51,8 @@ impl<A: Allocator> Core<A> {
 
     /// The next call is a shutdown.
     #[cold]
-    pub(super) fn shut_down<B: Allocator>(&mut self, moment: u64, out: &mut Vec<Line, B>)
-        requires call { slice_get self.old.calls self.old.made ≡ Some (moment, call.Shutdown) }
+    pub(super) fn shut_down<B: Allocator>(&mut self, out: &mut Vec<Line, B>)
+        requires call { (at : ℕ) × (slice_get self.old.calls self.old.made ≡ Some (at, call.Shutdown)) }
         requires room { vec_len out.old + room_of self.old ≤ vec_capacity out.old }
         ensures steps { Steps self.old self.new out.old.items out.new.items (happening.Call ∷ []) }
         ensures made { self.new.made ≡ self.old.made + 1 }
@@ -63,8 +61,7 @@ impl<A: Allocator> Core<A> {
         ensures room { vec_len out.new + room_of self.new ≤ vec_len out.old + room_of self.old }
         ensures capacity { vec_capacity out.new ≡ vec_capacity out.old }
     {
-        self.calls.pass();
-        self.moment = self.moment.max(moment);
+        self.moment = self.calls.pass(self.moment);
         if self.shut {
             out.push_reserved(Line {
                 moment: self.moment,

@@ -25,13 +25,13 @@ overflow_cast-result-2 g c =
 pub invariant_of-self : goal.invariant_of-self
 invariant_of-self g c =
     let m = c.self.inside in
-    let is : slice_get m.calls.items m.calls.made ≡ Some (c.args.moment, call.Ask) = ap (λ x. slice_get x.calls x.made) c.self.view_is ∙ c.requires in
-    rw c.pass.ensures (passed_kept _ m.queue.entries m.kept.entries m.sought c.max-self-inside.result c.args.moment call.Ask c.self.invariant is c.max-self-inside.ensures)
+    let is : slice_get m.calls.items m.calls.made ≡ Some (c.requires.0, call.Ask) = ap (λ x. slice_get x.calls x.made) c.self.view_is ∙ c.requires.1 in
+    rw c.pass-self-inside.ensures.passed (passed_kept _ m.queue.entries m.kept.entries m.sought c.pass-self-inside.result c.requires.0 call.Ask c.self.invariant is (c.pass-self-inside.ensures.moment (c.requires.0, call.Ask) is))
 
 pub returns-clause-step : goal.returns-clause-step
 returns-clause-step g c =
     let m = c.self.inside in
-    let is : slice_get m.calls.items m.calls.made ≡ Some (c.args.moment, call.Ask) = ap (λ x. slice_get x.calls x.made) c.self.view_is ∙ c.requires in
+    let is : slice_get m.calls.items m.calls.made ≡ Some (c.requires.0, call.Ask) = ap (λ x. slice_get x.calls x.made) c.self.view_is ∙ c.requires.1 in
     let ends : c.if-queue-eq0.result ≡ is_terminated m.shut (c.len.result + c.len-2.result) c.running-running.result = grind (arith, nat_tests, c.if-queue-eq0.branch, c.if-self.branch) in
-    rw c.pass.ensures (ask_steps _ c.args.self.now m.queue.entries m.kept.entries m.sought c.max-self-inside.result c.args.moment (c.len.result + c.len-2.result) c.running-running.result c.if-queue-eq0.result c.self.invariant is
-    (λ i. c.len.ensures i + c.len-2.ensures i) c.running-running.ensures ends c.max-self-inside.ensures c.self.view_is)
+    rw c.pass-self-inside.ensures.passed (ask_steps _ c.args.self.now m.queue.entries m.kept.entries m.sought c.pass-self-inside.result c.requires.0 (c.len.result + c.len-2.result) c.running-running.result c.if-queue-eq0.result c.self.invariant is
+    (λ i. c.len.ensures i + c.len-2.ensures i) c.running-running.ensures ends (c.pass-self-inside.ensures.moment (c.requires.0, call.Ask) is) c.self.view_is)

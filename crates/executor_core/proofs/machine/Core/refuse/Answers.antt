@@ -9,11 +9,11 @@ use Rattle.executor_core.proofs.machine.Core.refuse.Goals as goal
 pub invariant_of-self : goal.invariant_of-self
 invariant_of-self g c =
     let m = c.self.inside in
-    let is : slice_get m.calls.items m.calls.made ≡ Some (c.args.moment, call.Illegal c.args.task) = ap (λ x. slice_get x.calls x.made) c.self.view_is ∙ c.requires in
-    rw c.pass.ensures (passed_kept _ m.queue.entries m.kept.entries m.sought c.max-self-inside.result c.args.moment (call.Illegal c.args.task) c.self.invariant is c.max-self-inside.ensures)
+    let is : slice_get m.calls.items m.calls.made ≡ Some (c.requires.0, call.Illegal c.args.task) = ap (λ x. slice_get x.calls x.made) c.self.view_is ∙ c.requires.1 in
+    rw c.pass-self-inside.ensures.passed (passed_kept _ m.queue.entries m.kept.entries m.sought c.pass-self-inside.result c.requires.0 (call.Illegal c.args.task) c.self.invariant is (c.pass-self-inside.ensures.moment (c.requires.0, call.Illegal c.args.task) is))
 
 pub returns-clause-step : goal.returns-clause-step
 returns-clause-step g c =
     let m = c.self.inside in
-    let is : slice_get m.calls.items m.calls.made ≡ Some (c.args.moment, call.Illegal c.args.task) = ap (λ x. slice_get x.calls x.made) c.self.view_is ∙ c.requires in
-    rw c.pass.ensures (refuse_steps _ c.args.self.now c.max-self-inside.result c.args.moment c.args.task (call.Illegal c.args.task) refusal.Illegal is refl c.max-self-inside.ensures c.self.view_is)
+    let is : slice_get m.calls.items m.calls.made ≡ Some (c.requires.0, call.Illegal c.args.task) = ap (λ x. slice_get x.calls x.made) c.self.view_is ∙ c.requires.1 in
+    rw c.pass-self-inside.ensures.passed (refuse_steps _ c.args.self.now c.pass-self-inside.result c.requires.0 c.args.task (call.Illegal c.args.task) refusal.Illegal is refl (c.pass-self-inside.ensures.moment (c.requires.0, call.Illegal c.args.task) is) c.self.view_is)

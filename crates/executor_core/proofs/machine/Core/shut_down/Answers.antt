@@ -8,35 +8,35 @@ use Rattle.executor_core.proofs.machine.Core.shut_down.Goals as goal
 pub invariant_of-self : goal.invariant_of-self
 invariant_of-self g c =
     let m = c.self.inside in
-    let is : slice_get m.calls.items m.calls.made ≡ Some (c.args.moment, call.Shutdown) = ap (λ x. slice_get x.calls x.made) c.self.view_is ∙ c.requires.call in
-    rw c.pass.ensures (made_kept _ m.queue.entries m.kept.entries m.sought c.max-self-inside.result c.args.moment call.Shutdown m.policies m.shut c.self.invariant is c.max-self-inside.ensures (λ q. q))
+    let is : slice_get m.calls.items m.calls.made ≡ Some (c.requires.call.0, call.Shutdown) = ap (λ x. slice_get x.calls x.made) c.self.view_is ∙ c.requires.call.1 in
+    rw c.pass-self-inside.ensures.passed (made_kept _ m.queue.entries m.kept.entries m.sought c.pass-self-inside.result c.requires.call.0 call.Shutdown m.policies m.shut c.self.invariant is (c.pass-self-inside.ensures.moment (c.requires.call.0, call.Shutdown) is) (λ q. q))
 
 pub invariant_of-self-2 : goal.invariant_of-self-2
 invariant_of-self-2 g c =
     let m = c.self.inside in
-    let is : slice_get m.calls.items m.calls.made ≡ Some (c.args.moment, call.Shutdown) = ap (λ x. slice_get x.calls x.made) c.self.view_is ∙ c.requires.call in
-    rw c.pass.ensures (made_kept _ m.queue.entries m.kept.entries m.sought c.max-self-inside.result c.args.moment call.Shutdown m.policies true c.self.invariant is c.max-self-inside.ensures (λ q. refl))
+    let is : slice_get m.calls.items m.calls.made ≡ Some (c.requires.call.0, call.Shutdown) = ap (λ x. slice_get x.calls x.made) c.self.view_is ∙ c.requires.call.1 in
+    rw c.pass-self-inside.ensures.passed (made_kept _ m.queue.entries m.kept.entries m.sought c.pass-self-inside.result c.requires.call.0 call.Shutdown m.policies true c.self.invariant is (c.pass-self-inside.ensures.moment (c.requires.call.0, call.Shutdown) is) (λ q. refl))
 
 pub returns-then-self-clause-steps : goal.returns-then-self-clause-steps
 returns-then-self-clause-steps g c =
     let m = c.self.inside in
-    let is : slice_get m.calls.items m.calls.made ≡ Some (c.args.moment, call.Shutdown) = ap (λ x. slice_get x.calls x.made) c.self.view_is ∙ c.requires.call in
-    rw c.pass.ensures (again_steps _ c.args.self.now c.max-self-inside.result c.args.moment c.args.out.now.items c.push_reserved.new.self.items is c.if-self.true c.max-self-inside.ensures c.self.view_is c.push_reserved.ensures.items)
+    let is : slice_get m.calls.items m.calls.made ≡ Some (c.requires.call.0, call.Shutdown) = ap (λ x. slice_get x.calls x.made) c.self.view_is ∙ c.requires.call.1 in
+    rw c.pass-self-inside.ensures.passed (again_steps _ c.args.self.now c.pass-self-inside.result c.requires.call.0 c.args.out.now.items c.push_reserved.new.self.items is c.if-self.true (c.pass-self-inside.ensures.moment (c.requires.call.0, call.Shutdown) is) c.self.view_is c.push_reserved.ensures.items)
 
 pub returns-then-self-clause-room : goal.returns-then-self-clause-room
 returns-then-self-clause-room g c =
     let m = c.self.inside in
-    let is : slice_get m.calls.items m.calls.made ≡ Some (c.args.moment, call.Shutdown) = ap (λ x. slice_get x.calls x.made) c.self.view_is ∙ c.requires.call in
-    rw c.pass.ensures (pass_room _ c.args.self.now c.max-self-inside.result m.policies (c.args.moment, call.Shutdown) (vec_len c.args.out.now) (vec_len c.push_reserved.new.self) is c.self.view_is c.push_reserved.ensures.len)
+    let is : slice_get m.calls.items m.calls.made ≡ Some (c.requires.call.0, call.Shutdown) = ap (λ x. slice_get x.calls x.made) c.self.view_is ∙ c.requires.call.1 in
+    rw c.pass-self-inside.ensures.passed (pass_room _ c.args.self.now c.pass-self-inside.result m.policies (c.requires.call.0, call.Shutdown) (vec_len c.args.out.now) (vec_len c.push_reserved.new.self) is c.self.view_is c.push_reserved.ensures.len)
 
 pub returns-clause-steps : goal.returns-clause-steps
 returns-clause-steps g c =
     let m = c.self.inside in
-    let is : slice_get m.calls.items m.calls.made ≡ Some (c.args.moment, call.Shutdown) = ap (λ x. slice_get x.calls x.made) c.self.view_is ∙ c.requires.call in
-    shutdown_steps _ c.args.self.now c.sweep.new.self c.max-self-inside.result c.args.moment c.args.out.now.items c.push_reserved-2.new.self.items c.sweep.new.out.items is c.self.invariant.count c.if-self.false c.max-self-inside.ensures c.self.view_is c.push_reserved-2.ensures.items (rw c.pass.ensures at c.sweep.ensures.sweeps)
+    let is : slice_get m.calls.items m.calls.made ≡ Some (c.requires.call.0, call.Shutdown) = ap (λ x. slice_get x.calls x.made) c.self.view_is ∙ c.requires.call.1 in
+    shutdown_steps _ c.args.self.now c.sweep.new.self c.pass-self-inside.result c.requires.call.0 c.args.out.now.items c.push_reserved-2.new.self.items c.sweep.new.out.items is c.self.invariant.count c.if-self.false (c.pass-self-inside.ensures.moment (c.requires.call.0, call.Shutdown) is) c.self.view_is c.push_reserved-2.ensures.items (rw c.pass-self-inside.ensures.passed at c.sweep.ensures.sweeps)
 
 pub returns-clause-room : goal.returns-clause-room
 returns-clause-room g c =
     let m = c.self.inside in
-    let is : slice_get m.calls.items m.calls.made ≡ Some (c.args.moment, call.Shutdown) = ap (λ x. slice_get x.calls x.made) c.self.view_is ∙ c.requires.call in
-    sweep_room _ c.args.self.now _ c.sweep.new.self (c.args.moment, call.Shutdown) (vec_len c.args.out.now) (vec_len c.push_reserved-2.new.self) (vec_len c.sweep.new.out) is c.self.view_is refl refl refl (rw c.pass.ensures at c.sweep.ensures.sweeps.rest) c.push_reserved-2.ensures.len c.sweep.ensures.room
+    let is : slice_get m.calls.items m.calls.made ≡ Some (c.requires.call.0, call.Shutdown) = ap (λ x. slice_get x.calls x.made) c.self.view_is ∙ c.requires.call.1 in
+    sweep_room _ c.args.self.now _ c.sweep.new.self (c.requires.call.0, call.Shutdown) (vec_len c.args.out.now) (vec_len c.push_reserved-2.new.self) (vec_len c.sweep.new.out) is c.self.view_is refl refl refl (rw c.pass-self-inside.ensures.passed at c.sweep.ensures.sweeps.rest) c.push_reserved-2.ensures.len c.sweep.ensures.room

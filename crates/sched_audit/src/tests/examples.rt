@@ -1,11 +1,58 @@
-//! The examples of the folder `examples`, with the bytes of their files.
+//! The examples of the folder `examples`, with the bytes of their files: `tools/examples` compares them.
 use super::*;
+
+/// A task that is submitted once.
+#[test]
+fn one_delay(rt: HostRuntime) -> Result<(), Fail> {
+    conforms(
+        &rt,
+        &Row {
+            plan: "\
+version = 1
+
+[[block]]
+
+[[block.call]]
+op = \"schedule\"
+name = \"a\"
+delay = 5
+",
+            workers: 1,
+            limit: 1_000_000,
+            events: "\
+clock 0
+start 0
+clock 4
+start 0
+clock 5
+start 0
+finish 0 ok 7
+",
+            answer: Ok(Report {
+                events: 7,
+                lines: 8,
+            }),
+            trace: "\
+0 submit 0 schedule due 5
+0 clock
+0 start 0 idle
+4 clock
+4 start 0 idle
+5 clock
+5 start 0 task 0 run 0 due 5
+5 finish 0 task 0 run 0 done 7
+",
+        },
+    )
+}
 
 /// A task at a fixed rate is late once.
 #[test]
-fn heartbeat(rt: HostRuntime) {
-    let row = Row {
-        plan: "\
+fn heartbeat(rt: HostRuntime) -> Result<(), Fail> {
+    conforms(
+        &rt,
+        &Row {
+            plan: "\
 # A heartbeat: a task at a fixed rate, due at 10, 20, 30, .. nanoseconds.
 # The second beat is finished late, at 45. Those of 30 and 40 follow one after
 # the other, and from 50 on the beats are in time again.
@@ -19,8 +66,9 @@ name = \"heartbeat\"
 first = 10
 period = 10
 ",
-        limit: 1_000_000,
-        events: "\
+            workers: 1,
+            limit: 1_000_000,
+            events: "\
 clock 10
 start 0
 clock 12
@@ -37,11 +85,11 @@ start 0
 clock 50
 start 0
 ",
-        answer: Ok(Report {
-            events: 15,
-            lines: 16,
-        }),
-        trace: "\
+            answer: Ok(Report {
+                events: 15,
+                lines: 16,
+            }),
+            trace: "\
 0 submit 0 rate due 10
 10 clock
 10 start 0 task 0 run 0 due 10
@@ -59,15 +107,17 @@ start 0
 50 clock
 50 start 0 task 0 run 4 due 50
 ",
-    };
-    answers(&rt, &row)
+        },
+    )
 }
 
 /// A task with a fixed delay fails in the end.
 #[test]
-fn poll(rt: HostRuntime) {
-    let row = Row {
-        plan: "\
+fn poll(rt: HostRuntime) -> Result<(), Fail> {
+    conforms(
+        &rt,
+        &Row {
+            plan: "\
 # A poll: a task that runs again 20 nanoseconds after each of its runs has
 # ended, however long the run took. Its third run fails, and no other follows.
 version = 1
@@ -80,8 +130,9 @@ name = \"poll\"
 first = 0
 delay = 20
 ",
-        limit: 1_000_000,
-        events: "\
+            workers: 1,
+            limit: 1_000_000,
+            events: "\
 clock 0
 start 0
 clock 5
@@ -99,11 +150,11 @@ finish 0 fail 7
 clock 1000
 start 0
 ",
-        answer: Ok(Report {
-            events: 16,
-            lines: 17,
-        }),
-        trace: "\
+            answer: Ok(Report {
+                events: 16,
+                lines: 17,
+            }),
+            trace: "\
 0 submit 0 fixed due 0
 0 clock
 0 start 0 task 0 run 0 due 0
@@ -122,15 +173,17 @@ start 0
 1000 clock
 1000 start 0 idle
 ",
-    };
-    answers(&rt, &row)
+        },
+    )
 }
 
 /// A timeout that is cancelled in time, and one that is not.
 #[test]
-fn timeout(rt: HostRuntime) {
-    let row = Row {
-        plan: "\
+fn timeout(rt: HostRuntime) -> Result<(), Fail> {
+    conforms(
+        &rt,
+        &Row {
+            plan: "\
 # Timeouts: two requests may take 30 nanoseconds each. The first one is answered
 # in time, so its timeout is cancelled from outside, at 20. The second one is
 # not: its timeout runs at 40, and a cancel comes too late. The plan itself
@@ -161,8 +214,9 @@ op = \"cancel\"
 name = \"third\"
 at = 15
 ",
-        limit: 1_000_000,
-        events: "\
+            workers: 1,
+            limit: 1_000_000,
+            events: "\
 clock 20
 cancel 0
 cancel 0
@@ -174,11 +228,11 @@ finish 0 ok 0
 cancel 1
 start 0
 ",
-        answer: Ok(Report {
-            events: 10,
-            lines: 14,
-        }),
-        trace: "\
+            answer: Ok(Report {
+                events: 10,
+                lines: 14,
+            }),
+            trace: "\
 0 submit 0 schedule due 30
 10 submit 1 schedule due 40
 10 submit 2 schedule due 40
@@ -194,96 +248,17 @@ start 0
 40 outside 1 no
 40 start 0 idle
 ",
-    };
-    answers(&rt, &row)
-}
-
-/// A graceful shutdown.
-#[test]
-fn shutdown(rt: HostRuntime) {
-    traces(
-        &rt,
-        "\
-# A graceful shutdown: a mail that is due at 30 is still sent, and the heartbeat
-# ends. At 20 the service is shut. The next run of the heartbeat waits and is
-# ended; its run that is under way ends with its finish. A task that is submitted
-# after the shutdown is rejected. Once the mail is sent, all is done.
-version = 1
-
-[[block]]
-
-[[block.call]]
-op = \"rate\"
-name = \"heartbeat\"
-first = 10
-period = 10
-
-[[block.call]]
-op = \"fixed\"
-name = \"poll\"
-first = 15
-delay = 10
-
-[[block.call]]
-op = \"schedule\"
-name = \"mail\"
-delay = 30
-
-[[block.call]]
-op = \"shutdown\"
-at = 20
-
-[[block.call]]
-op = \"schedule\"
-name = \"late\"
-at = 21
-delay = 5
-
-[[block.call]]
-op = \"ask\"
-at = 22
-
-[[block.call]]
-op = \"ask\"
-at = 40
-",
-        "clock 10\nstart 0\nfinish 0 ok 0\nclock 15\nstart 0\nclock 20\nclock 25\nfinish 0 ok 0\nstart 0\nclock 30\nstart 0\nfinish 0 ok 1\nclock 40\n",
-        Report {
-            events: 13,
-            lines: 21,
         },
-        "\
-0 submit 0 rate due 10
-0 submit 1 fixed due 15
-0 submit 2 schedule due 30
-10 clock
-10 start 0 task 0 run 0 due 10
-10 finish 0 task 0 run 0 again due 20
-15 clock
-15 start 0 task 1 run 0 due 15
-20 shutdown
-20 end 0
-20 clock
-21 refuse 3 rejected
-22 ask queue 1 running 1 shutdown yes terminated no
-25 clock
-25 finish 0 task 1 run 0 ended
-25 start 0 idle
-30 clock
-30 start 0 task 2 run 0 due 30
-30 finish 0 task 2 run 0 done 1
-40 ask queue 0 running 0 shutdown yes terminated yes
-40 clock
-",
-    );
+    )
 }
 
 /// Cancelled timeouts that stay in the queue, or leave it.
 #[test]
-fn retention(rt: HostRuntime) {
-    traces(
+fn retention(rt: HostRuntime) -> Result<(), Fail> {
+    conforms(
         &rt,
-        "\
+        &Row {
+            plan: "\
 # A service that cancels most of its timeouts: each request gets one, and nearly
 # each is answered in time. By default a cancelled timeout stays in the queue
 # until a start meets it at its due moment; with the remove policy it leaves at
@@ -340,12 +315,20 @@ at = 10
 op = \"ask\"
 at = 106
 ",
-        "clock 10\nstart 0\nclock 105\nstart 0\nclock 106\n",
-        Report {
-            events: 5,
-            lines: 15,
-        },
-        "\
+            workers: 1,
+            limit: 1_000_000,
+            events: "\
+clock 10
+start 0
+clock 105
+start 0
+clock 106
+",
+            answer: Ok(Report {
+                events: 5,
+                lines: 15,
+            }),
+            trace: "\
 0 submit 0 schedule due 100
 0 submit 1 schedule due 110
 0 submit 2 schedule due 120
@@ -362,15 +345,115 @@ at = 106
 106 ask queue 1 running 0 shutdown no terminated no
 106 clock
 ",
-    );
+        },
+    )
+}
+
+/// A graceful shutdown.
+#[test]
+fn shutdown(rt: HostRuntime) -> Result<(), Fail> {
+    conforms(
+        &rt,
+        &Row {
+            plan: "\
+# A graceful shutdown: a mail that is due at 30 is still sent, and the heartbeat
+# ends. At 20 the service is shut. The next run of the heartbeat waits and is
+# ended; its run that is under way ends with its finish. A task that is submitted
+# after the shutdown is rejected. Once the mail is sent, all is done.
+version = 1
+
+[[block]]
+
+[[block.call]]
+op = \"rate\"
+name = \"heartbeat\"
+first = 10
+period = 10
+
+[[block.call]]
+op = \"fixed\"
+name = \"poll\"
+first = 15
+delay = 10
+
+[[block.call]]
+op = \"schedule\"
+name = \"mail\"
+delay = 30
+
+[[block.call]]
+op = \"shutdown\"
+at = 20
+
+[[block.call]]
+op = \"schedule\"
+name = \"late\"
+at = 21
+delay = 5
+
+[[block.call]]
+op = \"ask\"
+at = 22
+
+[[block.call]]
+op = \"ask\"
+at = 40
+",
+            workers: 1,
+            limit: 1_000_000,
+            events: "\
+clock 10
+start 0
+finish 0 ok 0
+clock 15
+start 0
+clock 20
+clock 25
+finish 0 ok 0
+start 0
+clock 30
+start 0
+finish 0 ok 1
+clock 40
+",
+            answer: Ok(Report {
+                events: 13,
+                lines: 21,
+            }),
+            trace: "\
+0 submit 0 rate due 10
+0 submit 1 fixed due 15
+0 submit 2 schedule due 30
+10 clock
+10 start 0 task 0 run 0 due 10
+10 finish 0 task 0 run 0 again due 20
+15 clock
+15 start 0 task 1 run 0 due 15
+20 shutdown
+20 end 0
+20 clock
+21 refuse 3 rejected
+22 ask queue 1 running 1 shutdown yes terminated no
+25 clock
+25 finish 0 task 1 run 0 ended
+25 start 0 idle
+30 clock
+30 start 0 task 2 run 0 due 30
+30 finish 0 task 2 run 0 done 1
+40 ask queue 0 running 0 shutdown yes terminated yes
+40 clock
+",
+        },
+    )
 }
 
 /// A block that is repeated each night.
 #[test]
-fn nightly(rt: HostRuntime) {
-    traces(
+fn nightly(rt: HostRuntime) -> Result<(), Fail> {
+    conforms(
         &rt,
-        "\
+        &Row {
+            plan: "\
 # A week of nightly backups: at 2 o'clock of each of seven days, in seconds from
 # Monday's midnight, a backup that has to begin within its minute. If it has not
 # by 2:10, the same night's backup is cancelled.
@@ -392,12 +475,25 @@ op = \"cancel\"
 name = \"backup\"
 at = 600
 ",
-        "clock 7260000000000\nstart 0\nclock 7500000000000\nfinish 0 ok 0\nclock 93660000000000\nstart 0\nclock 94000000000000\nfinish 0 fail 3\nclock 604800000000000\nstart 0\n",
-        Report {
-            events: 10,
-            lines: 24,
-        },
-        "\
+            workers: 1,
+            limit: 1_000_000,
+            events: "\
+clock 7260000000000
+start 0
+clock 7500000000000
+finish 0 ok 0
+clock 93660000000000
+start 0
+clock 94000000000000
+finish 0 fail 3
+clock 604800000000000
+start 0
+",
+            answer: Ok(Report {
+                events: 10,
+                lines: 24,
+            }),
+            trace: "\
 7200000000000 submit 0 schedule due 7260000000000
 7260000000000 clock
 7260000000000 start 0 task 0 run 0 due 7260000000000
@@ -423,5 +519,6 @@ at = 600
 604800000000000 clock
 604800000000000 start 0 idle
 ",
-    );
+        },
+    )
 }
