@@ -1,6 +1,6 @@
--- What is left of an event comes one happening after the other.
+-- An event's part comes one happening after the other: the calls that it reaches, and then the event itself.
 use Rattle.std.proofs.Common.{◌≡◌, ℕ, ◌+◌, ◌<◌, ◌≤◌, nat_le, zero, suc, max, Bool, true, false, cond, List, [], ◌∷◌, ◌++◌, length, length-append, append-nil, append_assoc, Option, Some, None, refl, sym, ap, ◌∙◌, arith}
-use Rattle.std.specs.Prelude.{slice_get, replicate, IsTrue, IfSome}
+use Rattle.std.specs.Prelude.{slice_get, replicate, IsTrue}
 use Rattle.std.specs.Option.{option_map_or}
 use Rattle.std.proofs.lemmas.Bool.{false≢true, le-leb, leb-true}
 use Rattle.std.proofs.lemmas.Bool.Decides.{nat_tests}
@@ -13,7 +13,7 @@ use Rattle.executor_core.specs.declared.types.Happening.TheVariants as h
 use Rattle.executor_core.specs.declared.types.Line.{Line}
 use Rattle.executor_core.specs.Answers.{is_accepted, moment_after}
 use Rattle.executor_core.specs.Histories.{AreMade, MayFrom, made_after}
-use Rattle.executor_core.specs.Flows.{ReachesNext, happening_of, reached, calls_before, part_of, left_of, ComesNext}
+use Rattle.executor_core.specs.Flows.{ReachesNext, happening_of, reached, calls_before, part_of, CallComes, EventComes}
 use Rattle.executor_core.specs.Machine.{Machine, Counts, Steps}
 use Rattle.executor_core.proofs.Events.{uncounted}
 use Rattle.executor_core.proofs.Flowing.{all_reached, no_steps}
@@ -75,11 +75,11 @@ none_before calls n now t o made = by (is_accepted now t) refl
     by false is = refl
 
 -- an event that may come stands next, and nothing behind it
-pub event_next : (calls : List Planned) (made now : ℕ) (event : Event) → IsOrderly calls → MayFrom calls made now (happening_of event) → ComesNext calls made now (Some event) (happening_of event) None
-event_next calls made now (v.Clock t) o may = record { may = may; first = ap (λ n. h.Clock t ∷ replicate n h.Call) (none_before calls made now t o may) }
-event_next calls made now (v.Start w) o may = record { may = may; first = refl }
-event_next calls made now (v.Finish w ending) o may = record { may = may; first = refl }
-event_next calls made now (v.Cancel k) o may = record { may = may; first = refl }
+pub event_next : (calls : List Planned) (made now : ℕ) (event : Event) → IsOrderly calls → MayFrom calls made now (happening_of event) → EventComes calls made now event
+event_next calls made now (v.Clock t) o may = record { may = may; alone = ap (λ n. h.Clock t ∷ replicate n h.Call) (none_before calls made now t o may) }
+event_next calls made now (v.Start w) o may = record { may = may; alone = refl }
+event_next calls made now (v.Finish w ending) o may = record { may = may; alone = refl }
+event_next calls made now (v.Cancel k) o may = record { may = may; alone = refl }
 
 -- ---- else the next call is
 
@@ -104,17 +104,17 @@ calls_next calls made now t p o is at low =
     ap (λ b. cond b (reached calls made t) 0) is ∙ (rest ∙ ap (λ b. suc (cond b (reached calls (1 + made) t) 0)) (sym still))
 
 -- before an event that may not come the next call stands, and the event is left
-pub call_next : (calls : List Planned) (made now : ℕ) (event : Event) → IsOrderly calls → (MayFrom calls made now (happening_of event) → ⊥) → ComesNext calls made now (Some event) h.Call (Some event)
+pub call_next : (calls : List Planned) (made now : ℕ) (event : Event) → IsOrderly calls → (MayFrom calls made now (happening_of event) → ⊥) → CallComes calls made now event
 call_next calls made now (v.Clock t) o not = by (is_accepted now t) refl
   where
-    by : (b : Bool) → is_accepted now t ≡ b → ComesNext calls made now (Some (v.Clock t)) h.Call (Some (v.Clock t))
+    by : (b : Bool) → is_accepted now t ≡ b → CallComes calls made now (v.Clock t)
     by false is = absurd (not (λ q. absurd (false≢true (sym is ∙ q))))
     by true is =
         let p = some_reached calls made t o (λ all. not (λ q. all)) in
         let rest = calls_before calls (1 + made) (moment_after now (slice_get calls made) h.Call) (v.Clock t) in
         record {
-          may = slice_get_within calls made p.0 p.1;
-          first = ap (λ l. h.Clock t ∷ l) (ap (λ n. replicate n h.Call) (calls_next calls made now t p.0 o is p.1 p.2) ∙ call_behind rest);
+          left = slice_get_within calls made p.0 p.1;
+          rest = ap (λ l. h.Clock t ∷ l) (ap (λ n. replicate n h.Call) (calls_next calls made now t p.0 o is p.1 p.2) ∙ call_behind rest);
         }
 call_next calls made now (v.Start w) o not = absurd (not tt)
 call_next calls made now (v.Finish w ending) o not = absurd (not tt)
@@ -125,8 +125,8 @@ call_next calls made now (v.Cancel k) o not = absurd (not tt)
 -- what is told of an event: whether it may come, and then which happening comes next
 pub record Told (calls : List Planned) (made now : ℕ) (event : Event) (reaches : Bool) : Type 0 where
   pub comes : (reaches ≡ false → MayFrom calls made now (happening_of event)) × (MayFrom calls made now (happening_of event) → reaches ≡ false)
-  pub call : IsTrue reaches → ComesNext calls made now (Some event) h.Call (Some event)
-  pub alone : reaches ≡ false → ComesNext calls made now (Some event) (happening_of event) None
+  pub call : IsTrue reaches → CallComes calls made now event
+  pub alone : reaches ≡ false → EventComes calls made now event
 
 -- of an event that may come
 told_next : (calls : List Planned) (made now : ℕ) (event : Event) → IsOrderly calls → MayFrom calls made now (happening_of event) → Told calls made now event false
@@ -146,45 +146,26 @@ told_accepted calls made now t false o is next none = told_next calls made now (
 
 -- ---- what a core has made happen of an event, and what is left of it
 
+-- what is left of an event's part
+abbrev pub part_from : Machine → Event → List Happening
+part_from m event = part_of m.calls m.made m.moment event
+
 -- nothing has happened yet
-pub none_happened : (old counted : Machine) (lines : List Line) (event : Event) → Counts old counted → Steps old counted lines lines [] × (part_of old.calls old.made old.moment event ≡ left_of counted.calls counted.made counted.moment (Some event) ++ [])
-none_happened old counted lines event one = (
-  uncounted old counted counted lines lines [] one (no_steps counted lines),
-  sym (append-nil (part_of old.calls old.made old.moment event)) ∙ ap (λ (m : Machine). left_of m.calls m.made m.moment (Some event) ++ []) (sym one),
-)
+pub none_happened : (old counted : Machine) (event : Event) → Counts old counted → part_from old event ≡ part_from counted event ++ []
+none_happened old counted event one = sym (append-nil (part_from old event)) ∙ ap (λ (m : Machine). part_from m event ++ []) (sym one)
 
--- what is left after a happening, by the core after it
-pub left_moved : (old new : Machine) (before lines : List Line) (rest : Option Event) (happening : Happening) → Steps old new before lines (happening ∷ []) →
-    left_of new.calls new.made new.moment rest ≡ left_of old.calls (made_after old.made happening) (moment_after old.moment (slice_get old.calls old.made) happening) rest
-left_moved old new before lines rest happening steps = λ i. left_of (steps.calls i) (steps.state i).made (steps.state i).moment rest
+-- what is left after a call, by the core after it
+left_moved : (old new : Machine) (before lines : List Line) (event : Event) → Steps old new before lines (h.Call ∷ []) →
+    part_from new event ≡ part_of old.calls (made_after old.made h.Call) (moment_after old.moment (slice_get old.calls old.made) h.Call) event
+left_moved old new before lines event steps = λ i. part_of (steps.calls i) (steps.state i).made (steps.state i).moment event
 
--- one happening more
-pub left_after : (old new : Machine) (before lines : List Line) (part hs : List Happening) (left rest : Option Event) (happening : Happening) → part ≡ left_of old.calls old.made old.moment left ++ hs →
-    ComesNext old.calls old.made old.moment left happening rest → Steps old new before lines (happening ∷ []) → part ≡ left_of new.calls new.made new.moment rest ++ happening ∷ hs
-left_after old new before lines part hs left rest happening is next steps =
-    let there = left_moved old new before lines rest happening steps in
-    let behind = left_of new.calls new.made new.moment rest in
-    is ∙ (ap (λ l. l ++ hs) (next.first ∙ ap (λ l. l ++ happening ∷ []) (sym there)) ∙ append_assoc behind (happening ∷ []) hs)
+-- one call more
+pub left_after : (old new : Machine) (before lines : List Line) (event : Event) (part hs : List Happening) → part ≡ part_from old event ++ hs →
+    CallComes old.calls old.made old.moment event → Steps old new before lines (h.Call ∷ []) → part ≡ part_from new event ++ h.Call ∷ hs
+left_after old new before lines event part hs is next steps =
+    let there = left_moved old new before lines event steps in
+    is ∙ (ap (λ l. l ++ hs) (next.rest ∙ ap (λ l. l ++ h.Call ∷ []) (sym there)) ∙ append_assoc (part_from new event) (h.Call ∷ []) hs)
 
--- less is left
-pub less_left : (old new : Machine) (before lines : List Line) (left rest : Option Event) (happening : Happening) → ComesNext old.calls old.made old.moment left happening rest → Steps old new before lines (happening ∷ []) →
-    length (left_of new.calls new.made new.moment rest) < length (left_of old.calls old.made old.moment left)
-less_left old new before lines left rest happening next steps =
-    let there = left_moved old new before lines rest happening steps in
-    let behind = left_of new.calls new.made new.moment rest in
-    let all : left_of old.calls old.made old.moment left ≡ behind ++ happening ∷ [] = next.first ∙ ap (λ l. l ++ happening ∷ []) (sym there) in
-    omega (arith, ap length all, length-append behind (happening ∷ []))
-
--- where nothing is left, all has happened
-pub all_happened : (m : Machine) (part hs : List Happening) (left : Option Event) → left ≡ None → part ≡ left_of m.calls m.made m.moment left ++ hs → hs ≡ part
-all_happened m part hs left none is = sym (is ∙ ap (λ e. left_of m.calls m.made m.moment e ++ hs) none)
-
--- what is so in any case is so while something is left
-pub where_left : {P : Type 0} (left : Option Event) → P → IfSome left (λ _. P)
-where_left None known = tt
-where_left (Some event) known = known
-
--- and what is so while something is left is so where something is
-pub while_left : {P : Type 0} (left : Option Event) → (left ≡ None → ⊥) → IfSome left (λ _. P) → P
-while_left None some known = absurd (some refl)
-while_left (Some event) some known = known
+-- and at last the event itself
+pub all_happened : (m : Machine) (event : Event) (part hs : List Happening) → part ≡ part_from m event ++ hs → EventComes m.calls m.made m.moment event → part ≡ happening_of event ∷ hs
+all_happened m event part hs is next = is ∙ ap (λ l. l ++ hs) next.alone

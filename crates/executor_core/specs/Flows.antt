@@ -1,6 +1,6 @@
 -- Which happenings some events make, and the lines of a history.
 -- All of it is this project's rule.
-use Rattle.std.specs.Prelude.{◌≡◌, ℕ, ◌+◌, ◌<◌, Option, Some, None, slice_get, length, nat_le, if◌then◌else◌, List, [], ◌∷◌, ◌++◌, replicate, map, drop}
+use Rattle.std.specs.Prelude.{◌≡◌, ℕ, ◌+◌, ◌<◌, slice_get, length, nat_le, if◌then◌else◌, List, [], ◌∷◌, ◌++◌, replicate, map, drop}
 use Rattle.executor_core.specs.declared.types.Event.{Event}
 use Rattle.executor_core.specs.declared.types.Event.TheVariants as v
 use Rattle.executor_core.specs.declared.types.Happening.{Happening}
@@ -40,16 +40,16 @@ calls_before calls made now _ = 0
 abbrev pub part_of : List Planned → ℕ → ℕ → Event → List Happening
 part_of calls made now event = happening_of event ∷ replicate (calls_before calls made now event) h.Call
 
--- what is left of an event, the newest first: its part, and nothing once it has happened
-abbrev pub left_of : List Planned → ℕ → ℕ → Option Event → List Happening
-left_of calls made now None = []
-left_of calls made now (Some event) = part_of calls made now event
+-- of an event's part a call comes next, where so many calls were made and this is the moment: one is left, and once it is
+-- made all the rest of the part is left
+pub record CallComes (calls : List Planned) (made now : ℕ) (event : Event) : Type 0 where
+  pub left : made < length calls
+  pub rest : part_of calls made now event ≡ part_of calls (made_after made h.Call) (moment_after now (slice_get calls made) h.Call) event ++ h.Call ∷ []
 
--- of what is left of an event, where so many calls were made and this is the moment, a happening comes next: it may
--- come, and once it has come all the rest is left
-pub record ComesNext (calls : List Planned) (made now : ℕ) (left : Option Event) (happening : Happening) (rest : Option Event) : Type 0 where
-  pub may : MayFrom calls made now happening
-  pub first : left_of calls made now left ≡ left_of calls (made_after made happening) (moment_after now (slice_get calls made) happening) rest ++ happening ∷ []
+-- the event itself comes next: it may come, and is all that is left of its part
+pub record EventComes (calls : List Planned) (made now : ℕ) (event : Event) : Type 0 where
+  pub may : MayFrom calls made now (happening_of event)
+  pub alone : part_of calls made now event ≡ happening_of event ∷ []
 
 -- the happenings of some events, the newest first
 abbrev pub flow : List Planned → List Event → List Happening

@@ -98,7 +98,6 @@ mod error;
 mod laws;
 mod limits;
 mod machine;
-mod part;
 mod policies;
 mod sought;
 mod tallies;
@@ -110,7 +109,6 @@ pub use error::CoreError;
 pub use laws::most_workers_is_the_limit;
 pub use limits::MOST_WORKERS;
 pub use machine::Core;
-pub use part::Part;
 pub use policies::Policies;
 pub use task::{Phase, Task};
 pub use types::{

@@ -18,11 +18,10 @@ mod workers;
 use crate::agenda::Agenda;
 use crate::error::CoreError;
 use crate::limits::MOST_WORKERS;
-use crate::part::Part;
 use crate::policies::Policies;
 use crate::sought::Sought;
 use crate::tasks::Tasks;
-use crate::types::{Event, Line};
+use crate::types::{Event, Happening, Line};
 use delay_queue::DelayQueue;
 use queue_code::Code;
 use std::alloc::{AllocError, Allocator};
@@ -118,8 +117,8 @@ impl<A: Allocator> Core<A> {
         self.tasks.words()
     }
 
-    /// Takes an event: makes the calls that an accepted clock reaches, then answers it. It is [counted](Core::count), and each
-    /// happening of its [part](Part) [happens](Core::happen).
+    /// Takes an event: makes the calls that an accepted clock reaches, then answers it. It is [counted](Core::count), and as
+    /// long as it [reaches a call](Core::reaches_call) that call [happens](Core::happen), and then the event does.
     ///
     /// The lines of the answers are added to `out`, the oldest first. The answer is
     /// [`CoreError::Full`] exactly when as many events were taken as the limit allows. It is
@@ -154,10 +153,10 @@ impl<A: Allocator> Core<A> {
             return Err(CoreError::Memory);
         }
         self.count();
-        let mut part = Part::of(event);
-        while let Some(happening) = part.next(self) {
-            self.happen(happening, out);
+        while self.reaches_call(event) {
+            self.happen(Happening::Call, out);
         }
+        self.happen(event.happening(), out);
         Ok(())
     }
 

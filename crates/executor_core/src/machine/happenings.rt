@@ -1,7 +1,6 @@
 //! One happening of any kind: whether it may come, what it moves of the words, and its step.
-ghost use Rattle.std.specs.Prelude.{◌≡◌, ◌+◌, ◌≤◌, ◌↔◌, [], ◌∷◌, true, false, Some, None, IsTrue, vec_len, vec_capacity};
-ghost use Rattle.executor_core.specs.declared.types.Happening.TheVariants as happening;
-ghost use Rattle.executor_core.specs.Flows.{happening_of, ComesNext};
+ghost use Rattle.std.specs.Prelude.{◌≡◌, ◌+◌, ◌≤◌, ◌↔◌, [], ◌∷◌, true, false, IsTrue, vec_len, vec_capacity};
+ghost use Rattle.executor_core.specs.Flows.{happening_of, CallComes, EventComes};
 ghost use Rattle.executor_core.specs.Histories.{MayFrom, is_call};
 ghost use Rattle.executor_core.specs.Needs.{need_of};
 
@@ -25,13 +24,23 @@ impl<A: Allocator> Core<A> {
         }
     }
 
-    /// Whether a call of the plan comes before this event: it is a clock that is accepted, and reaches a call that is not made
-    /// yet.
+    /// Whether a call of the plan comes next, before this event: it is a clock that is accepted, and reaches a call that is not
+    /// made yet. Where none does, the event itself [may come](Core::may_come).
+    ///
+    /// So an event's part is this, and other happenings but events may come between two of it:
+    ///
+    /// ```rust
+    /// core.count();
+    /// while core.reaches_call(event) {
+    ///     core.happen(Happening::Call, &mut lines);
+    /// }
+    /// core.happen(event.happening(), &mut lines);
+    /// ```
     #[inline(always)]
-    pub(crate) fn reaches_call(&self, event: Event) -> bool
+    pub fn reaches_call(&self, event: Event) -> bool
         ensures comes { (result ≡ false) ↔ MayFrom self.now.calls self.now.made self.now.moment (happening_of event) }
-        ensures call { IsTrue result → ComesNext self.now.calls self.now.made self.now.moment (Some event) happening.Call (Some event) }
-        ensures event { result ≡ false → ComesNext self.now.calls self.now.made self.now.moment (Some event) (happening_of event) None }
+        ensures call { IsTrue result → CallComes self.now.calls self.now.made self.now.moment event }
+        ensures event { result ≡ false → EventComes self.now.calls self.now.made self.now.moment event }
     {
         let Event::Clock(moment) = event else {
             return false;
