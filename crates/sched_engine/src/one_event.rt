@@ -1,15 +1,16 @@
 //! One event: the calls of the plan that it reaches, and then the event itself, each with its lines given out before the next
 //! happens.
-ghost use Rattle.std.specs.Prelude.{◌≡◌, ◌<◌, ◌≤◌, [], IfNone, IfSome, vec_capacity};
+ghost use Rattle.std.specs.Prelude.{◌≡◌, ◌+◌, ◌<◌, ◌≤◌, [], ◌∷◌, true, IfNone, IfSome, vec_capacity};
 ghost use Rattle.queue_code.specs.Calls.{IsOrderly};
 ghost use Rattle.executor_core.specs.Flows.{part_of};
-ghost use Rattle.executor_core.specs.Machine.{room_of};
+ghost use Rattle.executor_core.specs.Histories.{MayFrom, is_call};
+ghost use Rattle.executor_core.specs.Machine.{IsCounted, Steps, room_of};
 ghost use Rattle.sched_engine.specs.Ends.{CountsTry};
-ghost use Rattle.sched_engine.specs.Turns.{CutsSteps, TakesEvent};
+ghost use Rattle.sched_engine.specs.Turns.{CutsSteps, GivesSteps, TakesEvent, answers_to};
 
 use crate::draft::Draft;
 use crate::ends::Sink;
-use executor_core::{Core, Event, Line, Part};
+use executor_core::{Core, Event, Happening, Line};
 use std::alloc::Allocator;
 
 /// Takes an event and gives out the text of its lines: first, for a clock, that of each call that it reaches. So no more lines
@@ -36,15 +37,44 @@ pub fn answer_event<A: Allocator, W: Sink>(
     ensures counts { CountsTry result (W.failed writer.old) (W.fruitless writer.old) (W.failed writer.new) (W.fruitless writer.new) }
 {
     core.count();
-    let mut part = Part::of(event);
     let mut count = 0;
-    while let Some(happening) = part.next(core) {
-        core.happen(happening, lines);
-        if !draft.give_lines(lines, writer) {
-            return None;
-        }
-        count += lines.len() as u64;
-        lines.clear();
+    while core.reaches_call(event) {
+        count += give(core, Happening::Call, lines, draft, writer)?;
     }
+    let own = give(core, event.happening(), lines, draft, writer)?;
+    Some(count + own)
+}
+
+/// A happening comes, and the text of its lines is given out. The answer is the number of the lines. `None` is a fault of the
+/// sink, after a front of that text was written.
+#[inline(always)]
+fn give<A: Allocator, W: Sink>(
+    core: &mut Core<A>,
+    happening: Happening,
+    lines: &mut Vec<Line, A>,
+    draft: &mut Draft<A>,
+    writer: &mut W,
+) -> Option<u64>
+    requires comes { MayFrom core.old.calls core.old.made core.old.moment happening }
+    requires counted { IsCounted core.old }
+    requires clear { lines.old.items ≡ [] }
+    requires room { room_of core.old ≤ vec_capacity lines.old }
+    ensures steps { Steps core.old core.new [] (answers_to core.old (happening ∷ [])) (happening ∷ []) }
+    ensures gives { IfSome result (λ count. GivesSteps core.old core.new (happening ∷ []) (record { contents = W.contents writer.old; text = draft.old }) (record { contents = W.contents writer.new; text = draft.new }) count) }
+    ensures cut { IfNone result (CutsSteps core.old (happening ∷ []) (record { contents = W.contents writer.old; text = draft.old }) (W.contents writer.new)) }
+    ensures room { IfSome result (λ count. is_call happening ≡ true → count + room_of core.new ≤ room_of core.old) }
+    ensures few { IfSome result (λ count. count ≤ room_of core.old) }
+    ensures counted { is_call happening ≡ true → IsCounted core.new }
+    ensures taken { core.new.taken ≡ core.old.taken }
+    ensures clear { IfSome result (λ _. lines.new.items ≡ []) }
+    ensures capacity { vec_capacity lines.new ≡ vec_capacity lines.old }
+    ensures counts { CountsTry result (W.failed writer.old) (W.fruitless writer.old) (W.failed writer.new) (W.fruitless writer.new) }
+{
+    core.happen(happening, lines);
+    if !draft.give_lines(lines, writer) {
+        return None;
+    }
+    let count = lines.len() as u64;
+    lines.clear();
     Some(count)
 }
