@@ -1,5 +1,5 @@
 -- Events that are answered by an error: they change nothing but the number of events taken.
-use Rattle.std.proofs.Common.{suc, ◌≡◌, ℕ, ◌+◌, ◌^◌, ◌&&◌, ◌||◌, nat_lt, nat_le, Bool, true, false, cond, List, [], ◌∷◌, ◌++◌, length, Option, Some, None, refl, ap, ◌∙◌, arith}
+use Rattle.std.proofs.Common.{suc, ◌≡◌, ℕ, ◌+◌, ◌^◌, ◌&&◌, ◌||◌, nat_lt, nat_le, Bool, true, false, cond, List, [], ◌∷◌, ◌++◌, length, Option, Some, None, refl, sym, ap, ◌∙◌, arith}
 use Rattle.std.specs.Prelude.{slice_get, slice_index_or, max, replicate}
 use Rattle.std.specs.Option.{option_map_or}
 use Rattle.std.proofs.lemmas.Bool.Decides.{nat_tests}
@@ -17,7 +17,8 @@ use Rattle.executor_core.specs.declared.types.Answer.TheVariants as a
 use Rattle.executor_core.specs.declared.types.Refusal.TheVariants as refusal
 use Rattle.queue_code.specs.Calls.{Planned, terms_of, due_at}
 use Rattle.executor_core.specs.View.{View}
-use Rattle.executor_core.specs.Answers.{plain, called, kind_of, swept, is_accepted, moment_after}
+use Rattle.executor_core.specs.OwnSteps.{Takes}
+use Rattle.executor_core.specs.Answers.{Reply, plain, called, kind_of, swept, is_accepted, moment_after}
 use Rattle.executor_core.specs.Histories.{is_call, cancels, kept_after, policies_after, is_shutdown, work_after}
 use Rattle.executor_core.specs.State.{State, vacant, view_of_state, move_task, state_after, reply_of, next, after_from}
 use Rattle.executor_core.specs.Flows.{happening_of, reached, calls_before, part_of, lines_at, lines_from}
@@ -82,6 +83,17 @@ errors_change_nothing calls workers s (h.Clock t) error q =
 errors_change_nothing calls workers s (h.Start w) error q = unmoved calls s (h.Start w) (reply_of calls workers s (h.Start w)).answer error q refl refl
 errors_change_nothing calls workers s (h.Finish w ending) error q = unmoved calls s (h.Finish w ending) (reply_of calls workers s (h.Finish w ending)).answer error q refl refl
 errors_change_nothing calls workers s (h.Cancel k) error q = unmoved calls s (h.Cancel k) (reply_of calls workers s (h.Cancel k)).answer error q refl refl
+
+-- a core that answers by an error takes the step of what it answered
+pub error_takes : (m : Machine) (happening : Happening) (error : EventError) → reply_of m.calls (workers_of m) (state_of m) happening ≡ plain (a.Error error) → Takes m m happening (a.Error error)
+error_takes m happening error said = record {
+  calls = refl;
+  limit = refl;
+  taken = refl;
+  workers = refl;
+  state = sym (errors_change_nothing m.calls (workers_of m) (state_of m) happening error (ap (λ (r : Reply). r.answer) said));
+  said = said;
+}
 
 -- no call is made before an event that is answered by an error
 none_before : (calls : List Planned) (workers : ℕ) (s : State) (event : Event) (error : EventError) → (reply_of calls workers s (happening_of event)).answer ≡ a.Error error → calls_before calls s.made s.moment event ≡ 0

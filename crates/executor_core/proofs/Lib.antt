@@ -21,6 +21,8 @@ pub mod Opens
 pub mod Rooms
 pub mod Needing
 pub mod Events
+pub mod Parts
+pub mod RunNumbers
 pub mod Errors
 pub mod Within
 pub mod Sweeping

@@ -1,5 +1,5 @@
 -- What steps move of the words, and whether a task is due.
-use Rattle.std.proofs.Common.{◌≡◌, ℕ, ◌<◌, ◌≤◌, ◌==◌, ◌&&◌, ◌||◌, nat_le, nat_lt, Bool, true, false, cond, List, Option, Some, None, is_some, inl, inr, ◌⊎◌, refl, sym, ap, ◌∙◌, arith, subst}
+use Rattle.std.proofs.Common.{◌≡◌, ℕ, ◌<◌, ◌≤◌, ◌==◌, ◌&&◌, ◌||◌, nat_le, nat_lt, Bool, true, false, cond, List, length, Option, Some, None, is_some, inl, inr, ◌⊎◌, refl, sym, ap, ◌∙◌, arith, subst}
 use Rattle.std.specs.Prelude.{slice_get, slice_index_or, IfSome, IfNone}
 use Rattle.std.specs.Option.{option_map_or}
 use Rattle.std.proofs.lemmas.Bool.{false≢true, eqb-true}
@@ -17,6 +17,8 @@ use Rattle.executor_core.specs.declared.task.Task.{Task}
 use Rattle.executor_core.specs.declared.types.Answer.TheVariants as a
 use Rattle.executor_core.specs.declared.types.Happening.{Happening}
 use Rattle.executor_core.specs.declared.types.Happening.TheVariants as h
+use Rattle.executor_core.specs.declared.types.CancelEffect.{CancelEffect}
+use Rattle.executor_core.specs.declared.types.EventError.TheVariants as x
 use Rattle.executor_core.specs.declared.types.Outcome.{Outcome}
 use Rattle.executor_core.specs.declared.types.Need.{Need}
 use Rattle.executor_core.specs.declared.types.Need.TheVariants as n
@@ -24,7 +26,7 @@ use Rattle.executor_core.specs.View.{is_waiting}
 use Rattle.executor_core.specs.Answers.{plain, called, effect_on, setting_sweeps, is_queued, is_swept, is_ended_by, swept}
 use Rattle.executor_core.specs.Histories.{is_end}
 use Rattle.executor_core.specs.State.{vacant, seen_task, seen_phase, due_seen, due_past, view_of_state}
-use Rattle.executor_core.specs.Flows.{AreMade}
+use Rattle.executor_core.specs.Histories.{AreMade}
 use Rattle.executor_core.specs.Tables.{waits_with}
 use Rattle.executor_core.specs.Needs.{need_of, need_of_answer, need_of_cancel, need_of_finish, IsRipe}
 use Rattle.executor_core.specs.Machine.{Machine, workers_of, state_of}
@@ -82,6 +84,18 @@ all_made calls made t p orderly is later i q there l =
   where
     le-ltb' : (a b : ℕ) → b < a → nat_le a b ≡ false
     le-ltb' a b l = grind (arith, nat_tests)
+
+-- ---- what a cancel from outside moves
+
+-- of a task of the plan, on which it has this effect
+pub cancel_needs : (m old : Machine) (k : ℕ) (effect : CancelEffect) → m ≡ old → length m.tasks ≡ task_count m.calls → k < length m.tasks →
+    effect ≡ effect_on (seen_task (terms_of m.calls k) (slice_index_or m.tasks k vacant)) → need_of_cancel k effect ≡ need_of old.calls (workers_of old) (state_of old) (h.Cancel k)
+cancel_needs m old k effect same count low is =
+    let task : nat_lt k (task_count m.calls) ≡ true = grind (arith, nat_tests, count, low) in
+    let said : need_of_cancel k effect ≡ need_of m.calls (workers_of m) (state_of m) (h.Cancel k) =
+    ap (need_of_cancel k) is ∙ ap (λ b. need_of_answer m.shut (cond b (a.Outside k (effect_on (seen_task (terms_of m.calls k) (slice_index_or m.tasks k vacant)))) (a.Error x.NoTask))) (sym task)
+    in
+    said ∙ ap (λ (o : Machine). need_of o.calls (workers_of o) (state_of o) (h.Cancel k)) same
 
 -- ---- what a start and a finish move
 

@@ -132,7 +132,7 @@ read_at (y ∷ xs) zero x d l q = q
 read_at (y ∷ xs) (suc i) x d l q = read_at xs i x d (omega arith) q
 
 -- an option without a value is none
-pub none_of : (o : Option ℕ) → false ≡ is_some o → o ≡ None
+pub none_of : {X : Type 0} (o : Option X) → false ≡ is_some o → o ≡ None
 none_of None q = refl
 none_of (Some x) q = absurd (false≢true q)
 

@@ -1,6 +1,6 @@
 -- Which happenings some events make, and the lines of a history.
 -- All of it is this project's rule.
-use Rattle.std.specs.Prelude.{◌≡◌, ℕ, ◌+◌, ◌<◌, ◌≤◌, Some, slice_get, length, nat_le, if◌then◌else◌, List, [], ◌∷◌, ◌++◌, replicate, map, drop}
+use Rattle.std.specs.Prelude.{◌≡◌, ℕ, ◌+◌, ◌<◌, Option, Some, None, slice_get, length, nat_le, if◌then◌else◌, List, [], ◌∷◌, ◌++◌, replicate, map, drop}
 use Rattle.executor_core.specs.declared.types.Event.{Event}
 use Rattle.executor_core.specs.declared.types.Event.TheVariants as v
 use Rattle.executor_core.specs.declared.types.Happening.{Happening}
@@ -9,8 +9,8 @@ use Rattle.executor_core.specs.declared.types.Answer.{Answer}
 use Rattle.executor_core.specs.declared.types.Line.{Line}
 use Rattle.executor_core.specs.declared.types.Message.TheVariants as m
 use Rattle.queue_code.specs.Calls.{Planned, how_many}
-use Rattle.executor_core.specs.Answers.{Reply, is_accepted}
-use Rattle.executor_core.specs.Histories.{HistoryEntry, happenings, made, now_of, answer, entry_of}
+use Rattle.executor_core.specs.Answers.{Reply, is_accepted, moment_after}
+use Rattle.executor_core.specs.Histories.{HistoryEntry, happenings, made, made_after, now_of, answer, entry_of, MayFrom}
 use Rattle.executor_core.specs.State.{State, after_from, next, reply_of}
 
 -- an event as a happening: the clock shows a moment, a worker asks for work, a worker has run its task, or a task
@@ -29,10 +29,6 @@ reached calls made moment = how_many (λ p. nat_le p.0 moment) (drop made calls)
 abbrev pub ReachesNext : List Planned → ℕ → ℕ → Type 0
 ReachesNext calls made moment = (made < length calls) × (reached calls made moment ≡ 1 + reached calls (made + 1) moment)
 
--- each call with a moment of at most this one was made
-abbrev pub AreMade : List Planned → ℕ → ℕ → Type 0
-AreMade calls made moment = (n : ℕ) (p : Planned) → slice_get calls n ≡ Some p → p.0 ≤ moment → n < made
-
 -- how many calls are made just before an event: those that an accepted clock reaches
 -- (this project's rule: before an accepted clock all calls with a moment of at most its own are made,
 -- in their order)
@@ -43,6 +39,17 @@ calls_before calls made now _ = 0
 -- the happenings of one event, the newest first
 abbrev pub part_of : List Planned → ℕ → ℕ → Event → List Happening
 part_of calls made now event = happening_of event ∷ replicate (calls_before calls made now event) h.Call
+
+-- what is left of an event, the newest first: its part, and nothing once it has happened
+abbrev pub left_of : List Planned → ℕ → ℕ → Option Event → List Happening
+left_of calls made now None = []
+left_of calls made now (Some event) = part_of calls made now event
+
+-- of what is left of an event, where so many calls were made and this is the moment, a happening comes next: it may
+-- come, and once it has come all the rest is left
+pub record ComesNext (calls : List Planned) (made now : ℕ) (left : Option Event) (happening : Happening) (rest : Option Event) : Type 0 where
+  pub may : MayFrom calls made now happening
+  pub first : left_of calls made now left ≡ left_of calls (made_after made happening) (moment_after now (slice_get calls made) happening) rest ++ happening ∷ []
 
 -- the happenings of some events, the newest first
 abbrev pub flow : List Planned → List Event → List Happening

@@ -1,7 +1,7 @@
 -- What the happenings of a history are answered, by counting in what stands before each of them.
 -- A history is a list of entries, the newest first: what stands before an entry is the rest of the list
 -- behind it. Counting in a history is this project's rule, and so is all that is said here.
-use Rattle.std.specs.Prelude.{◌≡◌, ℕ, ◌<◌, ◌≤◌, ◌==◌, ◌&&◌, ◌||◌, not, nat_le, Bool, true, false, if◌then◌else◌, List, [], ◌∷◌, length, map, Option, Some, None, slice_get}
+use Rattle.std.specs.Prelude.{◌≡◌, ℕ, ◌+◌, ◌<◌, ◌≤◌, ◌==◌, ◌&&◌, ◌||◌, not, nat_le, Bool, true, false, if◌then◌else◌, List, [], ◌∷◌, length, map, Option, Some, None, slice_get}
 use Rattle.std.specs.List.{list_any}
 use Rattle.executor_core.specs.declared.policies.Policies.{Policies}
 use Rattle.executor_core.specs.declared.types.Happening.{Happening}
@@ -37,6 +37,10 @@ happenings past = map (λ e. e.happening) past
 abbrev pub is_call : Happening → Bool
 is_call h.Call = true
 is_call _ = false
+
+-- how many calls were made after a happening, by how many were made before it
+abbrev pub made_after : ℕ → Happening → ℕ
+made_after made happening = if is_call happening then 1 + made else made
 
 -- how many calls were made
 abbrev pub made : List Happening → ℕ
@@ -231,13 +235,21 @@ view_of_history calls past = view_with calls past (λ k. is_kept calls past k)
 abbrev pub answer : List Planned → ℕ → List HistoryEntry → Happening → Reply
 answer calls workers past happening = reply calls workers (view_of_history calls past) happening
 
--- what may happen after a history: an accepted clock finds each call made whose moment it has reached,
--- and a call needs one that is not made yet
+-- each call with a moment of at most this one was made
+abbrev pub AreMade : List Planned → ℕ → ℕ → Type 0
+AreMade calls made moment = (n : ℕ) (p : Planned) → slice_get calls n ≡ Some p → p.0 ≤ moment → n < made
+
+-- what may come where so many calls were made and this is the moment: an accepted clock finds each call made whose
+-- moment it has reached, a call needs one that is not made yet, and all else may come
+-- (which numbers a happening names, as that of a worker, is not looked at here: the table answers each)
+abbrev pub MayFrom : List Planned → ℕ → ℕ → Happening → Type 0
+MayFrom calls made now h.Call = made < length calls
+MayFrom calls made now (h.Clock moment) = is_accepted now moment ≡ true → AreMade calls made moment
+MayFrom calls made now _ = Unit {0}
+
+-- what may come after some happenings
 abbrev pub MayCome : List Planned → List Happening → Happening → Type 0
-MayCome calls past h.Call = made past < length calls
-MayCome calls past (h.Clock moment) = is_accepted (now_of calls past) moment ≡ true
-    → (n : ℕ) (p : Planned) → slice_get calls n ≡ Some p → p.0 ≤ moment → n < made past
-MayCome calls past _ = Unit {0}
+MayCome calls past happening = MayFrom calls (made past) (now_of calls past) happening
 
 -- the happenings are a flow of the calls, and each answer is the one that it has to be
 abbrev pub IsHistoryOf : List Planned → ℕ → List HistoryEntry → Type 0

@@ -1,19 +1,17 @@
 -- What contracts see of an executor's core, and the state and history in which it stands.
 -- All of it is this project's rule.
-use Rattle.std.specs.Prelude.{◌≡◌, ℕ, ◌+◌, ◌-◌, ◌<◌, Bool, true, List, [], ◌∷◌, ◌++◌, length, Option, None, slice_index_or}
+use Rattle.std.specs.Prelude.{◌≡◌, ℕ, ◌+◌, ◌-◌, ◌<◌, ◌≤◌, Bool, List, [], ◌∷◌, ◌++◌, length, Option, None, slice_index_or}
 use Rattle.executor_core.specs.declared.policies.Policies.{Policies}
 use Rattle.executor_core.specs.declared.types.Event.{Event}
-use Rattle.executor_core.specs.declared.types.Event.TheVariants as v
 use Rattle.executor_core.specs.declared.types.Happening.{Happening}
 use Rattle.executor_core.specs.declared.types.Line.{Line}
 use Rattle.executor_core.specs.declared.types.EventError.{EventError}
 use Rattle.executor_core.specs.declared.types.Answer.TheVariants as a
 use Rattle.executor_core.specs.declared.task.Task.{Task}
-use Rattle.queue_code.specs.Calls.{Planned}
-use Rattle.executor_core.specs.Answers.{is_accepted}
+use Rattle.queue_code.specs.Calls.{Planned, task_count}
 use Rattle.executor_core.specs.Histories.{HistoryEntry, happenings, IsHistoryOf, MayCome}
 use Rattle.executor_core.specs.State.{State, vacant, after, after_from, reply_of}
-use Rattle.executor_core.specs.Flows.{AreMade, happening_of, part_of, history_from, answer_line, lines_of, lines_from}
+use Rattle.executor_core.specs.Flows.{happening_of, part_of, history_from, answer_line, lines_of, lines_from}
 use Rattle.executor_core.specs.Tasks.{uncancelled_in}
 
 -- what contracts see of a core: its plan's calls, how many of them it made, the moment, its two tables, its policies,
@@ -101,10 +99,18 @@ abbrev pub ContinuesAny : Machine → Machine → List Line → List Line → Ha
 ContinuesAny old new before after_lines happening = (past : List HistoryEntry) → IsHistoryOf old.calls (workers_of old) past → Stands old past
     → MayCome old.calls (happenings past) happening → ContinuesWith old new before after_lines (happening ∷ []) past
 
--- no call is left that is made before an event: where it is an accepted clock, each one that it reaches was made
-abbrev pub NoneIsLeft : Machine → Event → Type 0
-NoneIsLeft m (v.Clock moment) = is_accepted m.moment moment ≡ true → AreMade m.calls m.made moment
-NoneIsLeft m _ = Unit {0}
+-- what each single happening leaves: the count of events taken, one task for each submission, and no more lines to come than
+-- before, within which its own lines are
+pub record Leaves (old new : Machine) (lines_before lines_after : ℕ) : Type 0 where
+  pub taken : new.taken ≡ old.taken
+  pub tasks : length new.tasks ≡ task_count new.calls
+  pub room : room_of new ≤ room_of old
+  pub few : lines_after ≤ lines_before + room_of old
+
+-- lines were added within the room that is given up for them, of which the happening itself takes one
+pub record GivesRoom (old new : Machine) (lines_before lines_after : ℕ) : Type 0 where
+  pub lines : lines_after + room_of new ≤ lines_before + room_of old
+  pub less : room_of new + 1 ≤ room_of old
 
 -- the number of each run is below the number of events taken, as it is once an event is counted
 abbrev pub IsCounted : Machine → Type 0

@@ -17,7 +17,7 @@ use Rattle.executor_core.specs.declared.task.Task.{Task}
 use Rattle.queue_code.specs.Calls.{Planned, Terms, terms_of, due_at}
 use Rattle.executor_core.specs.View.{Fate, View}
 use Rattle.executor_core.specs.Answers.{Reply, reply, moment_after, default_policies}
-use Rattle.executor_core.specs.Histories.{is_call, cancels, kept_after, policies_after, is_shutdown, work_after}
+use Rattle.executor_core.specs.Histories.{made_after, cancels, kept_after, policies_after, is_shutdown, work_after}
 
 -- how many calls were made, the moment, each task by its number, the task of each worker that works, the policies,
 -- and whether a shutdown call was made
@@ -157,7 +157,7 @@ task_after calls s r k = record (move_task (terms_of calls k).timing s.moment k 
 -- the state after a happening that has such a reply
 abbrev pub state_after : List Planned → State → Happening → Reply → State
 state_after calls s happening r = record {
-  made = if is_call happening then 1 + s.made else s.made;
+  made = made_after s.made happening;
   moment = moment_after s.moment (slice_get calls s.made) happening;
   tasks = λ k. task_after calls s r k;
   workers = λ w. work_after w r.answer (s.workers w);

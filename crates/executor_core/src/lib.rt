@@ -98,6 +98,7 @@ mod error;
 mod laws;
 mod limits;
 mod machine;
+mod part;
 mod policies;
 mod sought;
 mod tallies;
@@ -109,6 +110,7 @@ pub use error::CoreError;
 pub use laws::most_workers_is_the_limit;
 pub use limits::MOST_WORKERS;
 pub use machine::Core;
+pub use part::Part;
 pub use policies::Policies;
 pub use task::{Phase, Task};
 pub use types::{

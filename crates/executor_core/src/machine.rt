@@ -1,17 +1,16 @@
-ghost use Rattle.std.specs.Prelude.{◌≡◌, ◌+◌, ◌-◌, ◌<◌, ◌≤◌, ◌↔◌, ◌⊎◌, List, [], ◌∷◌, true, length, map, None, Option, OnOk, OnErr, IsOk, IfOk, IfErr, IsErrOf, IsTrue, false, vec_len, vec_capacity};
-ghost use Rattle.executor_core.specs.declared.types.Happening.TheVariants as happening;
-ghost use Rattle.queue_code.specs.declared.call.CodeCall.TheVariants as call;
+ghost use Rattle.std.specs.Prelude.{◌≡◌, ◌+◌, ◌^◌, ◌<◌, ◌≤◌, ◌↔◌, ◌⊎◌, List, length, map, OnOk, OnErr, IsOk, IfOk, IfErr, IsErrOf, IsTrue, false, vec_len, vec_capacity};
 ghost use Rattle.queue_code.specs.Calls.{task_count};
 ghost use Rattle.queue_code.specs.Codes.{calls_of};
 ghost use Rattle.executor_core.specs.Histories as histories;
 ghost use Rattle.sched_time.specs.Times.{longest};
 ghost use Rattle.executor_core.specs.Tasks.{word_of};
 ghost use Rattle.executor_core.specs.Counts.{IsWorkerCount};
-ghost use Rattle.executor_core.specs.Answers.{is_accepted};
-ghost use Rattle.executor_core.specs.Flows.{happening_of, part_of, AreMade};
+ghost use Rattle.executor_core.specs.Flows.{part_of};
 
 mod calls;
 mod cancels;
+mod clocks;
+mod happenings;
 mod needs;
 mod sweeps;
 mod workers;
@@ -19,13 +18,13 @@ mod workers;
 use crate::agenda::Agenda;
 use crate::error::CoreError;
 use crate::limits::MOST_WORKERS;
+use crate::part::Part;
 use crate::policies::Policies;
 use crate::sought::Sought;
 use crate::tasks::Tasks;
-use crate::types::{Answer, Event, EventError, Line, Message};
+use crate::types::{Event, Line};
 use delay_queue::DelayQueue;
 use queue_code::Code;
-use sched_time::LONGEST;
 use std::alloc::{AllocError, Allocator};
 use std::marker::Model;
 use task_word::Word;
@@ -62,8 +61,7 @@ impl<A: Allocator> Model for Core<A> {
 }
 
 impl<A: Allocator> Core<A> {
-    ghost use Rattle.executor_core.specs.Machine.{workers_of, room_of, Counts, IsCounted, NoneIsLeft, Steps, Stands, Continues, ContinuesAny, ErrorOnlyCounts, IsOpening};
-    ghost use Rattle.executor_core.specs.OwnSteps.{Takes};
+    ghost use Rattle.executor_core.specs.Machine.{workers_of, room_of, Counts, IsCounted, Steps, Stands, Continues, ErrorOnlyCounts, IsOpening};
 
     /// A core before anything happened, for the calls of a code.
     ///
@@ -98,7 +96,8 @@ impl<A: Allocator> Core<A> {
 
     /// How many events were taken.
     pub fn taken(&self) -> u32
-        ensures { result ≡ self.now.taken }
+        ensures value { result ≡ self.now.taken }
+        ensures limit { self.now.taken < 2 ^ 32 }
     {
         self.taken
     }
@@ -119,7 +118,8 @@ impl<A: Allocator> Core<A> {
         self.tasks.words()
     }
 
-    /// Takes an event: makes the calls that an accepted clock reaches, then answers it.
+    /// Takes an event: makes the calls that an accepted clock reaches, then answers it. It is [counted](Core::count), and each
+    /// happening of its [part](Part) [happens](Core::happen).
     ///
     /// The lines of the answers are added to `out`, the oldest first. The answer is
     /// [`CoreError::Full`] exactly when as many events were taken as the limit allows. It is
@@ -153,9 +153,11 @@ impl<A: Allocator> Core<A> {
         if make_room(out, self.room()).is_err() {
             return Err(CoreError::Memory);
         }
-        self.make_calls_before(event, out);
         self.count();
-        self.happen(event, out);
+        let mut part = Part::of(event);
+        while let Some(happening) = part.next(self) {
+            self.happen(happening, out);
+        }
         Ok(())
     }
 
@@ -174,6 +176,7 @@ impl<A: Allocator> Core<A> {
         requires { self.old.taken < self.old.limit }
         ensures same { Counts self.old self.new }
         ensures runs { IsCounted self.new }
+        ensures limit { self.new.taken < 2 ^ 32 }
     {
         self.taken += 1;
     }
@@ -184,62 +187,6 @@ impl<A: Allocator> Core<A> {
         ensures { result ≡ room_of self.now }
     {
         1 + self.calls.left() + self.tasks.uncancelled()
-    }
-
-    /// An event happens, once the calls before it were made and it was counted.
-    #[inline(always)]
-    fn happen<B: Allocator>(&mut self, event: Event, out: &mut Vec<Line, B>)
-        requires counted { IsCounted self.old }
-        requires calls { NoneIsLeft self.old event }
-        requires room { vec_len out.old + room_of self.old ≤ vec_capacity out.old }
-        ensures steps { Steps self.old self.new out.old.items out.new.items (happening_of event ∷ []) }
-        ensures tasks { length self.new.tasks ≡ task_count self.new.calls }
-        ensures taken { self.new.taken ≡ self.old.taken }
-        ensures capacity { vec_capacity out.new ≡ vec_capacity out.old }
-    {
-        match event {
-            Event::Clock(moment) => self.move_clock(moment, out),
-            Event::Start(worker) => self.start(worker, out),
-            Event::Finish(worker, ending) => self.finish(worker, ending, out),
-            Event::Cancel(task) => self.cancel(task, out),
-        }
-    }
-
-    /// The clock shows a moment, in nanoseconds: it is moved there, unless it would go back or pass 2^62. Its line is
-    /// added, for which `out` has room.
-    ///
-    /// Where the clock is moved, no call with a moment of at most this one may be left.
-    #[inline(always)]
-    pub fn move_clock<B: Allocator>(&mut self, moment: u64, out: &mut Vec<Line, B>)
-        requires calls { is_accepted self.old.moment moment ≡ true → AreMade self.old.calls self.old.made moment }
-        requires room { vec_len out.old + room_of self.old ≤ vec_capacity out.old }
-        ensures steps { Steps self.old self.new out.old.items out.new.items (happening.Clock moment ∷ []) }
-        ensures history { ContinuesAny self.old self.new out.old.items out.new.items (happening.Clock moment) }
-        ensures tasks { length self.new.tasks ≡ task_count self.new.calls }
-        ensures taken { self.new.taken ≡ self.old.taken }
-        ensures room { (room_of self.new ≤ room_of self.old) × (vec_len out.new ≤ vec_len out.old + room_of self.old) }
-        ensures capacity { vec_capacity out.new ≡ vec_capacity out.old }
-    {
-        let answer = self.answer_clock(moment);
-        out.push_reserved(Line {
-            moment: self.moment,
-            message: Message::Answer(answer),
-        });
-    }
-
-    /// The clock shows a moment.
-    fn answer_clock(&mut self, moment: u64) -> Answer
-        ensures step { Takes self.old self.new (happening.Clock moment) result }
-        ensures size { length self.new.tasks ≡ length self.old.tasks }
-    {
-        if moment < self.moment {
-            return Answer::Error(EventError::Backward);
-        }
-        if moment > LONGEST {
-            return Answer::Error(EventError::TooFar);
-        }
-        self.moment = moment;
-        Answer::Clock
     }
 
     /// A core with tables for the tasks of a code and this many workers.

@@ -1,3 +1,6 @@
+ghost use Rattle.std.specs.Prelude.{◌≡◌};
+ghost use Rattle.executor_core.specs.Flows.{happening_of};
+
 use sched_time::{Ending, Which};
 
 /// What the outside reports to the executor.
@@ -26,6 +29,20 @@ pub enum Happening {
     Finish(u8, Ending),
     /// A cancel of this task is asked for from outside the plan.
     Cancel(u32),
+}
+
+impl Event {
+    /// The event as a happening.
+    pub fn happening(self) -> Happening
+        ensures { result ≡ happening_of self }
+    {
+        match self {
+            Event::Clock(moment) => Happening::Clock(moment),
+            Event::Start(worker) => Happening::Start(worker),
+            Event::Finish(worker, ending) => Happening::Finish(worker, ending),
+            Event::Cancel(task) => Happening::Cancel(task),
+        }
+    }
 }
 
 /// The kind of a task.

@@ -1,18 +1,16 @@
 -- Stepping: happenings one behind the other, each with its lines given out before the next.
 use Rattle.std.proofs.Common.{◌≡◌, ℕ, zero, suc, ◌+◌, ◌<◌, ◌≤◌, List, [], ◌∷◌, ◌++◌, ◌⊎◌, inl, inr, take, length, Option, refl, ap, ◌∙◌, sym, subst, arith, append-nil, length-append, take_all}
-use Rattle.std.specs.Prelude.{replicate}
 use Rattle.std.specs.Io.KnownBytes.{Appends}
 use Rattle.std.proofs.lemmas.Bool.{cases_lt}
 use Rattle.executor_core.specs.declared.Event.{Event}
 use Rattle.executor_core.specs.declared.Happening.{Happening}
-use Rattle.executor_core.specs.declared.Happening.TheVariants as h
 use Rattle.executor_core.specs.declared.Line.{Line}
 use Rattle.queue_code.specs.Calls.{IsOrderly}
 use Rattle.executor_core.specs.Flows.{part_of, lines_from}
 use Rattle.executor_core.specs.State.{after_from}
 use Rattle.executor_core.specs.Machine.{Machine, Counts, Steps, state_of, workers_of}
-use Rattle.executor_core.proofs.Events.{event_taken}
-use Rattle.executor_core.proofs.Flowing.{core_continues, lines_from-append, steps_then}
+use Rattle.executor_core.proofs.Events.{counted_once, uncounted}
+use Rattle.executor_core.proofs.Flowing.{core_continues, lines_from-append, no_steps, steps_then}
 use Rattle.trace_text.specs.Spelling.{lines_text}
 use Rattle.sched_engine.specs.Pieces.{Gives, Output}
 use Rattle.sched_engine.specs.Turns.{CutsSteps, GivesSteps, TakesEvent, answers_to}
@@ -87,33 +85,20 @@ cuts_then old mid new hs gs a b contents lines n so_far steps cut =
     ap lines_text both.1 ∙ (lines_text-append (answers_to old hs) lines ∙ sym (append-nil (first ++ lines_text lines))) in
     cut_on a b contents first (lines_text lines) [] (lines_text (answers_to old (gs ++ hs))) so_far.written all cut
 
--- ---- calls
-
--- this many calls, and then one more
-pub one_more : (n : ℕ) → h.Call ∷ replicate n h.Call ≡ replicate (n + 1) h.Call
-one_more n = let same : suc n ≡ n + 1 = omega arith in ap (λ k. replicate k h.Call) same
-
--- this many calls, and then more
-pub more_calls : (n m : ℕ) → replicate m h.Call ++ replicate n h.Call ≡ replicate (n + m) h.Call
-more_calls n zero = let same : n ≡ n + 0 = omega arith in ap (λ k. replicate k h.Call) same
-more_calls n (suc m) = let same : suc (n + m) ≡ n + suc m = omega arith in ap (λ l. h.Call ∷ l) (more_calls n m) ∙ ap (λ k. replicate k h.Call) same
-
 -- ---- an event
 
--- the steps of a core that counted an event are those of the core before
-pub uncounted : (mid counted new : Machine) (before lines : List Line) (hs : List Happening) → Counts mid counted → Steps counted new before lines hs → Steps mid new before lines hs
-uncounted mid counted new before lines hs one steps =
-    let there = subst (λ m. Steps m new before lines hs) one steps in
-    record { calls = there.calls; limit = there.limit; workers = there.workers; state = there.state; lines = there.lines }
+-- nothing was given out yet
+pub gives_nothing : (old counted : Machine) (a : Output) → Counts old counted → GivesSteps old counted [] a a 0
+gives_nothing old counted a one = record { steps = uncounted old counted counted [] [] [] one (no_steps counted []); written = gives_none a; counted = refl }
 
--- the calls before an event and then the event are what an event takes
-pub takes : (old mid counted new : Machine) (event : Event) (a b : Output) (n : ℕ) → IsOrderly old.calls → mid.taken ≡ old.taken → Counts mid counted → new.taken ≡ counted.taken →
+-- the happenings of its part are what an event takes
+pub takes : (old counted new : Machine) (event : Event) (a b : Output) (n : ℕ) → IsOrderly old.calls → Counts old counted → new.taken ≡ counted.taken →
     GivesSteps old new (part_of old.calls old.made old.moment event) a b n → TakesEvent old new event a b n
-takes old mid counted new event a b n orderly same one taken gives = record {
+takes old counted new event a b n orderly one taken gives = record {
   calls = gives.steps.calls;
   limit = gives.steps.limit;
   workers = gives.steps.workers;
-  taken = event_taken old mid counted new same one taken;
+  taken = counted_once old counted new one taken;
   lines = answers_to old (part_of old.calls old.made old.moment event);
   history = core_continues old new [] (answers_to old (part_of old.calls old.made old.moment event)) event orderly gives.steps;
   written = gives.written;

@@ -20,26 +20,9 @@ use Rattle.executor_core.specs.declared.types.Answer.TheVariants as a
 use Rattle.queue_code.specs.Calls.{Planned, terms_of, due_at, numbers, task_count}
 use Rattle.executor_core.specs.View.{View, first_enabled}
 use Rattle.executor_core.specs.Answers.{Reply, plain, kind_of, called, started, finished, outcome_in, stops_periodic, due_next, effect_on, swept, is_accepted, moment_after, reply}
-use Rattle.executor_core.specs.Histories.{is_call, made, now_of, MayCome}
+use Rattle.executor_core.specs.Histories.{is_call, MayFrom}
 use Rattle.executor_core.specs.declared.types.Line.{Line}
-use Rattle.trace_check.specs.Going.{MayFrom}
 use Rattle.trace_check.specs.Plain.{is_busy, plain_error, plain_ending, plain_answer}
-
--- what may come after a history may come by its calls made and its moment
-pub may_from : (calls : List Planned) (past : List Happening) (y : Happening) → MayCome calls past y → MayFrom calls (made past) (now_of calls past) y
-may_from calls past h.Call m = m
-may_from calls past (h.Clock moment) m = m
-may_from calls past (h.Start w) m = tt
-may_from calls past (h.Finish w ending) m = tt
-may_from calls past (h.Cancel k) m = tt
-
--- and the other way
-pub may_come : (calls : List Planned) (past : List Happening) (y : Happening) → MayFrom calls (made past) (now_of calls past) y → MayCome calls past y
-may_come calls past h.Call m = m
-may_come calls past (h.Clock moment) m = m
-may_come calls past (h.Start w) m = tt
-may_come calls past (h.Finish w ending) m = tt
-may_come calls past (h.Cancel k) m = tt
 
 -- a happening that the line of another one's reply names as its plain one, with what both have in common
 pub record Plainly (calls : List Planned) (workers : ℕ) (v : View) (lines : List Line) (y : Happening) (r : Reply) : Type 0 where

@@ -11,16 +11,15 @@ use Rattle.executor_core.specs.declared.types.Message.TheVariants as m
 use Rattle.queue_code.specs.Calls.{Planned}
 use Rattle.executor_core.specs.View.{View}
 use Rattle.executor_core.specs.Answers.{Reply, reply, moment_after}
-use Rattle.executor_core.specs.Histories.{happenings, view_of_history, now_of, answer}
+use Rattle.executor_core.specs.Histories.{happenings, view_of_history, now_of, answer, MayFrom}
 use Rattle.executor_core.specs.State.{State, view_of_state, next, reply_of}
 use Rattle.executor_core.specs.Flows.{answer_line, end_line, lines_at}
 use Rattle.executor_core.specs.Machine.{Machine, workers_of, state_of, Counts, Steps, IsOpening}
 use Rattle.executor_core.proofs.Agree.{after_agrees}
 use Rattle.trace_check.specs.Plain.{busy_by, plain_answer}
-use Rattle.trace_check.specs.Going.{Goes, IsNextAnswer, StandsNext, MayFrom}
+use Rattle.trace_check.specs.Going.{Goes, IsNextAnswer, StandsNext}
 use Rattle.trace_check.specs.Standing.{IsAt, IsStanding, TellBusy, most_named}
 use Rattle.trace_check.proofs.Splits.{ends_at, mains, owed_ends, same_said, goes_owed, goes_answered, goes_line_by_line}
-use Rattle.trace_check.proofs.Plainly.{may_from, may_come}
 
 -- the state of a check shows what the history shows
 seen_is : (calls : List Planned) (workers : ℕ) (s : State) (due lines : List Line) (flags : List Bool) (at : IsAt calls workers s due flags lines) → view_of_state calls s ≡ view_of_history calls at.goes.past
@@ -78,7 +77,7 @@ from_state calls workers s lines flags moment said at more =
     record {
       happening = h;
       plain = stands.plain;
-      comes = subst (λ (v : View). MayFrom calls v.made v.moment h) is (may_from calls (happenings at.goes.past) h stands.comes);
+      comes = subst (λ (v : View). MayFrom calls v.made v.moment h) is stands.comes;
       now = stands.now ∙ ap (λ (v : View). moment_after v.moment (slice_get calls v.made) h) is;
       answered = stands.answered ∙ ap (λ (v : View). (reply calls workers v h).answer) is;
     }
@@ -122,7 +121,7 @@ takes_answer calls workers s lines flags after_flags moment said h at plain may 
     let stands : IsNextAnswer calls workers lines at.goes.past moment said = record {
       happening = h;
       plain = sym plain;
-      comes = may_come calls (happenings at.goes.past) h (subst (λ (v : View). MayFrom calls v.made v.moment h) is may);
+      comes = subst (λ (v : View). MayFrom calls v.made v.moment h) is may;
       now = ap (λ (x : Line). x.moment) (sym same) ∙ same_now;
       answered = sym same_answer ∙ ap (λ (x : Reply). x.answer) same_reply;
     }

@@ -10,16 +10,16 @@ use Rattle.executor_core.specs.declared.types.Answer.TheVariants as a
 use Rattle.queue_code.specs.Calls.{Planned, IsOrderly, task_count, is_submission}
 use Rattle.executor_core.specs.View.{View}
 use Rattle.executor_core.specs.Answers.{Reply, reply, moment_after}
-use Rattle.executor_core.specs.Histories.{HistoryEntry, entry_of, happenings, is_call, view_of_history, now_of, answer, work_of, work_after, policies_after, is_shutdown, IsHistoryOf}
+use Rattle.executor_core.specs.Histories.{HistoryEntry, entry_of, happenings, is_call, view_of_history, now_of, answer, work_of, work_after, policies_after, is_shutdown, IsHistoryOf, MayFrom}
 use Rattle.executor_core.proofs.Flowing.{how_many-le}
 use Rattle.executor_core.proofs.Views.{view_after, fate_after, look_moves}
 use Rattle.executor_core.proofs.Within.{now_within}
 use Rattle.trace_check.specs.Plain.{is_busy, busy_by}
 use Rattle.executor_core.specs.Flows.{answer_line, end_line, lines_at, lines_of}
-use Rattle.trace_check.specs.Going.{Goes, AreWhole, IsNextAnswer, MayFrom}
+use Rattle.trace_check.specs.Going.{Goes, AreWhole, IsNextAnswer}
 use Rattle.trace_check.specs.Laws.{TracesGo}
 use Rattle.trace_check.proofs.Splits.{ends_at, turned_before, goes_owed, goes_answered}
-use Rattle.trace_check.proofs.Plainly.{may_from, may_come, plainly}
+use Rattle.trace_check.proofs.Plainly.{plainly}
 
 -- lines, the oldest first, behind others, the newest first
 abbrev pub behind : List Line → List Line → List Line
@@ -104,7 +104,7 @@ one_more calls workers past y few tasks within may alike =
     let next : IsNextAnswer calls workers alike.lines g.past now r.answer = record {
       happening = h;
       plain = as_plain.plain;
-      comes = may_come calls (happenings g.past) h (subst (λ (u : View). MayFrom calls u.made u.moment h) (sym alike.seen) as_plain.comes);
+      comes = subst (λ (u : View). MayFrom calls u.made u.moment h) (sym alike.seen) as_plain.comes;
       now = sym same_now;
       answered = ap (λ (s : Reply). s.answer) (sym same_reply);
     }
@@ -137,7 +137,7 @@ alike calls workers [] orderly few means = record {
 alike calls workers (e ∷ past) orderly few means =
     let tasks : task_count calls ≤ 65536 = omega (arith, how_many-le (λ (p : Planned). is_submission p.1) calls, orderly.0) in
     subst (λ x. Alike calls workers (x ∷ past)) (λ i. record { happening = e.happening; answer = sym means.2 i; ends = sym means.3 i })
-    (one_more calls workers past e.happening few tasks (now_within calls (happenings past) orderly) (may_from calls (happenings past) e.happening means.1) (alike calls workers past orderly few means.0))
+    (one_more calls workers past e.happening few tasks (now_within calls (happenings past) orderly) means.1 (alike calls workers past orderly few means.0))
 
 -- the lines of each history go, and are whole
 pub traces_go : TracesGo

@@ -1,14 +1,12 @@
 -- Which lines go: those that can stand at the front of a trace.
 -- Lines and histories stand the newest first. All of it is this project's rule.
-use Rattle.std.specs.Prelude.{◌≡◌, ℕ, ◌<◌, ◌≤◌, true, length, slice_get, List, [], ◌∷◌, ◌++◌, reverse, Some}
+use Rattle.std.specs.Prelude.{◌≡◌, ℕ, List, [], ◌∷◌, ◌++◌, reverse, Some}
 use Rattle.executor_core.specs.declared.types.Happening.{Happening}
-use Rattle.executor_core.specs.declared.types.Happening.TheVariants as h
 use Rattle.executor_core.specs.declared.types.Answer.{Answer}
 use Rattle.executor_core.specs.declared.types.Line.{Line}
 use Rattle.executor_core.specs.declared.types.Message.{Message}
 use Rattle.executor_core.specs.declared.types.Message.TheVariants as m
 use Rattle.queue_code.specs.Calls.{Planned}
-use Rattle.executor_core.specs.Answers.{is_accepted}
 use Rattle.executor_core.specs.Histories.{HistoryEntry, happenings, now_of, answer, IsHistoryOf, MayCome}
 use Rattle.executor_core.specs.Flows.{lines_of}
 use Rattle.trace_check.specs.Plain.{ArePlain, plain_answer}
@@ -28,12 +26,6 @@ pub record AreWhole (calls : List Planned) (workers : ℕ) (lines : List Line) :
   pub whole : goes.owed ≡ []
 
 -- ---- line by line
-
--- what may come, by the calls made and the moment alone
-abbrev pub MayFrom : List Planned → ℕ → ℕ → Happening → Type 0
-MayFrom calls made now h.Call = made < length calls
-MayFrom calls made now (h.Clock moment) = is_accepted now moment ≡ true → (n : ℕ) (p : Planned) → slice_get calls n ≡ Some p → p.0 ≤ moment → n < made
-MayFrom calls made now _ = Unit {0}
 
 -- an answer that stands next: a plain happening gets it, which may come
 pub record IsNextAnswer (calls : List Planned) (workers : ℕ) (lines : List Line) (past : List HistoryEntry) (moment : ℕ) (said : Answer) : Type 0 where

@@ -10,7 +10,6 @@ ghost use Rattle.trace_check.specs.Findings.{Finds};
 ghost use Rattle.trace_check.specs.Standing.{TellBusy, IsStanding, IsReady, most_bytes, most_events};
 
 use crate::busy::Busy;
-use crate::coming::{happen, may_come};
 use crate::error::CheckError;
 use crate::finding::Finding;
 use executor_core::{Answer, Core, Line, MOST_WORKERS, Message};
@@ -144,12 +143,12 @@ impl<A: Allocator> Checker<A> {
         let Some(happening) = self.busy.plain(moment, said) else {
             return false;
         };
-        if !may_come(&self.core, happening) {
+        if !self.core.may_come(happening) {
             return false;
         }
         self.core.count();
         self.out.clear();
-        happen(&mut self.core, happening, &mut self.out);
+        self.core.happen(happening, &mut self.out);
         self.met = 1;
         let line = Line {
             moment,

@@ -55,7 +55,6 @@
 
 mod busy;
 mod checking;
-mod coming;
 mod error;
 mod finding;
 mod laws;

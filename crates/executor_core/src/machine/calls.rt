@@ -1,54 +1,22 @@
 //! The calls of the plan, as a core makes them.
-ghost use Rattle.std.specs.Prelude.{◌≡◌, ◌+◌, ◌-◌, ◌<◌, ◌≤◌, [], ◌∷◌, length, replicate, Some, slice_get, IsTrue, false, vec_len, vec_capacity};
+ghost use Rattle.std.specs.Prelude.{◌≡◌, ◌+◌, ◌<◌, ◌≤◌, [], ◌∷◌, length, Some, slice_get, IsTrue, false, vec_len, vec_capacity};
 ghost use Rattle.executor_core.specs.declared.types.Happening.TheVariants as happening;
 ghost use Rattle.queue_code.specs.declared.call.CodeCall.TheVariants as call;
 ghost use Rattle.queue_code.specs.Calls.{IsOrderly};
 ghost use Rattle.executor_core.specs.Answers.{kind_of};
 ghost use Rattle.executor_core.specs.Tasks.{uncancelled_in};
-ghost use Rattle.executor_core.specs.Flows.{reached, ReachesNext, calls_before};
+ghost use Rattle.executor_core.specs.Flows.{reached, ReachesNext};
 
 use super::Core;
-use crate::types::{Answer, Event, Kind, Line, Message, Refusal};
+use crate::types::{Answer, Kind, Line, Message, Refusal};
 use delay_queue::Entry;
 use queue_code::CodeCall;
-use sched_time::{LONGEST, Timing};
+use sched_time::Timing;
 use std::alloc::Allocator;
 
 impl<A: Allocator> Core<A> {
-    ghost use Rattle.executor_core.specs.Machine.{Steps, ContinuesAny, room_of};
+    ghost use Rattle.executor_core.specs.Machine.{Steps, ContinuesAny, Leaves, GivesRoom, IsCounted, room_of};
     ghost use Rattle.executor_core.specs.OwnSteps.{Takes};
-
-    /// Makes the calls that are made just before an event.
-    #[inline(always)]
-    pub(super) fn make_calls_before<B: Allocator>(&mut self, event: Event, out: &mut Vec<Line, B>)
-        requires { vec_len out.old + room_of self.old ≤ vec_capacity out.old }
-        ensures steps { Steps self.old self.new out.old.items out.new.items (replicate (calls_before self.old.calls self.old.made self.old.moment event) happening.Call) }
-        ensures calls { calls_before self.new.calls self.new.made self.new.moment event ≡ 0 }
-        ensures taken { self.new.taken ≡ self.old.taken }
-        ensures room { vec_len out.new + room_of self.new ≤ vec_capacity out.new }
-        ensures capacity { vec_capacity out.new ≡ vec_capacity out.old }
-    {
-        let Event::Clock(moment) = event else {
-            return;
-        };
-        if self.moment <= moment && moment <= LONGEST {
-            self.make_calls(moment, out);
-        }
-    }
-
-    /// Makes the calls with a moment of at most this one.
-    fn make_calls<B: Allocator>(&mut self, moment: u64, out: &mut Vec<Line, B>)
-        requires { vec_len out.old + room_of self.old ≤ vec_capacity out.old }
-        ensures steps { Steps self.old self.new out.old.items out.new.items (replicate (reached self.old.calls self.old.made moment) happening.Call) }
-        ensures none { reached self.new.calls self.new.made moment ≡ 0 }
-        ensures taken { self.new.taken ≡ self.old.taken }
-        ensures room { vec_len out.new + room_of self.new ≤ vec_capacity out.new }
-        ensures capacity { vec_capacity out.new ≡ vec_capacity out.old }
-    {
-        while self.reaches(moment) {
-            self.make_call(out);
-        }
-    }
 
     /// The next call with its moment, and none after the last one.
     pub(super) fn next_call(&self) -> Option<(u64, CodeCall)>
@@ -59,7 +27,7 @@ impl<A: Allocator> Core<A> {
     }
 
     /// Whether the next call has a moment of at most this one.
-    fn reaches(&self, moment: u64) -> bool
+    pub(super) fn reaches(&self, moment: u64) -> bool
         ensures next { IsTrue result → ReachesNext self.now.calls self.now.made moment }
         ensures none { result ≡ false → reached self.now.calls self.now.made moment ≡ 0 }
     {
@@ -78,9 +46,9 @@ impl<A: Allocator> Core<A> {
         ensures steps { Steps self.old self.new out.old.items out.new.items (happening.Call ∷ []) }
         ensures history { ContinuesAny self.old self.new out.old.items out.new.items happening.Call }
         ensures made { self.new.made ≡ self.old.made + 1 }
-        ensures taken { self.new.taken ≡ self.old.taken }
-        ensures room { vec_len out.new + room_of self.new ≤ vec_len out.old + room_of self.old }
-        ensures less { room_of self.new ≤ room_of self.old }
+        ensures leaves { Leaves self.old self.new (vec_len out.old) (vec_len out.new) }
+        ensures room { GivesRoom self.old self.new (vec_len out.old) (vec_len out.new) }
+        ensures counted { IsCounted self.old → IsCounted self.new }
         ensures capacity { vec_capacity out.new ≡ vec_capacity out.old }
     {
         let Some((moment, call)) = self.calls.next() else {

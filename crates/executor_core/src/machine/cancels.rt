@@ -4,7 +4,7 @@ ghost use Rattle.executor_core.specs.declared.types.Happening.TheVariants as hap
 ghost use Rattle.executor_core.specs.declared.types.Answer.TheVariants as answer;
 ghost use Rattle.executor_core.specs.declared.types.CancelEffect.TheVariants as effect;
 ghost use Rattle.executor_core.specs.declared.task.Phase.TheVariants as ph;
-ghost use Rattle.queue_code.specs.Calls.{Terms, terms_of, task_count};
+ghost use Rattle.queue_code.specs.Calls.{Terms, terms_of};
 ghost use Rattle.executor_core.specs.State.{vacant, seen_task, reply_of};
 ghost use Rattle.executor_core.specs.Answers.{effect_on};
 ghost use Rattle.executor_core.specs.Tasks.{uncancelled_in};
@@ -17,7 +17,7 @@ use delay_queue::Entry;
 use std::alloc::Allocator;
 
 impl<A: Allocator> Core<A> {
-    ghost use Rattle.executor_core.specs.Machine.{Steps, ContinuesAny, room_of, workers_of, state_of};
+    ghost use Rattle.executor_core.specs.Machine.{Steps, ContinuesAny, Leaves, GivesRoom, IsCounted, room_of, workers_of, state_of};
     ghost use Rattle.executor_core.specs.OwnSteps.{Takes};
 
     /// A task is cancelled from outside the plan. The line is added, for which `out` has room.
@@ -26,11 +26,10 @@ impl<A: Allocator> Core<A> {
         requires { vec_len out.old + room_of self.old ≤ vec_capacity out.old }
         ensures steps { Steps self.old self.new out.old.items out.new.items (happening.Cancel task ∷ []) }
         ensures history { ContinuesAny self.old self.new out.old.items out.new.items (happening.Cancel task) }
-        ensures tasks { length self.new.tasks ≡ task_count self.new.calls }
-        ensures taken { self.new.taken ≡ self.old.taken }
-        ensures room { (room_of self.new ≤ room_of self.old) × (vec_len out.new ≤ vec_len out.old + room_of self.old) }
+        ensures leaves { Leaves self.old self.new (vec_len out.old) (vec_len out.new) }
         ensures effective { (reply_of self.old.calls (workers_of self.old) (state_of self.old) (happening.Cancel task)).answer ≡ answer.Outside task effect.Yes
-            → vec_len out.new + room_of self.new ≤ vec_len out.old + room_of self.old }
+            → GivesRoom self.old self.new (vec_len out.old) (vec_len out.new) }
+        ensures counted { IsCounted self.old → IsCounted self.new }
         ensures capacity { vec_capacity out.new ≡ vec_capacity out.old }
     {
         let answer = self.answer_cancel(task);

@@ -1,11 +1,11 @@
 //! What a step would move of the words, before it is taken, and whether a task is due.
-ghost use Rattle.std.specs.Prelude.{◌≡◌, ℕ, Some, slice_get, ◌<◌, ◌≤◌, ◌↔◌, IsTrue, IfSome, IfNone, length, None, vec_len};
+ghost use Rattle.std.specs.Prelude.{◌≡◌, ℕ, Some, slice_get, ◌<◌, ◌≤◌, ◌↔◌, IsTrue, IfSome, IfNone, length, None, slice_index_or};
 ghost use Rattle.executor_core.specs.declared.types.Happening.TheVariants as happening;
 ghost use Rattle.sched_time.specs.Times.{longest};
 ghost use Rattle.delay_queue.specs.Queues.{IsLeast, NoneIsDue};
-ghost use Rattle.executor_core.specs.Flows.{AreMade, ReachesNext, reached};
-ghost use Rattle.executor_core.specs.Histories.{is_end};
-ghost use Rattle.executor_core.specs.State.{reply_of, view_of_state};
+ghost use Rattle.executor_core.specs.Flows.{ReachesNext, reached};
+ghost use Rattle.executor_core.specs.Histories.{AreMade, is_end};
+ghost use Rattle.executor_core.specs.State.{reply_of, vacant, view_of_state};
 ghost use Rattle.executor_core.specs.Needs.{need_of, need_of_cancel, need_of_finish, IsRipe};
 
 use super::Core;
@@ -39,7 +39,7 @@ impl<A: Allocator> Core<A> {
     }
 
     /// The word moves of the next call, which is this one.
-    fn need_of_call(&self, call: CodeCall) -> Need
+    pub(super) fn need_of_call(&self, call: CodeCall) -> Need
         requires { (at : ℕ) × (slice_get self.now.calls self.now.made ≡ Some (at, call)) }
         ensures { result ≡ need_of self.now.calls (workers_of self.now) (state_of self.now) happening.Call }
     {
@@ -123,6 +123,24 @@ impl<A: Allocator> Core<A> {
         let next = next_due(task.timing, task.due, self.moment);
         let stops = self.shut && !self.policies.continues;
         need_of_finish(number, outcome_in(task.cancelled, stops, next, ending))
+    }
+
+    /// The word moves of a cancel of this task from outside the plan.
+    pub fn cancel_need(&self, task: u32) -> Need
+        ensures { result ≡ need_of self.now.calls (workers_of self.now) (state_of self.now) (happening.Cancel task) }
+    {
+        if !self.tasks.has(task) {
+            return Need::Nothing;
+        }
+        need_of_cancel(task, effect_on(self.tasks.get(task as usize)))
+    }
+
+    /// Whether a task was cancelled: by the plan, from outside, by a sweep or at the end of its last run. One that the plan has
+    /// not was not.
+    pub fn is_cancelled(&self, task: u32) -> bool
+        ensures { result ≡ (slice_index_or self.now.tasks task vacant).cancelled }
+    {
+        self.tasks.has(task) && self.tasks.get(task as usize).cancelled
     }
 
     /// Whether the due moment of some task that waits or is kept is reached.

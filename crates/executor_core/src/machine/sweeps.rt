@@ -35,6 +35,7 @@ impl<A: Allocator> Core<A> {
         ensures steps { Steps self.old self.new out.old.items out.new.items (happening.Call ∷ []) }
         ensures made { self.new.made ≡ self.old.made + 1 }
         ensures taken { self.new.taken ≡ self.old.taken }
+        ensures tasks { length self.new.tasks ≡ task_count self.new.calls }
         ensures room { vec_len out.new + room_of self.new ≤ vec_len out.old + room_of self.old }
         ensures capacity { vec_capacity out.new ≡ vec_capacity out.old }
     {
@@ -58,6 +59,7 @@ impl<A: Allocator> Core<A> {
         ensures steps { Steps self.old self.new out.old.items out.new.items (happening.Call ∷ []) }
         ensures made { self.new.made ≡ self.old.made + 1 }
         ensures taken { self.new.taken ≡ self.old.taken }
+        ensures tasks { length self.new.tasks ≡ task_count self.new.calls }
         ensures room { vec_len out.new + room_of self.new ≤ vec_len out.old + room_of self.old }
         ensures capacity { vec_capacity out.new ≡ vec_capacity out.old }
     {

@@ -4,7 +4,6 @@ ghost use Rattle.executor_core.specs.declared.task.Phase.TheVariants as ph;
 ghost use Rattle.executor_core.specs.declared.types.Outcome.TheVariants as o;
 ghost use Rattle.executor_core.specs.declared.types.Happening.TheVariants as happening;
 ghost use Rattle.sched_time.specs.Dues.{next_due};
-ghost use Rattle.queue_code.specs.Calls.{task_count};
 ghost use Rattle.executor_core.specs.Needs.{need_of};
 ghost use Rattle.executor_core.specs.State.{due_past, vacant};
 ghost use Rattle.executor_core.specs.OwnSteps.{finished_task, queued_again, is_met};
@@ -19,7 +18,7 @@ use sched_time::{Ending, next_due};
 use std::alloc::Allocator;
 
 impl<A: Allocator> Core<A> {
-    ghost use Rattle.executor_core.specs.Machine.{Steps, ContinuesAny, room_of, workers_of, state_of};
+    ghost use Rattle.executor_core.specs.Machine.{Steps, ContinuesAny, Leaves, room_of, workers_of, state_of};
     ghost use Rattle.executor_core.specs.OwnSteps.{Takes, LeavesMet};
     ghost use Rattle.executor_core.specs.Needs.{RunsBelowTaken};
 
@@ -33,9 +32,7 @@ impl<A: Allocator> Core<A> {
         requires room { vec_len out.old + room_of self.old ≤ vec_capacity out.old }
         ensures steps { Steps self.old self.new out.old.items out.new.items (happening.Start worker ∷ []) }
         ensures history { ContinuesAny self.old self.new out.old.items out.new.items (happening.Start worker) }
-        ensures tasks { length self.new.tasks ≡ task_count self.new.calls }
-        ensures taken { self.new.taken ≡ self.old.taken }
-        ensures room { (room_of self.new ≤ room_of self.old) × (vec_len out.new ≤ vec_len out.old + room_of self.old) }
+        ensures leaves { Leaves self.old self.new (vec_len out.old) (vec_len out.new) }
         ensures capacity { vec_capacity out.new ≡ vec_capacity out.old }
     {
         let answer = self.answer_start(worker);
@@ -96,9 +93,7 @@ impl<A: Allocator> Core<A> {
         requires { vec_len out.old + room_of self.old ≤ vec_capacity out.old }
         ensures steps { Steps self.old self.new out.old.items out.new.items (happening.Finish worker ending ∷ []) }
         ensures history { ContinuesAny self.old self.new out.old.items out.new.items (happening.Finish worker ending) }
-        ensures tasks { length self.new.tasks ≡ task_count self.new.calls }
-        ensures taken { self.new.taken ≡ self.old.taken }
-        ensures room { (room_of self.new ≤ room_of self.old) × (vec_len out.new ≤ vec_len out.old + room_of self.old) }
+        ensures leaves { Leaves self.old self.new (vec_len out.old) (vec_len out.new) }
         ensures capacity { vec_capacity out.new ≡ vec_capacity out.old }
     {
         let answer = self.answer_finish(worker, ending);

@@ -8,6 +8,7 @@ use Rattle.executor_core.specs.Machine.{Machine}
 use Rattle.executor_core.proofs.Events.{one_step}
 use Rattle.executor_core.proofs.Flowing.{step_continues}
 use Rattle.executor_core.proofs.Rooms.{room_stays}
+use Rattle.executor_core.proofs.RunNumbers.{cancel_counted}
 use Rattle.executor_core.proofs.machine.Core.cancel.Goals as goal
 
 pub returns-clause-steps : goal.returns-clause-steps
@@ -18,17 +19,24 @@ returns-clause-steps g c =
 pub returns-clause-history : goal.returns-clause-history
 returns-clause-history g c = step_continues c.args.self.now _ c.args.out.now.items c.push_reserved.new.self.items (h.Cancel c.args.task) (returns-clause-steps g c)
 
-pub returns-clause-tasks : goal.returns-clause-tasks
-returns-clause-tasks g c = subst (λ (m : Machine). length m.tasks ≡ task_count m.calls) c.self.view_is c.self.invariant.count
-
-pub returns-clause-room : goal.returns-clause-room
-returns-clause-room g c = (
-  room_stays c.args.self.now c.answer_cancel-answer.new.self c.args.out.now.items c.push_reserved.new.self.items (h.Cancel c.args.task) (returns-clause-steps g c) c.answer_cancel-answer.ensures.size,
-  omega (arith, c.push_reserved.ensures.len),
-)
+pub returns-clause-leaves : goal.returns-clause-leaves
+returns-clause-leaves g c = record {
+  taken = c.answer_cancel-answer.ensures.step.taken;
+  tasks = subst (λ (m : Machine). length m.tasks ≡ task_count m.calls) c.self.view_is c.self.invariant.count;
+  room = room_stays c.args.self.now c.answer_cancel-answer.new.self c.args.out.now.items c.push_reserved.new.self.items (h.Cancel c.args.task) (returns-clause-steps g c) c.answer_cancel-answer.ensures.size;
+  few = omega (arith, c.push_reserved.ensures.len);
+}
 
 pub returns-clause-effective : goal.returns-clause-effective
 returns-clause-effective g c = λ q.
     let did = c.answer_cancel-answer.ensures in
     let is = sym (ap (λ (r : Reply). r.answer) did.step.said) ∙ q in
-    omega (arith, c.push_reserved.ensures.len, did.fewer is, ap (λ (s : State). s.made) did.step.state, ap length did.step.calls)
+    let made = ap (λ (s : State). s.made) did.step.state in
+    let calls = ap length did.step.calls in
+    record {
+      lines = omega (arith, c.push_reserved.ensures.len, did.fewer is, made, calls);
+      less = omega (arith, did.fewer is, made, calls);
+    }
+
+pub returns-clause-counted : goal.returns-clause-counted
+returns-clause-counted g c = cancel_counted c.args.self.now c.answer_cancel-answer.new.self c.args.out.now.items c.push_reserved.new.self.items c.args.task c.answer_cancel-answer.ensures.step.taken (returns-clause-steps g c)

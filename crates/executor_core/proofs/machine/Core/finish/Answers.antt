@@ -16,11 +16,10 @@ returns-clause-steps g c =
 pub returns-clause-history : goal.returns-clause-history
 returns-clause-history g c = step_continues c.args.self.now _ c.args.out.now.items c.push_reserved.new.self.items (h.Finish c.args.worker c.args.ending) (returns-clause-steps g c)
 
-pub returns-clause-tasks : goal.returns-clause-tasks
-returns-clause-tasks g c = subst (λ (m : Machine). length m.tasks ≡ task_count m.calls) c.self.view_is c.self.invariant.count
-
-pub returns-clause-room : goal.returns-clause-room
-returns-clause-room g c = (
-  room_stays c.args.self.now c.answer_finish-answer.new.self c.args.out.now.items c.push_reserved.new.self.items (h.Finish c.args.worker c.args.ending) (returns-clause-steps g c) c.answer_finish-answer.ensures.size,
-  omega (arith, c.push_reserved.ensures.len),
-)
+pub returns-clause-leaves : goal.returns-clause-leaves
+returns-clause-leaves g c = record {
+  taken = c.answer_finish-answer.ensures.step.taken;
+  tasks = subst (λ (m : Machine). length m.tasks ≡ task_count m.calls) c.self.view_is c.self.invariant.count;
+  room = room_stays c.args.self.now c.answer_finish-answer.new.self c.args.out.now.items c.push_reserved.new.self.items (h.Finish c.args.worker c.args.ending) (returns-clause-steps g c) c.answer_finish-answer.ensures.size;
+  few = omega (arith, c.push_reserved.ensures.len);
+}

@@ -5,8 +5,8 @@ use Rattle.executor_core.specs.Flows.{answer_line}
 use Rattle.executor_core.specs.Machine.{Machine}
 use Rattle.executor_core.specs.OwnSteps.{Takes}
 use Rattle.executor_core.proofs.Events.{one_step}
-use Rattle.executor_core.proofs.Rooms.{room_less}
 use Rattle.executor_core.proofs.Flowing.{step_continues}
+use Rattle.executor_core.proofs.RunNumbers.{call_counted}
 use Rattle.executor_core.proofs.machine.Core.make_call.Goals as goal
 use Rattle.executor_core.proofs.machine.Core.make_call.Goals.{in-Submit, in-Illegal, in-Cancel, in-Ask}
 
@@ -38,12 +38,21 @@ returns-in-SetPolicy-clause-history g c = step_continues c.args.self.now c.set_p
 pub returns-in-Shutdown-clause-history : goal.returns-in-Shutdown-clause-history
 returns-in-Shutdown-clause-history g c = step_continues c.args.self.now c.shut_down.new.self c.args.out.now.items c.shut_down.new.out.items happening.Call c.shut_down.ensures.steps
 
-pub returns-in-SetPolicy-clause-less : goal.returns-in-SetPolicy-clause-less
-returns-in-SetPolicy-clause-less g c =
-    room_less c.args.self.now c.set_policy.new.self c.args.out.now.items c.set_policy.new.out.items (happening.Call ∷ []) c.set_policy.ensures.steps
-    (omega (arith, c.set_policy.ensures.room, c.set_policy.new.out.ok.0, c.args.out.now.ok.0))
+pub returns-in-SetPolicy-clause-counted : goal.returns-in-SetPolicy-clause-counted
+returns-in-SetPolicy-clause-counted g c = call_counted c.args.self.now c.set_policy.new.self c.args.out.now.items c.set_policy.new.out.items c.set_policy.ensures.taken c.set_policy.ensures.steps
 
-pub returns-in-Shutdown-clause-less : goal.returns-in-Shutdown-clause-less
-returns-in-Shutdown-clause-less g c =
-    room_less c.args.self.now c.shut_down.new.self c.args.out.now.items c.shut_down.new.out.items (happening.Call ∷ []) c.shut_down.ensures.steps
-    (omega (arith, c.shut_down.ensures.room, c.shut_down.new.out.ok.0, c.args.out.now.ok.0))
+pub returns-in-Shutdown-clause-counted : goal.returns-in-Shutdown-clause-counted
+returns-in-Shutdown-clause-counted g c = call_counted c.args.self.now c.shut_down.new.self c.args.out.now.items c.shut_down.new.out.items c.shut_down.ensures.taken c.shut_down.ensures.steps
+
+pub returns-clause-counted : goal.returns-clause-counted
+returns-clause-counted g c =
+    let old = c.args.self.now in
+    let new = c.match-call.self in
+    let same : new.taken ≡ old.taken = elim c.match-call.branch [
+      | in-Submit w ↦ ap (λ (m : Machine). m.taken) w.self-is ∙ w.submit-answer.ensures.step.taken
+      | in-Illegal w ↦ ap (λ (m : Machine). m.taken) w.self-is ∙ w.refuse-answer.ensures.step.taken
+      | in-Cancel w ↦ ap (λ (m : Machine). m.taken) w.self-is ∙ w.cancel_by_plan-answer.ensures.step.taken
+      | in-Ask w ↦ ap (λ (m : Machine). m.taken) w.self-is ∙ w.ask-answer.ensures.step.taken
+    ]
+    in
+    call_counted old new c.args.out.now.items c.push_reserved.new.self.items same (returns-clause-steps g c)

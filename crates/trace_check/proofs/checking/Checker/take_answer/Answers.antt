@@ -25,15 +25,15 @@ returns-then-not-is_same-clause-breaks g c = λ u lines at.
     refuses_line self.core.calls (workers_of self.core) (state_of self.core) lines self.busy.flags c.args.moment c.args.said.now c.in-Some.happening at
     (sym c.in-Some.is ∙ (c.plain.ensures lines at.busy ∙ ap (λ n. plain_answer n lines c.args.moment c.args.said.now) c.requires.ready.count))
     (λ same. false≢true (subst IsTrue c.if-not-is_same.true (c.is_same.ensures.1 (c.index.ensures
-    ∙ (first_line self.core c.happen.new.core c.in-Some.happening c.happen.new.out.items c.index.result.now
-    (took self.core c.count.new.self c.happen.new.core c.in-Some.happening c.clear.new.self.items c.happen.new.out.items c.count.ensures.same c.clear.ensures.items c.happen.ensures.steps) ∙ same)))))
+    ∙ (first_line self.core c.happen.new.self c.in-Some.happening c.happen.new.out.items c.index.result.now
+    (took self.core c.count.new.self c.happen.new.self c.in-Some.happening c.clear.new.self.items c.happen.new.out.items c.count.ensures.same c.clear.ensures.items c.happen.ensures.steps) ∙ same)))))
 
 pub returns-clause-goes : goal.returns-clause-goes
 returns-clause-goes g c = λ u lines at.
     let self = c.args.self.now in
-    takes_said self.core c.happen.new.core c.happen.new.out.items lines self.busy.flags c.note.new.self.flags c.args.moment c.args.said.now c.in-Some.happening c.index.result.now at
+    takes_said self.core c.happen.new.self c.happen.new.out.items lines self.busy.flags c.note.new.self.flags c.args.moment c.args.said.now c.in-Some.happening c.index.result.now at
     (sym c.in-Some.is ∙ (c.plain.ensures lines at.busy ∙ ap (λ n. plain_answer n lines c.args.moment c.args.said.now) c.requires.ready.count))
     (c.may_come.ensures.0 c.if-not-may_come.false)
-    (took self.core c.count.new.self c.happen.new.core c.in-Some.happening c.clear.new.self.items c.happen.new.out.items c.count.ensures.same c.clear.ensures.items c.happen.ensures.steps)
+    (took self.core c.count.new.self c.happen.new.self c.in-Some.happening c.clear.new.self.items c.happen.new.out.items c.count.ensures.same c.clear.ensures.items c.happen.ensures.steps)
     (sym c.index.ensures ∙ c.is_same.ensures.0 c.if-not-is_same.false)
     c.note.ensures.flags

@@ -1,0 +1,190 @@
+-- What is left of an event comes one happening after the other.
+use Rattle.std.proofs.Common.{◌≡◌, ℕ, ◌+◌, ◌<◌, ◌≤◌, nat_le, zero, suc, max, Bool, true, false, cond, List, [], ◌∷◌, ◌++◌, length, length-append, append-nil, append_assoc, Option, Some, None, refl, sym, ap, ◌∙◌, arith}
+use Rattle.std.specs.Prelude.{slice_get, replicate, IsTrue, IfSome}
+use Rattle.std.specs.Option.{option_map_or}
+use Rattle.std.proofs.lemmas.Bool.{false≢true, le-leb, leb-true}
+use Rattle.std.proofs.lemmas.Bool.Decides.{nat_tests}
+use Rattle.std.proofs.lemmas.Option.{slice_get_within}
+use Rattle.queue_code.specs.Calls.{Planned, IsOrderly}
+use Rattle.executor_core.specs.declared.types.Event.{Event}
+use Rattle.executor_core.specs.declared.types.Event.TheVariants as v
+use Rattle.executor_core.specs.declared.types.Happening.{Happening}
+use Rattle.executor_core.specs.declared.types.Happening.TheVariants as h
+use Rattle.executor_core.specs.declared.types.Line.{Line}
+use Rattle.executor_core.specs.Answers.{is_accepted, moment_after}
+use Rattle.executor_core.specs.Histories.{AreMade, MayFrom, made_after}
+use Rattle.executor_core.specs.Flows.{ReachesNext, happening_of, reached, calls_before, part_of, left_of, ComesNext}
+use Rattle.executor_core.specs.Machine.{Machine, Counts, Steps}
+use Rattle.executor_core.proofs.Events.{uncounted}
+use Rattle.executor_core.proofs.Flowing.{all_reached, no_steps}
+use Rattle.executor_core.proofs.Needing.{all_made}
+use Rattle.executor_core.proofs.Opens.{end_reached, tells_next, tells_none}
+
+-- ---- whether a call is reached
+
+-- where each call with a moment of at most a clock's was made, none is reached
+none_reached : (calls : List Planned) (n t : ℕ) → IsOrderly calls → AreMade calls n t → reached calls n t ≡ 0
+none_reached calls n t o made = by (slice_get calls n) refl
+  where
+    by : (next : Option Planned) → slice_get calls n ≡ next → reached calls n t ≡ 0
+    by None is = end_reached calls n t is
+    by (Some p) is = test (nat_le p.0 t) refl
+      where
+        test : (b : Bool) → nat_le p.0 t ≡ b → reached calls n t ≡ 0
+        test true low = let clash : n < n = made n p is (leb-true p.0 t low) in absurd (omega (arith, clash))
+        test false low = tells_none calls n t p o is low
+
+-- where none is reached, each was made
+pub none_made : (calls : List Planned) (n t : ℕ) → IsOrderly calls → reached calls n t ≡ 0 → AreMade calls n t
+none_made calls n t o none i p is low = omega (arith, none, all_reached 0 0 t calls n i p o.1 is low)
+
+-- where the next call is reached, it was not made
+pub next_left : (calls : List Planned) (n t : ℕ) → IsOrderly calls → ReachesNext calls n t → AreMade calls n t → ⊥
+next_left calls n t o next made = omega (arith, next.1, none_reached calls n t o made)
+
+-- where no call is left, each one was made
+past_last : (calls : List Planned) (n t : ℕ) → slice_get calls n ≡ None → AreMade calls n t
+past_last calls n t none i p is low = below calls n i none is
+  where
+    below : (cs : List Planned) (n i : ℕ) → slice_get cs n ≡ None → slice_get cs i ≡ Some p → i < n
+    below [] n i none is = absurd cc
+    below (x ∷ cs) zero i none is = absurd cc
+    below (x ∷ cs) (suc n) zero none is = omega arith
+    below (x ∷ cs) (suc n) (suc i) none is = omega (arith, below cs n i none is)
+
+-- a clock from which a call is left reaches the next one
+some_reached : (calls : List Planned) (n t : ℕ) → IsOrderly calls → (AreMade calls n t → ⊥) → (p : Planned) × (slice_get calls n ≡ Some p) × (p.0 ≤ t)
+some_reached calls n t o left = by (slice_get calls n) refl
+  where
+    by : (next : Option Planned) → slice_get calls n ≡ next → (p : Planned) × (slice_get calls n ≡ Some p) × (p.0 ≤ t)
+    by None is = absurd (left (past_last calls n t is))
+    by (Some p) is = test (nat_le p.0 t) refl
+      where
+        test : (b : Bool) → nat_le p.0 t ≡ b → (p : Planned) × (slice_get calls n ≡ Some p) × (p.0 ≤ t)
+        test true low = (p, is, leb-true p.0 t low)
+        test false low = let later : t < p.0 = grind (arith, nat_tests, low) in absurd (left (all_made calls n t p o is later))
+
+-- ---- an event that may come is what is left of it
+
+-- no call is made before a clock that finds each call made which it reaches
+none_before : (calls : List Planned) (n now t : ℕ) → IsOrderly calls → (is_accepted now t ≡ true → AreMade calls n t) → calls_before calls n now (v.Clock t) ≡ 0
+none_before calls n now t o made = by (is_accepted now t) refl
+  where
+    by : (b : Bool) → is_accepted now t ≡ b → cond b (reached calls n t) 0 ≡ 0
+    by true is = none_reached calls n t o (made is)
+    by false is = refl
+
+-- an event that may come stands next, and nothing behind it
+pub event_next : (calls : List Planned) (made now : ℕ) (event : Event) → IsOrderly calls → MayFrom calls made now (happening_of event) → ComesNext calls made now (Some event) (happening_of event) None
+event_next calls made now (v.Clock t) o may = record { may = may; first = ap (λ n. h.Clock t ∷ replicate n h.Call) (none_before calls made now t o may) }
+event_next calls made now (v.Start w) o may = record { may = may; first = refl }
+event_next calls made now (v.Finish w ending) o may = record { may = may; first = refl }
+event_next calls made now (v.Cancel k) o may = record { may = may; first = refl }
+
+-- ---- else the next call is
+
+-- one call in front of some is one behind them
+call_behind : (n : ℕ) → replicate (suc n) h.Call ≡ replicate n h.Call ++ h.Call ∷ []
+call_behind zero = refl
+call_behind (suc n) = ap (λ l. h.Call ∷ l) (call_behind n)
+
+-- a clock is accepted still after a call that it reaches
+accepted_still : (now at t : ℕ) → is_accepted now t ≡ true → at ≤ t → is_accepted (max now at) t ≡ true
+accepted_still now at t is low = grind (arith, nat_tests, is, low)
+
+-- the calls that an accepted clock reaches are the next one and those behind it
+calls_next : (calls : List Planned) (made now t : ℕ) (p : Planned) → IsOrderly calls → is_accepted now t ≡ true → slice_get calls made ≡ Some p → p.0 ≤ t →
+    calls_before calls made now (v.Clock t) ≡ suc (calls_before calls (1 + made) (moment_after now (slice_get calls made) h.Call) (v.Clock t))
+calls_next calls made now t p o is at low =
+    let next = tells_next calls made t p o at (le-leb p.0 t low) in
+    let moment : moment_after now (slice_get calls made) h.Call ≡ max now p.0 = ap (λ c. option_map_or (λ q. max now q.0) c now) at in
+    let still : is_accepted (moment_after now (slice_get calls made) h.Call) t ≡ true = ap (λ n. is_accepted n t) moment ∙ accepted_still now p.0 t is low in
+    let same : made + 1 ≡ 1 + made = omega arith in
+    let rest : reached calls made t ≡ suc (reached calls (1 + made) t) = omega (arith, next.1, ap (λ n. reached calls n t) same) in
+    ap (λ b. cond b (reached calls made t) 0) is ∙ (rest ∙ ap (λ b. suc (cond b (reached calls (1 + made) t) 0)) (sym still))
+
+-- before an event that may not come the next call stands, and the event is left
+pub call_next : (calls : List Planned) (made now : ℕ) (event : Event) → IsOrderly calls → (MayFrom calls made now (happening_of event) → ⊥) → ComesNext calls made now (Some event) h.Call (Some event)
+call_next calls made now (v.Clock t) o not = by (is_accepted now t) refl
+  where
+    by : (b : Bool) → is_accepted now t ≡ b → ComesNext calls made now (Some (v.Clock t)) h.Call (Some (v.Clock t))
+    by false is = absurd (not (λ q. absurd (false≢true (sym is ∙ q))))
+    by true is =
+        let p = some_reached calls made t o (λ all. not (λ q. all)) in
+        let rest = calls_before calls (1 + made) (moment_after now (slice_get calls made) h.Call) (v.Clock t) in
+        record {
+          may = slice_get_within calls made p.0 p.1;
+          first = ap (λ l. h.Clock t ∷ l) (ap (λ n. replicate n h.Call) (calls_next calls made now t p.0 o is p.1 p.2) ∙ call_behind rest);
+        }
+call_next calls made now (v.Start w) o not = absurd (not tt)
+call_next calls made now (v.Finish w ending) o not = absurd (not tt)
+call_next calls made now (v.Cancel k) o not = absurd (not tt)
+
+-- ---- how the code tells whether a call comes before an event
+
+-- what is told of an event: whether it may come, and then which happening comes next
+pub record Told (calls : List Planned) (made now : ℕ) (event : Event) (reaches : Bool) : Type 0 where
+  pub comes : (reaches ≡ false → MayFrom calls made now (happening_of event)) × (MayFrom calls made now (happening_of event) → reaches ≡ false)
+  pub call : IsTrue reaches → ComesNext calls made now (Some event) h.Call (Some event)
+  pub alone : reaches ≡ false → ComesNext calls made now (Some event) (happening_of event) None
+
+-- of an event that may come
+told_next : (calls : List Planned) (made now : ℕ) (event : Event) → IsOrderly calls → MayFrom calls made now (happening_of event) → Told calls made now event false
+told_next calls made now event o may = record { comes = (λ q. may, λ q. refl); call = λ q. absurd cc; alone = λ q. event_next calls made now event o may }
+
+-- of a clock that is not accepted
+pub told_refused : (calls : List Planned) (made now t : ℕ) → IsOrderly calls → (is_accepted now t ≡ true → ⊥) → Told calls made now (v.Clock t) false
+told_refused calls made now t o refused = told_next calls made now (v.Clock t) o (λ q. absurd (refused q))
+
+-- of a clock that is accepted, by whether the next call is reached
+pub told_accepted : (calls : List Planned) (made now t : ℕ) (reaches : Bool) → IsOrderly calls → is_accepted now t ≡ true → (IsTrue reaches → ReachesNext calls made t) → (reaches ≡ false → reached calls made t ≡ 0) →
+    Told calls made now (v.Clock t) reaches
+told_accepted calls made now t true o is next none =
+    let not : MayFrom calls made now (h.Clock t) → ⊥ = λ may. next_left calls made t o (next refl) (may is) in
+    record { comes = (λ q. absurd cc, λ may. absurd (not may)); call = λ q. call_next calls made now (v.Clock t) o not; alone = λ q. absurd cc }
+told_accepted calls made now t false o is next none = told_next calls made now (v.Clock t) o (λ q. none_made calls made t o (none refl))
+
+-- ---- what a core has made happen of an event, and what is left of it
+
+-- nothing has happened yet
+pub none_happened : (old counted : Machine) (lines : List Line) (event : Event) → Counts old counted → Steps old counted lines lines [] × (part_of old.calls old.made old.moment event ≡ left_of counted.calls counted.made counted.moment (Some event) ++ [])
+none_happened old counted lines event one = (
+  uncounted old counted counted lines lines [] one (no_steps counted lines),
+  sym (append-nil (part_of old.calls old.made old.moment event)) ∙ ap (λ (m : Machine). left_of m.calls m.made m.moment (Some event) ++ []) (sym one),
+)
+
+-- what is left after a happening, by the core after it
+pub left_moved : (old new : Machine) (before lines : List Line) (rest : Option Event) (happening : Happening) → Steps old new before lines (happening ∷ []) →
+    left_of new.calls new.made new.moment rest ≡ left_of old.calls (made_after old.made happening) (moment_after old.moment (slice_get old.calls old.made) happening) rest
+left_moved old new before lines rest happening steps = λ i. left_of (steps.calls i) (steps.state i).made (steps.state i).moment rest
+
+-- one happening more
+pub left_after : (old new : Machine) (before lines : List Line) (part hs : List Happening) (left rest : Option Event) (happening : Happening) → part ≡ left_of old.calls old.made old.moment left ++ hs →
+    ComesNext old.calls old.made old.moment left happening rest → Steps old new before lines (happening ∷ []) → part ≡ left_of new.calls new.made new.moment rest ++ happening ∷ hs
+left_after old new before lines part hs left rest happening is next steps =
+    let there = left_moved old new before lines rest happening steps in
+    let behind = left_of new.calls new.made new.moment rest in
+    is ∙ (ap (λ l. l ++ hs) (next.first ∙ ap (λ l. l ++ happening ∷ []) (sym there)) ∙ append_assoc behind (happening ∷ []) hs)
+
+-- less is left
+pub less_left : (old new : Machine) (before lines : List Line) (left rest : Option Event) (happening : Happening) → ComesNext old.calls old.made old.moment left happening rest → Steps old new before lines (happening ∷ []) →
+    length (left_of new.calls new.made new.moment rest) < length (left_of old.calls old.made old.moment left)
+less_left old new before lines left rest happening next steps =
+    let there = left_moved old new before lines rest happening steps in
+    let behind = left_of new.calls new.made new.moment rest in
+    let all : left_of old.calls old.made old.moment left ≡ behind ++ happening ∷ [] = next.first ∙ ap (λ l. l ++ happening ∷ []) (sym there) in
+    omega (arith, ap length all, length-append behind (happening ∷ []))
+
+-- where nothing is left, all has happened
+pub all_happened : (m : Machine) (part hs : List Happening) (left : Option Event) → left ≡ None → part ≡ left_of m.calls m.made m.moment left ++ hs → hs ≡ part
+all_happened m part hs left none is = sym (is ∙ ap (λ e. left_of m.calls m.made m.moment e ++ hs) none)
+
+-- what is so in any case is so while something is left
+pub where_left : {P : Type 0} (left : Option Event) → P → IfSome left (λ _. P)
+where_left None known = tt
+where_left (Some event) known = known
+
+-- and what is so while something is left is so where something is
+pub while_left : {P : Type 0} (left : Option Event) → (left ≡ None → ⊥) → IfSome left (λ _. P) → P
+while_left None some known = absurd (some refl)
+while_left (Some event) some known = known

@@ -1,0 +1,67 @@
+//! Clocks: whether one is accepted, and what it does.
+ghost use Rattle.std.specs.Prelude.{◌≡◌, ◌+◌, ◌≤◌, ◌↔◌, [], ◌∷◌, true, length, None, IfSome, vec_len, vec_capacity};
+ghost use Rattle.executor_core.specs.declared.types.Happening.TheVariants as happening;
+ghost use Rattle.executor_core.specs.declared.types.Answer.TheVariants as answer;
+ghost use Rattle.executor_core.specs.Answers.{is_accepted, plain};
+ghost use Rattle.sched_time.specs.Times.{longest};
+ghost use Rattle.queue_code.specs.Calls.{IsOrderly};
+ghost use Rattle.executor_core.specs.Histories.{AreMade};
+ghost use Rattle.executor_core.specs.State.{reply_of};
+
+use super::Core;
+use crate::types::{Answer, EventError, Line, Message};
+use sched_time::LONGEST;
+use std::alloc::Allocator;
+
+impl<A: Allocator> Core<A> {
+    ghost use Rattle.executor_core.specs.Machine.{Steps, ContinuesAny, Leaves, room_of, workers_of, state_of};
+    ghost use Rattle.executor_core.specs.OwnSteps.{Takes};
+
+    /// The clock shows a moment, in nanoseconds: it is moved there, unless it would go back or pass 2^62. Its line is
+    /// added, for which `out` has room.
+    ///
+    /// Where the clock is moved, no call with a moment of at most this one may be left.
+    #[inline(always)]
+    pub fn move_clock<B: Allocator>(&mut self, moment: u64, out: &mut Vec<Line, B>)
+        requires calls { is_accepted self.old.moment moment ≡ true → AreMade self.old.calls self.old.made moment }
+        requires room { vec_len out.old + room_of self.old ≤ vec_capacity out.old }
+        ensures steps { Steps self.old self.new out.old.items out.new.items (happening.Clock moment ∷ []) }
+        ensures history { ContinuesAny self.old self.new out.old.items out.new.items (happening.Clock moment) }
+        ensures leaves { Leaves self.old self.new (vec_len out.old) (vec_len out.new) }
+        ensures capacity { vec_capacity out.new ≡ vec_capacity out.old }
+    {
+        let answer = self.answer_clock(moment);
+        out.push_reserved(Line {
+            moment: self.moment,
+            message: Message::Answer(answer),
+        });
+    }
+
+    /// Why a clock that shows this moment is refused, and `None` where it is accepted.
+    pub(super) fn refuses_clock(&self, moment: u64) -> Option<EventError>
+        ensures accepted { (result ≡ None) ↔ (is_accepted self.now.moment moment ≡ true) }
+        ensures orderly { IsOrderly self.now.calls }
+        ensures within { result ≡ None → (self.now.moment ≤ moment) × (moment ≤ longest) }
+        ensures error { IfSome result (λ error. reply_of self.now.calls (workers_of self.now) (state_of self.now) (happening.Clock moment) ≡ plain (answer.Error error)) }
+    {
+        if moment < self.moment {
+            return Some(EventError::Backward);
+        }
+        if moment > LONGEST {
+            return Some(EventError::TooFar);
+        }
+        None
+    }
+
+    /// The clock shows a moment.
+    fn answer_clock(&mut self, moment: u64) -> Answer
+        ensures step { Takes self.old self.new (happening.Clock moment) result }
+        ensures size { length self.new.tasks ≡ length self.old.tasks }
+    {
+        if let Some(error) = self.refuses_clock(moment) {
+            return Answer::Error(error);
+        }
+        self.moment = moment;
+        Answer::Clock
+    }
+}

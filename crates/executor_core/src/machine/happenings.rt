@@ -1,0 +1,84 @@
+//! One happening of any kind: whether it may come, what it moves of the words, and its step.
+ghost use Rattle.std.specs.Prelude.{◌≡◌, ◌+◌, ◌≤◌, ◌↔◌, [], ◌∷◌, true, false, Some, None, IsTrue, vec_len, vec_capacity};
+ghost use Rattle.executor_core.specs.declared.types.Happening.TheVariants as happening;
+ghost use Rattle.executor_core.specs.Flows.{happening_of, ComesNext};
+ghost use Rattle.executor_core.specs.Histories.{MayFrom, is_call};
+ghost use Rattle.executor_core.specs.Needs.{need_of};
+
+use super::Core;
+use crate::types::{Event, Happening, Line, Need};
+use std::alloc::Allocator;
+
+impl<A: Allocator> Core<A> {
+    ghost use Rattle.executor_core.specs.Machine.{Steps, ContinuesAny, Leaves, GivesRoom, IsCounted, room_of, workers_of, state_of};
+
+    /// Whether a happening may come: a call where one is left, a clock unless it is accepted and reaches a call that is not
+    /// made yet, and each other one.
+    #[inline(always)]
+    pub fn may_come(&self, happening: Happening) -> bool
+        ensures { IsTrue result ↔ MayFrom self.now.calls self.now.made self.now.moment happening }
+    {
+        match happening {
+            Happening::Call => self.next_call().is_some(),
+            Happening::Clock(moment) => !self.reaches_call(Event::Clock(moment)),
+            Happening::Start(_) | Happening::Finish(_, _) | Happening::Cancel(_) => true,
+        }
+    }
+
+    /// Whether a call of the plan comes before this event: it is a clock that is accepted, and reaches a call that is not made
+    /// yet.
+    #[inline(always)]
+    pub(crate) fn reaches_call(&self, event: Event) -> bool
+        ensures comes { (result ≡ false) ↔ MayFrom self.now.calls self.now.made self.now.moment (happening_of event) }
+        ensures call { IsTrue result → ComesNext self.now.calls self.now.made self.now.moment (Some event) happening.Call (Some event) }
+        ensures event { result ≡ false → ComesNext self.now.calls self.now.made self.now.moment (Some event) (happening_of event) None }
+    {
+        let Event::Clock(moment) = event else {
+            return false;
+        };
+        if self.refuses_clock(moment).is_some() {
+            return false;
+        }
+        self.reaches(moment)
+    }
+
+    /// The word moves of a happening; of a call where none is left, `Nothing`.
+    pub fn need(&self, happening: Happening) -> Need
+        ensures { result ≡ need_of self.now.calls (workers_of self.now) (state_of self.now) happening }
+    {
+        match happening {
+            Happening::Call => match self.next_call() {
+                Some((_, call)) => self.need_of_call(call),
+                None => Need::Nothing,
+            },
+            Happening::Clock(_) => Need::Nothing,
+            Happening::Start(worker) => self.start_need(worker),
+            Happening::Finish(worker, ending) => self.finish_need(worker, ending),
+            Happening::Cancel(task) => self.cancel_need(task),
+        }
+    }
+
+    /// A happening comes: its line is added, and one for each task that it ends, for which `out` has room.
+    ///
+    /// It [may come](Core::may_come), and each event so far was [counted](Core::count), this one too where it is an event.
+    #[inline(always)]
+    pub fn happen<B: Allocator>(&mut self, happening: Happening, out: &mut Vec<Line, B>)
+        requires comes { MayFrom self.old.calls self.old.made self.old.moment happening }
+        requires counted { IsCounted self.old }
+        requires room { vec_len out.old + room_of self.old ≤ vec_capacity out.old }
+        ensures steps { Steps self.old self.new out.old.items out.new.items (happening ∷ []) }
+        ensures history { ContinuesAny self.old self.new out.old.items out.new.items happening }
+        ensures leaves { Leaves self.old self.new (vec_len out.old) (vec_len out.new) }
+        ensures call { is_call happening ≡ true → GivesRoom self.old self.new (vec_len out.old) (vec_len out.new) }
+        ensures counted { is_call happening ≡ true → IsCounted self.new }
+        ensures capacity { vec_capacity out.new ≡ vec_capacity out.old }
+    {
+        match happening {
+            Happening::Call => self.make_call(out),
+            Happening::Clock(moment) => self.move_clock(moment, out),
+            Happening::Start(worker) => self.start(worker, out),
+            Happening::Finish(worker, ending) => self.finish(worker, ending, out),
+            Happening::Cancel(task) => self.cancel(task, out),
+        }
+    }
+}
