@@ -6,14 +6,14 @@ use Rattle.queue_code.specs.declared.call.CodeCall.TheVariants as made
 use Rattle.queue_code.specs.declared.instr.Instr.{Instr}
 use Rattle.queue_code.specs.declared.instr.Instr.TheVariants as instr
 use Rattle.queue_code.specs.Calls.{Planned}
-use Rattle.queue_code.specs.Codes.{call_of, in_front, tasks_by, tasks_in, pass, body_of}
+use Rattle.queue_code.specs.Codes.{call_by, in_front, tasks_by, tasks_in, pass, body_of}
 use Rattle.queue_code.specs.Codes.{iterations as turns, calls_from as code_calls_from, calls_of as code_calls}
 use Rattle.plan_read.specs.declared.plans.Call.{Call}
 use Rattle.plan_read.specs.declared.plans.Header.{Header}
 use Rattle.plan_read.specs.declared.plans.Op.{Op}
 use Rattle.plan_read.specs.declared.plans.Op.TheVariants as ops
 use Rattle.plan_read.specs.Plans.{BlockTree, PlanTree, tasks_after, tasks_after_calls, AreBlocksAfter, IsOrdered}
-use Rattle.plan_compile.specs.PlanCalls.{code_call, calls_at, tasks_of, iteration, iterations, calls_from, calls_of}
+use Rattle.plan_compile.specs.PlanCalls.{code_call, calls_at, block_tasks, block_iteration, block_iterations, calls_of_blocks, calls_of}
 use Rattle.plan_compile.specs.PlanCode.{instr_of, instrs_at, block_instrs, instrs_from, instrs_of}
 use Rattle.plan_compile.proofs.Counting.{tasks_after_calls-from, iterations-more}
 use Rattle.plan_compile.proofs.Ordering.{no_iterations}
@@ -25,7 +25,7 @@ moment_is base at o = omega arith
 
 -- a cancel, whose target's block has this first number, if it is an earlier one
 cancels : (found : Option ℕ) (repeated : Bool) (base at o s start first count sub : ℕ) → (repeated ≡ true → s ≡ start) → (repeated ≡ false → first ≡ start)
-    → call_of base s count (cond (repeated && is_none found) (instr.CancelHere (at + o) sub) (instr.CancelFixed (at + o) (unwrap_or found first + sub)))
+    → call_by base s count (cond (repeated && is_none found) (instr.CancelHere (at + o) sub) (instr.CancelFixed (at + o) (unwrap_or found first + sub)))
     ≡ Some (at + base + o, made.Cancel (unwrap_or found start + sub))
 cancels None true base at o s start first count sub here there =
     ap (λ (m : ℕ). Some (m, made.Cancel (s + sub))) (moment_is base at o) ∙ ap (λ (n : ℕ). Some (at + base + o, made.Cancel (n + sub))) (here refl)
@@ -36,7 +36,7 @@ cancels (Some f) false base at o s start first count sub here there = ap (λ (m 
 
 -- an operation's instruction makes the operation's call
 makes_call : (firsts : List ℕ) (first : ℕ) (repeated : Bool) (base at o s start count : ℕ) (op : Op) → (repeated ≡ true → s ≡ start) → (repeated ≡ false → first ≡ start)
-    → call_of base s count (instr_of firsts first repeated (at + o) op) ≡ Some (at + base + o, code_call firsts start count op)
+    → call_by base s count (instr_of firsts first repeated (at + o) op) ≡ Some (at + base + o, code_call firsts start count op)
 makes_call firsts first repeated base at o s start count (ops.Cancel target) here there =
     cancels (slice_get firsts target.block) repeated base at o s start first count target.sub here there
 makes_call firsts first repeated base at o s start count (ops.Rate name delay (Some period)) here there = ap (λ (m : ℕ). Some (m, code_call firsts start count (ops.Rate name delay (Some period)))) (moment_is base at o)
@@ -50,7 +50,7 @@ record IsCallInstr (i : Instr) (op : Op) : Type 0 where
   tasks : (n : ℕ) → n + tasks_by i ≡ tasks_after n op
   body : (is : List Instr) → body_of (i ∷ is) ≡ i ∷ body_of is
   behind : (n : ℕ) (is : List Instr) → code_calls_from true n (i ∷ is) ≡ code_calls_from true n is
-  plain : (n : ℕ) (is : List Instr) → code_calls_from false n (i ∷ is) ≡ in_front (call_of 0 0 n i) (code_calls_from false (n + tasks_by i) is)
+  plain : (n : ℕ) (is : List Instr) → code_calls_from false n (i ∷ is) ≡ in_front (call_by 0 0 n i) (code_calls_from false (n + tasks_by i) is)
 
 cancel_is_call : (here : Bool) (offset nth task block sub : ℕ) → IsCallInstr (cond here (instr.CancelHere offset nth) (instr.CancelFixed offset task)) (ops.Cancel (record { block = block; sub = sub }))
 cancel_is_call true offset nth task block sub = record { tasks = λ n. omega arith; body = λ is. refl; behind = λ n is. refl; plain = λ n is. refl }
@@ -98,38 +98,38 @@ pass_is firsts first repeated base at start count (c ∷ cs) there =
 
 -- the iterations of a loop make those of the block
 turns_are : (firsts : List ℕ) (first : ℕ) (b : BlockTree) (n r : ℕ)
-    → iterations firsts first b r ++ turns n r b.header.every (instrs_at firsts first true b.header.at b.calls) (first + r * tasks_of b) ≡ iterations firsts first b (r + n)
+    → block_iterations firsts first b r ++ turns n r b.header.every (instrs_at firsts first true b.header.at b.calls) (first + r * block_tasks b) ≡ block_iterations firsts first b (r + n)
 turns_are firsts first b zero r =
     let e : r + 0 ≡ r = omega arith in
-    append-nil (iterations firsts first b r) ∙ ap (iterations firsts first b) (sym e)
+    append-nil (block_iterations firsts first b r) ∙ ap (block_iterations firsts first b) (sym e)
 turns_are firsts first b (suc n) r =
     let body = instrs_at firsts first true b.header.at b.calls in
-    let start = first + r * tasks_of b in
-    let next : start + tasks_in body ≡ first + (r + 1) * tasks_of b =
+    let start = first + r * block_tasks b in
+    let next : start + tasks_in body ≡ first + (r + 1) * block_tasks b =
     tasks_are firsts first true b.header.at start b.calls ∙ tasks_after_calls-from start b.calls ∙ (grind arith) in
     let later : r + 1 + n ≡ r + suc n = omega arith in
-    ap (λ (ps : List Planned). iterations firsts first b r ++ (ps ++ turns n (r + 1) b.header.every body (start + tasks_in body))) (pass_is firsts first true (r * b.header.every) b.header.at start start b.calls (λ e. cc))
-    ∙ sym (append_assoc (iterations firsts first b r) (iteration firsts first b r) (turns n (r + 1) b.header.every body (start + tasks_in body)))
+    ap (λ (ps : List Planned). block_iterations firsts first b r ++ (ps ++ turns n (r + 1) b.header.every body (start + tasks_in body))) (pass_is firsts first true (r * b.header.every) b.header.at start start b.calls (λ e. cc))
+    ∙ sym (append_assoc (block_iterations firsts first b r) (block_iteration firsts first b r) (turns n (r + 1) b.header.every body (start + tasks_in body)))
     ∙ ap (λ (ps : List Planned). ps ++ turns n (r + 1) b.header.every body (start + tasks_in body)) (sym (iterations-more firsts first b r))
-    ∙ ap (λ (m : ℕ). iterations firsts first b (r + 1) ++ turns n (r + 1) b.header.every body m) next
+    ∙ ap (λ (m : ℕ). block_iterations firsts first b (r + 1) ++ turns n (r + 1) b.header.every body m) next
     ∙ turns_are firsts first b n (r + 1)
-    ∙ ap (iterations firsts first b) later
+    ∙ ap (block_iterations firsts first b) later
 
 -- a block that is a loop
 looped : (firsts : List ℕ) (first : ℕ) (b : BlockTree) (rest : List Instr)
     → code_calls_from false first (instr.Loop b.header.times b.header.every ∷ (instrs_at firsts first true b.header.at b.calls ++ instr.EndLoop ∷ rest))
-    ≡ iterations firsts first b b.header.times ++ code_calls_from false (first + b.header.times * tasks_of b) rest
+    ≡ block_iterations firsts first b b.header.times ++ code_calls_from false (first + b.header.times * block_tasks b) rest
 looped firsts first b rest =
     let body = instrs_at firsts first true b.header.at b.calls in
     let loop = body ++ instr.EndLoop ∷ rest in
-    let zeros : first ≡ first + 0 * tasks_of b = omega arith in
+    let zeros : first ≡ first + 0 * block_tasks b = omega arith in
     let whole : 0 + b.header.times ≡ b.header.times = omega arith in
-    let tasks : tasks_in body ≡ tasks_of b = omega (arith, tasks_are firsts first true b.header.at 0 b.calls) in
+    let tasks : tasks_in body ≡ block_tasks b = omega (arith, tasks_are firsts first true b.header.at 0 b.calls) in
     ap (λ (is : List Instr). turns b.header.times 0 b.header.every is first ++ code_calls_from true (first + b.header.times * tasks_in is) loop) (body_is firsts first b.header.at b.calls rest)
     ∙ ap (λ (n : ℕ). turns b.header.times 0 b.header.every body n ++ code_calls_from true (first + b.header.times * tasks_in body) loop) zeros
-    ∙ ap (λ (ps : List Planned). ps ++ code_calls_from true (first + b.header.times * tasks_in body) loop) (turns_are firsts first b b.header.times 0 ∙ ap (iterations firsts first b) whole)
-    ∙ ap (λ (n : ℕ). iterations firsts first b b.header.times ++ code_calls_from true (first + b.header.times * n) loop) tasks
-    ∙ ap (λ (ps : List Planned). iterations firsts first b b.header.times ++ ps) (behind_is firsts first b.header.at (first + b.header.times * tasks_of b) b.calls rest)
+    ∙ ap (λ (ps : List Planned). ps ++ code_calls_from true (first + b.header.times * tasks_in body) loop) (turns_are firsts first b b.header.times 0 ∙ ap (block_iterations firsts first b) whole)
+    ∙ ap (λ (n : ℕ). block_iterations firsts first b b.header.times ++ code_calls_from true (first + b.header.times * n) loop) tasks
+    ∙ ap (λ (ps : List Planned). block_iterations firsts first b b.header.times ++ ps) (behind_is firsts first b.header.at (first + b.header.times * block_tasks b) b.calls rest)
 
 -- ---- a block that is made once
 
@@ -148,22 +148,22 @@ straight firsts first at count (c ∷ cs) rest =
     ∙ ap (λ (ps : List Planned). (at + c.at, code_call firsts first count c.op) ∷ ps) (straight firsts first at (tasks_after count c.op) cs rest)
 
 once : (firsts : List ℕ) (first : ℕ) (b : BlockTree) (rest : List Instr)
-    → code_calls_from false first (instrs_at firsts first false b.header.at b.calls ++ rest) ≡ iterations firsts first b 1 ++ code_calls_from false (first + 1 * tasks_of b) rest
+    → code_calls_from false first (instrs_at firsts first false b.header.at b.calls ++ rest) ≡ block_iterations firsts first b 1 ++ code_calls_from false (first + 1 * block_tasks b) rest
 once firsts first b rest =
     let at : b.header.at ≡ b.header.at + 0 * b.header.every = omega arith in
-    let zeros : first ≡ first + 0 * tasks_of b = omega arith in
-    let tasks : tasks_after_calls first b.calls ≡ first + 1 * tasks_of b = omega (arith, tasks_after_calls-from first b.calls) in
+    let zeros : first ≡ first + 0 * block_tasks b = omega arith in
+    let tasks : tasks_after_calls first b.calls ≡ first + 1 * block_tasks b = omega (arith, tasks_after_calls-from first b.calls) in
     straight firsts first b.header.at first b.calls rest
     ∙ ap (λ (n : ℕ). calls_at firsts b.header.at first first b.calls ++ code_calls_from false n rest) tasks
-    ∙ ap (λ (m : ℕ). calls_at firsts m first first b.calls ++ code_calls_from false (first + 1 * tasks_of b) rest) at
-    ∙ ap (λ (n : ℕ). calls_at firsts (b.header.at + 0 * b.header.every) n n b.calls ++ code_calls_from false (first + 1 * tasks_of b) rest) zeros
+    ∙ ap (λ (m : ℕ). calls_at firsts m first first b.calls ++ code_calls_from false (first + 1 * block_tasks b) rest) at
+    ∙ ap (λ (n : ℕ). calls_at firsts (b.header.at + 0 * b.header.every) n n b.calls ++ code_calls_from false (first + 1 * block_tasks b) rest) zeros
 
 -- ---- the whole plan
 
 -- the instructions of a block make its calls
 block_is : (firsts : List ℕ) (first : ℕ) (h : Header) (cs : List Call) (rest : List Instr) → 1 ≤ h.times
     → code_calls_from false first (block_instrs firsts first h cs ++ rest)
-    ≡ iterations firsts first (record { header = h; calls = cs }) h.times ++ code_calls_from false (first + h.times * tasks_after_calls 0 cs) rest
+    ≡ block_iterations firsts first (record { header = h; calls = cs }) h.times ++ code_calls_from false (first + h.times * tasks_after_calls 0 cs) rest
 block_is firsts first h [] rest least =
     let e : first + h.times * 0 ≡ first = omega arith in
     rw (no_iterations firsts first h h.times, e) refl
@@ -180,14 +180,14 @@ block_is firsts first h (c ∷ cs) rest least =
           let one : 1 ≡ h.times = omega (arith, least, ltb-false 1 h.times single) in
           ap (λ (test : Bool). code_calls_from false first (cond test loop plain ++ rest)) single
           ∙ once firsts first b rest
-          ∙ ap (λ (n : ℕ). iterations firsts first b n ++ code_calls_from false (first + n * tasks_of b) rest) one)
+          ∙ ap (λ (n : ℕ). block_iterations firsts first b n ++ code_calls_from false (first + n * block_tasks b) rest) one)
     ]
 
-blocks_are : (earlier bs : PlanTree) (firsts : List ℕ) (first : ℕ) → AreBlocksAfter earlier bs → code_calls_from false first (instrs_from firsts first bs) ≡ calls_from firsts first bs
+blocks_are : (earlier bs : PlanTree) (firsts : List ℕ) (first : ℕ) → AreBlocksAfter earlier bs → code_calls_from false first (instrs_from firsts first bs) ≡ calls_of_blocks firsts first bs
 blocks_are earlier [] firsts first ordered = refl
 blocks_are earlier (b ∷ bs) firsts first ordered =
-    block_is firsts first b.header b.calls (instrs_from (firsts ++ first ∷ []) (first + b.header.times * tasks_of b) bs) ordered.0.least
-    ∙ ap (λ (ps : List Planned). iterations firsts first b b.header.times ++ ps) (blocks_are (earlier ++ b ∷ []) bs (firsts ++ first ∷ []) (first + b.header.times * tasks_of b) ordered.1)
+    block_is firsts first b.header b.calls (instrs_from (firsts ++ first ∷ []) (first + b.header.times * block_tasks b) bs) ordered.0.least
+    ∙ ap (λ (ps : List Planned). block_iterations firsts first b b.header.times ++ ps) (blocks_are (earlier ++ b ∷ []) bs (firsts ++ first ∷ []) (first + b.header.times * block_tasks b) ordered.1)
 
 -- the code of a plan makes the plan's calls
 pub code_makes_calls : (blocks : PlanTree) → IsOrdered blocks → code_calls (instrs_of blocks) ≡ calls_of blocks

@@ -4,7 +4,7 @@ use Rattle.std.proofs.lemmas.Bool.{cases_Bool}
 use Rattle.plan_read.specs.declared.plans.Call.{Call}
 use Rattle.plan_read.specs.declared.plans.Op.{Op}
 use Rattle.plan_read.specs.Plans.{BlockTree, PlanTree, is_submission, name_of, names_of, tasks_after, tasks_after_calls, made_from}
-use Rattle.plan_compile.specs.PlanCalls.{calls_at, tasks_of, iteration, iterations, calls_from}
+use Rattle.plan_compile.specs.PlanCalls.{calls_at, block_tasks, block_iteration, block_iterations, calls_of_blocks}
 
 -- a value that may be missing is missing or there
 pub none_or_some : {A : Type 0} (o : Option A) → (o ≡ None) ⊎ ((x : A) × (o ≡ Some x))
@@ -55,33 +55,33 @@ length-calls_at firsts base start task (c ∷ cs) = omega (arith, length-calls_a
 pub times-suc : (n k : ℕ) → suc n * k ≡ n * k + k
 times-suc n k = grind arith
 
-length-iterations : (firsts : List ℕ) (first : ℕ) (b : BlockTree) (n : ℕ) → length (iterations firsts first b n) ≤ n * length b.calls
+length-iterations : (firsts : List ℕ) (first : ℕ) (b : BlockTree) (n : ℕ) → length (block_iterations firsts first b n) ≤ n * length b.calls
 length-iterations firsts first b zero = omega arith
 length-iterations firsts first b (suc n) =
     omega (
       arith,
       times-suc n (length b.calls),
-      length-append (iterations firsts first b n) (iteration firsts first b n),
+      length-append (block_iterations firsts first b n) (block_iteration firsts first b n),
       length-iterations firsts first b n,
-      length-calls_at firsts (b.header.at + n * b.header.every) (first + n * tasks_of b) (first + n * tasks_of b) b.calls,
+      length-calls_at firsts (b.header.at + n * b.header.every) (first + n * block_tasks b) (first + n * block_tasks b) b.calls,
     )
 
 -- a plan makes no more calls than its text says
-pub length-calls_from : (firsts : List ℕ) (first made : ℕ) (bs : PlanTree) → made + length (calls_from firsts first bs) ≤ made_from made bs
+pub length-calls_from : (firsts : List ℕ) (first made : ℕ) (bs : PlanTree) → made + length (calls_of_blocks firsts first bs) ≤ made_from made bs
 length-calls_from firsts first made [] = omega arith
 length-calls_from firsts first made (b ∷ bs) =
-    let rest = calls_from (firsts ++ first ∷ []) (first + b.header.times * tasks_of b) bs in
+    let rest = calls_of_blocks (firsts ++ first ∷ []) (first + b.header.times * block_tasks b) bs in
     omega (
       arith,
-      length-append (iterations firsts first b b.header.times) rest,
+      length-append (block_iterations firsts first b b.header.times) rest,
       length-iterations firsts first b b.header.times,
-      length-calls_from (firsts ++ first ∷ []) (first + b.header.times * tasks_of b) (made + b.header.times * length b.calls) bs,
+      length-calls_from (firsts ++ first ∷ []) (first + b.header.times * block_tasks b) (made + b.header.times * length b.calls) bs,
     )
 
 -- the submissions of some iterations are no more than their calls
-pub tasks_of-le : (b : BlockTree) → tasks_of b ≤ length b.calls
+pub tasks_of-le : (b : BlockTree) → block_tasks b ≤ length b.calls
 tasks_of-le b = omega (arith, tasks_after_calls-le 0 b.calls)
 
 -- one more iteration
-pub iterations-more : (firsts : List ℕ) (first : ℕ) (b : BlockTree) (r : ℕ) → iterations firsts first b (r + 1) ≡ iterations firsts first b r ++ iteration firsts first b r
-iterations-more firsts first b r = ap (iterations firsts first b) (add-one r)
+pub iterations-more : (firsts : List ℕ) (first : ℕ) (b : BlockTree) (r : ℕ) → block_iterations firsts first b (r + 1) ≡ block_iterations firsts first b r ++ block_iteration firsts first b r
+iterations-more firsts first b r = ap (block_iterations firsts first b) (add-one r)

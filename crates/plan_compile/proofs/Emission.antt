@@ -9,7 +9,7 @@ use Rattle.plan_read.specs.declared.plans.Op.{Op}
 use Rattle.plan_read.specs.declared.plans.Op.TheVariants as ops
 use Rattle.plan_read.specs.Plans.{BlockTree, PlanTree, tasks_after, tasks_after_calls, made_by, AreCallsAfter, AreBlocksAfter, IsOrdered}
 use Rattle.plan_read.proofs.Accepted.{made_from_one_more}
-use Rattle.plan_compile.specs.PlanCalls.{tasks_of}
+use Rattle.plan_compile.specs.PlanCalls.{block_tasks}
 use Rattle.plan_compile.specs.PlanCode.{instr_of, instrs_at, block_instrs, instrs_from, instrs_of, IsBelow, AreInRange}
 use Rattle.plan_compile.proofs.Counting.{tasks_after-le, tasks_of-le}
 use Rattle.plan_compile.proofs.Ordering.{AreFirsts, firsts_start, firsts_next, op_below, count_next}
@@ -73,8 +73,8 @@ pub none_emitted : (all : PlanTree) → IsOrdered all → BlocksToEmit all [] al
 none_emitted all ordered = record { done = refl; ordered = ordered.1; known = firsts_start; few = omega arith; made = omega arith }
 
 -- the submissions of a block are no more than its calls
-tasks_times : (b : BlockTree) → b.header.times * tasks_of b ≤ b.header.times * length b.calls
-tasks_times b = mul-le b.header.times (tasks_of b) b.header.times (length b.calls) (omega arith) (tasks_of-le b)
+tasks_times : (b : BlockTree) → b.header.times * block_tasks b ≤ b.header.times * length b.calls
+tasks_times b = mul-le b.header.times (block_tasks b) b.header.times (length b.calls) (omega arith) (tasks_of-le b)
 
 -- the numbers of the next block are in range
 pub block_in_range : (all earlier rest : PlanTree) (firsts : List ℕ) (first : ℕ) (out : List Instr) (b : BlockTree) → BlocksToEmit all earlier (b ∷ rest) firsts first out
@@ -86,17 +86,17 @@ block_in_range all earlier rest firsts first out b left =
 
 -- the number behind the next block is in range
 pub numbers_in_range : (all earlier rest : PlanTree) (firsts : List ℕ) (first : ℕ) (out : List Instr) (b : BlockTree) → BlocksToEmit all earlier (b ∷ rest) firsts first out
-    → first + b.header.times * tasks_of b ≤ 65536
+    → first + b.header.times * block_tasks b ≤ 65536
 numbers_in_range all earlier rest firsts first out b left = omega (arith, left.few, left.ordered.0.total, tasks_times b)
 
 -- after the next block
 pub block_emitted : (all earlier rest : PlanTree) (firsts : List ℕ) (first : ℕ) (out : List Instr) (b : BlockTree) → BlocksToEmit all earlier (b ∷ rest) firsts first out
-    → BlocksToEmit all (earlier ++ b ∷ []) rest (firsts ++ first ∷ []) (first + b.header.times * tasks_of b) (out ++ block_instrs firsts first b.header b.calls)
+    → BlocksToEmit all (earlier ++ b ∷ []) rest (firsts ++ first ∷ []) (first + b.header.times * block_tasks b) (out ++ block_instrs firsts first b.header b.calls)
 block_emitted all earlier rest firsts first out b left =
     let block = left.ordered.0 in
     let more = made_from_one_more 0 earlier b in
     record {
-      done = append_assoc out (block_instrs firsts first b.header b.calls) (instrs_from (firsts ++ first ∷ []) (first + b.header.times * tasks_of b) rest) ∙ left.done;
+      done = append_assoc out (block_instrs firsts first b.header b.calls) (instrs_from (firsts ++ first ∷ []) (first + b.header.times * block_tasks b) rest) ∙ left.done;
       ordered = left.ordered.1;
       known = firsts_next earlier firsts first b block.least left.known;
       few = rw more (omega (arith, left.few, tasks_times b));

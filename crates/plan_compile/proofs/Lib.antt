@@ -4,3 +4,4 @@ pub mod Ordering
 pub mod CodeCalls
 pub mod NoFault
 pub mod Emission
+pub mod Periods

@@ -5,8 +5,8 @@ use Rattle.std.proofs.lemmas.Bool.{cases_Bool, ltb-false, ltb-true, le-ltb, or_f
 use Rattle.queue_code.specs.declared.fault.CodeFault.{CodeFault}
 use Rattle.queue_code.specs.declared.instr.Instr.{Instr}
 use Rattle.queue_code.specs.declared.instr.Instr.TheVariants as instr
-use Rattle.queue_code.specs.Checks.{first_failing, or_else, fault_of}
-use Rattle.queue_code.specs.Walks.{last_shift, loop_after, calls_after, after, lacks_task, checks, first_fault}
+use Rattle.queue_code.specs.Checks.{first_failed, or_else, code_fault}
+use Rattle.queue_code.specs.Walks.{last_shift, loop_after, walk_calls_after, walk_after, walk_lacks_task, walk_checks, first_fault}
 use Rattle.queue_code.proofs.Accepting.{Met, none_fails, met_out, met_in, loop_begins, loop_ends, leb_not}
 use Rattle.queue_code.proofs.Passing.{Passes}
 use Rattle.queue_code.proofs.Faults.{fault_is}
@@ -16,7 +16,7 @@ use Rattle.plan_read.specs.declared.plans.Op.{Op}
 use Rattle.plan_read.specs.declared.plans.Op.TheVariants as ops
 use Rattle.plan_read.specs.Plans.{PlanTree, tasks_after, tasks_after_calls, last_offset, last_offset_from, end_of, end_of_block, made_by, IsWithinLimits, AreCallsAfter, IsBlockAfter, AreBlocksAfter, IsOrdered}
 use Rattle.plan_read.proofs.Accepted.{end_from_one_more, made_from_one_more}
-use Rattle.plan_compile.specs.PlanCalls.{tasks_of}
+use Rattle.plan_compile.specs.PlanCalls.{block_tasks}
 use Rattle.plan_compile.specs.PlanCode.{instr_of, instrs_at, block_instrs, instrs_from, instrs_of, IsBelow}
 use Rattle.plan_compile.proofs.Counting.{tasks_after_calls-from}
 use Rattle.plan_compile.proofs.Ordering.{AreFirsts, firsts_start, firsts_next, op_below, last_offset-one_more, count_next, offset_within}
@@ -27,10 +27,10 @@ use Rattle.plan_compile.proofs.Ordering.{AreFirsts, firsts_start, firsts_next, o
 record Fits (p : Met) (offset : ℕ) : Type 0 where
   low : p.last ≤ offset
   high : last_shift p.open_loop + offset ≤ 2 ^ 62
-  few : calls_after p.open_loop p.calls ≤ 65536
+  few : walk_calls_after p.open_loop p.calls ≤ 65536
 
 cancel_passes : (p : Met) (found : Option ℕ) (repeated : Bool) (first offset sub : ℕ) (rest : List Instr) → unwrap_or found first + sub < p.tasks
-    → (repeated ≡ true → (nth : ℕ) → first + nth < p.tasks → lacks_task p p.open_loop nth ≡ false) → Fits p offset
+    → (repeated ≡ true → (nth : ℕ) → first + nth < p.tasks → walk_lacks_task p p.open_loop nth ≡ false) → Fits p offset
     → Passes p (cond (repeated && is_none found) (instr.CancelHere offset sub) (instr.CancelFixed offset (unwrap_or found first + sub))) rest
 cancel_passes p None true first offset sub rest below here fits = record { early = refl; nested = refl; unclosed = refl; empty = refl; task = here refl sub below; large = le-ltb _ _ fits.high; order = le-ltb _ _ fits.low; many = le-ltb _ _ fits.few }
 cancel_passes p (Some f) true first offset sub rest below here fits = record { early = refl; nested = refl; unclosed = refl; empty = refl; task = leb_not _ _ below; large = le-ltb _ _ fits.high; order = le-ltb _ _ fits.low; many = le-ltb _ _ fits.few }
@@ -38,7 +38,7 @@ cancel_passes p found false first offset sub rest below here fits = record { ear
 
 -- an operation's instruction passes all checks
 instr_passes : (p : Met) (firsts : List ℕ) (first : ℕ) (repeated : Bool) (offset : ℕ) (op : Op) (rest : List Instr) → IsWithinLimits op → IsBelow firsts first p.tasks op
-    → (repeated ≡ true → (nth : ℕ) → first + nth < p.tasks → lacks_task p p.open_loop nth ≡ false) → Fits p offset → Passes p (instr_of firsts first repeated offset op) rest
+    → (repeated ≡ true → (nth : ℕ) → first + nth < p.tasks → walk_lacks_task p p.open_loop nth ≡ false) → Fits p offset → Passes p (instr_of firsts first repeated offset op) rest
 instr_passes p firsts first repeated offset (ops.Cancel target) rest limits below here fits = cancel_passes p (slice_get firsts target.block) repeated first offset target.sub rest below here fits
 instr_passes p firsts first repeated offset (ops.Schedule name delay) rest limits below here fits = record { early = refl; nested = refl; unclosed = refl; empty = refl; task = refl; large = or_from _ _ (le-ltb _ _ limits) (le-ltb _ _ fits.high); order = le-ltb _ _ fits.low; many = le-ltb _ _ fits.few }
 instr_passes p firsts first repeated offset (ops.Rate name delay (Some period)) rest limits below here fits = record { early = refl; nested = refl; unclosed = refl; empty = refl; task = refl; large = or_from _ _ (le-ltb _ _ limits.0) (le-ltb _ _ fits.high); order = le-ltb _ _ fits.low; many = le-ltb _ _ fits.few }
@@ -49,11 +49,11 @@ instr_passes p firsts first repeated offset op rest limits below here fits = rec
 
 -- what is met after a call, where there are this many tasks then
 abbrev met : Met → ℕ → ℕ → Met
-met p offset tasks = record { open_loop = loop_after p.open_loop offset; calls = calls_after p.open_loop p.calls; tasks = tasks; last = offset }
+met p offset tasks = record { open_loop = loop_after p.open_loop offset; calls = walk_calls_after p.open_loop p.calls; tasks = tasks; last = offset }
 
 record Steps (p : Met) (i : Instr) (offset : ℕ) (op : Op) : Type 0 where
-  next : after p i ≡ met p offset (tasks_after p.tasks op)
-  fault : (rest : List Instr) → first_fault p (i ∷ rest) ≡ or_else (first_failing (checks p i rest)) (first_fault (after p i) rest)
+  next : walk_after p i ≡ met p offset (tasks_after p.tasks op)
+  fault : (rest : List Instr) → first_fault p (i ∷ rest) ≡ or_else (first_failed (walk_checks p i rest)) (first_fault (walk_after p i) rest)
 
 no_more : (p : Met) (offset : ℕ) → met p offset (p.tasks + 0) ≡ met p offset p.tasks
 no_more p offset = let e : p.tasks + 0 ≡ p.tasks = omega arith in ap (met p offset) e
@@ -78,7 +78,7 @@ call_on : (p : Met) (firsts : List ℕ) (first : ℕ) (repeated : Bool) (offset 
 call_on p firsts first repeated offset op rest passes behind =
     let i = instr_of firsts first repeated offset op in
     let s = steps_of p firsts first repeated offset op in
-    s.fault rest ∙ ap (λ (f : Option CodeFault). or_else f (first_fault (after p i) rest)) (none_fails p i rest passes)
+    s.fault rest ∙ ap (λ (f : Option CodeFault). or_else f (first_fault (walk_after p i) rest)) (none_fails p i rest passes)
     ∙ ap (λ (q : Met). first_fault q rest) s.next ∙ behind
 
 -- ---- a block that is made once
@@ -188,7 +188,7 @@ blocks_ok : (earlier bs : PlanTree) (firsts : List ℕ) (first : ℕ) → AreBlo
 blocks_ok earlier [] firsts first ordered a few = refl
 blocks_ok earlier (b ∷ bs) firsts first ordered a few =
     let block = ordered.0 in
-    let more = first + b.header.times * tasks_of b in
+    let more = first + b.header.times * block_tasks b in
     let made_is = made_from_one_more 0 earlier b in
     let end_is = end_from_one_more 0 earlier b in
     let behind = blocks_ok (earlier ++ b ∷ []) bs (firsts ++ first ∷ []) more ordered.1 (firsts_next earlier firsts first b block.least a) (rw made_is block.total) in
@@ -196,5 +196,5 @@ blocks_ok earlier (b ∷ bs) firsts first ordered a few =
     (rw (made_is, end_is) at behind)
 
 -- the code of a plan has no fault
-pub code_has_no_fault : (blocks : PlanTree) → IsOrdered blocks → fault_of (instrs_of blocks) ≡ None
+pub code_has_no_fault : (blocks : PlanTree) → IsOrdered blocks → code_fault (instrs_of blocks) ≡ None
 code_has_no_fault blocks ordered = fault_is (instrs_of blocks) ∙ blocks_ok [] blocks [] 0 ordered.1 firsts_start (omega arith)

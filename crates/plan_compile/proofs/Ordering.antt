@@ -13,7 +13,7 @@ use Rattle.plan_read.specs.declared.plans.Target.{Target}
 use Rattle.plan_read.specs.Plans.{BlockTree, PlanTree, is_submission, names_of, tasks_after, tasks_after_calls, last_offset, last_offset_from, end_of, end_of_block, made_by, made_from, IsWithinLimits, StandsBefore, IsAimed, AreCallsAfter, IsBlockAfter, AreBlocksAfter, IsOrdered}
 use Rattle.plan_read.proofs.Accepted.{end_from_one_more, made_from_one_more}
 use Rattle.plan_read.proofs.Naming.{tasks_after-one_more}
-use Rattle.plan_compile.specs.PlanCalls.{number_of, code_call, calls_at, tasks_of, iteration, iterations, calls_from, calls_of}
+use Rattle.plan_compile.specs.PlanCalls.{number_of, code_call, calls_at, block_tasks, block_iteration, block_iterations, calls_of_blocks, calls_of}
 use Rattle.plan_compile.specs.PlanCode.{IsBelow}
 use Rattle.plan_compile.proofs.Counting.{tasks_after_calls-from, length-names_of, length-calls_from, times-suc}
 use Rattle.plan_compile.proofs.Runs.{Runs, runs_orderly, runs_earlier, runs_later, runs_append}
@@ -23,7 +23,7 @@ use Rattle.plan_compile.proofs.Runs.{Runs, runs_orderly, runs_earlier, runs_late
 -- the first numbers of some blocks, all of whose submissions have numbers below `first`
 pub record AreFirsts (earlier : PlanTree) (firsts : List ℕ) (first : ℕ) : Type 0 where
   pub count : length firsts ≡ length earlier
-  pub each : (i : ℕ) (b : BlockTree) → slice_get earlier i ≡ Some b → (f : ℕ) × (slice_get firsts i ≡ Some f) × (f + tasks_of b ≤ first)
+  pub each : (i : ℕ) (b : BlockTree) → slice_get earlier i ≡ Some b → (f : ℕ) × (slice_get firsts i ≡ Some f) × (f + block_tasks b ≤ first)
 
 get_kept : {A : Type 0} (xs : List A) (y x : A) (i : ℕ) → slice_get xs i ≡ Some x → slice_get (xs ++ y ∷ []) i ≡ Some x
 get_kept [] y x i h = absurd (cc)
@@ -56,9 +56,9 @@ firsts_start = record { count = refl; each = λ i b at. absurd (cc) }
 
 -- one more block
 pub firsts_next : (earlier : PlanTree) (firsts : List ℕ) (first : ℕ) (b : BlockTree) → 1 ≤ b.header.times → AreFirsts earlier firsts first
-    → AreFirsts (earlier ++ b ∷ []) (firsts ++ first ∷ []) (first + b.header.times * tasks_of b)
+    → AreFirsts (earlier ++ b ∷ []) (firsts ++ first ∷ []) (first + b.header.times * block_tasks b)
 firsts_next earlier firsts first b least a =
-    let grows : tasks_of b ≤ b.header.times * tasks_of b = omega (arith, mul-le 1 (tasks_of b) b.header.times (tasks_of b) least (omega arith)) in
+    let grows : block_tasks b ≤ b.header.times * block_tasks b = omega (arith, mul-le 1 (block_tasks b) b.header.times (block_tasks b) least (omega arith)) in
     record {
       count = rw (length-snoc firsts first, length-snoc earlier b, a.count) refl;
       each = λ i d at. elim (get_either earlier b d i at) [
@@ -164,63 +164,63 @@ base_reach h r within = omega (arith, mul-le r h.every (h.times - 1) h.every (om
 
 -- the calls of an iteration lead from its first number and its beginning to the numbers and the moment of its last call
 iteration_runs : (earlier : PlanTree) (firsts : List ℕ) (first : ℕ) (b : BlockTree) (r : ℕ) → IsBlockAfter earlier b → AreFirsts earlier firsts first → r < b.header.times
-    → Runs (first + r * tasks_of b) (b.header.at + r * b.header.every) (iteration firsts first b r) (first + suc r * tasks_of b) (b.header.at + r * b.header.every + last_offset b.calls)
+    → Runs (first + r * block_tasks b) (b.header.at + r * b.header.every) (block_iteration firsts first b r) (first + suc r * block_tasks b) (b.header.at + r * b.header.every + last_offset b.calls)
 iteration_runs earlier firsts first b r block a within =
-    let start = first + r * tasks_of b in
+    let start = first + r * block_tasks b in
     let base = b.header.at + r * b.header.every in
     let all = calls_run earlier b.header firsts base start [] b.calls start 0 block.calls (firsts_more earlier firsts first start (omega arith) a) (base_reach b.header r within) (omega arith) refl in
-    let count : tasks_after_calls start b.calls ≡ first + suc r * tasks_of b = omega (arith, tasks_after_calls-from start b.calls, times-suc r (tasks_of b)) in
+    let count : tasks_after_calls start b.calls ≡ first + suc r * block_tasks b = omega (arith, tasks_after_calls-from start b.calls, times-suc r (block_tasks b)) in
     let zero_at : base + 0 ≡ base = omega arith in
     rw (count, zero_at) at all
 
 -- ---- one block
 
 iterations_run : (earlier : PlanTree) (firsts : List ℕ) (first : ℕ) (b : BlockTree) (n : ℕ) → IsBlockAfter earlier b → AreFirsts earlier firsts first → n < b.header.times
-    → Runs first b.header.at (iterations firsts first b n) (first + n * tasks_of b) (b.header.at + n * b.header.every)
+    → Runs first b.header.at (block_iterations firsts first b n) (first + n * block_tasks b) (b.header.at + n * b.header.every)
 iterations_run earlier firsts first b zero block a within = (omega arith, omega arith)
 iterations_run earlier firsts first b (suc n) block a within =
     let before = iterations_run earlier firsts first b n block a (omega arith) in
     let one = iteration_runs earlier firsts first b n block a (omega arith) in
     let last = last_within earlier b.header [] b.calls 0 block.calls (omega arith) (omega arith) in
     let end : b.header.at + n * b.header.every + last_offset b.calls ≤ b.header.at + suc n * b.header.every = omega (arith, last, times-suc n b.header.every) in
-    runs_append first b.header.at (iterations firsts first b n) (iteration firsts first b n) (first + n * tasks_of b) (b.header.at + n * b.header.every)
-    (first + suc n * tasks_of b) (b.header.at + suc n * b.header.every) before
-    (runs_later (first + n * tasks_of b) (b.header.at + n * b.header.every) (iteration firsts first b n) (first + suc n * tasks_of b) _ _ end one)
+    runs_append first b.header.at (block_iterations firsts first b n) (block_iteration firsts first b n) (first + n * block_tasks b) (b.header.at + n * b.header.every)
+    (first + suc n * block_tasks b) (b.header.at + suc n * b.header.every) before
+    (runs_later (first + n * block_tasks b) (b.header.at + n * b.header.every) (block_iteration firsts first b n) (first + suc n * block_tasks b) _ _ end one)
 
 all_run : (earlier : PlanTree) (firsts : List ℕ) (first : ℕ) (b : BlockTree) (k : ℕ) → IsBlockAfter earlier b → AreFirsts earlier firsts first → b.header.times ≡ suc k
-    → Runs first b.header.at (iterations firsts first b (suc k)) (first + suc k * tasks_of b) (b.header.at + k * b.header.every + last_offset b.calls)
+    → Runs first b.header.at (block_iterations firsts first b (suc k)) (first + suc k * block_tasks b) (b.header.at + k * b.header.every + last_offset b.calls)
 all_run earlier firsts first b k block a is =
-    runs_append first b.header.at (iterations firsts first b k) (iteration firsts first b k) (first + k * tasks_of b) (b.header.at + k * b.header.every)
-    (first + suc k * tasks_of b) (b.header.at + k * b.header.every + last_offset b.calls)
+    runs_append first b.header.at (block_iterations firsts first b k) (block_iteration firsts first b k) (first + k * block_tasks b) (b.header.at + k * b.header.every)
+    (first + suc k * block_tasks b) (b.header.at + k * b.header.every + last_offset b.calls)
     (iterations_run earlier firsts first b k block a (omega (arith, is))) (iteration_runs earlier firsts first b k block a (omega (arith, is)))
 
 -- a block without calls makes none
-pub no_iterations : (firsts : List ℕ) (first : ℕ) (h : Header) (n : ℕ) → iterations firsts first (record { header = h; calls = [] }) n ≡ []
+pub no_iterations : (firsts : List ℕ) (first : ℕ) (h : Header) (n : ℕ) → block_iterations firsts first (record { header = h; calls = [] }) n ≡ []
 no_iterations firsts first h zero = refl
 no_iterations firsts first h (suc n) = rw (no_iterations firsts first h n) refl
 
 block_runs : (earlier : PlanTree) (firsts : List ℕ) (first : ℕ) (h : Header) (calls : List Call) → IsBlockAfter earlier (record { header = h; calls = calls }) → AreFirsts earlier firsts first
-    → Runs first (end_of earlier) (iterations firsts first (record { header = h; calls = calls }) h.times) (first + h.times * tasks_after_calls 0 calls) (end_of_block (end_of earlier) h calls)
+    → Runs first (end_of earlier) (block_iterations firsts first (record { header = h; calls = calls }) h.times) (first + h.times * tasks_after_calls 0 calls) (end_of_block (end_of earlier) h calls)
 block_runs earlier firsts first h [] block a = rw (no_iterations firsts first h h.times) (omega arith, omega arith)
 block_runs earlier firsts first h (c ∷ cs) block a =
     let b : BlockTree = record { header = h; calls = c ∷ cs } in
     let k = h.times - 1 in
     let times : h.times ≡ suc k = omega (arith, block.least) in
     let all = all_run earlier firsts first b k block a times in
-    let early = runs_earlier first (end_of earlier) h.at (iterations firsts first b (suc k)) (first + suc k * tasks_of b) (h.at + k * h.every + last_offset (c ∷ cs)) block.order all in
-    subst (λ (n : ℕ). Runs first (end_of earlier) (iterations firsts first b n) (first + n * tasks_of b) (h.at + k * h.every + last_offset (c ∷ cs))) (sym times) early
+    let early = runs_earlier first (end_of earlier) h.at (block_iterations firsts first b (suc k)) (first + suc k * block_tasks b) (h.at + k * h.every + last_offset (c ∷ cs)) block.order all in
+    subst (λ (n : ℕ). Runs first (end_of earlier) (block_iterations firsts first b n) (first + n * block_tasks b) (h.at + k * h.every + last_offset (c ∷ cs))) (sym times) early
 
 -- ---- the whole plan
 
 blocks_run : (earlier bs : PlanTree) (firsts : List ℕ) (first : ℕ) → AreBlocksAfter earlier bs → AreFirsts earlier firsts first
-    → (after : ℕ) × (end : ℕ) × Runs first (end_of earlier) (calls_from firsts first bs) after end
+    → (after : ℕ) × (end : ℕ) × Runs first (end_of earlier) (calls_of_blocks firsts first bs) after end
 blocks_run earlier [] firsts first ordered a = (first, end_of earlier, (refl, omega arith))
 blocks_run earlier (b ∷ bs) firsts first ordered a =
     let one = block_runs earlier firsts first b.header b.calls ordered.0 a in
-    let more = first + b.header.times * tasks_of b in
+    let more = first + b.header.times * block_tasks b in
     let rest = blocks_run (earlier ++ b ∷ []) bs (firsts ++ first ∷ []) more ordered.1 (firsts_next earlier firsts first b ordered.0.least a) in
-    let next : Runs more (end_of_block (end_of earlier) b.header b.calls) (calls_from (firsts ++ first ∷ []) more bs) rest.0 rest.1 = rw (end_from_one_more 0 earlier b) at rest.2 in
-    (rest.0, rest.1, runs_append first (end_of earlier) (iterations firsts first b b.header.times) (calls_from (firsts ++ first ∷ []) more bs) more (end_of_block (end_of earlier) b.header b.calls) rest.0 rest.1 one next)
+    let next : Runs more (end_of_block (end_of earlier) b.header b.calls) (calls_of_blocks (firsts ++ first ∷ []) more bs) rest.0 rest.1 = rw (end_from_one_more 0 earlier b) at rest.2 in
+    (rest.0, rest.1, runs_append first (end_of earlier) (block_iterations firsts first b b.header.times) (calls_of_blocks (firsts ++ first ∷ []) more bs) more (end_of_block (end_of earlier) b.header b.calls) rest.0 rest.1 one next)
 
 made_within : (earlier bs : PlanTree) → AreBlocksAfter earlier bs → made_by earlier ≤ 65536 → made_from (made_by earlier) bs ≤ 65536
 made_within earlier [] ordered few = few

@@ -36,26 +36,26 @@ calls_at firsts base start task (c ∷ cs) =
     (base + c.at, code_call firsts start task c.op) ∷ calls_at firsts base start (tasks_after task c.op) cs
 
 -- how many submissions each iteration of a block makes
-abbrev pub tasks_of : BlockTree → ℕ
-tasks_of b = tasks_after_calls 0 b.calls
+abbrev pub block_tasks : BlockTree → ℕ
+block_tasks b = tasks_after_calls 0 b.calls
 
 -- the calls of iteration r of a block, counted from 0, where `first` submissions stand before the block: it begins at
 -- `at + r * every`
-abbrev pub iteration : List ℕ → ℕ → BlockTree → ℕ → List (ℕ × CodeCall)
-iteration firsts first b r =
-    calls_at firsts (b.header.at + r * b.header.every) (first + r * tasks_of b) (first + r * tasks_of b) b.calls
+abbrev pub block_iteration : List ℕ → ℕ → BlockTree → ℕ → List (ℕ × CodeCall)
+block_iteration firsts first b r =
+    calls_at firsts (b.header.at + r * b.header.every) (first + r * block_tasks b) (first + r * block_tasks b) b.calls
 
 -- the calls of the first n iterations of a block
-abbrev pub iterations : List ℕ → ℕ → BlockTree → ℕ → List (ℕ × CodeCall)
-iterations firsts first b zero = []
-iterations firsts first b (suc r) = iterations firsts first b r ++ iteration firsts first b r
+abbrev pub block_iterations : List ℕ → ℕ → BlockTree → ℕ → List (ℕ × CodeCall)
+block_iterations firsts first b zero = []
+block_iterations firsts first b (suc r) = block_iterations firsts first b r ++ block_iteration firsts first b r
 
 -- the calls of some blocks, where `first` submissions stand before them, and `firsts` has the first number of each block before
-abbrev pub calls_from : List ℕ → ℕ → PlanTree → List (ℕ × CodeCall)
-calls_from firsts first [] = []
-calls_from firsts first (b ∷ bs) =
-    iterations firsts first b b.header.times ++ calls_from (firsts ++ first ∷ []) (first + b.header.times * tasks_of b) bs
+abbrev pub calls_of_blocks : List ℕ → ℕ → PlanTree → List (ℕ × CodeCall)
+calls_of_blocks firsts first [] = []
+calls_of_blocks firsts first (b ∷ bs) =
+    block_iterations firsts first b b.header.times ++ calls_of_blocks (firsts ++ first ∷ []) (first + b.header.times * block_tasks b) bs
 
 -- the calls of a plan with their moments: block by block, iteration by iteration, call by call
 abbrev pub calls_of : PlanTree → List (ℕ × CodeCall)
-calls_of blocks = calls_from [] 0 blocks
+calls_of blocks = calls_of_blocks [] 0 blocks

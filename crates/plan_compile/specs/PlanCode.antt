@@ -1,6 +1,7 @@
 -- The instructions of a plan's code, in which a repeated block stands once, as a loop.
 -- All of it is this project's rule.
 use Rattle.std.specs.Prelude.{ℕ, ◌+◌, ◌*◌, ◌≤◌, ◌<◌, nat_lt, Bool, true, false, ◌&&◌, if◌then◌else◌, List, [], ◌∷◌, ◌++◌, Some, None, is_none, slice_get}
+use Rattle.sched_time.specs.declared.timing.Timing.{Timing}
 use Rattle.sched_time.specs.declared.timing.Timing.TheVariants as t
 use Rattle.sched_time.specs.Times.{longest}
 use Rattle.queue_code.specs.declared.instr.Instr.{Instr}
@@ -12,7 +13,7 @@ use Rattle.plan_read.specs.declared.plans.Op.{Op}
 use Rattle.plan_read.specs.declared.plans.Op.TheVariants as ops
 use Rattle.plan_read.specs.declared.plans.Target.{Target}
 use Rattle.plan_read.specs.Plans.{PlanTree}
-use Rattle.plan_compile.specs.PlanCalls.{number_of, tasks_of}
+use Rattle.plan_compile.specs.PlanCalls.{number_of, block_tasks}
 
 -- a cancel's target is in the cancel's own block, and in none of those before it, whose first numbers `firsts` has
 abbrev pub is_own : List ℕ → Target → Bool
@@ -54,7 +55,7 @@ block_instrs firsts first h (c ∷ cs) =
 abbrev pub instrs_from : List ℕ → ℕ → PlanTree → List Instr
 instrs_from firsts first [] = instr.Halt ∷ []
 instrs_from firsts first (b ∷ bs) =
-    block_instrs firsts first b.header b.calls ++ instrs_from (firsts ++ first ∷ []) (first + b.header.times * tasks_of b) bs
+    block_instrs firsts first b.header b.calls ++ instrs_from (firsts ++ first ∷ []) (first + b.header.times * block_tasks b) bs
 
 -- the instructions of a plan
 abbrev pub instrs_of : PlanTree → List Instr
@@ -74,3 +75,14 @@ IsBelow firsts first limit ops.Ask = Unit {0}
 abbrev pub AreInRange : List ℕ → ℕ → ℕ → List Call → Type 0
 AreInRange firsts first at [] = Unit {0}
 AreInRange firsts first at (c ∷ cs) = (at + c.at ≤ longest) × IsBelow firsts first most_calls c.op × AreInRange firsts first at cs
+
+-- a period, or a fixed delay, is 1 nanosecond at least: a task that runs again waits between its runs
+abbrev pub IsPositive : Timing → Type 0
+IsPositive t.Once = Unit {0}
+IsPositive (t.Rate period) = 1 ≤ period
+IsPositive (t.Fixed delay) = 1 ≤ delay
+
+-- a submission has no period and no fixed delay of 0
+abbrev pub HasNoZeroPeriod : Instr → Type 0
+HasNoZeroPeriod (instr.Submit offset timing delay) = IsPositive timing
+HasNoZeroPeriod i = Unit {0}

@@ -1,9 +1,10 @@
 //! The code of a plan.
 
 ghost use Rattle.std.specs.Prelude.{◌≡◌, IfOk};
+ghost use Rattle.std.specs.List.{All};
 ghost use Rattle.queue_code.specs.Codes.{calls_of as code_calls};
 ghost use Rattle.plan_compile.specs.PlanCalls.{calls_of};
-ghost use Rattle.plan_compile.specs.PlanCode.{instrs_of};
+ghost use Rattle.plan_compile.specs.PlanCode.{instrs_of, HasNoZeroPeriod};
 
 use crate::emitting::emit;
 use crate::fault::CompileFault;
@@ -12,7 +13,8 @@ use queue_code::{Code, CodeFault};
 use std::alloc::Allocator;
 
 /// The code of a plan: it makes the plan's calls, with their moments in nanoseconds and their numbers, and a block
-/// that is repeated stands in it once, as a loop.
+/// that is repeated stands in it once, as a loop. Each period and each fixed delay of its submissions is at least 1
+/// nanosecond.
 ///
 /// The only error is [`CompileFault::Memory`], where the allocator refused memory; what was begun is dropped then.
 pub fn compile<A: Allocator + Copy, B: Allocator>(
@@ -21,6 +23,7 @@ pub fn compile<A: Allocator + Copy, B: Allocator>(
 ) -> Result<Code<A>, CompileFault>
     ensures calls { IfOk result (λ code. code_calls code ≡ calls_of plan.now) }
     ensures code { IfOk result (λ code. code ≡ instrs_of plan.now) }
+    ensures periods { IfOk result (λ code. All HasNoZeroPeriod code) }
 {
     let instrs = emit(alloc, plan.blocks())?;
     match Code::check(alloc, instrs) {

@@ -1,10 +1,11 @@
 //! What holds of the calls of each plan, and of the limits on its text and its calls.
-ghost use Rattle.std.specs.Prelude.{◌≡◌, ℕ, List};
+ghost use Rattle.std.specs.Prelude.{◌≡◌, ◌↔◌, ℕ, List, true};
 ghost use Rattle.queue_code.specs.Calls.{IsOrderly, most_calls};
 ghost use Rattle.plan_read.specs.Plans.{PlanTree, most_calls as most_calls_of_plan};
 ghost use Rattle.plan_read.specs.Texts.{TextWrites, longest_text};
 ghost use Rattle.plan_compile.specs.PlanCalls.{calls_of};
 
+use crate::fault::CompileFault;
 use plan_read::{LONGEST_TEXT, plans_are_ordered};
 
 /// The calls of each plan that a text writes are in order, as the executor takes them and as its laws ask.
@@ -19,4 +20,9 @@ pub fn calls_are_in_order()
 pub fn limits_agree()
     ensures calls { most_calls_of_plan ≡ most_calls }
     ensures text { LONGEST_TEXT ≡ longest_text }
+{}
+
+/// Two faults compare as equal exactly when they are the same.
+pub fn compile_fault_equality_tells()
+    ensures { (a b : CompileFault) → (⟦<CompileFault as PartialEq>⟧.eq a b ≡ true) ↔ (a ≡ b) }
 {}

@@ -33,6 +33,8 @@
 //! | `policy`, `shutdown`, `ask` | `SetPolicy`, `Shutdown`, `Ask` |
 //! | the end | `Halt` |
 //!
+//! No period and no fixed delay of a code is 0.
+//!
 //! Contracts have this list as `instrs_of` (`specs/PlanCode.antt`), and the calls of a plan, each iteration written
 //! out, as `calls_of` (`specs/PlanCalls.antt`). [`compile`] ensures both: the code is that list, and its calls are
 //! the plan's.
@@ -53,6 +55,9 @@
 //! [`compile`] takes memory for the instructions and for one number a block, and what `Code::check` takes. Memory and
 //! time follow the length of the plan's text, and not how often its blocks are repeated: each call of the text is met
 //! a few times, and a cancel looks its target's block up in the table of numbers.
+//!
+//! The tests stand in `src/code_tests.rt`, those of whole plans and of memory in `src/plan_tests.rt`, and that of the largest
+//! plan in `src/size_tests.rt`.
 #![tactic(auto)]
 
 #[cfg(test)]
@@ -65,7 +70,9 @@ mod laws;
 mod numbers;
 #[cfg(test)]
 mod plan_tests;
+#[cfg(test)]
+mod size_tests;
 
 pub use compiling::compile;
 pub use fault::CompileFault;
-pub use laws::{calls_are_in_order, limits_agree};
+pub use laws::{calls_are_in_order, compile_fault_equality_tells, limits_agree};

@@ -6,8 +6,8 @@ use Rattle.queue_code.specs.declared.progress.Progress.{Progress}
 use Rattle.queue_code.specs.declared.fault.CodeFault.{CodeFault}
 use Rattle.queue_code.specs.declared.instr.Instr.{Instr}
 use Rattle.queue_code.specs.declared.instr.Instr.TheVariants.{Loop, EndLoop}
-use Rattle.queue_code.specs.Checks.{first_failing, or_else}
-use Rattle.queue_code.specs.Walks.{checks, after_loop, first_fault}
+use Rattle.queue_code.specs.Checks.{first_failed, or_else}
+use Rattle.queue_code.specs.Walks.{walk_checks, after_loop, first_fault}
 use Rattle.queue_code.proofs.Passing.{Passes}
 
 -- what a check has met, for the crates above
@@ -15,7 +15,7 @@ abbrev pub Met : Type 0
 Met = Progress
 
 -- where all checks pass none fails
-pub none_fails : (p : Met) (i : Instr) (rest : List Instr) → Passes p i rest → first_failing (checks p i rest) ≡ None
+pub none_fails : (p : Met) (i : Instr) (rest : List Instr) → Passes p i rest → first_failed (walk_checks p i rest) ≡ None
 none_fails p i rest h = rw (h.early, h.nested, h.unclosed, h.empty, h.task, h.large, h.order, h.many) refl
 
 -- outside loops

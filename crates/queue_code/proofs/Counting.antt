@@ -7,8 +7,8 @@ use Rattle.queue_code.specs.declared.progress.OpenLoop.{OpenLoop}
 use Rattle.queue_code.specs.declared.progress.Progress.{Progress}
 use Rattle.queue_code.specs.Calls.{Planned, task_count}
 use Rattle.queue_code.specs.Codes.{tasks_by, tasks_in, iterations, body_of, calls_from, calls_of}
-use Rattle.queue_code.specs.Checks.{offset_of, fault_of, AreTimed}
-use Rattle.queue_code.specs.Walks.{opening, first_fault, walked}
+use Rattle.queue_code.specs.Checks.{offset_of, code_fault, AreTimed}
+use Rattle.queue_code.specs.Walks.{walk_opening, first_fault, walked}
 use Rattle.queue_code.specs.Cursors.{IsCode}
 use Rattle.queue_code.proofs.Passing.{passes_all, passes_first, length_call}
 use Rattle.queue_code.proofs.Totals.{AreCalls, tasks_call, tasks_turns, length_turns}
@@ -75,7 +75,7 @@ pub record Known (code : List Instr) (p : Progress) : Type 0 where
   pub few_tasks : p.tasks ≤ 65536
 
 -- instructions without a fault are a code, and what was met in them are its calls and its tasks
-pub known : (code : List Instr) (p : Progress) → fault_of code ≡ None → p ≡ walked opening code → AreTimed code → Known code p
+pub known : (code : List Instr) (p : Progress) → code_fault code ≡ None → p ≡ walked walk_opening code → AreTimed code → Known code p
 known code p none is timed =
     let k = counted None 0 0 0 code (sym (fault_is code) ∙ none) in
     let good = sound code timed none in

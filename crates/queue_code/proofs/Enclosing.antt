@@ -7,7 +7,7 @@ use Rattle.std.proofs.lemmas.Option.{slice_get_within, get_or_from_slice_get}
 use Rattle.queue_code.specs.declared.instr.Instr.{Instr}
 use Rattle.queue_code.specs.declared.instr.Instr.TheVariants.{Loop, EndLoop, Halt}
 use Rattle.queue_code.specs.Codes.{body_of, calls_from}
-use Rattle.queue_code.specs.Cursors.{Enclosing, loop_behind, loop_from, loop_around, IsWellFormed}
+use Rattle.queue_code.specs.Cursors.{Enclosing, loop_behind, loop_from, loop_around, IsCodeForm}
 
 -- the instructions from an index on begin with the one that stands there
 pub drop_at : (code : List Instr) (n : ℕ) (i : Instr) → slice_get code n ≡ Some i → drop n code ≡ i ∷ drop (n + 1) code
@@ -31,23 +31,23 @@ loop_next code n i at =
     let here : 0 + n ≡ n = omega arith in
     loop_more None 0 code n i at ∙ ap (λ (m : ℕ). loop_behind (loop_around code n) m i (drop (n + 1) code)) here
 
-form_behind : (around : Option Enclosing) (place : ℕ) (i : Instr) (is : List Instr) → IsWellFormed (is_some around) (i ∷ is) → IsWellFormed (is_some (loop_behind around place i is)) is
+form_behind : (around : Option Enclosing) (place : ℕ) (i : Instr) (is : List Instr) → IsCodeForm (is_some around) (i ∷ is) → IsCodeForm (is_some (loop_behind around place i is)) is
 form_behind None place (Loop times every) is form = form.2
 form_behind (Some loop) place (Loop times every) is form = absurd form
 form_behind None place EndLoop is form = absurd form
 form_behind (Some loop) place EndLoop is form = form
-form_behind None place Halt is form = subst (IsWellFormed false) (sym form) tt
+form_behind None place Halt is form = subst (IsCodeForm false) (sym form) tt
 form_behind (Some loop) place Halt is form = absurd form
 form_behind None place i is form = form
 form_behind (Some loop) place i is form = form
 
-form_from : (around : Option Enclosing) (place : ℕ) (is : List Instr) (n : ℕ) → IsWellFormed (is_some around) is → IsWellFormed (is_some (loop_from around place is n)) (drop n is)
+form_from : (around : Option Enclosing) (place : ℕ) (is : List Instr) (n : ℕ) → IsCodeForm (is_some around) is → IsCodeForm (is_some (loop_from around place is n)) (drop n is)
 form_from around place is zero form = form
 form_from around place [] (suc n) form = form
 form_from around place (i ∷ is) (suc n) form = form_from (loop_behind around place i is) (place + 1) is n (form_behind around place i is form)
 
 -- the instructions from an index on are well formed
-pub form_at : (code : List Instr) (n : ℕ) → IsWellFormed false code → IsWellFormed (is_some (loop_around code n)) (drop n code)
+pub form_at : (code : List Instr) (n : ℕ) → IsCodeForm false code → IsCodeForm (is_some (loop_around code n)) (drop n code)
 form_at code n form = form_from None 0 code n form
 
 -- what is known of the loop that is open at index n: where it begins, that its instructions are those up to its end,

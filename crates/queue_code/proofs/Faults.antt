@@ -10,8 +10,8 @@ use Rattle.queue_code.specs.declared.instr.Instr.TheVariants.{CancelFixed, Cance
 use Rattle.queue_code.specs.declared.progress.OpenLoop.{OpenLoop}
 use Rattle.queue_code.specs.declared.progress.Progress.{Progress}
 use Rattle.queue_code.specs.Calls.{Planned, task_count}
-use Rattle.queue_code.specs.Codes.{call_of, in_front, tasks_by, tasks_in, pass, iterations, body_of, calls_from, calls_of}
-use Rattle.queue_code.specs.Checks.{Begun, has_end, open_loop, calls_inside, first_moment, last_from, last_moment, offset_of, is_call, is_early_halt, is_nested, is_unclosed, is_empty_loop, is_bad_task, is_too_large, is_out_of_order, is_too_many, checks_with, checks, first_failing, has_halt, fault_between, fault_at, or_else, first_of, fault_of}
+use Rattle.queue_code.specs.Codes.{call_by, in_front, tasks_by, tasks_in, pass, iterations, body_of, calls_from, calls_of}
+use Rattle.queue_code.specs.Checks.{Begun, has_end, open_loop, calls_inside, first_call_moment, last_from, last_call_moment, offset_of, makes_call, is_early_halt, is_nested, is_unclosed, is_empty_loop, is_bad_task, is_too_large, is_out_of_order, is_too_many, checks_with, checks, first_failed, has_halt, fault_between, fault_at, or_else, fault_among, code_fault}
 use Rattle.queue_code.specs.Walks as walks
 use Rattle.queue_code.proofs.Passing.{passes_all, length_call, in_front_append, last_halt}
 use Rattle.queue_code.proofs.Totals.{AreCalls, tasks_call, tasks_pass, tasks_turns, length_pass, length_turns, tasks_append, tasks_more, calls_more, pass_append, last_append, last_call, first_call, last_turns, if_zero, if_more}
@@ -38,7 +38,7 @@ closed_append false (EndLoop ∷ is) ys h k = absurd h
 closed_append inside (Halt ∷ is) ys h k = absurd h
 closed_append inside (i ∷ is) ys h k = closed_append inside is ys h k
 
-closed_call : (i : Instr) → is_call i ≡ true → IsClosed false (i ∷ [])
+closed_call : (i : Instr) → makes_call i ≡ true → IsClosed false (i ∷ [])
 closed_call (Loop times every) call = cc
 closed_call EndLoop call = cc
 closed_call Halt call = cc
@@ -76,7 +76,7 @@ calls_append true count (EndLoop ∷ is) ys h = calls_append false count is ys h
 calls_append false count (EndLoop ∷ is) ys h = absurd h
 calls_append inside count (Halt ∷ is) ys h = absurd h
 calls_append false count (i ∷ is) ys h =
-    let one = call_of 0 0 count i in
+    let one = call_by 0 0 count i in
     let rest = calls_from false (count + tasks_by i) is in
     let e : count + tasks_by i + task_count rest ≡ count + task_count (in_front one rest) = omega (arith, tasks_call 0 0 count i rest) in
     ap (in_front one) (calls_append false (count + tasks_by i) is ys h)
@@ -84,7 +84,7 @@ calls_append false count (i ∷ is) ys h =
     ∙ ap (λ (n : ℕ). in_front one rest ++ calls_from false n ys) e
 calls_append true count (i ∷ is) ys h = calls_append true count is ys h
 
-one_call : (count : ℕ) (i : Instr) → is_call i ≡ true → calls_from false count (i ∷ []) ≡ in_front (call_of 0 0 count i) []
+one_call : (count : ℕ) (i : Instr) → makes_call i ≡ true → calls_from false count (i ∷ []) ≡ in_front (call_by 0 0 count i) []
 one_call count (Loop times every) call = cc
 one_call count EndLoop call = cc
 one_call count Halt call = cc
@@ -158,7 +158,7 @@ record Outside (front : List Instr) (calls tasks last : ℕ) : Type 0 where
   closed : IsClosed false front
   calls_is : calls ≡ length (calls_of front)
   tasks_is : tasks ≡ task_count (calls_of front)
-  last_is : last ≡ last_moment (calls_of front)
+  last_is : last ≡ last_call_moment (calls_of front)
   few : calls ≤ 65536
 
 -- in a loop
@@ -173,8 +173,8 @@ record Inside (front : List Instr) (r : OpenLoop) (calls tasks last : ℕ) : Typ
   start_is : r.start ≡ task_count (calls_of before)
   made_is : r.calls ≡ length body
   tasks_is : tasks ≡ r.start + tasks_in body
-  first_is : r.first ≡ first_moment (pass 0 r.start r.start body)
-  last_is : last ≡ last_moment (calls_of before ++ pass 0 r.start r.start body)
+  first_is : r.first ≡ first_call_moment (pass 0 r.start r.start body)
+  last_is : last ≡ last_call_moment (calls_of before ++ pass 0 r.start r.start body)
   few : calls ≤ 65536
 
 -- what was met, outside a loop and in one
@@ -191,30 +191,30 @@ turn times every start = record { times = times; every = every; start = start; c
 abbrev turned : OpenLoop → Instr → OpenLoop
 turned r i = record r { calls = r.calls + 1; first = cond (eqb r.calls 0) (offset_of i) r.first }
 
-calls_next : (front : List Instr) (i : Instr) → IsClosed false front → is_call i ≡ true → calls_of (front ++ i ∷ []) ≡ calls_of front ++ in_front (call_of 0 0 (task_count (calls_of front)) i) []
+calls_next : (front : List Instr) (i : Instr) → IsClosed false front → makes_call i ≡ true → calls_of (front ++ i ∷ []) ≡ calls_of front ++ in_front (call_by 0 0 (task_count (calls_of front)) i) []
 calls_next front i h call =
     let e : 0 + task_count (calls_of front) ≡ task_count (calls_of front) = omega arith in
     calls_append false 0 front (i ∷ []) h
     ∙ ap (λ (n : ℕ). calls_of front ++ calls_from false n (i ∷ [])) e
     ∙ ap (λ (ps : List Planned). calls_of front ++ ps) (one_call (task_count (calls_of front)) i call)
 
-length_next : (front : List Instr) (i : Instr) → IsClosed false front → is_call i ≡ true → length (calls_of (front ++ i ∷ [])) ≡ length (calls_of front) + 1
+length_next : (front : List Instr) (i : Instr) → IsClosed false front → makes_call i ≡ true → length (calls_of (front ++ i ∷ [])) ≡ length (calls_of front) + 1
 length_next front i h call =
-    omega (arith, ap length (calls_next front i h call), length-append (calls_of front) (in_front (call_of 0 0 (task_count (calls_of front)) i) []), length_call i 0 0 (task_count (calls_of front)) [] call)
+    omega (arith, ap length (calls_next front i h call), length-append (calls_of front) (in_front (call_by 0 0 (task_count (calls_of front)) i) []), length_call i 0 0 (task_count (calls_of front)) [] call)
 
-tasks_next : (front : List Instr) (i : Instr) → IsClosed false front → is_call i ≡ true → task_count (calls_of (front ++ i ∷ [])) ≡ task_count (calls_of front) + tasks_by i
+tasks_next : (front : List Instr) (i : Instr) → IsClosed false front → makes_call i ≡ true → task_count (calls_of (front ++ i ∷ [])) ≡ task_count (calls_of front) + tasks_by i
 tasks_next front i h call =
-    omega (arith, ap task_count (calls_next front i h call), tasks_append (calls_of front) (in_front (call_of 0 0 (task_count (calls_of front)) i) []), tasks_call 0 0 (task_count (calls_of front)) i [])
+    omega (arith, ap task_count (calls_next front i h call), tasks_append (calls_of front) (in_front (call_by 0 0 (task_count (calls_of front)) i) []), tasks_call 0 0 (task_count (calls_of front)) i [])
 
-last_next : (front : List Instr) (i : Instr) → IsClosed false front → is_call i ≡ true → last_moment (calls_of (front ++ i ∷ [])) ≡ offset_of i
+last_next : (front : List Instr) (i : Instr) → IsClosed false front → makes_call i ≡ true → last_call_moment (calls_of (front ++ i ∷ [])) ≡ offset_of i
 last_next front i h call =
     let n = task_count (calls_of front) in
     let e : 0 + offset_of i ≡ offset_of i = omega arith in
-    ap last_moment (calls_next front i h call)
-    ∙ last_append 0 (calls_of front) (in_front (call_of 0 0 n i) [])
-    ∙ last_call (last_moment (calls_of front)) 0 0 n i [] call ∙ e
+    ap last_call_moment (calls_next front i h call)
+    ∙ last_append 0 (calls_of front) (in_front (call_by 0 0 n i) [])
+    ∙ last_call (last_call_moment (calls_of front)) 0 0 n i [] call ∙ e
 
-call_outside : (front : List Instr) (i : Instr) (calls tasks last : ℕ) → is_call i ≡ true → Outside front calls tasks last → calls + 1 ≤ 65536 → Outside (front ++ i ∷ []) (calls + 1) (tasks + tasks_by i) (offset_of i)
+call_outside : (front : List Instr) (i : Instr) (calls tasks last : ℕ) → makes_call i ≡ true → Outside front calls tasks last → calls + 1 ≤ 65536 → Outside (front ++ i ∷ []) (calls + 1) (tasks + tasks_by i) (offset_of i)
 call_outside front i calls tasks last call o few = record {
   closed = closed_append false front (i ∷ []) o.closed (closed_call i call);
   calls_is = omega (arith, o.calls_is, length_next front i o.closed call);
@@ -236,12 +236,12 @@ loop_begins front times every calls tasks last o least = record {
   made_is = refl;
   tasks_is = omega arith;
   first_is = refl;
-  last_is = o.last_is ∙ ap last_moment (sym (append-nil (calls_of front)));
+  last_is = o.last_is ∙ ap last_call_moment (sym (append-nil (calls_of front)));
   few = o.few;
 }
 
-first_more : (r : OpenLoop) (body : List Instr) (i : Instr) → AreCalls body → is_call i ≡ true → r.calls ≡ length body → r.first ≡ first_moment (pass 0 r.start r.start body)
-    → cond (eqb r.calls 0) (offset_of i) r.first ≡ first_moment (pass 0 r.start r.start (body ++ i ∷ []))
+first_more : (r : OpenLoop) (body : List Instr) (i : Instr) → AreCalls body → makes_call i ≡ true → r.calls ≡ length body → r.first ≡ first_call_moment (pass 0 r.start r.start body)
+    → cond (eqb r.calls 0) (offset_of i) r.first ≡ first_call_moment (pass 0 r.start r.start (body ++ i ∷ []))
 first_more r [] i calls call made first =
     let e : offset_of i ≡ 0 + offset_of i = omega arith in
     if_zero r.calls (offset_of i) r.first made ∙ e ∙ sym (first_call 0 r.start r.start i (pass 0 r.start (r.start + tasks_by i) []) call)
@@ -250,14 +250,14 @@ first_more r (j ∷ body) i calls call made first =
     ∙ first_call 0 r.start r.start j (pass 0 r.start (r.start + tasks_by j) body) calls.0
     ∙ sym (first_call 0 r.start r.start j (pass 0 r.start (r.start + tasks_by j) (body ++ i ∷ [])) calls.0)
 
-last_more : (m start count : ℕ) (body : List Instr) (i : Instr) → is_call i ≡ true → last_from m (pass 0 start count (body ++ i ∷ [])) ≡ offset_of i
+last_more : (m start count : ℕ) (body : List Instr) (i : Instr) → makes_call i ≡ true → last_from m (pass 0 start count (body ++ i ∷ [])) ≡ offset_of i
 last_more m start count body i call =
     let e : 0 + offset_of i ≡ offset_of i = omega arith in
     ap (last_from m) (pass_append 0 start count body (i ∷ []))
     ∙ last_append m (pass 0 start count body) (pass 0 start (count + tasks_in body) (i ∷ []))
     ∙ last_call (last_from m (pass 0 start count body)) 0 start (count + tasks_in body) i [] call ∙ e
 
-call_inside : (front : List Instr) (r : OpenLoop) (i : Instr) (calls tasks last : ℕ) → is_call i ≡ true → Inside front r calls tasks last → Inside (front ++ i ∷ []) (turned r i) calls (tasks + tasks_by i) (offset_of i)
+call_inside : (front : List Instr) (r : OpenLoop) (i : Instr) (calls tasks last : ℕ) → makes_call i ≡ true → Inside front r calls tasks last → Inside (front ++ i ∷ []) (turned r i) calls (tasks + tasks_by i) (offset_of i)
 call_inside front r i calls tasks last call o = record {
   before = o.before;
   body = o.body ++ i ∷ [];
@@ -270,7 +270,7 @@ call_inside front r i calls tasks last call o = record {
   made_is = omega (arith, o.made_is, length-append o.body (i ∷ []));
   tasks_is = omega (arith, o.tasks_is, tasks_more o.body i);
   first_is = first_more r o.body i o.plain call o.made_is o.first_is;
-  last_is = sym (last_append 0 (calls_of o.before) (pass 0 r.start r.start (o.body ++ i ∷ [])) ∙ last_more (last_moment (calls_of o.before)) r.start r.start o.body i call);
+  last_is = sym (last_append 0 (calls_of o.before) (pass 0 r.start r.start (o.body ++ i ∷ [])) ∙ last_more (last_call_moment (calls_of o.before)) r.start r.start o.body i call);
   few = o.few;
 }
 
@@ -338,15 +338,15 @@ tasks_whole front r calls tasks last o =
     let e : r.times * (tasks - r.start) ≡ r.times * tasks_in o.body = ap (λ (n : ℕ). r.times * n) less in
     omega (arith, tasks_append (calls_of o.before) turns, ap task_count (sym (append-nil turns)), tasks_turns r.times 0 r.every r.start o.body [], e, o.start_is)
 
-last_body : (times every start last : ℕ) (before : List Planned) (body : List Instr) → AreCalls body → 1 ≤ length body → 1 ≤ times → last ≡ last_moment (before ++ pass 0 start start body)
-    → last_moment (before ++ iterations times 0 every body start) ≡ (times - 1) * every + last
+last_body : (times every start last : ℕ) (before : List Planned) (body : List Instr) → AreCalls body → 1 ≤ length body → 1 ≤ times → last ≡ last_call_moment (before ++ pass 0 start start body)
+    → last_call_moment (before ++ iterations times 0 every body start) ≡ (times - 1) * every + last
 last_body times every start last before [] calls some least is = absurd (omega (arith, some))
 last_body zero every start last before (i ∷ body) calls some least is = absurd (omega (arith, least))
 last_body (suc n) every start last before (i ∷ body) calls some least is =
     let e : 0 + n ≡ suc n - 1 = omega arith in
     last_append 0 before (iterations (suc n) 0 every (i ∷ body) start)
-    ∙ last_turns n 0 every start start start (last_moment before) (last_moment before) i body calls
-    ∙ ap (λ (k : ℕ). k * every + last_from (last_moment before) (pass 0 start start (i ∷ body))) e
+    ∙ last_turns n 0 every start start start (last_call_moment before) (last_call_moment before) i body calls
+    ∙ ap (λ (k : ℕ). k * every + last_from (last_call_moment before) (pass 0 start start (i ∷ body))) e
     ∙ ap (λ (k : ℕ). (suc n - 1) * every + k) (sym (last_append 0 before (pass 0 start start (i ∷ body))) ∙ sym is)
 
 loop_ends : (front : List Instr) (r : OpenLoop) (calls tasks last : ℕ) → Inside front r calls tasks last → 1 ≤ r.calls → calls + r.times * r.calls ≤ 65536
@@ -357,35 +357,35 @@ loop_ends front r calls tasks last o some few =
       closed = subst (IsClosed false) (sym (ended_is front r calls tasks last o)) (closed_append false o.before (Loop r.times r.every ∷ (o.body ++ EndLoop ∷ [])) o.closed (closed_body o.body o.plain));
       calls_is = sym (ap length ended ∙ length_whole front r calls tasks last o);
       tasks_is = sym (ap task_count ended ∙ tasks_whole front r calls tasks last o);
-      last_is = sym (ap last_moment ended ∙ last_body r.times r.every r.start last (calls_of o.before) o.body o.plain (omega (arith, some, o.made_is)) o.least o.last_is);
+      last_is = sym (ap last_call_moment ended ∙ last_body r.times r.every r.start last (calls_of o.before) o.body o.plain (omega (arith, some, o.made_is)) o.least o.last_is);
       few = few;
     }
 
 -- ---- the checks are the same
 
 record Alike (front : List Instr) (loop : Option Begun) (p : Progress) (i : Instr) : Type 0 where
-  nested : walks.is_nested p i ≡ is_nested loop i
-  unclosed : walks.is_unclosed p i ≡ is_unclosed loop i
-  empty : walks.is_empty_loop p i ≡ is_empty_loop loop i
-  task : walks.is_bad_task p i ≡ is_bad_task front loop i
-  large : walks.is_too_large p i ≡ is_too_large loop i
-  order : is_empty_loop loop i ≡ false → walks.is_out_of_order p i ≡ is_out_of_order front loop i
-  many : walks.is_too_many p i ≡ is_too_many front loop i
+  nested : walks.walk_nested p i ≡ is_nested loop i
+  unclosed : walks.walk_unclosed p i ≡ is_unclosed loop i
+  empty : walks.walk_empty_loop p i ≡ is_empty_loop loop i
+  task : walks.walk_bad_task p i ≡ is_bad_task front loop i
+  large : walks.walk_too_large p i ≡ is_too_large loop i
+  order : is_empty_loop loop i ≡ false → walks.walk_out_of_order p i ≡ is_out_of_order front loop i
+  many : walks.walk_too_many p i ≡ is_too_many front loop i
 
 -- a choice between faults, where the first test decides whether the second matters
 either_order : (empty task large : Bool) (order other many : Bool) → (empty ≡ false → order ≡ other)
-    → first_failing ((fault.Empty, empty) ∷ (fault.BadTask, task) ∷ (fault.TooLarge, large) ∷ (fault.Order, order) ∷ (fault.TooMany, many) ∷ [])
-    ≡ first_failing ((fault.Empty, empty) ∷ (fault.BadTask, task) ∷ (fault.TooLarge, large) ∷ (fault.Order, other) ∷ (fault.TooMany, many) ∷ [])
+    → first_failed ((fault.Empty, empty) ∷ (fault.BadTask, task) ∷ (fault.TooLarge, large) ∷ (fault.Order, order) ∷ (fault.TooMany, many) ∷ [])
+    ≡ first_failed ((fault.Empty, empty) ∷ (fault.BadTask, task) ∷ (fault.TooLarge, large) ∷ (fault.Order, other) ∷ (fault.TooMany, many) ∷ [])
 either_order true task large order other many same = refl
 either_order false task large order other many same = rw (same refl) refl
 
-alike_fails : (front : List Instr) (loop : Option Begun) (p : Progress) (i : Instr) (rest : List Instr) → Alike front loop p i → first_failing (walks.checks p i rest) ≡ first_failing (checks_with front loop i rest)
+alike_fails : (front : List Instr) (loop : Option Begun) (p : Progress) (i : Instr) (rest : List Instr) → Alike front loop p i → first_failed (walks.walk_checks p i rest) ≡ first_failed (checks_with front loop i rest)
 alike_fails front loop p i rest a =
     rw (a.nested, a.unclosed, a.empty, a.task, a.large, a.many)
     (ap (λ (o : Option CodeFault). cond (is_early_halt i rest) (Some fault.NoHalt) (cond (is_nested loop i) (Some fault.Nested) (cond (is_unclosed loop i) (Some fault.Unclosed) o)))
-    (either_order (is_empty_loop loop i) (is_bad_task front loop i) (is_too_large loop i) (walks.is_out_of_order p i) (is_out_of_order front loop i) (is_too_many front loop i) a.order))
+    (either_order (is_empty_loop loop i) (is_bad_task front loop i) (is_too_large loop i) (walks.walk_out_of_order p i) (is_out_of_order front loop i) (is_too_many front loop i) a.order))
 
-few_next : (front : List Instr) (i : Instr) (calls tasks last : ℕ) → Outside front calls tasks last → is_call i ≡ true → ltb 65536 (calls + 1) ≡ ltb 65536 (length (calls_of (front ++ i ∷ [])))
+few_next : (front : List Instr) (i : Instr) (calls tasks last : ℕ) → Outside front calls tasks last → makes_call i ≡ true → ltb 65536 (calls + 1) ≡ ltb 65536 (length (calls_of (front ++ i ∷ [])))
 few_next front i calls tasks last o call = let e : calls + 1 ≡ length (calls_of (front ++ i ∷ [])) = omega (arith, o.calls_is, length_next front i o.closed call) in ap (ltb 65536) e
 
 alike_outside : (front : List Instr) (i : Instr) (calls tasks last : ℕ) → Outside front calls tasks last → Alike front None (met None calls tasks last) i
@@ -417,17 +417,17 @@ all_tasks front r calls tasks last o =
     let here = calls_inside (loop_of front r calls tasks last o) in
     omega (arith, tasks_append (calls_of o.before) here, inside_tasks front r calls tasks last o, o.tasks_is, o.start_is)
 
-last_before : (front : List Instr) (r : OpenLoop) (calls tasks last : ℕ) (o : Inside front r calls tasks last) → last ≡ last_moment (calls_of o.before ++ calls_inside (loop_of front r calls tasks last o))
-last_before front r calls tasks last o = o.last_is ∙ ap (λ (ps : List Planned). last_moment (calls_of o.before ++ ps)) (inside_calls front r calls tasks last o)
+last_before : (front : List Instr) (r : OpenLoop) (calls tasks last : ℕ) (o : Inside front r calls tasks last) → last ≡ last_call_moment (calls_of o.before ++ calls_inside (loop_of front r calls tasks last o))
+last_before front r calls tasks last o = o.last_is ∙ ap (λ (ps : List Planned). last_call_moment (calls_of o.before ++ ps)) (inside_calls front r calls tasks last o)
 
 last_any : (m k start count : ℕ) (body : List Instr) → AreCalls body → 1 ≤ length body → last_from m (pass 0 start count body) ≡ last_from k (pass 0 start count body)
 last_any m k start count [] calls some = absurd (omega (arith, some))
 last_any m k start count (i ∷ body) calls some = last_call m 0 start count i (pass 0 start (count + tasks_by i) body) calls.0 ∙ sym (last_call k 0 start count i (pass 0 start (count + tasks_by i) body) calls.0)
 
-last_inside : (front : List Instr) (r : OpenLoop) (calls tasks last : ℕ) (o : Inside front r calls tasks last) → 1 ≤ length o.body → last ≡ last_moment (calls_inside (loop_of front r calls tasks last o))
+last_inside : (front : List Instr) (r : OpenLoop) (calls tasks last : ℕ) (o : Inside front r calls tasks last) → 1 ≤ length o.body → last ≡ last_call_moment (calls_inside (loop_of front r calls tasks last o))
 last_inside front r calls tasks last o some =
-    o.last_is ∙ last_append 0 (calls_of o.before) (pass 0 r.start r.start o.body) ∙ last_any (last_moment (calls_of o.before)) 0 r.start r.start o.body o.plain some
-    ∙ ap last_moment (inside_calls front r calls tasks last o)
+    o.last_is ∙ last_append 0 (calls_of o.before) (pass 0 r.start r.start o.body) ∙ last_any (last_call_moment (calls_of o.before)) 0 r.start r.start o.body o.plain some
+    ∙ ap last_call_moment (inside_calls front r calls tasks last o)
 
 made_inside : (front : List Instr) (r : OpenLoop) (calls tasks last : ℕ) (o : Inside front r calls tasks last) → r.calls ≡ length (calls_inside (loop_of front r calls tasks last o))
 made_inside front r calls tasks last o = o.made_is ∙ sym (length_pass 0 (task_count (calls_of o.before)) (task_count (calls_of o.before)) o.body o.plain)
@@ -438,13 +438,13 @@ some_made (suc n) e = omega arith
 
 overlaps_is : (front : List Instr) (r : OpenLoop) (calls tasks last : ℕ) (o : Inside front r calls tasks last) → eqb (length (calls_inside (loop_of front r calls tasks last o))) 0 ≡ false
     → (ltb 1 r.times && ltb (r.first + r.every) last)
-    ≡ (ltb 1 r.times && ltb (first_moment (calls_inside (loop_of front r calls tasks last o)) + r.every) (last_moment (calls_inside (loop_of front r calls tasks last o))))
+    ≡ (ltb 1 r.times && ltb (first_call_moment (calls_inside (loop_of front r calls tasks last o)) + r.every) (last_call_moment (calls_inside (loop_of front r calls tasks last o))))
 overlaps_is front r calls tasks last o some =
     let loop = loop_of front r calls tasks last o in
     let size : 1 ≤ length o.body = omega (arith, some_made (length (calls_inside loop)) some, made_inside front r calls tasks last o, o.made_is) in
-    let first : r.first ≡ first_moment (calls_inside loop) = o.first_is ∙ ap first_moment (inside_calls front r calls tasks last o) in
+    let first : r.first ≡ first_call_moment (calls_inside loop) = o.first_is ∙ ap first_call_moment (inside_calls front r calls tasks last o) in
     ap (λ (n : ℕ). ltb 1 r.times && ltb (n + r.every) last) first
-    ∙ ap (λ (n : ℕ). ltb 1 r.times && ltb (first_moment (calls_inside loop) + r.every) n) (last_inside front r calls tasks last o size)
+    ∙ ap (λ (n : ℕ). ltb 1 r.times && ltb (first_call_moment (calls_inside loop) + r.every) n) (last_inside front r calls tasks last o size)
 
 alike_inside : (front : List Instr) (r : OpenLoop) (i : Instr) (calls tasks last : ℕ) (o : Inside front r calls tasks last) → Alike front (Some (loop_of front r calls tasks last o)) (met (Some r) calls tasks last) i
 alike_inside front r (Loop times every) calls tasks last o = record { nested = refl; unclosed = refl; empty = refl; task = refl; large = refl; order = λ e. refl; many = refl }
@@ -462,22 +462,22 @@ alike_inside front r (CancelFixed offset k) calls tasks last o = record { nested
 alike_inside front r (CancelHere offset nth) calls tasks last o = record { nested = refl; unclosed = refl; empty = refl; task = ap (λ (n : ℕ). leb n nth) (inside_tasks front r calls tasks last o); large = refl; order = λ e. ap (ltb offset) (last_before front r calls tasks last o); many = le-ltb 65536 calls o.few }
 alike_inside front r i calls tasks last o = record { nested = refl; unclosed = refl; empty = refl; task = refl; large = refl; order = λ e. ap (ltb (offset_of i)) (last_before front r calls tasks last o); many = le-ltb 65536 calls o.few }
 
-fails_outside : (front : List Instr) (i : Instr) (rest : List Instr) (calls tasks last : ℕ) → Outside front calls tasks last → first_failing (walks.checks (met None calls tasks last) i rest) ≡ first_failing (checks front i rest)
+fails_outside : (front : List Instr) (i : Instr) (rest : List Instr) (calls tasks last : ℕ) → Outside front calls tasks last → first_failed (walks.walk_checks (met None calls tasks last) i rest) ≡ first_failed (checks front i rest)
 fails_outside front i rest calls tasks last o =
     alike_fails front None (met None calls tasks last) i rest (alike_outside front i calls tasks last o)
-    ∙ ap (λ (loop : Option Begun). first_failing (checks_with front loop i rest)) (sym (open_none false front o.closed))
+    ∙ ap (λ (loop : Option Begun). first_failed (checks_with front loop i rest)) (sym (open_none false front o.closed))
 
-fails_inside : (front : List Instr) (r : OpenLoop) (i : Instr) (rest : List Instr) (calls tasks last : ℕ) → Inside front r calls tasks last → first_failing (walks.checks (met (Some r) calls tasks last) i rest) ≡ first_failing (checks front i rest)
+fails_inside : (front : List Instr) (r : OpenLoop) (i : Instr) (rest : List Instr) (calls tasks last : ℕ) → Inside front r calls tasks last → first_failed (walks.walk_checks (met (Some r) calls tasks last) i rest) ≡ first_failed (checks front i rest)
 fails_inside front r i rest calls tasks last o =
     alike_fails front (Some (loop_of front r calls tasks last o)) (met (Some r) calls tasks last) i rest (alike_inside front r i calls tasks last o)
-    ∙ ap (λ (loop : Option Begun). first_failing (checks_with front loop i rest)) (sym (ap open_loop o.is ∙ open_some false o.before r.times r.every o.body o.closed o.plain))
+    ∙ ap (λ (loop : Option Begun). first_failed (checks_with front loop i rest)) (sym (ap open_loop o.is ∙ open_some false o.before r.times r.every o.body o.closed o.plain))
 
 -- ---- the whole list
 
 -- the first fault of some instructions, where others are in front
 abbrev faults : List Instr → List Instr → Option CodeFault
 faults front [] = fault_between front []
-faults front (i ∷ rest) = or_else (first_failing (checks front i rest)) (faults (front ++ i ∷ []) rest)
+faults front (i ∷ rest) = or_else (first_failed (checks front i rest)) (faults (front ++ i ∷ []) rest)
 
 either : (a b later other : Option CodeFault) → a ≡ b → (a ≡ None → later ≡ other) → or_else a later ≡ or_else b other
 either None b later other e same = same refl ∙ ap (λ (o : Option CodeFault). or_else o other) e
@@ -501,41 +501,41 @@ finds : (front : List Instr) (open_ : Option OpenLoop) (calls tasks last : ℕ) 
 finds front None calls tasks last [] o = rw (no_halt_outside front calls tasks last o) refl
 finds front (Some r) calls tasks last [] o = rw (no_halt_inside front r calls tasks last o) refl
 finds front None calls tasks last (Halt ∷ rest) o =
-    or_last (first_failing (walks.checks (met None calls tasks last) Halt rest)) (first_failing (checks front Halt rest)) (faults (front ++ Halt ∷ []) rest) (fails_outside front Halt rest calls tasks last o)
+    or_last (first_failed (walks.walk_checks (met None calls tasks last) Halt rest)) (first_failed (checks front Halt rest)) (faults (front ++ Halt ∷ []) rest) (fails_outside front Halt rest calls tasks last o)
     (λ none. halted front rest (halt_append false front (Halt ∷ []) o.closed) (last_halt rest (passes_all (met None calls tasks last) Halt rest none).early))
 finds front (Some r) calls tasks last (Halt ∷ rest) o =
-    or_last (first_failing (walks.checks (met (Some r) calls tasks last) Halt rest)) (first_failing (checks front Halt rest)) (faults (front ++ Halt ∷ []) rest) (fails_inside front r Halt rest calls tasks last o)
+    or_last (first_failed (walks.walk_checks (met (Some r) calls tasks last) Halt rest)) (first_failed (checks front Halt rest)) (faults (front ++ Halt ∷ []) rest) (fails_inside front r Halt rest calls tasks last o)
     (λ none. let e = (passes_all (met (Some r) calls tasks last) Halt rest none).unclosed in cc)
 finds front None calls tasks last (Loop times every ∷ rest) o =
     let p = met None calls tasks last in
-    either (first_failing (walks.checks p (Loop times every) rest)) (first_failing (checks front (Loop times every) rest)) (walks.first_fault (walks.after p (Loop times every)) rest) (faults (front ++ Loop times every ∷ []) rest) (fails_outside front (Loop times every) rest calls tasks last o)
+    either (first_failed (walks.walk_checks p (Loop times every) rest)) (first_failed (checks front (Loop times every) rest)) (walks.first_fault (walks.walk_after p (Loop times every)) rest) (faults (front ++ Loop times every ∷ []) rest) (fails_outside front (Loop times every) rest calls tasks last o)
     (λ none.
     let fine = passes_all p (Loop times every) rest none in
     finds (front ++ Loop times every ∷ []) (Some (turn times every tasks)) calls tasks last rest (loop_begins front times every calls tasks last o (ltb-false times 1 (or_parts _ _ fine.many).0)))
 finds front (Some r) calls tasks last (Loop times every ∷ rest) o =
     let p = met (Some r) calls tasks last in
-    either (first_failing (walks.checks p (Loop times every) rest)) (first_failing (checks front (Loop times every) rest)) (walks.first_fault (walks.after p (Loop times every)) rest) (faults (front ++ Loop times every ∷ []) rest) (fails_inside front r (Loop times every) rest calls tasks last o)
+    either (first_failed (walks.walk_checks p (Loop times every) rest)) (first_failed (checks front (Loop times every) rest)) (walks.first_fault (walks.walk_after p (Loop times every)) rest) (faults (front ++ Loop times every ∷ []) rest) (fails_inside front r (Loop times every) rest calls tasks last o)
     (λ none. let e = (passes_all p (Loop times every) rest none).nested in cc)
 finds front None calls tasks last (EndLoop ∷ rest) o =
     let p = met None calls tasks last in
-    either (first_failing (walks.checks p EndLoop rest)) (first_failing (checks front EndLoop rest)) (walks.first_fault (walks.after p EndLoop) rest) (faults (front ++ EndLoop ∷ []) rest) (fails_outside front EndLoop rest calls tasks last o)
+    either (first_failed (walks.walk_checks p EndLoop rest)) (first_failed (checks front EndLoop rest)) (walks.first_fault (walks.walk_after p EndLoop) rest) (faults (front ++ EndLoop ∷ []) rest) (fails_outside front EndLoop rest calls tasks last o)
     (λ none. let e = (passes_all p EndLoop rest none).unclosed in cc)
 finds front (Some r) calls tasks last (EndLoop ∷ rest) o =
     let p = met (Some r) calls tasks last in
-    either (first_failing (walks.checks p EndLoop rest)) (first_failing (checks front EndLoop rest)) (walks.first_fault (walks.after p EndLoop) rest) (faults (front ++ EndLoop ∷ []) rest) (fails_inside front r EndLoop rest calls tasks last o)
+    either (first_failed (walks.walk_checks p EndLoop rest)) (first_failed (checks front EndLoop rest)) (walks.first_fault (walks.walk_after p EndLoop) rest) (faults (front ++ EndLoop ∷ []) rest) (fails_inside front r EndLoop rest calls tasks last o)
     (λ none.
     let fine = passes_all p EndLoop rest none in
     finds (front ++ EndLoop ∷ []) None (calls + r.times * r.calls) (r.start + r.times * (tasks - r.start)) ((r.times - 1) * r.every + last) rest
     (loop_ends front r calls tasks last o (some_made r.calls fine.empty) (ltb-false 65536 (calls + r.times * r.calls) fine.many)))
 finds front None calls tasks last (i ∷ rest) o =
     let p = met None calls tasks last in
-    either (first_failing (walks.checks p i rest)) (first_failing (checks front i rest)) (walks.first_fault (walks.after p i) rest) (faults (front ++ i ∷ []) rest) (fails_outside front i rest calls tasks last o)
+    either (first_failed (walks.walk_checks p i rest)) (first_failed (checks front i rest)) (walks.first_fault (walks.walk_after p i) rest) (faults (front ++ i ∷ []) rest) (fails_outside front i rest calls tasks last o)
     (λ none.
     let fine = passes_all p i rest none in
     finds (front ++ i ∷ []) None (calls + 1) (tasks + tasks_by i) (offset_of i) rest (call_outside front i calls tasks last refl o (ltb-false 65536 (calls + 1) fine.many)))
 finds front (Some r) calls tasks last (i ∷ rest) o =
     let p = met (Some r) calls tasks last in
-    either (first_failing (walks.checks p i rest)) (first_failing (checks front i rest)) (walks.first_fault (walks.after p i) rest) (faults (front ++ i ∷ []) rest) (fails_inside front r i rest calls tasks last o)
+    either (first_failed (walks.walk_checks p i rest)) (first_failed (checks front i rest)) (walks.first_fault (walks.walk_after p i) rest) (faults (front ++ i ∷ []) rest) (fails_inside front r i rest calls tasks last o)
     (λ none. finds (front ++ i ∷ []) (Some (turned r i)) calls (tasks + tasks_by i) (offset_of i) rest (call_inside front r i calls tasks last refl o))
 
 or_none : (a : Option CodeFault) → or_else a None ≡ a
@@ -545,21 +545,21 @@ or_none (Some first) = refl
 at_seam : (front is : List Instr) → fault_at (front ++ is) (length front) ≡ fault_between front is
 at_seam front is = rw (take-append_seam front is, drop-append_seam front is) refl
 
-ranged : (front is : List Instr) → first_of (front ++ is) (range_with_len (length front) (length is + 1)) ≡ faults front is
+ranged : (front is : List Instr) → fault_among (front ++ is) (range_with_len (length front) (length is + 1)) ≡ faults front is
 ranged front [] = or_none (fault_at (front ++ []) (length front)) ∙ at_seam front []
 ranged front (i ∷ is) =
     let code = front ++ i ∷ is in
     let count : length (i ∷ is) + 1 ≡ suc (length is + 1) = omega arith in
     let next : length front + 1 ≡ length (front ++ i ∷ []) = omega (arith, length-append front (i ∷ [])) in
-    ap (λ (n : ℕ). first_of code (range_with_len (length front) n)) count
-    ∙ ap (λ (o : Option CodeFault). or_else o (first_of code (range_with_len (length front + 1) (length is + 1)))) (at_seam front (i ∷ is))
-    ∙ ap (λ (n : ℕ). or_else (first_failing (checks front i is)) (first_of code (range_with_len n (length is + 1)))) next
-    ∙ ap (λ (js : List Instr). or_else (first_failing (checks front i is)) (first_of js (range_with_len (length (front ++ i ∷ [])) (length is + 1)))) (sym (append_assoc front (i ∷ []) is))
-    ∙ ap (or_else (first_failing (checks front i is))) (ranged (front ++ i ∷ []) is)
+    ap (λ (n : ℕ). fault_among code (range_with_len (length front) n)) count
+    ∙ ap (λ (o : Option CodeFault). or_else o (fault_among code (range_with_len (length front + 1) (length is + 1)))) (at_seam front (i ∷ is))
+    ∙ ap (λ (n : ℕ). or_else (first_failed (checks front i is)) (fault_among code (range_with_len n (length is + 1)))) next
+    ∙ ap (λ (js : List Instr). or_else (first_failed (checks front i is)) (fault_among js (range_with_len (length (front ++ i ∷ [])) (length is + 1)))) (sym (append_assoc front (i ∷ []) is))
+    ∙ ap (or_else (first_failed (checks front i is))) (ranged (front ++ i ∷ []) is)
 
 opening_meets : Outside [] 0 0 0
 opening_meets = record { closed = tt; calls_is = refl; tasks_is = refl; last_is = refl; few = omega arith }
 
 -- the check finds the fault of the list
-pub fault_is : (code : List Instr) → fault_of code ≡ walks.first_fault walks.opening code
+pub fault_is : (code : List Instr) → code_fault code ≡ walks.first_fault walks.walk_opening code
 fault_is code = ranged [] code ∙ sym (finds [] None 0 0 0 code opening_meets)

@@ -4,7 +4,7 @@ use Rattle.std.specs.List.{range_with_len}
 use Rattle.std.proofs.lemmas.Bool.{cases_lt}
 use Rattle.queue_code.specs.declared.fault.CodeFault.{CodeFault}
 use Rattle.queue_code.specs.declared.instr.Instr.{Instr}
-use Rattle.queue_code.specs.Checks.{fault_at, or_else, first_of}
+use Rattle.queue_code.specs.Checks.{fault_at, or_else, fault_among}
 use Rattle.queue_code.specs.CodeLaws.{LeastIndex, NothingWrong}
 use Rattle.queue_code.proofs.Passing.{neither}
 
@@ -29,14 +29,14 @@ found_either : (code : List Instr) (n : ℕ) (e : CodeFault) (here : Option Code
 found_either code n e None later at behind fault = found_behind code n e at (behind fault)
 found_either code n e (Some first) later at behind fault = found_here code n e (at ∙ fault)
 
-found : (code : List Instr) (n k : ℕ) (e : CodeFault) → first_of code (range_with_len n k) ≡ Some e → Found code n e
+found : (code : List Instr) (n k : ℕ) (e : CodeFault) → fault_among code (range_with_len n k) ≡ Some e → Found code n e
 found code n zero e fault = cc
-found code n (suc k) e fault = found_either code n e (fault_at code n) (first_of code (range_with_len (n + 1) k)) refl (found code (n + 1) k e) fault
+found code n (suc k) e fault = found_either code n e (fault_at code n) (fault_among code (range_with_len (n + 1) k)) refl (found code (n + 1) k e) fault
 
-nothing : (code : List Instr) (n k : ℕ) → first_of code (range_with_len n k) ≡ None → (m : ℕ) → n ≤ m → m < n + k → fault_at code m ≡ None
+nothing : (code : List Instr) (n k : ℕ) → fault_among code (range_with_len n k) ≡ None → (m : ℕ) → n ≤ m → m < n + k → fault_at code m ≡ None
 nothing code n zero none m least low = absurd (omega (arith, least, low))
 nothing code n (suc k) none m least low =
-    let both = neither (fault_at code n) (first_of code (range_with_len (n + 1) k)) none in
+    let both = neither (fault_at code n) (fault_among code (range_with_len (n + 1) k)) none in
     none_between code n m (n + suc k) both.0 (λ j more less. nothing code (n + 1) k both.1 j more (omega (arith, less))) least low
 
 -- the fault stands at some index, and nothing is wrong before it

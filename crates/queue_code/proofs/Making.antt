@@ -7,8 +7,8 @@ use Rattle.queue_code.specs.declared.instr.Instr.{Instr}
 use Rattle.queue_code.specs.declared.instr.Instr.TheVariants.{Submit, Illegal, Loop, EndLoop, Halt}
 use Rattle.queue_code.specs.declared.cursor.Cursor.{Cursor}
 use Rattle.queue_code.specs.Calls.{Planned, IsOrderlyFrom, IsOrderlyCall, count_after}
-use Rattle.queue_code.specs.Codes.{call_of, in_front, tasks_by, calls_from}
-use Rattle.queue_code.specs.Cursors.{Enclosing, loop_behind, loop_around, IsWellFormed, left_within, calls_left, FitsLoop, IsPlain, IsCursorAt, IsCode}
+use Rattle.queue_code.specs.Codes.{call_by, in_front, tasks_by, calls_from}
+use Rattle.queue_code.specs.Cursors.{Enclosing, loop_behind, loop_around, IsCodeForm, left_within, calls_left, FitsLoop, IsPlain, IsCursorAt, IsCode}
 use Rattle.queue_code.proofs.Enclosing.{drop_at, loop_next}
 use Rattle.queue_code.proofs.Moves.{left_is, fits_is, fits_so, form_is, head_at}
 
@@ -17,16 +17,16 @@ abbrev pub behind : Cursor → ℕ → ℕ → Cursor
 behind c tasks steps = record { index = c.index + 1; base = c.base; iteration = c.iteration; tasks = c.tasks + tasks; start = c.start; steps = steps }
 
 -- what was left is the call of the instruction, and what is left behind it
-passes : (around : Option Enclosing) (i : Instr) (is : List Instr) (place : ℕ) (c : Cursor) (steps : ℕ) → IsPlain (Some i) → FitsLoop around (i ∷ is) c → IsWellFormed (is_some around) (i ∷ is)
-    → (left_within around (i ∷ is) c ≡ in_front (call_of c.base c.start c.tasks i) (left_within (loop_behind around place i is) is (behind c (tasks_by i) steps)))
+passes : (around : Option Enclosing) (i : Instr) (is : List Instr) (place : ℕ) (c : Cursor) (steps : ℕ) → IsPlain (Some i) → FitsLoop around (i ∷ is) c → IsCodeForm (is_some around) (i ∷ is)
+    → (left_within around (i ∷ is) c ≡ in_front (call_by c.base c.start c.tasks i) (left_within (loop_behind around place i is) is (behind c (tasks_by i) steps)))
     × FitsLoop (loop_behind around place i is) is (behind c (tasks_by i) steps)
 passes around (Loop times every) is place c steps plain fits form = absurd plain
 passes around EndLoop is place c steps plain fits form = absurd plain
 passes None Halt is place c steps plain fits form = (sym (ap (λ (js : List Instr). calls_from false (c.tasks + 0) js) form), fits)
 passes (Some loop) Halt is place c steps plain fits form = absurd form
 passes None i is place c steps plain fits form = (
-  ap (λ (b : ℕ). in_front (call_of b 0 c.tasks i) (calls_from false (c.tasks + tasks_by i) is)) (sym fits.0)
-      ∙ ap (λ (s : ℕ). in_front (call_of c.base s c.tasks i) (calls_from false (c.tasks + tasks_by i) is)) (sym fits.1),
+  ap (λ (b : ℕ). in_front (call_by b 0 c.tasks i) (calls_from false (c.tasks + tasks_by i) is)) (sym fits.0)
+      ∙ ap (λ (s : ℕ). in_front (call_by c.base s c.tasks i) (calls_from false (c.tasks + tasks_by i) is)) (sym fits.1),
   fits,
 )
 passes (Some loop) i is place c steps plain fits form = (refl, (fits.0, fits.1, omega (arith, fits.2)))
@@ -35,7 +35,7 @@ counted : (count n : ℕ) (q p : Planned) → ◌≡◌ {A = Option Planned} (So
 counted count n q p is after = let same : q ≡ p = cc in subst (λ (r : Planned). count_after count r.1 ≡ n) same after
 
 -- a call counts the task that its instruction makes
-counts : (base start count : ℕ) (i : Instr) (p : Planned) → call_of base start count i ≡ Some p → count_after count p.1 ≡ count + tasks_by i
+counts : (base start count : ℕ) (i : Instr) (p : Planned) → call_by base start count i ≡ Some p → count_after count p.1 ≡ count + tasks_by i
 counts base start count (Submit offset timing delay) p is = counted count (count + 1) _ p is refl
 counts base start count (Illegal offset) p is = counted count (count + 1) _ p is refl
 counts base start count (Loop times every) p is = cc
@@ -49,12 +49,12 @@ one_task (Submit offset timing delay) = omega arith
 one_task (Illegal offset) = omega arith
 one_task i = omega arith
 
-no_task : (base start count : ℕ) (i : Instr) → call_of base start count i ≡ None → tasks_by i ≡ 0
+no_task : (base start count : ℕ) (i : Instr) → call_by base start count i ≡ None → tasks_by i ≡ 0
 no_task base start count (Submit offset timing delay) none = cc
 no_task base start count (Illegal offset) none = cc
 no_task base start count i none = refl
 
-tail_order : (base start count : ℕ) (i : Instr) (made : Option Planned) (calls rest : List Planned) (moment : ℕ) → call_of base start count i ≡ made → calls ≡ in_front made rest → IsOrderlyFrom count moment calls
+tail_order : (base start count : ℕ) (i : Instr) (made : Option Planned) (calls rest : List Planned) (moment : ℕ) → call_by base start count i ≡ made → calls ≡ in_front made rest → IsOrderlyFrom count moment calls
     → (m : ℕ) × IsOrderlyFrom (count + tasks_by i) m rest
 tail_order base start count i None calls rest moment is left order =
     let e : count ≡ count + tasks_by i = omega (arith, no_task base start count i is) in
@@ -62,7 +62,7 @@ tail_order base start count i None calls rest moment is left order =
 tail_order base start count i (Some p) calls rest moment is left order =
     (p.0, subst (λ (n : ℕ). IsOrderlyFrom n p.0 rest) (counts base start count i p is) (subst (IsOrderlyFrom count moment) left order).3)
 
-tail_room : (base start count : ℕ) (i : Instr) (made : Option Planned) (calls rest : List Planned) → call_of base start count i ≡ made → calls ≡ in_front made rest → count + length calls ≤ 65536
+tail_room : (base start count : ℕ) (i : Instr) (made : Option Planned) (calls rest : List Planned) → call_by base start count i ≡ made → calls ≡ in_front made rest → count + length calls ≤ 65536
     → count + tasks_by i + length rest ≤ 65536
 tail_room base start count i None calls rest is left room = omega (arith, no_task base start count i is, ap length left, room)
 tail_room base start count i (Some p) calls rest is left room = omega (arith, one_task i, ap length left, room)
@@ -74,7 +74,7 @@ pub record Makes (code : List Instr) (c d : Cursor) (made : Option Planned) : Ty
 
 -- a cursor at a call or at the halt makes what that instruction makes
 pub makes : (code : List Instr) (c : Cursor) (i : Instr) (steps : ℕ) → IsCode code → IsCursorAt code c → slice_get code c.index ≡ Some i → IsPlain (Some i)
-    → Makes code c (behind c (tasks_by i) steps) (call_of c.base c.start c.tasks i)
+    → Makes code c (behind c (tasks_by i) steps) (call_by c.base c.start c.tasks i)
 makes code c i steps sound h at plain =
     let begins = drop_at code c.index i at in
     let fits = fits_is code c _ _ refl begins h.fits in
@@ -82,8 +82,8 @@ makes code c i steps sound h at plain =
     let next = loop_next code c.index i at in
     let p = passes (loop_around code c.index) i (drop (c.index + 1) code) c.index c steps plain fits (form_is code c.index _ _ refl begins sound.form) in
     let high = slice_get_within code c.index i at in
-    let left : calls_left code c ≡ in_front (call_of c.base c.start c.tasks i) (calls_left code d) =
-    left_is code c _ _ refl begins ∙ p.0 ∙ ap (in_front (call_of c.base c.start c.tasks i)) (sym (left_is code d _ _ next refl)) in
+    let left : calls_left code c ≡ in_front (call_by c.base c.start c.tasks i) (calls_left code d) =
+    left_is code c _ _ refl begins ∙ p.0 ∙ ap (in_front (call_by c.base c.start c.tasks i)) (sym (left_is code d _ _ next refl)) in
     record {
       cursor = record {
         within = omega (arith, high);
@@ -94,7 +94,7 @@ makes code c i steps sound h at plain =
       left = left;
     }
 
-none_at_end : (around : Option Enclosing) (c : Cursor) → IsWellFormed (is_some around) [] → left_within around [] c ≡ []
+none_at_end : (around : Option Enclosing) (c : Cursor) → IsCodeForm (is_some around) [] → left_within around [] c ≡ []
 none_at_end None c form = refl
 none_at_end (Some loop) c form = absurd form
 
@@ -128,14 +128,14 @@ others_left code c d None makes none = sym makes.left ∙ none refl ∙ ap (drop
 others_left code c d (Some p) makes none = ap (drop 1) (sym makes.left)
 
 -- only the halt makes no call, and nothing stands behind it
-halt_leaves_none : (around : Option Enclosing) (i : Instr) (is : List Instr) (c : Cursor) → IsPlain (Some i) → IsWellFormed (is_some around) (i ∷ is) → call_of c.base c.start c.tasks i ≡ None → left_within around (i ∷ is) c ≡ []
+halt_leaves_none : (around : Option Enclosing) (i : Instr) (is : List Instr) (c : Cursor) → IsPlain (Some i) → IsCodeForm (is_some around) (i ∷ is) → call_by c.base c.start c.tasks i ≡ None → left_within around (i ∷ is) c ≡ []
 halt_leaves_none around (Loop times every) is c plain form none = absurd plain
 halt_leaves_none around EndLoop is c plain form none = absurd plain
 halt_leaves_none None Halt is c plain form none = refl
 halt_leaves_none (Some loop) Halt is c plain form none = absurd form
 halt_leaves_none around i is c plain form none = cc
 
-halt_is_last : (around : Option Enclosing) (i : Instr) (is : List Instr) (base start count : ℕ) → IsPlain (Some i) → IsWellFormed (is_some around) (i ∷ is) → call_of base start count i ≡ None → is ≡ []
+halt_is_last : (around : Option Enclosing) (i : Instr) (is : List Instr) (base start count : ℕ) → IsPlain (Some i) → IsCodeForm (is_some around) (i ∷ is) → call_by base start count i ≡ None → is ≡ []
 halt_is_last around (Loop times every) is base start count plain form none = absurd plain
 halt_is_last around EndLoop is base start count plain form none = absurd plain
 halt_is_last None Halt is base start count plain form none = form
@@ -143,13 +143,13 @@ halt_is_last (Some loop) Halt is base start count plain form none = absurd form
 halt_is_last around i is base start count plain form none = cc
 
 -- where no call is made none was left
-pub none_made : (code : List Instr) (c : Cursor) (i : Instr) → IsCode code → slice_get code c.index ≡ Some i → IsPlain (Some i) → call_of c.base c.start c.tasks i ≡ None → calls_left code c ≡ []
+pub none_made : (code : List Instr) (c : Cursor) (i : Instr) → IsCode code → slice_get code c.index ≡ Some i → IsPlain (Some i) → call_by c.base c.start c.tasks i ≡ None → calls_left code c ≡ []
 none_made code c i sound at plain none =
     let begins = drop_at code c.index i at in
     left_is code c _ _ refl begins ∙ halt_leaves_none (loop_around code c.index) i (drop (c.index + 1) code) c plain (form_is code c.index _ _ refl begins sound.form) none
 
 -- and the cursor is past the end then
-pub over_behind : (code : List Instr) (c : Cursor) (i : Instr) → IsCode code → slice_get code c.index ≡ Some i → IsPlain (Some i) → call_of c.base c.start c.tasks i ≡ None → slice_get code (c.index + 1) ≡ None
+pub over_behind : (code : List Instr) (c : Cursor) (i : Instr) → IsCode code → slice_get code c.index ≡ Some i → IsPlain (Some i) → call_by c.base c.start c.tasks i ≡ None → slice_get code (c.index + 1) ≡ None
 over_behind code c i sound at plain none =
     sym (head_at code (c.index + 1))
     ∙ ap (λ (is : List Instr). slice_get is 0) (halt_is_last (loop_around code c.index) i (drop (c.index + 1) code) c.base c.start c.tasks plain (form_is code c.index _ _ refl (drop_at code c.index i at) sound.form) none)

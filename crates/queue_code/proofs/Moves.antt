@@ -8,7 +8,7 @@ use Rattle.queue_code.specs.declared.instr.Instr.TheVariants.{Loop, EndLoop, Hal
 use Rattle.queue_code.specs.declared.cursor.Cursor.{Cursor}
 use Rattle.queue_code.specs.Calls.{Planned, IsOrderlyFrom}
 use Rattle.queue_code.specs.Codes.{tasks_in, pass, iterations, body_of, calls_from}
-use Rattle.queue_code.specs.Cursors.{Enclosing, loop_around, BeginsWithCall, IsWellFormed, left_within, calls_left, FitsLoop, EndsNoLoop, IsPlain, IsCursorAt, IsCode}
+use Rattle.queue_code.specs.Cursors.{Enclosing, loop_around, BeginsWithCall, IsCodeForm, left_within, calls_left, FitsLoop, EndsNoLoop, IsPlain, IsCursorAt, IsCode}
 use Rattle.queue_code.proofs.Enclosing.{drop_at, loop_next, form_at, encloses}
 
 -- a cursor moved, and the same calls are left
@@ -29,8 +29,8 @@ pub fits_so : (code : List Instr) (c : Cursor) (around : Option Enclosing) (is :
 fits_so code c around is o d fits = subst (λ (a : Option Enclosing). FitsLoop a (drop c.index code) c) (sym o) (subst (λ (js : List Instr). FitsLoop around js c) (sym d) fits)
 
 -- the instructions from an index on are well formed within the loop that is known to be around it
-pub form_is : (code : List Instr) (n : ℕ) (around : Option Enclosing) (is : List Instr) → loop_around code n ≡ around → drop n code ≡ is → IsWellFormed false code → IsWellFormed (is_some around) is
-form_is code n around is o d form = subst (IsWellFormed (is_some around)) d (subst (λ (a : Option Enclosing). IsWellFormed (is_some a) (drop n code)) o (form_at code n form))
+pub form_is : (code : List Instr) (n : ℕ) (around : Option Enclosing) (is : List Instr) → loop_around code n ≡ around → drop n code ≡ is → IsCodeForm false code → IsCodeForm (is_some around) is
+form_is code n around is o d form = subst (IsCodeForm (is_some around)) d (subst (λ (a : Option Enclosing). IsCodeForm (is_some a) (drop n code)) o (form_at code n form))
 
 keeps : (code : List Instr) (c d : Cursor) → IsCursorAt code c → d.index ≤ length code → FitsLoop (loop_around code d.index) (drop d.index code) d → d.tasks ≡ c.tasks → calls_left code d ≡ calls_left code c → Moves code c d
 keeps code c d at low fits same left = record {
@@ -43,12 +43,12 @@ keeps code c d at low fits same left = record {
   left = left;
 }
 
-form_of_loop : (inside : Bool) (times every : ℕ) (is : List Instr) → IsWellFormed inside (Loop times every ∷ is) → (1 ≤ times) × BeginsWithCall is × IsWellFormed true is
+form_of_loop : (inside : Bool) (times every : ℕ) (is : List Instr) → IsCodeForm inside (Loop times every ∷ is) → (1 ≤ times) × BeginsWithCall is × IsCodeForm true is
 form_of_loop false times every is form = form
 form_of_loop true times every is form = absurd form
 
 -- the first instruction of a loop makes a call
-begins_at : (code : List Instr) (n times every : ℕ) → IsWellFormed false code → slice_get code n ≡ Some (Loop times every) → BeginsWithCall (drop (n + 1) code)
+begins_at : (code : List Instr) (n times every : ℕ) → IsCodeForm false code → slice_get code n ≡ Some (Loop times every) → BeginsWithCall (drop (n + 1) code)
 begins_at code n times every form at =
     (form_of_loop (is_some (loop_around code n)) times every (drop (n + 1) code) (form_is code n (loop_around code n) _ refl (drop_at code n (Loop times every) at) form)).1
 
@@ -73,12 +73,12 @@ plain_ends_no_loop (Some (Loop times every)) plain = absurd plain
 plain_ends_no_loop (Some EndLoop) plain = absurd plain
 plain_ends_no_loop (Some i) plain = tt
 
-ends_no_loop_head : (is : List Instr) → IsWellFormed false is → EndsNoLoop (slice_get is 0)
+ends_no_loop_head : (is : List Instr) → IsCodeForm false is → EndsNoLoop (slice_get is 0)
 ends_no_loop_head [] form = tt
 ends_no_loop_head (EndLoop ∷ is) form = absurd form
 ends_no_loop_head (i ∷ is) form = tt
 
-ends_no_loop_at : (code : List Instr) (n : ℕ) → IsWellFormed false (drop n code) → EndsNoLoop (slice_get code n)
+ends_no_loop_at : (code : List Instr) (n : ℕ) → IsCodeForm false (drop n code) → EndsNoLoop (slice_get code n)
 ends_no_loop_at code n form = subst EndsNoLoop (head_at code n) (ends_no_loop_head (drop n code) form)
 
 -- the next iteration makes the calls that were left after this one
@@ -143,7 +143,7 @@ first_iteration (suc n) every tasks is low =
     let g : 0 * every ≡ 0 = omega arith in
     rw (e, f, g) (sym (append_assoc (pass 0 tasks tasks (body_of is)) (iterations n (0 + 1) every (body_of is) (tasks + tasks_in (body_of is))) (calls_from true (tasks + suc n * tasks_in (body_of is)) is)))
 
-none_around : (around : Option Enclosing) (times every : ℕ) (is : List Instr) → IsWellFormed (is_some around) (Loop times every ∷ is) → around ≡ None
+none_around : (around : Option Enclosing) (times every : ℕ) (is : List Instr) → IsCodeForm (is_some around) (Loop times every ∷ is) → around ≡ None
 none_around None times every is form = refl
 none_around (Some loop) times every is form = absurd form
 
@@ -164,7 +164,7 @@ into code c steps times every sound h at =
     refl
     (left_is code d (Some loop) _ next refl ∙ first_iteration times every c.tasks is inner.0 ∙ sym (left_is code c None _ o begins))
 
-end_inside : (around : Option Enclosing) (is : List Instr) → IsWellFormed (is_some around) (EndLoop ∷ is) → (loop : Enclosing) × (around ≡ Some loop)
+end_inside : (around : Option Enclosing) (is : List Instr) → IsCodeForm (is_some around) (EndLoop ∷ is) → (loop : Enclosing) × (around ≡ Some loop)
 end_inside None is form = absurd form
 end_inside (Some loop) is form = (loop, refl)
 

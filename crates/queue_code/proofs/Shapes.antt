@@ -9,9 +9,9 @@ use Rattle.queue_code.specs.declared.instr.Instr.TheVariants.{Submit, Illegal, C
 use Rattle.queue_code.specs.declared.progress.OpenLoop.{OpenLoop}
 use Rattle.queue_code.specs.declared.progress.Progress.{Progress}
 use Rattle.queue_code.specs.Calls.{Planned, task_count, IsOrderlyFrom}
-use Rattle.queue_code.specs.Codes.{call_of, in_front, tasks_by, tasks_in, pass, iterations, body_of, calls_from}
-use Rattle.queue_code.specs.Checks.{first_moment, last_from, offset_of, is_call, first_failing, or_else}
-use Rattle.queue_code.specs.Walks.{last_shift, calls_after, is_bad_task, after, checks, first_fault}
+use Rattle.queue_code.specs.Codes.{call_by, in_front, tasks_by, tasks_in, pass, iterations, body_of, calls_from}
+use Rattle.queue_code.specs.Checks.{first_call_moment, last_from, offset_of, makes_call, first_failed, or_else}
+use Rattle.queue_code.specs.Walks.{last_shift, walk_calls_after, walk_bad_task, walk_after, walk_checks, first_fault}
 use Rattle.queue_code.specs.Cursors.{BeginsWithCall}
 use Rattle.queue_code.specs.CodeLaws.{IsShaped, AcceptedExactly}
 use Rattle.queue_code.proofs.Passing.{Passes, passes_all, passes_first, in_front_append, length_call, last_halt}
@@ -75,7 +75,7 @@ record Opened (base start count m : ℕ) (i : Instr) (rest : List Planned) : Typ
 none_more : (count m : ℕ) (rest : List Planned) → IsOrderlyFrom count m rest → IsOrderlyFrom (count + 0) m rest
 none_more count m rest order = let e : count ≡ count + 0 = omega arith in subst (λ (n : ℕ). IsOrderlyFrom n m rest) e order
 
-opened : (base start count m : ℕ) (i : Instr) (rest : List Planned) → is_call i ≡ true → IsOrderlyFrom count m (in_front (call_of base start count i) rest) → Opened base start count m i rest
+opened : (base start count m : ℕ) (i : Instr) (rest : List Planned) → makes_call i ≡ true → IsOrderlyFrom count m (in_front (call_by base start count i) rest) → Opened base start count m i rest
 opened base start count m (Loop times every) rest call order = cc
 opened base start count m EndLoop rest call order = cc
 opened base start count m Halt rest call order = cc
@@ -86,11 +86,11 @@ opened base start count m (CancelHere offset nth) rest call order = record { low
 opened base start count m i rest call order = record { low = order.0; high = order.1; short = tt; aimed = tt; behind = none_more count (base + offset_of i) rest order.3 }
 
 -- the first of calls that are in order
-opened_pass : (base start count m : ℕ) (i : Instr) (is : List Instr) (ys : List Planned) → is_call i ≡ true → IsOrderlyFrom count m (pass base start count (i ∷ is) ++ ys)
+opened_pass : (base start count m : ℕ) (i : Instr) (is : List Instr) (ys : List Planned) → makes_call i ≡ true → IsOrderlyFrom count m (pass base start count (i ∷ is) ++ ys)
     → Opened base start count m i (pass base start (count + tasks_by i) is ++ ys)
 opened_pass base start count m i is ys call order =
     opened base start count m i (pass base start (count + tasks_by i) is ++ ys) call
-    (subst (IsOrderlyFrom count m) (in_front_append (call_of base start count i) (pass base start (count + tasks_by i) is) ys) order)
+    (subst (IsOrderlyFrom count m) (in_front_append (call_by base start count i) (pass base start (count + tasks_by i) is) ys) order)
 
 -- each call at this base is within the limit
 abbrev AreInTime : ℕ → List Instr → Type 0
@@ -132,7 +132,7 @@ last_in_time (suc n) q every count m body ys calls order =
 
 -- the second iteration begins when the first has ended
 second_after : (n every count m : ℕ) (i : Instr) (is : List Instr) (ys : List Planned) → AreCalls (i ∷ is) → IsOrderlyFrom count m (iterations (suc (suc n)) 0 every (i ∷ is) count ++ ys)
-    → last_from m (pass 0 count count (i ∷ is)) ≤ first_moment (pass 0 count count (i ∷ is)) + every
+    → last_from m (pass 0 count count (i ∷ is)) ≤ first_call_moment (pass 0 count count (i ∷ is)) + every
 second_after n every count m i is ys calls order =
     let next = turn_behind (suc n) 0 every count m (i ∷ is) ys order in
     let o = opened_pass (1 * every) (count + tasks_in (i ∷ is)) (count + tasks_in (i ∷ is)) (last_from m (pass (0 * every) count count (i ∷ is))) i is (iterations n 2 every (i ∷ is) (count + tasks_in (i ∷ is) + tasks_in (i ∷ is)) ++ ys) calls.0
@@ -151,12 +151,12 @@ calls_of_body (i ∷ is) shape = (refl, calls_of_body is shape)
 -- ---- from the shape and the order to no fault
 
 -- in front of instructions without a fault, one that passes
-passes_on : (p : Progress) (i : Instr) (rest : List Instr) → Passes p i rest → first_fault (after p i) rest ≡ None → or_else (first_failing (checks p i rest)) (first_fault (after p i) rest) ≡ None
-passes_on p i rest fine behind = ap (λ (o : Option CodeFault). or_else o (first_fault (after p i) rest)) (none_fails p i rest fine) ∙ behind
+passes_on : (p : Progress) (i : Instr) (rest : List Instr) → Passes p i rest → first_fault (walk_after p i) rest ≡ None → or_else (first_failed (walk_checks p i rest)) (first_fault (walk_after p i) rest) ≡ None
+passes_on p i rest fine behind = ap (λ (o : Option CodeFault). or_else o (first_fault (walk_after p i) rest)) (none_fails p i rest fine) ∙ behind
 
 -- a call that is in order passes
-call_passes : (p : Progress) (i : Instr) (rest : List Instr) → is_call i ≡ true → IsShort i → last_shift p.open_loop + offset_of i ≤ 2 ^ 62 → p.last ≤ offset_of i → calls_after p.open_loop p.calls ≤ 65536
-    → is_bad_task p i ≡ false → Passes p i rest
+call_passes : (p : Progress) (i : Instr) (rest : List Instr) → makes_call i ≡ true → IsShort i → last_shift p.open_loop + offset_of i ≤ 2 ^ 62 → p.last ≤ offset_of i → walk_calls_after p.open_loop p.calls ≤ 65536
+    → walk_bad_task p i ≡ false → Passes p i rest
 call_passes p (Loop times every) rest call short high low few task = cc
 call_passes p EndLoop rest call short high low few task = cc
 call_passes p Halt rest call short high low few task = cc
@@ -168,7 +168,7 @@ call_passes p i rest call short high low few task = record { early = refl; neste
 record Within (r : OpenLoop) (calls tasks last : ℕ) (is : List Instr) : Type 0 where
   begin : ℕ
   first_is : 1 ≤ r.calls → r.first ≡ begin
-  begins_at : r.calls ≡ 0 → first_moment (pass 0 r.start tasks (body_of is)) ≡ begin
+  begins_at : r.calls ≡ 0 → first_call_moment (pass 0 r.start tasks (body_of is)) ≡ begin
   some : 1 ≤ r.calls + length (body_of is)
   low : r.start ≤ tasks
   few : calls ≤ 65536
@@ -206,7 +206,7 @@ some_call (Halt ∷ is) starts = absurd starts
 some_call (i ∷ is) starts = omega arith
 
 apart : (n every count m : ℕ) (body : List Instr) (ys : List Planned) → AreCalls body → 1 ≤ length body → IsOrderlyFrom count m (iterations (suc n) 0 every body count ++ ys)
-    → 1 < suc n → last_from m (pass 0 count count body) ≤ first_moment (pass 0 count count body) + every
+    → 1 < suc n → last_from m (pass 0 count count body) ≤ first_call_moment (pass 0 count count body) + every
 apart n every count m [] ys calls some order more = absurd (omega (arith, some))
 apart zero every count m (i ∷ is) ys calls some order more = absurd (omega (arith, more))
 apart (suc n) every count m (i ∷ is) ys calls some order more = second_after n every count m i is ys calls order
@@ -242,7 +242,7 @@ loop_within n every calls tasks last is starts shape order room =
     let zero_more : 0 + length body ≡ length body = omega arith in
     let made : suc n * (0 + length body) ≡ suc n * length body = ap (λ (k : ℕ). suc n * k) zero_more in
     record {
-      begin = first_moment (pass 0 tasks tasks body);
+      begin = first_call_moment (pass 0 tasks tasks body);
       first_is = λ more. absurd (omega (arith, more));
       begins_at = λ e. refl;
       some = omega (arith, size);
@@ -289,7 +289,7 @@ end_accepts r calls tasks last is w rest =
     } in
     passes_on (met_in r calls tasks last) EndLoop is fine (rest order room)
 
-aimed_inside : (r : OpenLoop) (calls tasks last : ℕ) (i : Instr) → r.start ≤ tasks → IsAimed r.start tasks i → is_bad_task (met_in r calls tasks last) i ≡ false
+aimed_inside : (r : OpenLoop) (calls tasks last : ℕ) (i : Instr) → r.start ≤ tasks → IsAimed r.start tasks i → walk_bad_task (met_in r calls tasks last) i ≡ false
 aimed_inside r calls tasks last (CancelFixed offset task) low aimed = leb_not tasks task aimed
 aimed_inside r calls tasks last (CancelHere offset nth) low aimed = leb_not (tasks - r.start) nth (omega (arith, low, aimed))
 aimed_inside r calls tasks last i low aimed = refl

@@ -9,8 +9,8 @@ use Rattle.queue_code.specs.declared.instr.Instr.TheVariants.{Loop, EndLoop, Hal
 use Rattle.queue_code.specs.declared.progress.OpenLoop.{OpenLoop}
 use Rattle.queue_code.specs.declared.progress.Progress.{Progress}
 use Rattle.queue_code.specs.Codes.{tasks_by}
-use Rattle.queue_code.specs.Checks.{offset_of, is_call, first_failing, IsTimedInstr, AreTimed}
-use Rattle.queue_code.specs.Walks.{after, checks, first_fault, walked}
+use Rattle.queue_code.specs.Checks.{offset_of, makes_call, first_failed, IsTimedInstr, AreTimed}
+use Rattle.queue_code.specs.Walks.{walk_after, walk_checks, first_fault, walked}
 use Rattle.queue_code.specs.Sizes.{IsBounded, IsLoopBounded}
 use Rattle.queue_code.proofs.Passing.{Passes, passes_all, moment_low}
 use Rattle.queue_code.proofs.Making.{one_task}
@@ -27,7 +27,7 @@ last_low times every last few step low =
     let a : (times - 1) * every ≤ 65536 * every = mul-le-mul_right every (omega (arith, few)) in
     omega (arith, a, step, low)
 
-offset_low : (p : Progress) (i : Instr) (rest : List Instr) → is_call i ≡ true → Passes p i rest → offset_of i < 2 ^ 64
+offset_low : (p : Progress) (i : Instr) (rest : List Instr) → makes_call i ≡ true → Passes p i rest → offset_of i < 2 ^ 64
 offset_low p i rest call fine = omega (arith, moment_low p i call fine.large)
 
 bounded_inside : (n : ℕ) (r : OpenLoop) (calls tasks last made offset : ℕ) → made ≤ 1 → offset < 2 ^ 64 → IsLoopBounded n (record { open_loop = Some r; calls = calls; tasks = tasks; last = last }) (Some r) → calls ≤ 65536
@@ -39,7 +39,7 @@ bounded_inside n r calls tasks last made offset one low h few = record {
 }
 
 bounded_after : (open_loop : Option OpenLoop) (calls tasks last n : ℕ) (i : Instr) (rest : List Instr) → IsBounded n (record { open_loop = open_loop; calls = calls; tasks = tasks; last = last }) → Passes (record { open_loop = open_loop; calls = calls; tasks = tasks; last = last }) i rest
-    → IsBounded (n + 1) (after (record { open_loop = open_loop; calls = calls; tasks = tasks; last = last }) i)
+    → IsBounded (n + 1) (walk_after (record { open_loop = open_loop; calls = calls; tasks = tasks; last = last }) i)
 bounded_after None calls tasks last n (Loop times every) rest h fine =
     let many = or_parts (ltb times 1) (ltb 65536 times) fine.many in
     let large = ltb-false (2 ^ 62) every fine.large in
@@ -61,10 +61,10 @@ bounded_after (Some r) calls tasks last n i rest h fine =
     bounded_inside n r calls tasks last (tasks_by i) (offset_of i) (one_task i) (offset_low (record { open_loop = Some r; calls = calls; tasks = tasks; last = last }) i rest refl fine) h.open_loop h.calls
 
 -- one instruction more, which passes
-pub bounded_more : (p : Progress) (n : ℕ) (i : Instr) (rest : List Instr) → IsBounded n p → first_failing (checks p i rest) ≡ None → IsBounded (n + 1) (after p i)
+pub bounded_more : (p : Progress) (n : ℕ) (i : Instr) (rest : List Instr) → IsBounded n p → first_failed (walk_checks p i rest) ≡ None → IsBounded (n + 1) (walk_after p i)
 bounded_more p n i rest h none = bounded_after p.open_loop p.calls p.tasks p.last n i rest h (passes_all p i rest none)
 
-fault_behind : (p : Progress) (i : Instr) (rest : List Instr) → (i ≡ Halt → ⊥) → first_failing (checks p i rest) ≡ None → first_fault p (i ∷ rest) ≡ first_fault (after p i) rest
+fault_behind : (p : Progress) (i : Instr) (rest : List Instr) → (i ≡ Halt → ⊥) → first_failed (walk_checks p i rest) ≡ None → first_fault p (i ∷ rest) ≡ first_fault (walk_after p i) rest
 fault_behind p Halt rest other none = absurd (other refl)
 fault_behind p i rest other none = rw none refl
 
@@ -72,17 +72,17 @@ first_left : (instrs : List Instr) (n : ℕ) (i : Instr) → n < length instrs �
 first_left instrs n i low is = drop_more instrs n i low ∙ ap (λ (j : Instr). j ∷ drop (n + 1) instrs) (sym is)
 
 -- the fault of the rest, behind an instruction that passes
-pub fault_more : (p : Progress) (instrs : List Instr) (n : ℕ) (i : Instr) (whole : Option CodeFault) → n < length instrs → i ≡ get_or instrs n i → (i ≡ Halt → ⊥) → first_failing (checks p i (drop (n + 1) instrs)) ≡ None
-    → first_fault p (drop n instrs) ≡ whole → first_fault (after p i) (drop (n + 1) instrs) ≡ whole
+pub fault_more : (p : Progress) (instrs : List Instr) (n : ℕ) (i : Instr) (whole : Option CodeFault) → n < length instrs → i ≡ get_or instrs n i → (i ≡ Halt → ⊥) → first_failed (walk_checks p i (drop (n + 1) instrs)) ≡ None
+    → first_fault p (drop n instrs) ≡ whole → first_fault (walk_after p i) (drop (n + 1) instrs) ≡ whole
 fault_more p instrs n i whole low is other none known =
     sym (fault_behind p i (drop (n + 1) instrs) other none) ∙ ap (first_fault p) (sym (first_left instrs n i low is)) ∙ known
 
-walked_behind : (p : Progress) (i : Instr) (rest : List Instr) → (i ≡ Halt → ⊥) → walked p (i ∷ rest) ≡ walked (after p i) rest
+walked_behind : (p : Progress) (i : Instr) (rest : List Instr) → (i ≡ Halt → ⊥) → walked p (i ∷ rest) ≡ walked (walk_after p i) rest
 walked_behind p Halt rest other = absurd (other refl)
 walked_behind p i rest other = refl
 
 -- what is met in the end
-pub walked_more : (p : Progress) (instrs : List Instr) (n : ℕ) (i : Instr) (whole : Progress) → n < length instrs → i ≡ get_or instrs n i → (i ≡ Halt → ⊥) → walked p (drop n instrs) ≡ whole → walked (after p i) (drop (n + 1) instrs) ≡ whole
+pub walked_more : (p : Progress) (instrs : List Instr) (n : ℕ) (i : Instr) (whole : Progress) → n < length instrs → i ≡ get_or instrs n i → (i ≡ Halt → ⊥) → walked p (drop n instrs) ≡ whole → walked (walk_after p i) (drop (n + 1) instrs) ≡ whole
 walked_more p instrs n i whole low is other known = sym (walked_behind p i (drop (n + 1) instrs) other) ∙ ap (walked p) (sym (first_left instrs n i low is)) ∙ known
 
 -- the timings of all, from those of the rest

@@ -8,10 +8,10 @@ use Rattle.queue_code.specs.declared.instr.Instr.TheVariants.{Loop, EndLoop, Hal
 use Rattle.queue_code.specs.declared.progress.OpenLoop.{OpenLoop}
 use Rattle.queue_code.specs.declared.progress.Progress.{Progress}
 use Rattle.queue_code.specs.Calls.{Planned, IsOrderlyFrom}
-use Rattle.queue_code.specs.Codes.{call_of, in_front, tasks_by, tasks_in, pass, iterations, body_of, calls_from}
-use Rattle.queue_code.specs.Checks.{offset_of, is_call, fault_of, IsTimedInstr, AreTimed}
-use Rattle.queue_code.specs.Walks.{last_shift, overlaps, first_fault}
-use Rattle.queue_code.specs.Cursors.{BeginsWithCall, IsWellFormed, IsCode}
+use Rattle.queue_code.specs.Codes.{call_by, in_front, tasks_by, tasks_in, pass, iterations, body_of, calls_from}
+use Rattle.queue_code.specs.Checks.{offset_of, makes_call, code_fault, IsTimedInstr, AreTimed}
+use Rattle.queue_code.specs.Walks.{last_shift, walk_overlaps, first_fault}
+use Rattle.queue_code.specs.Cursors.{BeginsWithCall, IsCodeForm, IsCode}
 use Rattle.queue_code.proofs.Passing.{Passes, passes_all, passes_first, Called, called, moment_low, not_before, length_call, in_front_append, last_halt}
 use Rattle.queue_code.proofs.Totals.{if_zero, if_more}
 use Rattle.queue_code.proofs.Faults.{fault_is}
@@ -31,7 +31,7 @@ sooner count m n (p ∷ ps) low order = (omega (arith, low, order.0), order.1, o
 
 -- a call in front of calls in order
 call_first : (i : Instr) (base start count m : ℕ) (rest : List Planned) → Called i base start count → m ≤ base + offset_of i → base + offset_of i ≤ 2 ^ 62
-    → IsOrderlyFrom (count + tasks_by i) (base + offset_of i) rest → IsOrderlyFrom count m (in_front (call_of base start count i) rest)
+    → IsOrderlyFrom (count + tasks_by i) (base + offset_of i) rest → IsOrderlyFrom count m (in_front (call_by base start count i) rest)
 call_first i base start count m rest known low high order =
     subst (λ (o : Option Planned). IsOrderlyFrom count m (in_front o rest)) (sym known.is)
     (low, high, known.orderly, subst (λ (n : ℕ). IsOrderlyFrom n (base + offset_of i) rest) (sym known.next) order)
@@ -39,7 +39,7 @@ call_first i base start count m rest known low high order =
 -- the calls of some instructions, where `calls` and `tasks` are the numbers of calls and tasks before them, and `last` is the
 -- moment of the last call: they are in order and few enough
 pub record Follows (inside : Bool) (calls tasks last : ℕ) (is : List Instr) : Type 0 where
-  pub form : IsWellFormed inside is
+  pub form : IsCodeForm inside is
   pub order : IsOrderlyFrom tasks last (calls_from inside tasks is)
   pub room : calls + length (calls_from inside tasks is) ≤ 65536
 
@@ -63,7 +63,7 @@ record FollowsInside (r : OpenLoop) (calls tasks last : ℕ) (is : List Instr) :
       → IsOrderlyFrom (tasks + more) m (pass base (r.start + more) (tasks + more) (body_of is) ++ ys)
   behind : Follows true (calls + r.times * size) (r.start + r.times * (ends - r.start)) ((r.times - 1) * r.every + final) is
 
-not_overlapping : (r : OpenLoop) (last : ℕ) → overlaps (met_in r 0 0 last) (Some r) ≡ false → 1 < r.times → last ≤ r.first + r.every
+not_overlapping : (r : OpenLoop) (last : ℕ) → walk_overlaps (met_in r 0 0 last) (Some r) ≡ false → 1 < r.times → last ≤ r.first + r.every
 not_overlapping r last apart more = grind (arith, nat_tests)
 
 -- the iterations of a loop from number q on, where those behind the loop are in order
@@ -141,8 +141,8 @@ whole_loop (suc k) every calls tasks last is b low h =
     }
 
 -- a call outside loops
-call_outside : (i : Instr) (calls tasks last : ℕ) (is : List Instr) → is_call i ≡ true → Called i 0 0 tasks → last ≤ offset_of i → offset_of i ≤ 2 ^ 62 → Follows false (calls + 1) (tasks + tasks_by i) (offset_of i) is
-    → IsOrderlyFrom tasks last (in_front (call_of 0 0 tasks i) (calls_from false (tasks + tasks_by i) is)) × (calls + length (in_front (call_of 0 0 tasks i) (calls_from false (tasks + tasks_by i) is)) ≤ 65536)
+call_outside : (i : Instr) (calls tasks last : ℕ) (is : List Instr) → makes_call i ≡ true → Called i 0 0 tasks → last ≤ offset_of i → offset_of i ≤ 2 ^ 62 → Follows false (calls + 1) (tasks + tasks_by i) (offset_of i) is
+    → IsOrderlyFrom tasks last (in_front (call_by 0 0 tasks i) (calls_from false (tasks + tasks_by i) is)) × (calls + length (in_front (call_by 0 0 tasks i) (calls_from false (tasks + tasks_by i) is)) ≤ 65536)
 call_outside i calls tasks last is call known low high h =
     let e : offset_of i ≡ 0 + offset_of i = omega arith in (
       call_first i 0 0 tasks last _ known (omega (arith, low)) (omega (arith, high)) (subst (λ (n : ℕ). IsOrderlyFrom (tasks + tasks_by i) n (calls_from false (tasks + tasks_by i) is)) e h.order),
@@ -151,10 +151,10 @@ call_outside i calls tasks last is call known low high h =
 
 call_more : (i : Instr) (base start count more m : ℕ) (body : List Instr) (ys : List Planned) → Called i base (start + more) (count + more) → m ≤ base + offset_of i → base + offset_of i ≤ 2 ^ 62
     → IsOrderlyFrom (count + tasks_by i + more) (base + offset_of i) (pass base (start + more) (count + tasks_by i + more) body ++ ys)
-    → IsOrderlyFrom (count + more) m (in_front (call_of base (start + more) (count + more) i) (pass base (start + more) (count + more + tasks_by i) body) ++ ys)
+    → IsOrderlyFrom (count + more) m (in_front (call_by base (start + more) (count + more) i) (pass base (start + more) (count + more + tasks_by i) body) ++ ys)
 call_more i base start count more m body ys known low high order =
     let e : count + tasks_by i + more ≡ count + more + tasks_by i = omega arith in
-    subst (λ (ps : List Planned). IsOrderlyFrom (count + more) m ps) (sym (in_front_append (call_of base (start + more) (count + more) i) (pass base (start + more) (count + more + tasks_by i) body) ys))
+    subst (λ (ps : List Planned). IsOrderlyFrom (count + more) m ps) (sym (in_front_append (call_by base (start + more) (count + more) i) (pass base (start + more) (count + more + tasks_by i) body) ys))
     (call_first i base (start + more) (count + more) m (pass base (start + more) (count + more + tasks_by i) body ++ ys) known low high
     (subst (λ (n : ℕ). IsOrderlyFrom n (base + offset_of i) (pass base (start + more) n body ++ ys)) e order))
 
@@ -162,10 +162,10 @@ task_here : (r : OpenLoop) (tasks nth more : ℕ) → r.start ≤ tasks → leb 
 task_here r tasks nth more low has = let e = leb-false (tasks - r.start) nth has in omega (arith, e, low)
 
 -- a call in a loop, in each iteration
-call_inside : (r : OpenLoop) (i : Instr) (calls tasks last : ℕ) (is : List Instr) → is_call i ≡ true → IsTimedInstr i → Passes (met_in r calls tasks last) i is → r.start ≤ tasks
+call_inside : (r : OpenLoop) (i : Instr) (calls tasks last : ℕ) (is : List Instr) → makes_call i ≡ true → IsTimedInstr i → Passes (met_in r calls tasks last) i is → r.start ≤ tasks
     → (h : FollowsInside (record r { calls = r.calls + 1; first = cond (eqb r.calls 0) (offset_of i) r.first }) calls (tasks + tasks_by i) (offset_of i) is)
     → (base more m : ℕ) (ys : List Planned) → base ≤ last_shift (Some r) → m ≤ base + offset_of i → IsOrderlyFrom (h.ends + more) (base + h.final) ys
-    → IsOrderlyFrom (tasks + more) m (in_front (call_of base (r.start + more) (tasks + more) i) (pass base (r.start + more) (tasks + more + tasks_by i) (body_of is)) ++ ys)
+    → IsOrderlyFrom (tasks + more) m (in_front (call_by base (r.start + more) (tasks + more) i) (pass base (r.start + more) (tasks + more + tasks_by i) (body_of is)) ++ ys)
 call_inside r i calls tasks last is call timed fine low h base more m ys at later end =
     call_more i base r.start tasks more m (body_of is) ys
     (called (met_in r calls tasks last) i base (r.start + more) (tasks + more) call timed fine.task fine.large (omega arith) (λ nth e. task_here r tasks nth more low e))
@@ -233,7 +233,7 @@ follows (Some r) calls tasks last (i ∷ is) timed fault = λ low.
     }
 
 -- a list of instructions without a fault is a code
-pub sound : (code : List Instr) → AreTimed code → fault_of code ≡ None → IsCode code
+pub sound : (code : List Instr) → AreTimed code → code_fault code ≡ None → IsCode code
 sound code timed fault =
     let f = follows None 0 0 0 code timed (sym (fault_is code) ∙ fault) (omega arith) in
     record { form = f.form; order = (omega (arith, f.room), f.order) }

@@ -5,17 +5,17 @@ use Rattle.queue_code.specs.declared.call.CodeCall.TheVariants as call
 use Rattle.queue_code.specs.declared.instr.Instr.{Instr}
 use Rattle.queue_code.specs.declared.instr.Instr.TheVariants.{Submit, Illegal, Loop, EndLoop, Halt}
 use Rattle.queue_code.specs.Calls.{Planned, task_count}
-use Rattle.queue_code.specs.Codes.{call_of, in_front, tasks_by, tasks_in, pass, iterations}
-use Rattle.queue_code.specs.Checks.{offset_of, is_call, first_moment, last_from}
+use Rattle.queue_code.specs.Codes.{call_by, in_front, tasks_by, tasks_in, pass, iterations}
+use Rattle.queue_code.specs.Checks.{offset_of, makes_call, first_call_moment, last_from}
 use Rattle.queue_code.proofs.Passing.{length_call, in_front_append}
 
 -- each of some instructions makes a call
 abbrev pub AreCalls : List Instr → Type 0
 AreCalls [] = Unit {0}
-AreCalls (i ∷ is) = (is_call i ≡ true) × AreCalls is
+AreCalls (i ∷ is) = (makes_call i ≡ true) × AreCalls is
 
 -- the tasks of an instruction and of some calls behind it
-pub tasks_call : (base start count : ℕ) (i : Instr) (rest : List Planned) → task_count (in_front (call_of base start count i) rest) ≡ tasks_by i + task_count rest
+pub tasks_call : (base start count : ℕ) (i : Instr) (rest : List Planned) → task_count (in_front (call_by base start count i) rest) ≡ tasks_by i + task_count rest
 tasks_call base start count (Submit offset timing delay) rest = omega arith
 tasks_call base start count (Illegal offset) rest = omega arith
 tasks_call base start count i rest = omega arith
@@ -26,7 +26,7 @@ tasks_pass base start count [] ys = omega arith
 tasks_pass base start count (i ∷ is) ys =
     omega (
       arith,
-      ap task_count (in_front_append (call_of base start count i) (pass base start (count + tasks_by i) is) ys),
+      ap task_count (in_front_append (call_by base start count i) (pass base start (count + tasks_by i) is) ys),
       tasks_call base start count i (pass base start (count + tasks_by i) is ++ ys),
       tasks_pass base start (count + tasks_by i) is ys,
     )
@@ -67,7 +67,7 @@ tasks_more [] i = omega arith
 tasks_more (j ∷ is) i = omega (arith, tasks_more is i)
 
 -- each of them makes a call
-pub calls_more : (is : List Instr) (i : Instr) → AreCalls is → is_call i ≡ true → AreCalls (is ++ i ∷ [])
+pub calls_more : (is : List Instr) (i : Instr) → AreCalls is → makes_call i ≡ true → AreCalls (is ++ i ∷ [])
 calls_more [] i calls call = (call, tt)
 calls_more (j ∷ is) i calls call = (calls.0, calls_more is i calls.1 call)
 
@@ -76,9 +76,9 @@ pub pass_append : (base start count : ℕ) (xs ys : List Instr) → pass base st
 pass_append base start count [] ys = let e : count ≡ count + 0 = omega arith in ap (λ (n : ℕ). pass base start n ys) e
 pass_append base start count (i ∷ xs) ys =
     let e : count + tasks_by i + tasks_in xs ≡ count + (tasks_by i + tasks_in xs) = omega arith in
-    ap (in_front (call_of base start count i)) (pass_append base start (count + tasks_by i) xs ys)
-    ∙ sym (in_front_append (call_of base start count i) (pass base start (count + tasks_by i) xs) (pass base start (count + tasks_by i + tasks_in xs) ys))
-    ∙ ap (λ (n : ℕ). in_front (call_of base start count i) (pass base start (count + tasks_by i) xs) ++ pass base start n ys) e
+    ap (in_front (call_by base start count i)) (pass_append base start (count + tasks_by i) xs ys)
+    ∙ sym (in_front_append (call_by base start count i) (pass base start (count + tasks_by i) xs) (pass base start (count + tasks_by i + tasks_in xs) ys))
+    ∙ ap (λ (n : ℕ). in_front (call_by base start count i) (pass base start (count + tasks_by i) xs) ++ pass base start n ys) e
 
 -- the last moment of calls, and of others behind them
 pub last_append : (m : ℕ) (xs ys : List Planned) → last_from m (xs ++ ys) ≡ last_from (last_from m xs) ys
@@ -86,14 +86,14 @@ last_append m [] ys = refl
 last_append m (p ∷ xs) ys = last_append p.0 xs ys
 
 -- a call is made at its offset
-pub last_call : (m base start count : ℕ) (i : Instr) (rest : List Planned) → is_call i ≡ true → last_from m (in_front (call_of base start count i) rest) ≡ last_from (base + offset_of i) rest
+pub last_call : (m base start count : ℕ) (i : Instr) (rest : List Planned) → makes_call i ≡ true → last_from m (in_front (call_by base start count i) rest) ≡ last_from (base + offset_of i) rest
 last_call m base start count (Loop times every) rest call = cc
 last_call m base start count EndLoop rest call = cc
 last_call m base start count Halt rest call = cc
 last_call m base start count i rest call = refl
 
 -- so is the first one
-pub first_call : (base start count : ℕ) (i : Instr) (rest : List Planned) → is_call i ≡ true → first_moment (in_front (call_of base start count i) rest) ≡ base + offset_of i
+pub first_call : (base start count : ℕ) (i : Instr) (rest : List Planned) → makes_call i ≡ true → first_call_moment (in_front (call_by base start count i) rest) ≡ base + offset_of i
 first_call base start count (Loop times every) rest call = cc
 first_call base start count EndLoop rest call = cc
 first_call base start count Halt rest call = cc

@@ -50,9 +50,9 @@ calls_with front None = calls_of front
 calls_with front (Some loop) = calls_of loop.before ++ calls_inside loop
 
 -- the moment of the first of some calls, and 0 where there is none
-abbrev pub first_moment : List Planned → ℕ
-first_moment [] = 0
-first_moment (p ∷ calls) = p.0
+abbrev pub first_call_moment : List Planned → ℕ
+first_call_moment [] = 0
+first_call_moment (p ∷ calls) = p.0
 
 -- the moment of the last of some calls, and where there is none that of the call before them
 abbrev pub last_from : ℕ → List Planned → ℕ
@@ -60,8 +60,8 @@ last_from moment [] = moment
 last_from moment (p ∷ calls) = last_from p.0 calls
 
 -- the moment of the last of some calls, and 0 where there is none
-abbrev pub last_moment : List Planned → ℕ
-last_moment calls = last_from 0 calls
+abbrev pub last_call_moment : List Planned → ℕ
+last_call_moment calls = last_from 0 calls
 
 -- how much later a call is made in the last iteration than in the first
 abbrev pub latest_base : Option Begun → ℕ
@@ -82,11 +82,11 @@ offset_of (Ask offset) = offset
 offset_of _ = 0
 
 -- an instruction makes a call
-abbrev pub is_call : Instr → Bool
-is_call (Loop times every) = false
-is_call EndLoop = false
-is_call Halt = false
-is_call _ = true
+abbrev pub makes_call : Instr → Bool
+makes_call (Loop times every) = false
+makes_call EndLoop = false
+makes_call Halt = false
+makes_call _ = true
 
 -- ---- the checks: an instruction is refused behind the instructions `front`, of which `loop` is open at the end
 
@@ -143,13 +143,13 @@ is_too_large loop i = ends_late loop (offset_of i)
 -- the second iteration begins before the last call of the first
 abbrev pub overlaps : Option Begun → Bool
 overlaps None = false
-overlaps (Some loop) = nat_lt 1 loop.times && nat_lt (first_moment (calls_inside loop) + loop.every) (last_moment (calls_inside loop))
+overlaps (Some loop) = nat_lt 1 loop.times && nat_lt (first_call_moment (calls_inside loop) + loop.every) (last_call_moment (calls_inside loop))
 
 -- Order: a call whose first moment is before that of the call made before it, or the end of a loop whose iterations
 -- overlap
 abbrev pub is_out_of_order : List Instr → Option Begun → Instr → Bool
 is_out_of_order front loop EndLoop = overlaps loop
-is_out_of_order front loop i = is_call i && nat_lt (offset_of i) (last_moment (calls_with front loop))
+is_out_of_order front loop i = makes_call i && nat_lt (offset_of i) (last_call_moment (calls_with front loop))
 
 -- TooMany: a loop that is not made 1 to 65,536 times; a call outside a loop, or the end of one, with more than 65,536
 -- calls so far, all iterations counted
@@ -178,9 +178,9 @@ checks front i rest = checks_with front (open_loop front) i rest
 -- ---- the fault of a list
 
 -- the first of some checks that fails
-abbrev pub first_failing : List (CodeFault × Bool) → Option CodeFault
-first_failing [] = None
-first_failing (check ∷ rest) = if check.1 then Some check.0 else first_failing rest
+abbrev pub first_failed : List (CodeFault × Bool) → Option CodeFault
+first_failed [] = None
+first_failed (check ∷ rest) = if check.1 then Some check.0 else first_failed rest
 
 -- a halt stands among some instructions
 abbrev pub has_halt : List Instr → Bool
@@ -191,7 +191,7 @@ has_halt (i ∷ is) = has_halt is
 -- what is wrong with the first of some instructions, where others are in front; and at the end, that there is no halt
 abbrev pub fault_between : List Instr → List Instr → Option CodeFault
 fault_between front [] = if has_halt front then None else Some fault.NoHalt
-fault_between front (i ∷ rest) = first_failing (checks front i rest)
+fault_between front (i ∷ rest) = first_failed (checks front i rest)
 
 -- what is wrong at an index. The end of the list has one too, its length
 abbrev pub fault_at : List Instr → ℕ → Option CodeFault
@@ -203,13 +203,13 @@ or_else None later = later
 or_else (Some first) later = Some first
 
 -- the first fault at any of some indexes
-abbrev pub first_of : List Instr → List ℕ → Option CodeFault
-first_of code [] = None
-first_of code (index ∷ indexes) = or_else (fault_at code index) (first_of code indexes)
+abbrev pub fault_among : List Instr → List ℕ → Option CodeFault
+fault_among code [] = None
+fault_among code (index ∷ indexes) = or_else (fault_at code index) (fault_among code indexes)
 
 -- the fault of a list of instructions
-abbrev pub fault_of : List Instr → Option CodeFault
-fault_of code = first_of code (range_with_len 0 (length code + 1))
+abbrev pub code_fault : List Instr → Option CodeFault
+code_fault code = fault_among code (range_with_len 0 (length code + 1))
 
 -- ---- timings, which no check tests: a span is within the limit by its type
 

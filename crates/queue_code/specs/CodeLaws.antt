@@ -4,24 +4,26 @@ use Rattle.queue_code.specs.declared.fault.CodeFault.{CodeFault}
 use Rattle.queue_code.specs.declared.instr.Instr.{Instr}
 use Rattle.queue_code.specs.declared.instr.Instr.TheVariants.{CancelHere, Loop, EndLoop, Halt}
 use Rattle.sched_time.specs.Times.{longest}
+use Rattle.sched_time.specs.Dues.{next_due}
+use Rattle.sched_time.specs.declared.timing.Timing.TheVariants.{Rate, Fixed}
 use Rattle.queue_code.specs.Calls.{most_calls, IsOrderly}
 use Rattle.queue_code.specs.Codes.{calls_of}
-use Rattle.queue_code.specs.Checks.{fault_at, fault_of, AreTimed}
+use Rattle.queue_code.specs.Checks.{fault_at, code_fault, AreTimed}
 use Rattle.queue_code.specs.Cursors.{BeginsWithCall}
 
 -- the fault of a list stands at some index, and at no index before it is anything wrong
 abbrev pub LeastIndex : Type 0
 LeastIndex =
-    (code : List Instr) (e : CodeFault) → fault_of code ≡ Some e →
+    (code : List Instr) (e : CodeFault) → code_fault code ≡ Some e →
     (index : ℕ) × (fault_at code index ≡ Some e) × ((earlier : ℕ) → earlier < index → fault_at code earlier ≡ None)
 
 -- in a list without a fault nothing is wrong at any index, nor at its end
 abbrev pub NothingWrong : Type 0
-NothingWrong = (code : List Instr) → fault_of code ≡ None → (index : ℕ) → index ≤ length code → fault_at code index ≡ None
+NothingWrong = (code : List Instr) → code_fault code ≡ None → (index : ℕ) → index ≤ length code → fault_at code index ≡ None
 
 -- the calls of a list without a fault are in order
 abbrev pub CodesAreOrderly : Type 0
-CodesAreOrderly = (code : List Instr) → AreTimed code → fault_of code ≡ None → IsOrderly (calls_of code)
+CodesAreOrderly = (code : List Instr) → AreTimed code → code_fault code ≡ None → IsOrderly (calls_of code)
 
 -- the shape of a code, in a loop or in none: loops are closed and not nested, begin with a call, and are made 1 to 65,536
 -- times, with a step within the limit; a task of the same iteration is cancelled in a loop alone; and the last instruction
@@ -39,4 +41,8 @@ IsShaped inside (i ∷ is) = IsShaped inside is
 
 -- a list is accepted exactly where it has the shape of a code, and its calls, with each loop written out, are in order
 abbrev pub AcceptedExactly : Type 0
-AcceptedExactly = (code : List Instr) → AreTimed code → (fault_of code ≡ None) ↔ (IsShaped false code × IsOrderly (calls_of code))
+AcceptedExactly = (code : List Instr) → AreTimed code → (code_fault code ≡ None) ↔ (IsShaped false code × IsOrderly (calls_of code))
+
+-- after a period of 0 the next run is due where the one before was due, and after a fixed delay of 0 where it ended
+abbrev pub ZeroNeverWaits : Type 0
+ZeroNeverWaits = (due finished : ℕ) → (next_due (Rate 0) due finished ≡ Some due) × (next_due (Fixed 0) due finished ≡ Some finished)

@@ -8,15 +8,15 @@ use Rattle.queue_code.specs.Calls.{Planned}
 
 -- the call of an instruction, if it makes one, at a base, where `count` tasks are made before it and `start` of
 -- them before its iteration
-abbrev pub call_of : ℕ → ℕ → ℕ → Instr → Option Planned
-call_of base start count (Submit offset timing delay) = Some (base + offset, call.Submit count timing delay)
-call_of base start count (Illegal offset) = Some (base + offset, call.Illegal count)
-call_of base start count (CancelFixed offset task) = Some (base + offset, call.Cancel task)
-call_of base start count (CancelHere offset nth) = Some (base + offset, call.Cancel (start + nth))
-call_of base start count (SetPolicy offset which value) = Some (base + offset, call.SetPolicy which value)
-call_of base start count (Shutdown offset) = Some (base + offset, call.Shutdown)
-call_of base start count (Ask offset) = Some (base + offset, call.Ask)
-call_of base start count _ = None
+abbrev pub call_by : ℕ → ℕ → ℕ → Instr → Option Planned
+call_by base start count (Submit offset timing delay) = Some (base + offset, call.Submit count timing delay)
+call_by base start count (Illegal offset) = Some (base + offset, call.Illegal count)
+call_by base start count (CancelFixed offset task) = Some (base + offset, call.Cancel task)
+call_by base start count (CancelHere offset nth) = Some (base + offset, call.Cancel (start + nth))
+call_by base start count (SetPolicy offset which value) = Some (base + offset, call.SetPolicy which value)
+call_by base start count (Shutdown offset) = Some (base + offset, call.Shutdown)
+call_by base start count (Ask offset) = Some (base + offset, call.Ask)
+call_by base start count _ = None
 
 -- a call, if there is one, in front of others
 abbrev pub in_front : Option Planned → List Planned → List Planned
@@ -37,7 +37,7 @@ tasks_in (i ∷ is) = tasks_by i + tasks_in is
 -- the calls of instructions, each once, in order
 abbrev pub pass : ℕ → ℕ → ℕ → List Instr → List Planned
 pass base start count [] = []
-pass base start count (i ∷ is) = in_front (call_of base start count i) (pass base start (count + tasks_by i) is)
+pass base start count (i ∷ is) = in_front (call_by base start count i) (pass base start (count + tasks_by i) is)
 
 -- the calls of `n` iterations of a loop, from iteration r on: its base is r times the loop's step
 abbrev pub iterations : ℕ → ℕ → ℕ → List Instr → ℕ → List Planned
@@ -57,7 +57,7 @@ calls_from inside count [] = []
 calls_from false count (Loop times every ∷ is) =
     iterations times 0 every (body_of is) count ++ calls_from true (count + times * tasks_in (body_of is)) is
 calls_from false count (Halt ∷ is) = []
-calls_from false count (i ∷ is) = in_front (call_of 0 0 count i) (calls_from false (count + tasks_by i) is)
+calls_from false count (i ∷ is) = in_front (call_by 0 0 count i) (calls_from false (count + tasks_by i) is)
 calls_from true count (EndLoop ∷ is) = calls_from false count is
 calls_from true count (i ∷ is) = calls_from true count is
 

@@ -39,20 +39,20 @@ BeginsWithCall (i ∷ is) = Unit {0}
 
 -- in a loop or in none: loops are closed and not nested, are made once at least and begin with a call; a halt is
 -- the last instruction
-abbrev pub IsWellFormed : Bool → List Instr → Type 0
-IsWellFormed false [] = Unit {0}
-IsWellFormed true [] = ⊥
-IsWellFormed false (Loop times every ∷ is) = (1 ≤ times) × BeginsWithCall is × IsWellFormed true is
-IsWellFormed true (Loop times every ∷ is) = ⊥
-IsWellFormed true (EndLoop ∷ is) = IsWellFormed false is
-IsWellFormed false (EndLoop ∷ is) = ⊥
-IsWellFormed false (Halt ∷ is) = is ≡ []
-IsWellFormed true (Halt ∷ is) = ⊥
-IsWellFormed inside (i ∷ is) = IsWellFormed inside is
+abbrev pub IsCodeForm : Bool → List Instr → Type 0
+IsCodeForm false [] = Unit {0}
+IsCodeForm true [] = ⊥
+IsCodeForm false (Loop times every ∷ is) = (1 ≤ times) × BeginsWithCall is × IsCodeForm true is
+IsCodeForm true (Loop times every ∷ is) = ⊥
+IsCodeForm true (EndLoop ∷ is) = IsCodeForm false is
+IsCodeForm false (EndLoop ∷ is) = ⊥
+IsCodeForm false (Halt ∷ is) = is ≡ []
+IsCodeForm true (Halt ∷ is) = ⊥
+IsCodeForm inside (i ∷ is) = IsCodeForm inside is
 
 -- a list of instructions is a code: it is well formed, and its calls are in order
 pub record IsCode (code : List Instr) : Type 0 where
-  pub form : IsWellFormed false code
+  pub form : IsCodeForm false code
   pub order : IsOrderly (calls_of code)
 
 -- the table has, at each index within a loop, the index at which the loop begins

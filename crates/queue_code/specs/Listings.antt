@@ -44,10 +44,10 @@ abbrev pub line_of : ℕ → Instr → List ℕ
 line_of index i = decimal index ++ codes " " ++ instr_text i ++ codes "\n"
 
 -- the lines of instructions, the first of which has this index
-abbrev pub lines_from : ℕ → List Instr → List ℕ
-lines_from index [] = []
-lines_from index (i ∷ is) = line_of index i ++ lines_from (index + 1) is
+abbrev pub listing_from : ℕ → List Instr → List ℕ
+listing_from index [] = []
+listing_from index (i ∷ is) = line_of index i ++ listing_from (index + 1) is
 
 -- the text of a code
 abbrev pub listing_of : List Instr → List ℕ
-listing_of code = lines_from 0 code
+listing_of code = listing_from 0 code

@@ -10,11 +10,11 @@ use Rattle.queue_code.specs.declared.progress.OpenLoop.{OpenLoop}
 use Rattle.queue_code.specs.declared.progress.Progress.{Progress}
 use Rattle.queue_code.specs.Calls.{most_calls}
 use Rattle.queue_code.specs.Codes.{tasks_by}
-use Rattle.queue_code.specs.Checks.{offset_of, is_call, is_early_halt, first_failing, or_else}
+use Rattle.queue_code.specs.Checks.{offset_of, makes_call, is_early_halt, first_failed, or_else}
 
 -- before the first instruction
-abbrev pub opening : Progress
-opening = record { open_loop = None; calls = 0; tasks = 0; last = 0 }
+abbrev pub walk_opening : Progress
+walk_opening = record { open_loop = None; calls = 0; tasks = 0; last = 0 }
 
 -- how much later a call is made in the last iteration than in the first
 abbrev pub last_shift : Option OpenLoop → ℕ
@@ -28,9 +28,9 @@ loop_after (Some inner) offset =
     Some (record inner { calls = inner.calls + 1; first = if inner.calls == 0 then offset else inner.first })
 
 -- how many calls there are with one more: one in a loop is counted at the loop's end
-abbrev pub calls_after : Option OpenLoop → ℕ → ℕ
-calls_after None calls = calls + 1
-calls_after (Some inner) calls = calls
+abbrev pub walk_calls_after : Option OpenLoop → ℕ → ℕ
+walk_calls_after None calls = calls + 1
+walk_calls_after (Some inner) calls = calls
 
 -- what was met after the end of a loop, all iterations of which are counted then
 abbrev pub after_loop : Progress → Option OpenLoop → Progress
@@ -43,100 +43,100 @@ after_loop p (Some inner) = record {
 }
 
 -- what was met after an instruction
-abbrev pub after : Progress → Instr → Progress
-after p (Loop times every) = record p { open_loop = Some (record { times = times; every = every; start = p.tasks; calls = 0; first = 0 }) }
-after p EndLoop = after_loop p p.open_loop
-after p Halt = p
-after p i = record {
+abbrev pub walk_after : Progress → Instr → Progress
+walk_after p (Loop times every) = record p { open_loop = Some (record { times = times; every = every; start = p.tasks; calls = 0; first = 0 }) }
+walk_after p EndLoop = after_loop p p.open_loop
+walk_after p Halt = p
+walk_after p i = record {
   open_loop = loop_after p.open_loop (offset_of i);
-  calls = calls_after p.open_loop p.calls;
+  calls = walk_calls_after p.open_loop p.calls;
   tasks = p.tasks + tasks_by i;
   last = offset_of i;
 }
 
 -- Nested: a loop in a loop
-abbrev pub is_nested : Progress → Instr → Bool
-is_nested p (Loop times every) = is_some p.open_loop
-is_nested p i = false
+abbrev pub walk_nested : Progress → Instr → Bool
+walk_nested p (Loop times every) = is_some p.open_loop
+walk_nested p i = false
 
 -- Unclosed: the end of a loop outside one, or a halt inside one
-abbrev pub is_unclosed : Progress → Instr → Bool
-is_unclosed p EndLoop = is_none p.open_loop
-is_unclosed p Halt = is_some p.open_loop
-is_unclosed p i = false
+abbrev pub walk_unclosed : Progress → Instr → Bool
+walk_unclosed p EndLoop = is_none p.open_loop
+walk_unclosed p Halt = is_some p.open_loop
+walk_unclosed p i = false
 
 -- a loop has no call so far
-abbrev pub has_no_call : Option OpenLoop → Bool
-has_no_call None = false
-has_no_call (Some inner) = inner.calls == 0
+abbrev pub walk_no_call : Option OpenLoop → Bool
+walk_no_call None = false
+walk_no_call (Some inner) = inner.calls == 0
 
 -- Empty: the end of a loop that has no call
-abbrev pub is_empty_loop : Progress → Instr → Bool
-is_empty_loop p EndLoop = has_no_call p.open_loop
-is_empty_loop p i = false
+abbrev pub walk_empty_loop : Progress → Instr → Bool
+walk_empty_loop p EndLoop = walk_no_call p.open_loop
+walk_empty_loop p i = false
 
 -- outside a loop, or no task of this iteration has `nth` others of it before it
-abbrev pub lacks_task : Progress → Option OpenLoop → ℕ → Bool
-lacks_task p None nth = true
-lacks_task p (Some inner) nth = nat_le (p.tasks - inner.start) nth
+abbrev pub walk_lacks_task : Progress → Option OpenLoop → ℕ → Bool
+walk_lacks_task p None nth = true
+walk_lacks_task p (Some inner) nth = nat_le (p.tasks - inner.start) nth
 
 -- BadTask: a cancel of a task that is not made before it
-abbrev pub is_bad_task : Progress → Instr → Bool
-is_bad_task p (CancelFixed offset task) = nat_le p.tasks task
-is_bad_task p (CancelHere offset nth) = lacks_task p p.open_loop nth
-is_bad_task p i = false
+abbrev pub walk_bad_task : Progress → Instr → Bool
+walk_bad_task p (CancelFixed offset task) = nat_le p.tasks task
+walk_bad_task p (CancelHere offset nth) = walk_lacks_task p p.open_loop nth
+walk_bad_task p i = false
 
 -- a call with this offset is made later than at 2^62 in the last iteration
-abbrev pub ends_late : Option OpenLoop → ℕ → Bool
-ends_late open_loop offset = nat_lt longest (last_shift open_loop + offset)
+abbrev pub walk_ends_late : Option OpenLoop → ℕ → Bool
+walk_ends_late open_loop offset = nat_lt longest (last_shift open_loop + offset)
 
 -- TooLarge: a loop's step, a delay, or a call's moment in the last iteration is above 2^62
-abbrev pub is_too_large : Progress → Instr → Bool
-is_too_large p (Loop times every) = nat_lt longest every
-is_too_large p EndLoop = false
-is_too_large p Halt = false
-is_too_large p (Submit offset timing delay) = nat_lt longest delay || ends_late p.open_loop offset
-is_too_large p i = ends_late p.open_loop (offset_of i)
+abbrev pub walk_too_large : Progress → Instr → Bool
+walk_too_large p (Loop times every) = nat_lt longest every
+walk_too_large p EndLoop = false
+walk_too_large p Halt = false
+walk_too_large p (Submit offset timing delay) = nat_lt longest delay || walk_ends_late p.open_loop offset
+walk_too_large p i = walk_ends_late p.open_loop (offset_of i)
 
 -- an iteration of the loop begins before the one in front of it ends
-abbrev pub overlaps : Progress → Option OpenLoop → Bool
-overlaps p None = false
-overlaps p (Some inner) = nat_lt 1 inner.times && nat_lt (inner.first + inner.every) p.last
+abbrev pub walk_overlaps : Progress → Option OpenLoop → Bool
+walk_overlaps p None = false
+walk_overlaps p (Some inner) = nat_lt 1 inner.times && nat_lt (inner.first + inner.every) p.last
 
 -- Order: a call whose first moment is before that of the call in front of it, or the end of a loop whose iterations
 -- overlap
-abbrev pub is_out_of_order : Progress → Instr → Bool
-is_out_of_order p EndLoop = overlaps p p.open_loop
-is_out_of_order p i = is_call i && nat_lt (offset_of i) p.last
+abbrev pub walk_out_of_order : Progress → Instr → Bool
+walk_out_of_order p EndLoop = walk_overlaps p p.open_loop
+walk_out_of_order p i = makes_call i && nat_lt (offset_of i) p.last
 
 -- TooMany: a loop that is not made 1 to 65,536 times; a call outside a loop, or the end of one, with more than 65,536
 -- calls so far
-abbrev pub is_too_many : Progress → Instr → Bool
-is_too_many p (Loop times every) = nat_lt times 1 || nat_lt most_calls times
-is_too_many p Halt = false
-is_too_many p EndLoop = nat_lt most_calls (after_loop p p.open_loop).calls
-is_too_many p i = nat_lt most_calls (calls_after p.open_loop p.calls)
+abbrev pub walk_too_many : Progress → Instr → Bool
+walk_too_many p (Loop times every) = nat_lt times 1 || nat_lt most_calls times
+walk_too_many p Halt = false
+walk_too_many p EndLoop = nat_lt most_calls (after_loop p p.open_loop).calls
+walk_too_many p i = nat_lt most_calls (walk_calls_after p.open_loop p.calls)
 
 -- the table of checks of an instruction, where `rest` comes behind it, in their order
-abbrev pub checks : Progress → Instr → List Instr → List (CodeFault × Bool)
-checks p i rest =
+abbrev pub walk_checks : Progress → Instr → List Instr → List (CodeFault × Bool)
+walk_checks p i rest =
     (fault.NoHalt, is_early_halt i rest) ∷
-    (fault.Nested, is_nested p i) ∷
-    (fault.Unclosed, is_unclosed p i) ∷
-    (fault.Empty, is_empty_loop p i) ∷
-    (fault.BadTask, is_bad_task p i) ∷
-    (fault.TooLarge, is_too_large p i) ∷
-    (fault.Order, is_out_of_order p i) ∷
-    (fault.TooMany, is_too_many p i) ∷ []
+    (fault.Nested, walk_nested p i) ∷
+    (fault.Unclosed, walk_unclosed p i) ∷
+    (fault.Empty, walk_empty_loop p i) ∷
+    (fault.BadTask, walk_bad_task p i) ∷
+    (fault.TooLarge, walk_too_large p i) ∷
+    (fault.Order, walk_out_of_order p i) ∷
+    (fault.TooMany, walk_too_many p i) ∷ []
 
 -- the first fault of instructions after what was met; at their end, that there was no halt
 abbrev pub first_fault : Progress → List Instr → Option CodeFault
 first_fault p [] = Some fault.NoHalt
-first_fault p (Halt ∷ rest) = first_failing (checks p Halt rest)
-first_fault p (i ∷ rest) = or_else (first_failing (checks p i rest)) (first_fault (after p i) rest)
+first_fault p (Halt ∷ rest) = first_failed (walk_checks p Halt rest)
+first_fault p (i ∷ rest) = or_else (first_failed (walk_checks p i rest)) (first_fault (walk_after p i) rest)
 
 -- what was met up to the halt
 abbrev pub walked : Progress → List Instr → Progress
 walked p [] = p
 walked p (Halt ∷ rest) = p
-walked p (i ∷ rest) = walked (after p i) rest
+walked p (i ∷ rest) = walked (walk_after p i) rest

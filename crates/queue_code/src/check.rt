@@ -1,7 +1,7 @@
 //! The checks of a list of instructions.
 ghost use Rattle.std.specs.Prelude.{◌≡◌, ℕ, ◌^◌, ◌<◌, IfOk, IfErr, None, Some};
-ghost use Rattle.queue_code.specs.Checks.{is_early_halt, first_failing, fault_of, IsTimedInstr, AreTimed};
-ghost use Rattle.queue_code.specs.Walks.{opening, is_nested, is_unclosed, is_empty_loop, is_bad_task, is_too_large, is_out_of_order, is_too_many, checks, walked};
+ghost use Rattle.queue_code.specs.Checks.{is_early_halt, first_failed, code_fault, IsTimedInstr, AreTimed};
+ghost use Rattle.queue_code.specs.Walks.{walk_opening, walk_nested, walk_unclosed, walk_empty_loop, walk_bad_task, walk_ends_late, walk_too_large, walk_out_of_order, walk_too_many, walk_checks, walked};
 ghost use Rattle.queue_code.specs.Sizes.{IsBounded};
 
 use crate::fault::CodeFault;
@@ -12,8 +12,8 @@ use sched_time::{LONGEST, Timing};
 
 /// Goes through a list of instructions up to its halt: what was met, or the first fault.
 pub(crate) fn walk(instrs: &[Instr]) -> Result<Progress, CodeFault>
-    ensures fault { IfErr result (λ e. fault_of instrs.now ≡ Some e) }
-    ensures none { IfOk result (λ p. (fault_of instrs.now ≡ None) × (p ≡ walked opening instrs.now) × AreTimed instrs.now) }
+    ensures fault { IfErr result (λ e. code_fault instrs.now ≡ Some e) }
+    ensures none { IfOk result (λ p. (code_fault instrs.now ≡ None) × (p ≡ walked walk_opening instrs.now) × AreTimed instrs.now) }
 {
     let mut progress = Progress::new();
     for (index, instr) in instrs.iter().enumerate() {
@@ -33,7 +33,7 @@ pub(crate) fn walk(instrs: &[Instr]) -> Result<Progress, CodeFault>
 /// What is wrong with an instruction, where `rest` comes behind it: the first of the checks that fails.
 fn fault_at(progress: &Progress, instr: &Instr, rest: &[Instr]) -> Option<CodeFault>
     requires { (n : ℕ) × (n < 2 ^ 64) × IsBounded n progress.now }
-    ensures { result ≡ first_failing (checks progress.now instr.now rest.now) }
+    ensures { result ≡ first_failed (walk_checks progress.now instr.now rest.now) }
 {
     if is_early_halt(instr, rest) {
         return Some(CodeFault::NoHalt);
@@ -71,14 +71,14 @@ fn is_early_halt(instr: &Instr, rest: &[Instr]) -> bool
 
 /// Whether a loop begins in a loop.
 fn is_nested(progress: &Progress, instr: &Instr) -> bool
-    ensures { result ≡ is_nested progress.now instr.now }
+    ensures { result ≡ walk_nested progress.now instr.now }
 {
     matches!(instr, Instr::Loop(..)) && progress.open_loop.is_some()
 }
 
 /// Whether a loop ends outside a loop, or the code inside one.
 fn is_unclosed(progress: &Progress, instr: &Instr) -> bool
-    ensures { result ≡ is_unclosed progress.now instr.now }
+    ensures { result ≡ walk_unclosed progress.now instr.now }
 {
     match instr {
         Instr::EndLoop => progress.open_loop.is_none(),
@@ -89,7 +89,7 @@ fn is_unclosed(progress: &Progress, instr: &Instr) -> bool
 
 /// Whether a loop ends that has no call.
 fn is_empty_loop(progress: &Progress, instr: &Instr) -> bool
-    ensures { result ≡ is_empty_loop progress.now instr.now }
+    ensures { result ≡ walk_empty_loop progress.now instr.now }
 {
     match (instr, &progress.open_loop) {
         (Instr::EndLoop, Some(inner)) => inner.calls == 0,
@@ -99,7 +99,7 @@ fn is_empty_loop(progress: &Progress, instr: &Instr) -> bool
 
 /// Whether it cancels a task that is not made before it.
 fn is_bad_task(progress: &Progress, instr: &Instr) -> bool
-    ensures { result ≡ is_bad_task progress.now instr.now }
+    ensures { result ≡ walk_bad_task progress.now instr.now }
 {
     match (instr, &progress.open_loop) {
         (Instr::CancelFixed(_, task), _) => progress.tasks <= u128::from(*task),
@@ -113,7 +113,7 @@ fn is_bad_task(progress: &Progress, instr: &Instr) -> bool
 
 /// Whether a loop's step, a delay or the moment in the last iteration is above 2^62 nanoseconds.
 fn is_too_large(progress: &Progress, instr: &Instr) -> bool
-    ensures { result ≡ is_too_large progress.now instr.now }
+    ensures { result ≡ walk_too_large progress.now instr.now }
 {
     match instr {
         Instr::Loop(_, every) => LONGEST < *every,
@@ -125,14 +125,14 @@ fn is_too_large(progress: &Progress, instr: &Instr) -> bool
 
 /// Whether a call with this offset is made later than at 2^62 nanoseconds in the last iteration.
 fn ends_late(progress: &Progress, offset: u64) -> bool
-    ensures { result ≡ Rattle.queue_code.specs.Walks.ends_late progress.now.open_loop offset }
+    ensures { result ≡ walk_ends_late progress.now.open_loop offset }
 {
     u128::from(LONGEST) < progress.last_shift() + u128::from(offset)
 }
 
 /// Whether a call is made before the one in front of it, or an iteration begins before the one in front of it ends.
 fn is_out_of_order(progress: &Progress, instr: &Instr) -> bool
-    ensures { result ≡ is_out_of_order progress.now instr.now }
+    ensures { result ≡ walk_out_of_order progress.now instr.now }
 {
     match (instr, &progress.open_loop) {
         (Instr::EndLoop, Some(inner)) => {
@@ -145,7 +145,7 @@ fn is_out_of_order(progress: &Progress, instr: &Instr) -> bool
 /// Whether a loop is not made 1 to 65,536 times, or there are more than 65,536 calls.
 fn is_too_many(progress: &Progress, instr: &Instr) -> bool
     requires { (n : ℕ) × (n < 2 ^ 64) × IsBounded n progress.now }
-    ensures { result ≡ is_too_many progress.now instr.now }
+    ensures { result ≡ walk_too_many progress.now instr.now }
 {
     match instr {
         Instr::Loop(times, _) => *times < 1 || MOST_CALLS < *times as usize,

@@ -1,7 +1,7 @@
 ghost use Rattle.std.specs.Prelude.{◌≡◌, ℕ, ◌^◌, ◌<◌, ◌⊎◌, length, slice_get, Some, None, IfOk, IfErr};
 ghost use Rattle.queue_code.specs.Calls.{IsOrderly, task_count};
 ghost use Rattle.queue_code.specs.Codes.{calls_of};
-ghost use Rattle.queue_code.specs.Checks.{fault_of};
+ghost use Rattle.queue_code.specs.Checks.{code_fault};
 ghost use Rattle.queue_code.specs.Cursors.{IsCode, Enclosing, loop_around, IsLoopTable};
 
 use crate::check::walk;
@@ -41,10 +41,11 @@ impl<A: Allocator> Code<A> {
     ///
     /// The answer is else the fault of the least index, and at one index the first that applies, in the order
     /// in which [`CodeFault`] lists them. [`CodeFault::Memory`] may come in place of a code, and never in place of
-    /// another fault. Instructions that are refused are dropped.
+    /// another fault. Instructions that are refused are dropped. A period, or a fixed delay, of 0 is no fault: the run
+    /// after one is then due at the very moment at which that one was due, or ended.
     pub fn check(alloc: A, instrs: Vec<Instr, A>) -> Result<Code<A>, CodeFault>
-        ensures code { IfOk result (λ code. (code ≡ instrs.items) × (fault_of instrs.items ≡ None)) }
-        ensures fault { IfErr result (λ e. (fault_of instrs.items ≡ Some e) ⊎ ((e ≡ CodeFault.Memory) × (fault_of instrs.items ≡ None))) }
+        ensures code { IfOk result (λ code. (code ≡ instrs.items) × (code_fault instrs.items ≡ None)) }
+        ensures fault { IfErr result (λ e. (code_fault instrs.items ≡ Some e) ⊎ ((e ≡ CodeFault.Memory) × (code_fault instrs.items ≡ None))) }
         ensures orderly { IfOk result (λ code. IsOrderly (calls_of code)) }
     {
         let progress = walk(&instrs)?;

@@ -1,10 +1,11 @@
 //! What is so of all codes and faults, in functions that do nothing: each ensures a law.
-ghost use Rattle.std.specs.Prelude.{◌≡◌, true};
+ghost use Rattle.std.specs.Prelude.{◌≡◌, ◌↔◌, true};
 ghost use Rattle.queue_code.specs.declared.fault.CodeFault.{CodeFault};
 ghost use Rattle.queue_code.specs.declared.instr.Instr.{Instr};
 ghost use Rattle.queue_code.specs.Calls.{most_calls};
-ghost use Rattle.queue_code.specs.CodeLaws.{LeastIndex, NothingWrong, CodesAreOrderly, AcceptedExactly};
+ghost use Rattle.queue_code.specs.CodeLaws.{LeastIndex, NothingWrong, CodesAreOrderly, AcceptedExactly, ZeroNeverWaits};
 
+use crate::call::CodeCall;
 use crate::fault::CodeFault;
 use crate::instr::Instr;
 use crate::limits::MOST_CALLS;
@@ -14,14 +15,19 @@ pub fn most_calls_is_the_limit()
     ensures { MOST_CALLS ≡ most_calls }
 {}
 
-/// Instructions that compare as equal are the same.
-pub fn equal_instrs_are_one()
-    ensures { (a b : Instr) → ⟦<Instr as PartialEq>⟧.eq a b ≡ true → a ≡ b }
+/// Two instructions compare as equal exactly when they are the same.
+pub fn instr_equality_tells()
+    ensures { (a b : Instr) → (⟦<Instr as PartialEq>⟧.eq a b ≡ true) ↔ (a ≡ b) }
 {}
 
-/// Faults that compare as equal are the same.
-pub fn equal_faults_are_one()
-    ensures { (a b : CodeFault) → ⟦<CodeFault as PartialEq>⟧.eq a b ≡ true → a ≡ b }
+/// Two calls compare as equal exactly when they are the same.
+pub fn code_call_equality_tells()
+    ensures { (a b : CodeCall) → (⟦<CodeCall as PartialEq>⟧.eq a b ≡ true) ↔ (a ≡ b) }
+{}
+
+/// Two faults compare as equal exactly when they are the same.
+pub fn code_fault_equality_tells()
+    ensures { (a b : CodeFault) → (⟦<CodeFault as PartialEq>⟧.eq a b ≡ true) ↔ (a ≡ b) }
 {}
 
 /// The fault of a list of instructions is that of the least index at which a check fails, and where it has none no
@@ -40,4 +46,10 @@ pub fn codes_are_orderly()
 /// loop written out: nothing else is refused.
 pub fn codes_are_accepted_exactly()
     ensures { AcceptedExactly }
+{}
+
+/// A run after a period of 0, which no check refuses, is due at the very moment at which the one before was due, and
+/// after a fixed delay of 0 at the very moment at which that one ended.
+pub fn a_period_of_zero_never_waits()
+    ensures { ZeroNeverWaits }
 {}

@@ -20,7 +20,7 @@ fn fault_of(alloc: Global, instrs: &[Instr]) -> Option<CodeFault> {
     code_of(alloc, instrs).err()
 }
 
-/// 65,536 illegal submissions at 0.
+/// 65,536 questions at 0.
 fn most_calls(alloc: Global) -> Result<Vec<Instr>, AllocError> {
     let calls = [Instr::Ask(0); 256];
     let mut instrs = Vec::from_slice(alloc, &calls)?;

@@ -1,7 +1,7 @@
 ghost use Rattle.std.specs.Prelude.{◌≡◌, ◌≢◌, ℕ, ◌+◌, ◌^◌, ◌<◌, ◌≤◌, ◌⊎◌, Some, None, IfSome, slice_get, length, drop, option_map};
 ghost use Rattle.sched_time.specs.Times.{longest};
 ghost use Rattle.queue_code.specs.Calls.{IsOrderlyCall, most_calls};
-ghost use Rattle.queue_code.specs.Codes.{calls_of, call_of};
+ghost use Rattle.queue_code.specs.Codes.{calls_of, call_by};
 ghost use Rattle.queue_code.specs.Cursors.{IsCursorOf, IsCursorAt, IsOver, calls_left, steps_of, EndsNoLoop, IsPlain};
 
 use crate::call::CodeCall;
@@ -161,8 +161,8 @@ impl Cursor {
 
     /// The call of an instruction here, if it makes one.
     fn call_of(&self, instr: &Instr) -> Option<(u64, CodeCall)>
-        requires { IfSome (call_of self.now.base self.now.start self.now.tasks instr.now) (λ p. (p.0 ≤ longest) × IsOrderlyCall self.now.tasks p.1 × (self.now.tasks < most_calls)) }
-        ensures { result ≡ call_of self.now.base self.now.start self.now.tasks instr.now }
+        requires { IfSome (call_by self.now.base self.now.start self.now.tasks instr.now) (λ p. (p.0 ≤ longest) × IsOrderlyCall self.now.tasks p.1 × (self.now.tasks < most_calls)) }
+        ensures { result ≡ call_by self.now.base self.now.start self.now.tasks instr.now }
     {
         let call = match instr {
             Instr::Submit(_, timing, delay) => CodeCall::Submit {

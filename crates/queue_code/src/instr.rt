@@ -1,6 +1,6 @@
 ghost use Rattle.std.specs.Prelude.{◌≡◌};
 ghost use Rattle.queue_code.specs.Codes.{tasks_by};
-ghost use Rattle.queue_code.specs.Checks.{offset_of, is_call};
+ghost use Rattle.queue_code.specs.Checks.{offset_of, makes_call};
 ghost use Rattle.queue_code.specs.Listings.{policy_text};
 
 use sched_time::{Timing, Which};
@@ -13,7 +13,8 @@ use std::fmt;
 #[derive(Clone, Copy, Debug, PartialEq, Eq)]
 pub enum Instr {
     /// Submits a task, which gets the next number. Behind the offset stand how often the task runs, and the
-    /// delay from the call to its first run, in nanoseconds.
+    /// delay from the call to its first run, in nanoseconds. With a period or a fixed delay of 0 the task never waits
+    /// between its runs.
     Submit(u64, Timing, u64),
     /// Submits a task with a period, or a fixed delay, that is zero or negative. It gets the next number too.
     Illegal(u64),
@@ -55,7 +56,7 @@ impl Instr {
 
     /// Whether it makes a call.
     pub(crate) fn is_call(&self) -> bool
-        ensures { result ≡ is_call self.now }
+        ensures { result ≡ makes_call self.now }
     {
         !matches!(self, Instr::Loop(..) | Instr::EndLoop | Instr::Halt)
     }

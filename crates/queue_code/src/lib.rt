@@ -60,6 +60,10 @@
 //! | `Order` | a call whose moment in the first iteration is before that of the call in front of it; an `EndLoop` of more than one iteration, the last of whose offsets is more than the first and the step |
 //! | `TooMany` | a loop that is not made 1 to 65,536 times; at a call outside a loop, or at an `EndLoop`, more than 65,536 calls so far |
 //!
+//! A period, or a fixed delay, of 0 is no fault: the next run of such a task is due at the very moment at which the one
+//! before was due, or ended, so that the task never waits between its runs. A code that was compiled from a plan has
+//! none.
+//!
 //! `Memory` says nothing of the instructions but that they have no other fault. A list that is refused is dropped, and
 //! so is a text that could not be made whole.
 //!
@@ -69,6 +73,8 @@
 //! by which an `EndLoop` finds its loop. [`listing`] takes its text. No other call takes memory, and each costs the
 //! same whatever the code: a cursor is six numbers, and no list of calls is ever made, however often a loop is
 //! repeated.
+//!
+//! The tests stand in `src/code_tests.rt`, and those of the largest codes in `src/size_tests.rt`.
 #![tactic(auto)]
 
 mod call;
@@ -78,11 +84,12 @@ pub mod code_laws;
 #[cfg(test)]
 mod code_tests;
 mod cursor;
-mod equality;
 mod fault;
 mod instr;
 mod limits;
 mod progress;
+#[cfg(test)]
+mod size_tests;
 mod text;
 
 pub use call::CodeCall;

@@ -33,12 +33,12 @@ pub(crate) struct Progress {
 
 impl Progress {
     ghost use Rattle.std.specs.Prelude.{◌≡◌, ℕ, ◌^◌, ◌<◌, IfSome};
-    ghost use Rattle.queue_code.specs.Walks.{opening, last_shift, loop_after, calls_after, after_loop, after};
+    ghost use Rattle.queue_code.specs.Walks.{walk_opening, last_shift, loop_after, walk_calls_after, after_loop, walk_after};
     ghost use Rattle.queue_code.specs.Sizes.{IsBounded};
 
     /// Before the first instruction.
     pub(crate) fn new() -> Progress
-        ensures { result ≡ opening }
+        ensures { result ≡ walk_opening }
     {
         Progress {
             open_loop: None,
@@ -62,7 +62,7 @@ impl Progress {
     /// How many calls there are with this one, those of an open loop left out.
     pub(crate) fn calls_after(&self) -> u128
         requires { self.now.calls < 2 ^ 64 }
-        ensures { result ≡ calls_after self.now.open_loop self.now.calls }
+        ensures { result ≡ walk_calls_after self.now.open_loop self.now.calls }
     {
         match self.open_loop {
             Some(_) => self.calls,
@@ -73,7 +73,7 @@ impl Progress {
     /// What was met after an instruction more.
     pub(crate) fn after(&self, instr: &Instr) -> Progress
         requires { (n : ℕ) × (n < 2 ^ 64) × IsBounded n self.now }
-        ensures { result ≡ after self.now instr.now }
+        ensures { result ≡ walk_after self.now instr.now }
     {
         match instr {
             Instr::Loop(times, every) => Progress {

@@ -7,8 +7,8 @@ use lib.ListN.{get_elem?}
 use Rattle.atomic_table.specs.Table.{Final, Seen}
 use Rattle.task_word.specs.Words.{IsWord}
 use Rattle.task_word.specs.Views.{entry, core_of}
-use Rattle.task_word.specs.Rule.{word_of, Matches, EntriesFit, task_words}
-use Rattle.task_word.specs.Steps.{Tells}
+use Rattle.task_word.specs.Rule.{word_of_value, Matches, EntriesFit, task_words}
+use Rattle.task_word.specs.Steps.{CoreTells}
 use Rattle.task_word.specs.Answers.{Closes}
 use Rattle.task_word.specs.declared.views.View.{View}
 use Rattle.task_word.specs.declared.views.View.TheVariants.{Core}
@@ -26,9 +26,9 @@ closes n id v words copied slots zero_id core final same =
     let f : EntriesFit n (task_words s.words) (core_of v).entries = fits n (task_words s.words) s.views (core_of v) kept at in
     let is : (j : ℕ) → j < n → slice_index (task_words s.words) j ≡ slice_index copied j = (λ j h. task_at s.words j ∙ (ap (λ ws. slice_index ws (j + 1)) final.2 ∙ sym (same j h))) in
     record {
-      word = λ k h. subst (λ (x : ℕ). IsWord (word_of x)) (is k h) (reads_word _ (entry (core_of v) k) (f.word k h) (f.each k h));
+      word = λ k h. subst (λ (x : ℕ). IsWord (word_of_value x)) (is k h) (reads_word _ (entry (core_of v) k) (f.word k h) (f.each k h));
       each = λ k h. subst (λ (x : ℕ). Matches x (entry (core_of v) k)) (is k h) (f.each k h);
-      tells = λ k h. subst (λ (x : ℕ). Tells (core_of v) k (word_of x)) (is k h) (tells n k (task_words s.words) s.views (core_of v) kept at h);
+      tells = λ k h. subst (λ (x : ℕ). CoreTells (core_of v) k (word_of_value x)) (is k h) (tells n k (task_words s.words) s.views (core_of v) kept at h);
     }
 
 -- one word more is copied

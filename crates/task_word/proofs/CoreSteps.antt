@@ -9,8 +9,8 @@ use Rattle.atomic_table.proofs.Lists.{at_set, set_here, exchanged}
 use Rattle.task_word.specs.Writes.{submit, core_cancel, Exchanges}
 use Rattle.task_word.specs.Words.{Parts, IsWord, bit, value, marked, is_cancelled, new_in}
 use Rattle.task_word.specs.Views.{most_handles, entry, times, wins, and_if, core_of, with_entry, core_cancelled, MeetsEntry}
-use Rattle.task_word.specs.Rule.{word_of, word_at, Matches, flag, taken_by, is_handle, EntriesFit, HasMet, taken_in_all, handles, IsWellFormedTable}
-use Rattle.task_word.specs.Steps.{Holder, AtTask, CoreIs, Submitted, Moved, Tells, CoreMeets, CoreCancelled, CoreLooked}
+use Rattle.task_word.specs.Rule.{word_of_value, word_at, Matches, flag, taken_by, is_handle, EntriesFit, HasMet, taken_in_all, handles, IsWellFormedTable}
+use Rattle.task_word.specs.Steps.{Holder, AtTask, CoreIs, Submitted, Exchanged, CoreTells, CoreMeets, CoreCancelled, CoreLooked}
 use Rattle.task_word.specs.declared.phases.Phase.TheVariants.{Vacant}
 use Rattle.task_word.specs.declared.views.CoreView.{CoreView}
 use Rattle.task_word.specs.declared.views.View.{View}
@@ -55,9 +55,9 @@ in_views (u ∷ us) v at = omega arith
 -- a step of the core keeps the rule: the word of the task k becomes x, its entry e, and the core's own list becoming along
 pub core_keeps : (n k x : ℕ) (words : List ℕ) (views : List View) (v : CoreView) (e : Parts) (own : List ℕ) → IsWellFormedTable n words views → get_elem? views 0 ≡ some (Core v) → k < n
     → IsWord e → Matches x e
-    → times k own + flag (is_cancelled (word_at words k)) ≡ times k v.own + flag (is_cancelled (word_of x))
+    → times k own + flag (is_cancelled (word_at words k)) ≡ times k v.own + flag (is_cancelled (word_of_value x))
     → ((j : ℕ) → j ≢ k → times j own ≡ times j v.own)
-    → Becomes (word_at words k) (word_of x)
+    → Becomes (word_at words k) (word_of_value x)
     → IsWellFormedTable n (set words k x) (set views 0 (Core record { entries = set v.entries k e; own = own; joined = v.joined; ranks = v.ranks; out = v.out }))
 core_keeps n k x words views v e own kept at in_n is fit here there becoming =
     let w : CoreView = record { entries = set v.entries k e; own = own; joined = v.joined; ranks = v.ranks; out = v.out } in
@@ -122,8 +122,8 @@ submits n slots id k me zero_id core in_n phase =
         let was : w.phase ≡ Vacant = met_phase (entry v k) w m ∙ phase in
         let free : is_cancelled w ≡ false = vacant_free w was in
         let fresh : IsWord (new_in 0) = record { vacant = λ e. refl; run = omega arith } in
-        let read : word_of (value (new_in 0)) ≡ new_in 0 = reads_back (new_in 0) fresh in
-        let live : is_cancelled (word_of (value (new_in 0))) ≡ false = ap is_cancelled read in
+        let read : word_of_value (value (new_in 0)) ≡ new_in 0 = reads_back (new_in 0) fresh in
+        let live : is_cancelled (word_of_value (value (new_in 0))) ≡ false = ap is_cancelled read in
         core_keeps n k (value (new_in 0)) words views v (new_in 0) v.own kept at in_n fresh (inl refl)
         (ap (λ b. times k v.own + flag b) (free ∙ sym live))
         (λ j other. refl)
@@ -132,15 +132,15 @@ submits n slots id k me zero_id core in_n phase =
 -- the exchange that finds what it expected keeps the rule
 exchange_keeps : (n k new : ℕ) (next : Parts) (words : List ℕ) (views : List View) (v : CoreView) → IsWellFormedTable n words views → get_elem? views 0 ≡ some (Core v) → k < n
     → Exchanges (entry v k) next → slice_index words k ≡ value (entry v k) → new ≡ value next → (IsWord (entry v k) → IsWord next)
-    → IsWellFormedTable n (set words k new) (set views 0 (Core (with_entry v k (word_of new))))
+    → IsWellFormedTable n (set words k new) (set views 0 (Core (with_entry v k (word_of_value new))))
 exchange_keeps n k new next words views v kept at in_n step found is_new word =
     let f = fits n words views v kept at in
     let is = f.word k in_n in
-    let read : word_of new ≡ next = ap word_of is_new ∙ reads_back next (word is) in
-    let was : word_at words k ≡ entry v k = ap word_of found ∙ reads_back (entry v k) is in
-    let written : Exchanges (word_at words k) (word_of new) = subst (λ w. Exchanges w (word_of new)) (sym was) (subst (Exchanges (entry v k)) (sym read) step) in
-    let both = exchanges (word_at words k) (word_of new) written in
-    core_keeps n k new words views v (word_of new) v.own kept at in_n (subst IsWord (sym read) (word is)) (inl (is_new ∙ ap value (sym read)))
+    let read : word_of_value new ≡ next = ap word_of_value is_new ∙ reads_back next (word is) in
+    let was : word_at words k ≡ entry v k = ap word_of_value found ∙ reads_back (entry v k) is in
+    let written : Exchanges (word_at words k) (word_of_value new) = subst (λ w. Exchanges w (word_of_value new)) (sym was) (subst (Exchanges (entry v k)) (sym read) step) in
+    let both = exchanges (word_at words k) (word_of_value new) written in
+    core_keeps n k new words views v (word_of_value new) v.own kept at in_n (subst IsWord (sym read) (word is)) (inl (is_new ∙ ap value (sym read)))
     (ap (λ b. times k v.own + flag b) (both.free ∙ sym both.still))
     (λ j other. refl)
     (becomes written.0 _ _ written.2)
@@ -170,7 +170,7 @@ alone_taken k (u ∷ us) v at none only =
     omega (arith, sum_by-cons (λ w. times k (taken_by w)) u us, rest, ap (λ w. times k (taken_by w)) same)
 
 -- what the rule tells the core of a word that it met
-pub tells : (n k : ℕ) (words : List ℕ) (views : List View) (v : CoreView) → IsWellFormedTable n words views → get_elem? views 0 ≡ some (Core v) → k < n → Tells v k (word_at words k)
+pub tells : (n k : ℕ) (words : List ℕ) (views : List View) (v : CoreView) → IsWellFormedTable n words views → get_elem? views 0 ≡ some (Core v) → k < n → CoreTells v k (word_at words k)
 tells n k words views v kept at in_n =
     let all = kept.once k in_n in
     let both = times_append k v.own v.joined in
@@ -199,31 +199,31 @@ met_bit x e (inr cut) other = cut
 
 move_either : (n slots k old new : ℕ) (next : Parts) (v : CoreView) (xs : List (ℕ × Unit {0})) → k < n
     → Exchanges (entry v k) next → old ≡ value (entry v k) → new ≡ value next → (IsWord (entry v k) → IsWord next)
-    → Allows {S = Unit {0}} (Rule n) slots 0 (Core v, xs) (k + 1) (λ x. either (x == old) new x) (Moved (k + 1) old new (Core v, xs))
+    → Allows {S = Unit {0}} (Rule n) slots 0 (Core v, xs) (k + 1) (λ x. either (x == old) new x) (Exchanged (k + 1) old new (Core v, xs))
 move_either n slots k old new next v xs in_n step is_old is_new word =
-    allows n slots 0 k (Core v, xs) (λ x. either (x == old) new x) (Moved (k + 1) old new (Core v, xs)) (λ words views kept at.
+    allows n slots 0 k (Core v, xs) (λ x. either (x == old) new x) (Exchanged (k + 1) old new (Core v, xs)) (λ words views kept at.
     let x : ℕ = slice_index words k in
     let f = fits n words views v kept at in
     let is = f.word k in_n in
     exchanged x old new
-    (λ y. (w : View) × IsWellFormedTable n (set words k y) (set views 0 w) × Moved (k + 1) old new (Core v, xs) x (w, xs))
+    (λ y. (w : View) × IsWellFormedTable n (set words k y) (set views 0 w) × Exchanged (k + 1) old new (Core v, xs) x (w, xs))
     (λ hit. (
-      Core (with_entry v k (word_of new)),
+      Core (with_entry v k (word_of_value new)),
       exchange_keeps n k new next words views v kept at in_n step (hit ∙ is_old) is_new word,
-      at_task k (λ j. CoreMeets v j x × (((x ≡ old) × CoreIs (with_entry v j (word_of new)) (Core v, xs) (Core (with_entry v k (word_of new)), xs)) ⊎ ((x ≢ old) × CoreIs (with_entry v j (marked (entry v j))) (Core v, xs) (Core (with_entry v k (word_of new)), xs)))) (core_meets n k words views v kept at in_n, inl (hit, refl)),
+      at_task k (λ j. CoreMeets v j x × (((x ≡ old) × CoreIs (with_entry v j (word_of_value new)) (Core v, xs) (Core (with_entry v k (word_of_value new)), xs)) ⊎ ((x ≢ old) × CoreIs (with_entry v j (marked (entry v j))) (Core v, xs) (Core (with_entry v k (word_of_value new)), xs)))) (core_meets n k words views v kept at in_n, inl (hit, refl)),
     ))
     (λ miss. (
       Core (with_entry v k (marked (entry v k))),
       load_keeps n k words views v (marked (entry v k)) kept at in_n (marked_word (entry v k) is) (inl (met_bit x (entry v k) (f.each k in_n) (λ e. miss (e ∙ sym is_old)))),
-      at_task k (λ j. CoreMeets v j x × (((x ≡ old) × CoreIs (with_entry v j (word_of new)) (Core v, xs) (Core (with_entry v k (marked (entry v k))), xs)) ⊎ ((x ≢ old) × CoreIs (with_entry v j (marked (entry v j))) (Core v, xs) (Core (with_entry v k (marked (entry v k))), xs)))) (core_meets n k words views v kept at in_n, inr (miss, refl)),
+      at_task k (λ j. CoreMeets v j x × (((x ≡ old) × CoreIs (with_entry v j (word_of_value new)) (Core v, xs) (Core (with_entry v k (marked (entry v k))), xs)) ⊎ ((x ≢ old) × CoreIs (with_entry v j (marked (entry v j))) (Core v, xs) (Core (with_entry v k (marked (entry v k))), xs)))) (core_meets n k words views v kept at in_n, inr (miss, refl)),
     )))
 
 -- an exchange of the core's keeps the rule, and where it fails it met the bit
 pub moves : (n slots id k old new : ℕ) (next : Parts) (me : Holder) → id ≡ 0 → me.0 ≡ Core (core_of me.0) → k < n
     → Exchanges (entry (core_of me.0) k) next → old ≡ value (entry (core_of me.0) k) → new ≡ value next → (IsWord (entry (core_of me.0) k) → IsWord next)
-    → Allows {S = Unit {0}} (Rule n) slots id me (k + 1) (λ x. either (x == old) new x) (Moved (k + 1) old new me)
+    → Allows {S = Unit {0}} (Rule n) slots id me (k + 1) (λ x. either (x == old) new x) (Exchanged (k + 1) old new me)
 moves n slots id k old new next me zero_id core in_n step is_old is_new word =
-    seat_is (λ i m. Allows {S = Unit {0}} (Rule n) slots i m (k + 1) (λ x. either (x == old) new x) (Moved (k + 1) old new m)) id me zero_id core
+    seat_is (λ i m. Allows {S = Unit {0}} (Rule n) slots i m (k + 1) (λ x. either (x == old) new x) (Exchanged (k + 1) old new m)) id me zero_id core
     (move_either n slots k old new next (core_of me.0) me.1 in_n step is_old is_new word)
 
 -- a load of the core's keeps the rule
@@ -235,9 +235,9 @@ core_looks n slots id k me zero_id core in_n =
     let v : CoreView = core_of me.0 in
     let x : ℕ = slice_index words k in
     let m : CoreMeets v k x = core_meets n k words views v kept at in_n in (
-      Core (with_entry v k (word_of x)),
-      load_keeps n k words views v (word_of x) kept at in_n m.word (inl (sym m.number)),
-      at_task k (λ j. CoreMeets v j x × CoreIs (with_entry v j (word_of x)) (Core v, me.1) (Core (with_entry v k (word_of x)), me.1)) (m, refl),
+      Core (with_entry v k (word_of_value x)),
+      load_keeps n k words views v (word_of_value x) kept at in_n m.word (inl (sym m.number)),
+      at_task k (λ j. CoreMeets v j x × CoreIs (with_entry v j (word_of_value x)) (Core v, me.1) (Core (with_entry v k (word_of_value x)), me.1)) (m, refl),
     )))
 
 -- the setting of the bit by the core keeps the rule
@@ -247,11 +247,11 @@ bit_keeps n k words views v kept at in_n =
     let f = fits n words views v kept at in
     let is = f.word k in_n in
     let x : ℕ = slice_index words k in
-    let w : Parts = word_of x in
+    let w : Parts = word_of_value x in
     let word : IsWord w = reads_word x (entry v k) is (f.each k in_n) in
     let number : value w ≡ x = reads_number x (entry v k) is (f.each k in_n) in
     let cut : bit_or x bit ≡ value (marked w) = or_marks x w word (inl (sym number)) in
-    let read : word_of (bit_or x bit) ≡ marked w = ap word_of cut ∙ reads_back (marked w) (marked_word w word) in
+    let read : word_of_value (bit_or x bit) ≡ marked w = ap word_of_value cut ∙ reads_back (marked w) (marked_word w word) in
     core_keeps n k (bit_or x bit) words views v (marked w) (and_if (wins w) k v.own) kept at in_n (marked_word w word) (inl cut)
     (let a = and_if_same (wins w) k v.own in let b = wins_count w in let c = ap (λ u. flag (is_cancelled u)) read in omega (arith, a, b, c))
     (λ j other. and_if_other (wins w) k j v.own other)
@@ -266,7 +266,7 @@ core_cancels n slots id k me zero_id core in_n =
     let v : CoreView = core_of me.0 in
     let x : ℕ = slice_index words k in
     let m : CoreMeets v k x = core_meets n k words views v kept at in_n in (
-      Core (core_cancelled v k (word_of x)),
+      Core (core_cancelled v k (word_of_value x)),
       bit_keeps n k words views v kept at in_n,
-      at_task k (λ j. CoreMeets v j x × CoreIs (core_cancelled v j (word_of x)) (Core v, me.1) (Core (core_cancelled v k (word_of x)), me.1)) (m, refl),
+      at_task k (λ j. CoreMeets v j x × CoreIs (core_cancelled v j (word_of_value x)) (Core v, me.1) (Core (core_cancelled v k (word_of_value x)), me.1)) (m, refl),
     )))

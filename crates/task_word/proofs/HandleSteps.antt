@@ -8,7 +8,7 @@ use Rattle.atomic_table.proofs.Lists.{at_set, set_else}
 use Rattle.task_word.specs.Writes.{handle_cancel}
 use Rattle.task_word.specs.Words.{Parts, IsWord, bit, value, marked, is_cancelled, rank}
 use Rattle.task_word.specs.Views.{times, wins, handle_of, handle_looked, handle_cancelled, MeetsHandle}
-use Rattle.task_word.specs.Rule.{word_of, word_at, Matches, flag, is_handle, HasMet, IsWellFormedTable}
+use Rattle.task_word.specs.Rule.{word_of_value, word_at, Matches, flag, is_handle, HasMet, IsWellFormedTable}
 use Rattle.task_word.specs.Steps.{Holder, HandleIs, HandleCancelled, HandleLooked}
 use Rattle.task_word.specs.declared.views.HandleView.{HandleView}
 use Rattle.task_word.specs.declared.views.View.{View}
@@ -82,8 +82,8 @@ met_more n k words h h' w in_n room is new met =
 -- a step of a handle keeps the rule: the word of the task k becomes x, and what the handle won becoming along
 handle_keeps : (n k x id : ℕ) (words : List ℕ) (views : List View) (h h' : HandleView) → IsWellFormedTable n words views → get_elem? views id ≡ some (Handle h) → k < n
     → ((e : Parts) → IsWord e → Matches (slice_index words k) e → Matches x e)
-    → times k h'.won + flag (is_cancelled (word_at words k)) ≡ times k h.won + flag (is_cancelled (word_of x))
-    → k < length h.ranks → Becomes (word_at words k) (word_of x) → rank (word_at words k) ≡ rank (word_of x) → Meets k (word_at words k) h h'
+    → times k h'.won + flag (is_cancelled (word_at words k)) ≡ times k h.won + flag (is_cancelled (word_of_value x))
+    → k < length h.ranks → Becomes (word_at words k) (word_of_value x) → rank (word_at words k) ≡ rank (word_of_value x) → Meets k (word_at words k) h h'
     → IsWellFormedTable n (set words k x) (set views id (Handle h'))
 handle_keeps n k x id words views h h' kept at in_n fit here room becoming level new =
     let lt : k < length words = omega (arith, kept.count) in
@@ -136,10 +136,10 @@ handle_looks n slots id k me handle in_n room =
     (allows n slots id k (Handle (handle_of me.0), me.1) (λ x. x) (HandleLooked (k + 1) (Handle (handle_of me.0), me.1)) (λ words views kept at.
     let h : HandleView = handle_of me.0 in
     let x : ℕ = slice_index words k in
-    let h' : HandleView = handle_looked h k (word_of x) in (
+    let h' : HandleView = handle_looked h k (word_of_value x) in (
       Handle h',
-      handle_keeps n k x id words views h h' kept at in_n (λ e is m. m) refl room (becomes_same (word_of x)) refl (record { ranks = refl; seen = refl; last = refl; won = λ j other. refl }),
-      at_task k (λ j. MeetsHandle h j (word_of x) × (value (word_of x) ≡ x) × HandleIs (handle_looked h j (word_of x)) (Handle h, me.1) (Handle h', me.1)) (handle_meets n k id words views h kept at in_n, read_number n k words views kept in_n, refl),
+      handle_keeps n k x id words views h h' kept at in_n (λ e is m. m) refl room (becomes_same (word_of_value x)) refl (record { ranks = refl; seen = refl; last = refl; won = λ j other. refl }),
+      at_task k (λ j. MeetsHandle h j (word_of_value x) × (value (word_of_value x) ≡ x) × HandleIs (handle_looked h j (word_of_value x)) (Handle h, me.1) (Handle h', me.1)) (handle_meets n k id words views h kept at in_n, read_number n k words views kept in_n, refl),
     )))
 
 -- the setting of the bit by a handle keeps the rule
@@ -147,11 +147,11 @@ bit_keeps : (n k id : ℕ) (words : List ℕ) (views : List View) (h : HandleVie
     → IsWellFormedTable n (set words k (bit_or (slice_index words k) bit)) (set views id (Handle (handle_cancelled h k (word_at words k))))
 bit_keeps n k id words views h kept at in_n room =
     let x : ℕ = slice_index words k in
-    let w : Parts = word_of x in
+    let w : Parts = word_of_value x in
     let m = handle_meets n k id words views h kept at in_n in
     let number : value w ≡ x = read_number n k words views kept in_n in
     let cut : bit_or x bit ≡ value (marked w) = or_marks x w m.word (inl (sym number)) in
-    let read : word_of (bit_or x bit) ≡ marked w = ap word_of cut ∙ reads_back (marked w) (marked_word w m.word) in
+    let read : word_of_value (bit_or x bit) ≡ marked w = ap word_of_value cut ∙ reads_back (marked w) (marked_word w m.word) in
     handle_keeps n k (bit_or x bit) id words views h (handle_cancelled h k w) kept at in_n
     (λ e is fit. inr (or_marks x e is fit))
     (let a = and_if_same (wins w) k h.won in let b = wins_count w in let c = ap (λ u. flag (is_cancelled u)) read in omega (arith, a, b, c))
@@ -168,8 +168,8 @@ handle_cancels n slots id k me handle in_n room =
     (allows n slots id k (Handle (handle_of me.0), me.1) (λ x. bit_or x bit) (HandleCancelled (k + 1) (Handle (handle_of me.0), me.1)) (λ words views kept at.
     let h : HandleView = handle_of me.0 in
     let x : ℕ = slice_index words k in
-    let h' : HandleView = handle_cancelled h k (word_of x) in (
+    let h' : HandleView = handle_cancelled h k (word_of_value x) in (
       Handle h',
       bit_keeps n k id words views h kept at in_n room,
-      at_task k (λ j. MeetsHandle h j (word_of x) × (value (word_of x) ≡ x) × HandleIs (handle_cancelled h j (word_of x)) (Handle h, me.1) (Handle h', me.1)) (handle_meets n k id words views h kept at in_n, read_number n k words views kept in_n, refl),
+      at_task k (λ j. MeetsHandle h j (word_of_value x) × (value (word_of_value x) ≡ x) × HandleIs (handle_cancelled h j (word_of_value x)) (Handle h, me.1) (Handle h', me.1)) (handle_meets n k id words views h kept at in_n, read_number n k words views kept in_n, refl),
     )))

@@ -3,7 +3,7 @@ use Rattle.std.proofs.Common.{◌≡◌, ℕ, ◌+◌, ◌<◌, zero, suc, true,
 use mathlib.Core.Option.{some, some-injective, some-ne-none}
 use lib.ListN.{get_elem?}
 use Rattle.std.proofs.lemmas.List.{length-replicate, get_or-replicate}
-use Rattle.task_word.specs.Words.{Parts, IsWord, vacant, is_cancelled, rank}
+use Rattle.task_word.specs.Words.{Parts, IsWord, vacant_word, is_cancelled, rank}
 use Rattle.task_word.specs.Views.{new_core, first_view}
 use Rattle.task_word.specs.Rule.{word_at, HasMet, IsWellFormedTable, task_words}
 use Rattle.task_word.specs.declared.views.CoreView.{CoreView}
@@ -11,8 +11,8 @@ use Rattle.task_word.specs.declared.views.View.{View}
 use Rattle.task_word.specs.declared.views.View.TheVariants.{Core}
 use Rattle.task_word.proofs.SeatSplits.{zeros}
 
-vacant_word : (n k : ℕ) → k < n → IsWord (get_or (replicate n vacant) k vacant)
-vacant_word n k h = subst IsWord (sym (get_or-replicate n k vacant vacant h)) (record { vacant = λ e. refl; run = omega arith })
+vacant_is_word : (n k : ℕ) → k < n → IsWord (get_or (replicate n vacant_word) k vacant_word)
+vacant_is_word n k h = subst IsWord (sym (get_or-replicate n k vacant_word vacant_word h)) (record { vacant = λ e. refl; run = omega arith })
 
 met_first : (n : ℕ) (words : List ℕ) → HasMet n words (first_view n)
 met_first n words =
@@ -24,7 +24,7 @@ met_first n words =
     }
 
 none_cancelled : (n k : ℕ) → is_cancelled (word_at (replicate n 0) k) ≡ false
-none_cancelled n k = ap (λ m. is_cancelled (Rattle.task_word.specs.Rule.word_of m)) (zeros n k)
+none_cancelled n k = ap (λ m. is_cancelled (Rattle.task_word.specs.Rule.word_of_value m)) (zeros n k)
 
 -- the words of the tasks are vacant, where all words of the table are
 zero_words : (n : ℕ) → task_words (replicate (n + 1) 0) ≡ replicate n 0
@@ -39,9 +39,9 @@ opens n words is =
         new_core n,
         refl,
         record {
-          count = length-replicate n vacant;
-          word = vacant_word n;
-          each = λ k h. inl (zeros n k ∙ sym (ap Rattle.task_word.specs.Words.value (get_or-replicate n k vacant vacant h)));
+          count = length-replicate n vacant_word;
+          word = vacant_is_word n;
+          each = λ k h. inl (zeros n k ∙ sym (ap Rattle.task_word.specs.Words.value (get_or-replicate n k vacant_word vacant_word h)));
         },
         refl,
         omega arith,

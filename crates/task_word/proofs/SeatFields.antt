@@ -2,13 +2,13 @@
 use Rattle.std.proofs.Common.{◌≡◌, ℕ, ◌+◌, ◌<◌, ◌≤◌, Bool, true, false, inl, inr, List, [], length, set, slice_index, slice_index_or, ◌&&◌, not, get_or-set_same, refl, sym, ap, ◌∙◌, arith, length-set}
 use Rattle.atomic_table.specs.Seated.{TableId}
 use Rattle.task_word.specs.Words.{Parts, rank, is_live, is_cancelled}
-use Rattle.task_word.specs.Answers.{HandleKeeps, state_in, state_of, cancel_answer_in, cancel_answer, is_yes, core_answer_in, core_answer, is_won}
+use Rattle.task_word.specs.Answers.{HandleKeeps, shown_state_in, shown_state, cancel_answer_in, cancel_answer, is_handle_win, core_answer_in, core_answer, is_won}
 use Rattle.task_word.specs.declared.phases.Phase.{Phase}
 use Rattle.task_word.specs.declared.phases.Phase.TheVariants.{Vacant, New, Running, Done, Failed}
 use Rattle.task_word.specs.declared.answers.TaskState.TheVariants as state
 use Rattle.task_word.specs.Views.{most_handles, with_entry, core_of, handle_of, wins}
-use Rattle.task_word.specs.Rule.{word_of}
-use Rattle.task_word.specs.Steps.{Holder, Moved}
+use Rattle.task_word.specs.Rule.{word_of_value}
+use Rattle.task_word.specs.Steps.{Holder, Exchanged}
 use Rattle.task_word.specs.declared.views.CoreView.{CoreView}
 use Rattle.task_word.specs.declared.views.HandleView.{HandleView}
 use Rattle.task_word.specs.declared.views.View.TheVariants.{Core, Handle}
@@ -31,7 +31,7 @@ core_sits table table' id id' me me' entries out k e w same_table same_id is set
 )
 
 -- an exchange that found what it expected
-pub found_it : (k word : ℕ) (next : Parts) (old new found : ℕ) (me me' : Holder) → Moved word old new me found me' → word ≡ k + 1 → found ≡ old → word_of new ≡ next
+pub found_it : (k word : ℕ) (next : Parts) (old new found : ℕ) (me me' : Holder) → Exchanged word old new me found me' → word ≡ k + 1 → found ≡ old → word_of_value new ≡ next
     → me' ≡ (Core (with_entry (core_of me.0) k next), me.1)
 found_it k word next old new found me me' moved at hit read =
     elim (moved k at).1 [
@@ -62,7 +62,7 @@ keeps_met h h' k w ranks seen set_rank set_seen = (
   ap (λ xs. slice_index_or xs k false) set_seen ∙ get_or-set_same h.seen k (is_cancelled w) false seen,
 )
 
-cancelled_in : (p : Phase) (bit : Bool) → is_live p && bit ≡ true → state_in p bit ≡ state.Cancelled
+cancelled_in : (p : Phase) (bit : Bool) → is_live p && bit ≡ true → shown_state_in p bit ≡ state.Cancelled
 cancelled_in Vacant bit e = absurd (let f : false ≡ true = e in grind (arith))
 cancelled_in New true e = refl
 cancelled_in New false e = absurd (let f : false ≡ true = e in grind (arith))
@@ -72,10 +72,10 @@ cancelled_in Done bit e = absurd (let f : false ≡ true = e in grind (arith))
 cancelled_in Failed bit e = absurd (let f : false ≡ true = e in grind (arith))
 
 -- a cancelled word shows that it is
-pub cancelled_shows : (w : Parts) → is_cancelled w ≡ true → state_of w ≡ state.Cancelled
+pub cancelled_shows : (w : Parts) → is_cancelled w ≡ true → shown_state w ≡ state.Cancelled
 cancelled_shows w e = cancelled_in w.phase w.marked e
 
-yes_in : (p : Phase) (bit : Bool) → is_live p && not bit ≡ is_yes (cancel_answer_in p bit)
+yes_in : (p : Phase) (bit : Bool) → is_live p && not bit ≡ is_handle_win (cancel_answer_in p bit)
 yes_in Vacant bit = refl
 yes_in New true = refl
 yes_in New false = refl
@@ -85,7 +85,7 @@ yes_in Done bit = refl
 yes_in Failed bit = refl
 
 -- a handle's cancel wins exactly when it answers so
-pub yes_wins : (w : Parts) → wins w ≡ is_yes (cancel_answer w)
+pub yes_wins : (w : Parts) → wins w ≡ is_handle_win (cancel_answer w)
 yes_wins w = yes_in w.phase w.marked
 
 won_in : (p : Phase) (bit : Bool) → is_live p && not bit ≡ is_won (core_answer_in p bit)

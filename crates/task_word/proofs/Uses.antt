@@ -1,17 +1,17 @@
 -- For crates above: what a seat knows after a step, read task by task.
 use Rattle.std.proofs.Common.{◌≡◌, ◌≢◌, ℕ, ◌<◌, ◌≤◌, zero, suc, List, [], ◌∷◌, length, slice_index, arith, length-set, get_or-set_same, get_or-set_other}
 use Rattle.std.proofs.Math.Nat.{le-max_left, le-max_right}
-use Rattle.task_word.specs.Words.{Parts, vacant}
+use Rattle.task_word.specs.Words.{Parts, vacant_word}
 use Rattle.task_word.specs.Views.{entry, with_entry, greater}
 use Rattle.task_word.specs.declared.views.CoreView.{CoreView}
 
 -- the entry that was set is the word given
 pub entry_here : (v : CoreView) (k : ℕ) (w : Parts) → k < length v.entries → entry (with_entry v k w) k ≡ w
-entry_here v k w lt = get_or-set_same v.entries k w vacant lt
+entry_here v k w lt = get_or-set_same v.entries k w vacant_word lt
 
 -- the entries of the other tasks stay as they were
 pub entry_other : (v : CoreView) (k j : ℕ) (w : Parts) → j ≢ k → entry (with_entry v k w) j ≡ entry v j
-entry_other v k j w other = get_or-set_other v.entries k j w vacant other
+entry_other v k j w other = get_or-set_other v.entries k j w vacant_word other
 
 -- the core has as many entries as before
 pub entry_count : (v : CoreView) (k : ℕ) (w : Parts) → length (with_entry v k w).entries ≡ length v.entries

@@ -5,24 +5,24 @@ use Rattle.std.proofs.lemmas.Bool.{cases_eq}
 use Rattle.std.proofs.lemmas.Bool.Decides.{nat_tests}
 use mathlib.Core.Option.{some}
 use lib.ListN.{get_elem?}
-use Rattle.task_word.specs.Words.{Parts, IsWord, vacant, marked, is_live, is_ended, is_cancelled, rank}
+use Rattle.task_word.specs.Words.{Parts, IsWord, vacant_word, marked, is_live, is_ended_phase, is_cancelled, rank}
 use Rattle.task_word.specs.Views.{times, wins, and_if}
-use Rattle.task_word.specs.Rule.{word_of, word_at, Matches, flag, taken_by, ranks_of, seen_of, won_of, last_of, EntriesFit, HasMet, taken_in_all, IsWellFormedTable}
+use Rattle.task_word.specs.Rule.{word_of_value, word_at, Matches, flag, taken_by, ranks_of, seen_of, won_of, last_of, EntriesFit, HasMet, taken_in_all, IsWellFormedTable}
 use Rattle.task_word.specs.declared.views.View.{View}
 use Rattle.task_word.specs.declared.views.View.TheVariants.{Core, Handle, Spent}
 use Rattle.task_word.proofs.ViewLists.{sum_set, sum_part}
 use Rattle.task_word.proofs.Writes.{Becomes}
 
 -- the word of the task that changes is the one given
-pub word_same : (words : List ℕ) (k x : ℕ) → k < length words → word_at (set words k x) k ≡ word_of x
-word_same words k x lt = ap word_of (get_or-set_same words k x 0 lt)
+pub word_same : (words : List ℕ) (k x : ℕ) → k < length words → word_at (set words k x) k ≡ word_of_value x
+word_same words k x lt = ap word_of_value (get_or-set_same words k x 0 lt)
 
 -- the word of another task stays as it was
 pub word_other : (words : List ℕ) (k x j : ℕ) → j ≢ k → word_at (set words k x) j ≡ word_at words j
-word_other words k x j other = ap word_of (get_or-set_other words k j x 0 other)
+word_other words k x j other = ap word_of_value (get_or-set_other words k j x 0 other)
 
 -- what is so of the changed word, and was so of the others, is so of each
-pub after_set : (n k x : ℕ) (words : List ℕ) (P : ℕ → Parts → Type 0) → k < length words → P k (word_of x) → ((j : ℕ) → j < n → j ≢ k → P j (word_at words j))
+pub after_set : (n k x : ℕ) (words : List ℕ) (P : ℕ → Parts → Type 0) → k < length words → P k (word_of_value x) → ((j : ℕ) → j < n → j ≢ k → P j (word_at words j))
     → (j : ℕ) → j < n → P j (word_at (set words k x) j)
 after_set n k x words P lt here there j h =
     elim (cases_eq j k) [
@@ -31,8 +31,8 @@ after_set n k x words P lt here there j h =
     ]
 
 -- what a seat met stays so
-pub met_after : (n k x : ℕ) (words : List ℕ) (v : View) → k < length words → k < n → Becomes (word_at words k) (word_of x)
-    → (0 < times k (won_of v) → rank (word_at words k) ≡ rank (word_of x)) → HasMet n words v → HasMet n (set words k x) v
+pub met_after : (n k x : ℕ) (words : List ℕ) (v : View) → k < length words → k < n → Becomes (word_at words k) (word_of_value x)
+    → (0 < times k (won_of v) → rank (word_at words k) ≡ rank (word_of_value x)) → HasMet n words v → HasMet n (set words k x) v
 met_after n k x words v lt in_n becoming won met =
     record {
       ranks = after_set n k x words (λ j w. slice_index (ranks_of v) j ≤ rank w) lt (let m = met.ranks k in_n in let u = becoming.up in omega (arith, m, u)) (λ j h other. met.ranks j h);
@@ -44,14 +44,14 @@ met_after n k x words v lt in_n becoming won met =
           after_set n k x words (λ j w. (last_of v).0 ≡ j → (w.phase ≡ (last_of v).1.phase) × (w.run ≡ (last_of v).1.run)) lt
           (λ is.
           let m = subst (λ (i : ℕ). ((word_at words i).phase ≡ (last_of v).1.phase) × ((word_at words i).run ≡ (last_of v).1.run)) is (met.ended h e) in
-          let g = becoming.ended (ap is_ended m.0 ∙ e) in (g.0 ∙ m.0, g.1 ∙ m.1))
+          let g = becoming.ended (ap is_ended_phase m.0 ∙ e) in (g.0 ∙ m.0, g.1 ∙ m.1))
           (λ j below other is. subst (λ (i : ℕ). ((word_at words i).phase ≡ (last_of v).1.phase) × ((word_at words i).run ≡ (last_of v).1.run)) is (met.ended h e))
           (last_of v).0 h refl;
     }
 
 -- the number of times that a task was taken becoming along with its word
 pub once_after : (n k x id : ℕ) (words : List ℕ) (views : List View) (v w : View) → k < length words → k < n → get_elem? views id ≡ some v
-    → times k (taken_by w) + flag (is_cancelled (word_at words k)) ≡ times k (taken_by v) + flag (is_cancelled (word_of x))
+    → times k (taken_by w) + flag (is_cancelled (word_at words k)) ≡ times k (taken_by v) + flag (is_cancelled (word_of_value x))
     → ((j : ℕ) → j ≢ k → times j (taken_by w) ≡ times j (taken_by v))
     → ((j : ℕ) → j < n → taken_in_all j views ≡ flag (is_cancelled (word_at words j)))
     → (j : ℕ) → j < n → taken_in_all j (set views id w) ≡ flag (is_cancelled (word_at (set words k x) j))
@@ -77,21 +77,21 @@ entries_after n k x words entries e lt in_n is fits f =
     record {
       count = length-set entries k e ∙ f.count;
       word = λ j h. elim (cases_eq j k) [
-        | inl same ↦ subst IsWord (sym (ap (λ i. get_or (set entries k e) i vacant) same ∙ get_or-set_same entries k e vacant room)) is
-        | inr other ↦ subst IsWord (sym (get_or-set_other entries k j e vacant other)) (f.word j h)
+        | inl same ↦ subst IsWord (sym (ap (λ i. get_or (set entries k e) i vacant_word) same ∙ get_or-set_same entries k e vacant_word room)) is
+        | inr other ↦ subst IsWord (sym (get_or-set_other entries k j e vacant_word other)) (f.word j h)
       ];
       each = λ j h. elim (cases_eq j k) [
         | inl same ↦
-            subst (λ (y : ℕ). Matches y (get_or (set entries k e) j vacant)) (sym (ap (λ i. get_or (set words k x) i 0) same ∙ get_or-set_same words k x 0 lt))
-            (subst (Matches x) (sym (ap (λ i. get_or (set entries k e) i vacant) same ∙ get_or-set_same entries k e vacant room)) fits)
+            subst (λ (y : ℕ). Matches y (get_or (set entries k e) j vacant_word)) (sym (ap (λ i. get_or (set words k x) i 0) same ∙ get_or-set_same words k x 0 lt))
+            (subst (Matches x) (sym (ap (λ i. get_or (set entries k e) i vacant_word) same ∙ get_or-set_same entries k e vacant_word room)) fits)
         | inr other ↦
-            subst (λ (y : ℕ). Matches y (get_or (set entries k e) j vacant)) (sym (get_or-set_other words k j x 0 other))
-            (subst (Matches (get_or words j 0)) (sym (get_or-set_other entries k j e vacant other)) (f.each j h))
+            subst (λ (y : ℕ). Matches y (get_or (set entries k e) j vacant_word)) (sym (get_or-set_other words k j x 0 other))
+            (subst (Matches (get_or words j 0)) (sym (get_or-set_other entries k j e vacant_word other)) (f.each j h))
       ];
     }
 
 -- the words still fit the entries where the word changes to one that fits its entry
-pub word_after : (n k x : ℕ) (words : List ℕ) (entries : List Parts) → k < length words → k < n → Matches x (slice_index_or entries k vacant)
+pub word_after : (n k x : ℕ) (words : List ℕ) (entries : List Parts) → k < length words → k < n → Matches x (slice_index_or entries k vacant_word)
     → EntriesFit n words entries → EntriesFit n (set words k x) entries
 word_after n k x words entries lt in_n fits f =
     record {
@@ -99,10 +99,10 @@ word_after n k x words entries lt in_n fits f =
       word = f.word;
       each = λ j h. elim (cases_eq j k) [
         | inl same ↦
-            subst (λ (i : ℕ). Matches (get_or (set words k x) i 0) (get_or entries i vacant)) (sym same)
-            (subst (λ (y : ℕ). Matches y (get_or entries k vacant)) (sym (get_or-set_same words k x 0 lt)) fits)
+            subst (λ (i : ℕ). Matches (get_or (set words k x) i 0) (get_or entries i vacant_word)) (sym same)
+            (subst (λ (y : ℕ). Matches y (get_or entries k vacant_word)) (sym (get_or-set_same words k x 0 lt)) fits)
         | inr other ↦
-            subst (λ (y : ℕ). Matches y (get_or entries j vacant)) (sym (get_or-set_other words k j x 0 other)) (f.each j h)
+            subst (λ (y : ℕ). Matches y (get_or entries j vacant_word)) (sym (get_or-set_other words k j x 0 other)) (f.each j h)
       ];
     }
 
@@ -147,6 +147,6 @@ won_cancelled n k id words views v kept at in_n some_won =
     flag_true _ (let part = sum_part (λ u. times k (taken_by u)) views id v at in let all = kept.once k in_n in let w = won_taken k v in omega (arith, some_won, part, all, w))
 
 -- a word that a seat won keeps its rank
-pub won_still : (n k id x : ℕ) (words : List ℕ) (views : List View) (v : View) → IsWellFormedTable n words views → get_elem? views id ≡ some v → k < n → Becomes (word_at words k) (word_of x)
-    → 0 < times k (won_of v) → rank (word_at words k) ≡ rank (word_of x)
+pub won_still : (n k id x : ℕ) (words : List ℕ) (views : List View) (v : View) → IsWellFormedTable n words views → get_elem? views id ≡ some v → k < n → Becomes (word_at words k) (word_of_value x)
+    → 0 < times k (won_of v) → rank (word_at words k) ≡ rank (word_of_value x)
 won_still n k id x words views v kept at in_n becoming some_won = becoming.steady (won_cancelled n k id words views v kept at in_n some_won)

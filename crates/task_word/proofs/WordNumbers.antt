@@ -5,18 +5,18 @@ use Rattle.std.proofs.lemmas.Nat.Bits.{and_pow}
 use Rattle.std.proofs.lemmas.Bool.Decides.{nat_tests}
 use Rattle.task_word.specs.declared.phases.Phase.{Phase}
 use Rattle.task_word.specs.declared.phases.Phase.TheVariants.{Vacant, New, Running, Done, Failed}
-use Rattle.task_word.specs.Words.{Parts, IsWord, bit, bit_of, number_of, value, marked}
-use Rattle.task_word.specs.Rule.{phase_of, word_of, Matches}
+use Rattle.task_word.specs.Words.{Parts, IsWord, bit, bit_of, phase_number, value, marked}
+use Rattle.task_word.specs.Rule.{phase_of, word_of_value, Matches}
 use Rattle.task_word.specs.Views.{MeetsEntry}
 
-small : (p : Phase) → number_of p < 8
+small : (p : Phase) → phase_number p < 8
 small Vacant = omega arith
 small New = omega arith
 small Running = omega arith
 small Done = omega arith
 small Failed = omega arith
 
-phase_back : (p : Phase) → phase_of (number_of p) ≡ p
+phase_back : (p : Phase) → phase_of (phase_number p) ≡ p
 phase_back Vacant = refl
 phase_back New = refl
 phase_back Running = refl
@@ -36,12 +36,12 @@ mark_read r q true h l = grind (arith, nat_tests)
 mark_read r q false h l = grind (arith, nat_tests)
 
 -- a word is read back from its number
-pub reads_back : (w : Parts) → IsWord w → word_of (value w) ≡ w
+pub reads_back : (w : Parts) → IsWord w → word_of_value (value w) ≡ w
 reads_back w is =
     let lt = small w.phase in
-    let p : phase_of ((8 * w.run + number_of w.phase + bit_of w.marked) % 8) ≡ w.phase = ap phase_of (phase_read w.run (number_of w.phase) w.marked lt) ∙ phase_back w.phase in
-    let r = run_read w.run (number_of w.phase) w.marked lt is.run in
-    let m = mark_read w.run (number_of w.phase) w.marked lt is.run in
+    let p : phase_of ((8 * w.run + phase_number w.phase + bit_of w.marked) % 8) ≡ w.phase = ap phase_of (phase_read w.run (phase_number w.phase) w.marked lt) ∙ phase_back w.phase in
+    let r = run_read w.run (phase_number w.phase) w.marked lt is.run in
+    let m = mark_read w.run (phase_number w.phase) w.marked lt is.run in
     λ i. record { phase = p i; run = r i; marked = m i }
 
 -- a word with the bit is a word
@@ -49,19 +49,19 @@ pub marked_word : (w : Parts) → IsWord w → IsWord (marked w)
 marked_word w is = record { vacant = is.vacant; run = is.run }
 
 -- what a number that fits an entry says
-pub meets : (n : ℕ) (e : Parts) → IsWord e → Matches n e → MeetsEntry e (word_of n)
-meets n e is (inl same) = inl (ap word_of same ∙ reads_back e is)
-meets n e is (inr cut) = inr (ap word_of cut ∙ reads_back (marked e) (marked_word e is))
+pub meets : (n : ℕ) (e : Parts) → IsWord e → Matches n e → MeetsEntry e (word_of_value n)
+meets n e is (inl same) = inl (ap word_of_value same ∙ reads_back e is)
+meets n e is (inr cut) = inr (ap word_of_value cut ∙ reads_back (marked e) (marked_word e is))
 
 -- a number that fits an entry is a word
-pub reads_word : (n : ℕ) (e : Parts) → IsWord e → Matches n e → IsWord (word_of n)
-reads_word n e is (inl same) = subst IsWord (sym (ap word_of same ∙ reads_back e is)) is
-reads_word n e is (inr cut) = subst IsWord (sym (ap word_of cut ∙ reads_back (marked e) (marked_word e is))) (marked_word e is)
+pub reads_word : (n : ℕ) (e : Parts) → IsWord e → Matches n e → IsWord (word_of_value n)
+reads_word n e is (inl same) = subst IsWord (sym (ap word_of_value same ∙ reads_back e is)) is
+reads_word n e is (inr cut) = subst IsWord (sym (ap word_of_value cut ∙ reads_back (marked e) (marked_word e is))) (marked_word e is)
 
 -- and the number of that word
-pub reads_number : (n : ℕ) (e : Parts) → IsWord e → Matches n e → value (word_of n) ≡ n
-reads_number n e is (inl same) = ap (λ x. value (word_of x)) same ∙ ap value (reads_back e is) ∙ sym same
-reads_number n e is (inr cut) = ap (λ x. value (word_of x)) cut ∙ ap value (reads_back (marked e) (marked_word e is)) ∙ sym cut
+pub reads_number : (n : ℕ) (e : Parts) → IsWord e → Matches n e → value (word_of_value n) ≡ n
+reads_number n e is (inl same) = ap (λ x. value (word_of_value x)) same ∙ ap value (reads_back e is) ∙ sym same
+reads_number n e is (inr cut) = ap (λ x. value (word_of_value x)) cut ∙ ap value (reads_back (marked e) (marked_word e is)) ∙ sym cut
 
 or_clear : (n : ℕ) → n < bit → bit_or n bit ≡ n + bit
 or_clear n h = omega (arith, or_add_and n (2 ^ 63), and_pow n 63)
@@ -75,5 +75,5 @@ or_value r q false h l = let e : 8 * r + q + 0 ≡ 8 * r + q = omega arith in ap
 
 -- to set the bit of a number that fits an entry gives the entry with the bit
 pub or_marks : (n : ℕ) (e : Parts) → IsWord e → Matches n e → bit_or n bit ≡ value (marked e)
-or_marks n e is (inl same) = ap (λ x. bit_or x bit) same ∙ or_value e.run (number_of e.phase) e.marked (small e.phase) is.run
-or_marks n e is (inr cut) = ap (λ x. bit_or x bit) cut ∙ or_value e.run (number_of e.phase) true (small e.phase) is.run
+or_marks n e is (inl same) = ap (λ x. bit_or x bit) same ∙ or_value e.run (phase_number e.phase) e.marked (small e.phase) is.run
+or_marks n e is (inr cut) = ap (λ x. bit_or x bit) cut ∙ or_value e.run (phase_number e.phase) true (small e.phase) is.run

@@ -1,6 +1,6 @@
 -- What each write of a word does to it.
 use Rattle.std.proofs.Common.{◌≡◌, ℕ, ◌+◌, ◌<◌, ◌≤◌, Bool, true, false, ◌&&◌, refl, sym, ap, ◌∙◌, arith}
-use Rattle.task_word.specs.Words.{Parts, marked, is_live, is_ended, is_cancelled, rank, rank_in, started, rearmed, ended_well, ended_badly}
+use Rattle.task_word.specs.Words.{Parts, marked, is_live, is_ended_phase, is_cancelled, rank, rank_in, started, rearmed, ended_well, ended_badly}
 use Rattle.task_word.specs.Writes.{Kind, submit, start, done, fail, rearm, core_cancel, handle_cancel, plain, Writes, is_cancel, Exchanges}
 use Rattle.task_word.specs.declared.phases.Phase.{Phase}
 use Rattle.task_word.specs.declared.phases.Phase.TheVariants.{Vacant, New, Running, Done, Failed}
@@ -68,7 +68,7 @@ pub record Becomes (w u : Parts) : Type 0 where
   pub up : rank w ≤ rank u
   pub stays : is_cancelled w ≡ true → is_cancelled u ≡ true
   pub steady : is_cancelled w ≡ true → rank w ≡ rank u
-  pub ended : is_ended w.phase ≡ true → (u.phase ≡ w.phase) × (u.run ≡ w.run)
+  pub ended : is_ended_phase w.phase ≡ true → (u.phase ≡ w.phase) × (u.run ≡ w.run)
 
 -- a word that no write changes
 pub becomes_same : (w : Parts) → Becomes w w
@@ -89,7 +89,7 @@ becomes_marked w u is =
     }
 
 -- a word that is neither cancelled nor ended may become any of no lower rank
-becomes_on : (w u : Parts) → is_cancelled w ≡ false → is_ended w.phase ≡ false → rank w ≤ rank u → Becomes w u
+becomes_on : (w u : Parts) → is_cancelled w ≡ false → is_ended_phase w.phase ≡ false → rank w ≤ rank u → Becomes w u
 becomes_on w u free lasts up =
     record {
       up = up;
@@ -105,7 +105,7 @@ vacant_free w e = ap (λ p. is_live p && w.marked) e
 vacant_rank : (w : Parts) → w.phase ≡ Vacant → rank w ≡ 0
 vacant_rank w e = ap (λ p. rank_in p w.run) e
 
-live_lasts : (p : Phase) → is_live p ≡ true → is_ended p ≡ false
+live_lasts : (p : Phase) → is_live p ≡ true → is_ended_phase p ≡ false
 live_lasts Vacant e = refl
 live_lasts New e = refl
 live_lasts Running e = refl
@@ -120,7 +120,7 @@ submit_rises w u t = let low = vacant_rank w t.0 in let one : rank u ≡ 1 = ap 
 
 -- what a write makes of a word
 pub becomes : (kind : Kind) (w u : Parts) → Writes kind w u → Becomes w u
-becomes submit w u t = becomes_on w u (vacant_free w t.0) (ap is_ended t.0) (let r = submit_rises w u t in omega (arith, r))
+becomes submit w u t = becomes_on w u (vacant_free w t.0) (ap is_ended_phase t.0) (let r = submit_rises w u t in omega (arith, r))
 becomes start w u t = becomes_exchanged w u (exchanges w u (start, refl, t))
 becomes done w u t = becomes_exchanged w u (exchanges w u (done, refl, t))
 becomes fail w u t = becomes_exchanged w u (exchanges w u (fail, refl, t))

@@ -1,12 +1,12 @@
 -- What the calls on a table of words answer, and what their callers know of a table and its seats.
 -- This project's rule.
-use Rattle.std.specs.Prelude.{◌≡◌, ℕ, ◌<◌, Bool, true, false, List, slice_index, if◌then◌else◌}
+use Rattle.std.specs.Prelude.{◌≡◌, ℕ, ◌<◌, Bool, true, false, List, slice_index, slice_set, if◌then◌else◌}
 use Rattle.atomic_table.specs.Seated.{TableId}
 use Rattle.task_word.specs.Words.{Parts, IsWord, marked, is_cancelled, rank}
 use Rattle.task_word.specs.Writes.{Kind, Writes, core_cancel}
-use Rattle.task_word.specs.Views.{entry, with_entry, core_cancelled, handle_looked, handle_cancelled, seen_at, MeetsEntry, MeetsHandle}
-use Rattle.task_word.specs.Rule.{word_of, Matches}
-use Rattle.task_word.specs.Steps.{Tells}
+use Rattle.task_word.specs.Views.{entry, with_entry, and_if, core_cancelled, handle_looked, handle_cancelled, seen_at, MeetsEntry, MeetsHandle}
+use Rattle.task_word.specs.Rule.{word_of_value, Matches}
+use Rattle.task_word.specs.Steps.{CoreTells}
 use Rattle.task_word.specs.declared.phases.Phase.{Phase}
 use Rattle.task_word.specs.declared.phases.Phase.TheVariants.{Vacant, New, Running, Done, Failed}
 use Rattle.task_word.specs.declared.views.CoreView.{CoreView}
@@ -53,7 +53,7 @@ move_answer w = if w.marked then move.Cancelled else move.Yes
 
 -- a move of the core's met some word, and answered by it
 abbrev pub MoveMeets : CoreView → ℕ → Moved → Type 0
-MoveMeets v k answer = (w : Parts) × MeetsEntry (entry v k) w × Tells v k w × (answer ≡ move_answer w)
+MoveMeets v k answer = (w : Parts) × MeetsEntry (entry v k) w × CoreTells v k w × (answer ≡ move_answer w)
 
 -- the same, by the word's phase and bit
 abbrev pub core_answer_in : Phase → Bool → CoreCancel
@@ -74,6 +74,11 @@ is_won core.Late = false
 is_won core.Over = false
 is_won core.Vacant = false
 
+-- the core's view after its cancel of the task k had this answer: its word of the task has the bit, and the task joins
+-- the core's own where the cancel won. Nothing else changed
+abbrev pub after_cancel : CoreView → ℕ → CoreCancel → CoreView
+after_cancel v k answer = record { entries = slice_set v.entries k (marked (entry v k)); own = and_if (is_won answer) k v.own; joined = v.joined; ranks = v.ranks; out = v.out }
+
 -- the same, by the word's phase and bit
 abbrev pub cancel_answer_in : Phase → Bool → CancelAnswer
 cancel_answer_in Vacant bit = cancel.Absent
@@ -87,27 +92,27 @@ abbrev pub cancel_answer : Parts → CancelAnswer
 cancel_answer w = cancel_answer_in w.phase w.marked
 
 -- whether a handle's cancel cancelled the task
-abbrev pub is_yes : CancelAnswer → Bool
-is_yes cancel.Yes = true
-is_yes cancel.No = false
-is_yes cancel.Absent = false
-is_yes cancel.NoTask = false
+abbrev pub is_handle_win : CancelAnswer → Bool
+is_handle_win cancel.Yes = true
+is_handle_win cancel.No = false
+is_handle_win cancel.Absent = false
+is_handle_win cancel.NoTask = false
 
 -- the same, by the word's phase and bit
-abbrev pub state_in : Phase → Bool → TaskState
-state_in Vacant bit = state.Unsubmitted
-state_in New bit = if bit then state.Cancelled else state.Waiting
-state_in Running bit = if bit then state.Cancelled else state.Running
-state_in Done bit = state.Done
-state_in Failed bit = state.Failed
+abbrev pub shown_state_in : Phase → Bool → TaskState
+shown_state_in Vacant bit = state.Unsubmitted
+shown_state_in New bit = if bit then state.Cancelled else state.Waiting
+shown_state_in Running bit = if bit then state.Cancelled else state.Running
+shown_state_in Done bit = state.Done
+shown_state_in Failed bit = state.Failed
 
 -- the state that the word w shows
-abbrev pub state_of : Parts → TaskState
-state_of w = state_in w.phase w.marked
+abbrev pub shown_state : Parts → TaskState
+shown_state w = shown_state_in w.phase w.marked
 
 -- the core's cancel met some word, answered by it, and knows the word that its write made of it
 abbrev pub CoreCancels : CoreView → ℕ → CoreCancel → CoreView → Type 0
-CoreCancels v k answer next = (w : Parts) × MeetsEntry (entry v k) w × Tells v k w × (answer ≡ core_answer w) × (next ≡ core_cancelled v k w) × Writes core_cancel w (entry next k)
+CoreCancels v k answer next = (w : Parts) × MeetsEntry (entry v k) w × CoreTells v k w × (answer ≡ core_answer w) × (next ≡ core_cancelled v k w) × Writes core_cancel w (entry next k)
 
 -- what a handle keeps of the word that it met: its rank, and whether it was cancelled
 abbrev pub HandleKeeps : HandleView → ℕ → Parts → Type 0
@@ -119,10 +124,10 @@ HandleCancels h k answer next = (w : Parts) × MeetsHandle h k w × (answer ≡ 
 
 -- a handle's look met some word, answered by it, and keeps it
 abbrev pub HandleLooks : HandleView → ℕ → TaskState → HandleView → Type 0
-HandleLooks h k answer next = (w : Parts) × MeetsHandle h k w × (answer ≡ state_of w) × (next ≡ handle_looked h k w) × HandleKeeps next k w
+HandleLooks h k answer next = (w : Parts) × MeetsHandle h k w × (answer ≡ shown_state w) × (next ≡ handle_looked h k w) × HandleKeeps next k w
 
 -- the words with which a table of n tasks was closed: each is the core's, as it is or with the bit
 pub record Closes (n : ℕ) (v : CoreView) (words : List ℕ) : Type 0 where
-  pub word : (k : ℕ) → k < n → IsWord (word_of (slice_index words k))
+  pub word : (k : ℕ) → k < n → IsWord (word_of_value (slice_index words k))
   pub each : (k : ℕ) → k < n → Matches (slice_index words k) (entry v k)
-  pub tells : (k : ℕ) → k < n → Tells v k (word_of (slice_index words k))
+  pub tells : (k : ℕ) → k < n → CoreTells v k (word_of_value (slice_index words k))

@@ -2,7 +2,7 @@
 use Rattle.std.specs.Prelude.{◌≡◌, ◌≢◌, ℕ, ◌<◌, ◌≤◌, true, false, List}
 use mathlib.Core.Option.{some}
 use lib.ListN.{get_elem?}
-use Rattle.task_word.specs.Words.{Parts, rank, is_ended, is_cancelled, submitted, started, rearmed, ended_well, ended_badly, marked}
+use Rattle.task_word.specs.Words.{Parts, rank, is_ended_phase, is_cancelled, submitted, started, rearmed, ended_well, ended_badly, marked}
 use Rattle.task_word.specs.Writes.{Kind, submit, start, done, fail, rearm, core_cancel, handle_cancel, Writes, is_cancel}
 use Rattle.task_word.specs.declared.phases.Phase.TheVariants.{Vacant, New, Running}
 use Rattle.task_word.specs.Views.{times}
@@ -58,4 +58,4 @@ CancelledWordStands = (kind : Kind) (w u : Parts) → Writes kind w u → is_can
 
 -- no write changes the phase or the run of an ended word
 abbrev pub EndedWordStands : Type 0
-EndedWordStands = (kind : Kind) (w u : Parts) → Writes kind w u → is_ended w.phase ≡ true → (u.phase ≡ w.phase) × (u.run ≡ w.run)
+EndedWordStands = (kind : Kind) (w u : Parts) → Writes kind w u → is_ended_phase w.phase ≡ true → (u.phase ≡ w.phase) × (u.run ≡ w.run)

@@ -4,7 +4,7 @@ use Rattle.std.specs.Prelude.{◌≡◌, ℕ, ◌/◌, ◌%◌, ◌<◌, ◌≤�
 use Rattle.std.specs.List.{sum_by}
 use mathlib.Core.Option.{some}
 use lib.ListN.{get_elem?}
-use Rattle.task_word.specs.Words.{Parts, IsWord, bit, value, vacant, marked, is_ended, is_cancelled, rank}
+use Rattle.task_word.specs.Words.{Parts, IsWord, bit, value, vacant_word, marked, is_ended_phase, is_cancelled, rank}
 use Rattle.task_word.specs.Views.{times, most_handles}
 use Rattle.task_word.specs.declared.phases.Phase.{Phase}
 use Rattle.task_word.specs.declared.phases.Phase.TheVariants.{Vacant, New, Running, Done, Failed}
@@ -17,8 +17,8 @@ abbrev pub phase_of : ℕ → Phase
 phase_of n = if n == 0 then Vacant else if n == 1 then New else if n == 2 then Running else if n == 3 then Done else Failed
 
 -- what a number says as a word
-abbrev pub word_of : ℕ → Parts
-word_of n = record { phase = phase_of (n % 8); run = n % bit / 8; marked = nat_le bit n }
+abbrev pub word_of_value : ℕ → Parts
+word_of_value n = record { phase = phase_of (n % 8); run = n % bit / 8; marked = nat_le bit n }
 
 -- the words of the tasks among those of a table, whose first word belongs to no task
 abbrev pub task_words : List ℕ → List ℕ
@@ -27,7 +27,7 @@ task_words (spare ∷ words) = words
 
 -- the word of task k
 abbrev pub word_at : List ℕ → ℕ → Parts
-word_at words k = word_of (slice_index words k)
+word_at words k = word_of_value (slice_index words k)
 
 -- the number is the word, as it is or with the bit
 abbrev pub Matches : ℕ → Parts → Type 0
@@ -65,9 +65,9 @@ won_of Spent = []
 
 -- the task of a handle's last step, and the word that the step met
 abbrev pub last_of : View → ℕ × Parts
-last_of (Core v) = (0, vacant)
+last_of (Core v) = (0, vacant_word)
 last_of (Handle h) = h.last
-last_of Spent = (0, vacant)
+last_of Spent = (0, vacant_word)
 
 -- 1 for a handle, else 0
 abbrev pub is_handle : View → ℕ
@@ -78,8 +78,8 @@ is_handle Spent = 0
 -- each of n words is the core's entry, as it is or with the bit
 pub record EntriesFit (n : ℕ) (words : List ℕ) (entries : List Parts) : Type 0 where
   pub count : length entries ≡ n
-  pub word : (k : ℕ) → k < n → IsWord (slice_index_or entries k vacant)
-  pub each : (k : ℕ) → k < n → Matches (slice_index words k) (slice_index_or entries k vacant)
+  pub word : (k : ℕ) → k < n → IsWord (slice_index_or entries k vacant_word)
+  pub each : (k : ℕ) → k < n → Matches (slice_index words k) (slice_index_or entries k vacant_word)
 
 -- no word has a lower rank than the seat met, and what the seat met cancelled is cancelled
 --
@@ -89,7 +89,7 @@ pub record HasMet (n : ℕ) (words : List ℕ) (v : View) : Type 0 where
   pub ranks : (k : ℕ) → k < n → slice_index (ranks_of v) k ≤ rank (word_at words k)
   pub seen : (k : ℕ) → k < n → slice_index_or (seen_of v) k false ≡ true → is_cancelled (word_at words k) ≡ true
   pub still : (k : ℕ) → k < n → (slice_index_or (seen_of v) k false ≡ true) ⊎ (0 < times k (won_of v)) → slice_index (ranks_of v) k ≡ rank (word_at words k)
-  pub ended : (last_of v).0 < n → is_ended (last_of v).1.phase ≡ true → ((word_at words (last_of v).0).phase ≡ (last_of v).1.phase) × ((word_at words (last_of v).0).run ≡ (last_of v).1.run)
+  pub ended : (last_of v).0 < n → is_ended_phase (last_of v).1.phase ≡ true → ((word_at words (last_of v).0).phase ≡ (last_of v).1.phase) × ((word_at words (last_of v).0).run ≡ (last_of v).1.run)
 
 -- how often the task stands in what the seats took, added up
 abbrev pub taken_in_all : ℕ → List View → ℕ

@@ -2,7 +2,7 @@
 -- This project's rule.
 use Rattle.std.specs.Prelude.{◌≡◌, ℕ, ◌+◌, ◌-◌, ◌<◌, ◌≤◌, ◌==◌, ◌&&◌, max, Bool, true, false, not, List, [], ◌∷◌, ◌++◌, length, slice_index, slice_index_or, slice_set, replicate, ◌⊎◌}
 use Rattle.std.specs.List.{count_by}
-use Rattle.task_word.specs.Words.{Parts, IsWord, vacant, marked, is_live, is_ended, is_cancelled, rank}
+use Rattle.task_word.specs.Words.{Parts, IsWord, vacant_word, marked, is_live, is_ended_phase, is_cancelled, rank}
 use Rattle.task_word.specs.declared.views.CoreView.{CoreView}
 use Rattle.task_word.specs.declared.views.HandleView.{HandleView}
 use Rattle.task_word.specs.declared.views.View.{View}
@@ -10,7 +10,7 @@ use Rattle.task_word.specs.declared.views.View.TheVariants.{Core, Handle, Spent}
 
 -- the core's word of a task
 abbrev pub entry : CoreView → ℕ → Parts
-entry v k = slice_index_or v.entries k vacant
+entry v k = slice_index_or v.entries k vacant_word
 
 -- how often a task stands in a list
 abbrev pub times : ℕ → List ℕ → ℕ
@@ -27,11 +27,11 @@ and_if false k tasks = tasks
 
 -- a core that knows n vacant tasks, and no handle
 abbrev pub new_core : ℕ → CoreView
-new_core n = record { entries = replicate n vacant; own = []; joined = []; ranks = replicate n 0; out = 0 }
+new_core n = record { entries = replicate n vacant_word; own = []; joined = []; ranks = replicate n 0; out = 0 }
 
 -- a handle that met none of n tasks
 abbrev pub new_handle : ℕ → HandleView
-new_handle n = record { won = []; ranks = replicate n 0; seen = replicate n false; last = (0, vacant) }
+new_handle n = record { won = []; ranks = replicate n 0; seen = replicate n false; last = (0, vacant_word) }
 
 -- the core's word of the task k is w, and nothing else changed
 abbrev pub with_entry : CoreView → ℕ → Parts → CoreView
@@ -84,7 +84,7 @@ pub record MeetsHandle (h : HandleView) (k : ℕ) (w : Parts) : Type 0 where
   pub seen : seen_at h k ≡ true → is_cancelled w ≡ true
   pub won : 0 < times k h.won → is_cancelled w ≡ true
   pub still : (seen_at h k ≡ true) ⊎ (0 < times k h.won) → slice_index h.ranks k ≡ rank w
-  pub ended : h.last.0 ≡ k → is_ended h.last.1.phase ≡ true → (w.phase ≡ h.last.1.phase) × (w.run ≡ h.last.1.run)
+  pub ended : h.last.0 ≡ k → is_ended_phase h.last.1.phase ≡ true → (w.phase ≡ h.last.1.phase) × (w.run ≡ h.last.1.run)
 
 -- what the core's seat knows
 abbrev pub core_of : View → CoreView

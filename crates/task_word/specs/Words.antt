@@ -24,12 +24,12 @@ abbrev pub bit : ℕ
 bit = 2 ^ 63
 
 -- the number of a phase
-abbrev pub number_of : Phase → ℕ
-number_of Vacant = 0
-number_of New = 1
-number_of Running = 2
-number_of Done = 3
-number_of Failed = 4
+abbrev pub phase_number : Phase → ℕ
+phase_number Vacant = 0
+phase_number New = 1
+phase_number Running = 2
+phase_number Done = 3
+phase_number Failed = 4
 
 -- the bit where it is set, else 0
 abbrev pub bit_of : Bool → ℕ
@@ -38,7 +38,7 @@ bit_of false = 0
 
 -- the word as a number
 abbrev pub value : Parts → ℕ
-value w = 8 * w.run + number_of w.phase + bit_of w.marked
+value w = 8 * w.run + phase_number w.phase + bit_of w.marked
 
 -- the task waits or is run
 abbrev pub is_live : Phase → Bool
@@ -49,12 +49,12 @@ is_live Done = false
 is_live Failed = false
 
 -- the task has ended
-abbrev pub is_ended : Phase → Bool
-is_ended Vacant = false
-is_ended New = false
-is_ended Running = false
-is_ended Done = true
-is_ended Failed = true
+abbrev pub is_ended_phase : Phase → Bool
+is_ended_phase Vacant = false
+is_ended_phase New = false
+is_ended_phase Running = false
+is_ended_phase Done = true
+is_ended_phase Failed = true
 
 -- the bit is set on a task that waits or is run: on another phase it means nothing
 abbrev pub is_cancelled : Parts → Bool
@@ -73,8 +73,8 @@ abbrev pub rank : Parts → ℕ
 rank w = rank_in w.phase w.run
 
 -- not submitted
-abbrev pub vacant : Parts
-vacant = record { phase = Vacant; run = 0; marked = false }
+abbrev pub vacant_word : Parts
+vacant_word = record { phase = Vacant; run = 0; marked = false }
 
 -- waits for the run n
 abbrev pub new_in : ℕ → Parts

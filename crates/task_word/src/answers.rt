@@ -1,5 +1,5 @@
 ghost use Rattle.std.specs.Prelude.{◌≡◌};
-ghost use Rattle.task_word.specs.Answers.{core_answer, cancel_answer, state_of};
+ghost use Rattle.task_word.specs.Answers.{core_answer, cancel_answer, shown_state};
 
 use crate::phases::Phase;
 use crate::values::Word;
@@ -99,7 +99,7 @@ impl CancelAnswer {
 impl TaskState {
     /// The state that this word shows.
     pub(crate) fn of_word(met: Word) -> TaskState
-        ensures { result ≡ state_of met }
+        ensures { result ≡ shown_state met }
     {
         match met.phase() {
             Phase::Vacant => TaskState::Unsubmitted,

@@ -1,10 +1,10 @@
 ghost use Rattle.std.specs.Prelude.{◌≡◌, ◌+◌, ◌<◌, ◌≤◌, ◌^◌, ◌⊎◌, true, false, length, IfOk, IfErr};
 ghost use Rattle.task_word.specs.declared.phases.Phase.TheVariants.{Vacant, New, Running};
-ghost use Rattle.task_word.specs.Words.{new_in, started, rearmed, ended_well, ended_badly, is_live, is_cancelled, rank, IsWord};
+ghost use Rattle.task_word.specs.Words.{new_in, started, rearmed, ended_well, ended_badly, is_live, is_ended_phase, is_cancelled, marked, IsWord};
 ghost use Rattle.task_word.specs.Views.{entry, with_entry, and_if, MeetsEntry, most_handles, one_out, new_handle, joined_with};
 ghost use Rattle.task_word.specs.declared.fault.WordError.TheVariants.{Seats};
-ghost use Rattle.task_word.specs.Steps.{Tells};
-ghost use Rattle.task_word.specs.Answers.{after_move, is_won, MoveMeets, MoveWrites, CoreCancels};
+ghost use Rattle.task_word.specs.Steps.{CoreTells};
+ghost use Rattle.task_word.specs.Answers.{after_move, after_cancel, is_won, MoveMeets, MoveWrites, CoreCancels};
 ghost use Rattle.task_word.specs.Writes as write;
 
 use crate::answers::{CoreCancel, Moved};
@@ -132,12 +132,22 @@ impl<A: Allocator> CoreSeat<A> {
 
     /// Sets the bit of the task's word, whatever the word is, and answers by the word that it met: the
     /// entry, or the entry with the bit. The entry has the bit now.
+    ///
+    /// Where the task waits or is run in the core's view, the answer is [`CoreCancel::Won`], and the task is one of
+    /// those that this seat cancelled, or [`CoreCancel::Late`], which always comes where the entry had the bit. Where
+    /// the task has ended it is [`CoreCancel::Over`], and where it was not submitted [`CoreCancel::Vacant`]. At each
+    /// answer but `Won` nothing but the entry's bit changed.
     pub fn cancel(&mut self, words: &TaskWords<A>, k: u32) -> CoreCancel
         requires table { self.old.table ≡ words.now.table }
         requires task { k < words.now.tasks }
         ensures table { self.new.table ≡ self.old.table }
         ensures met { CoreCancels self.old.view k result self.new.view }
         ensures own { self.new.view.own ≡ and_if (is_won result) k self.old.view.own }
+        ensures view { self.new.view ≡ after_cancel self.old.view k result }
+        ensures live { is_live (entry self.old.view k).phase ≡ true → (result ≡ CoreCancel.Won) ⊎ (result ≡ CoreCancel.Late) }
+        ensures late { is_cancelled (entry self.old.view k) ≡ true → result ≡ CoreCancel.Late }
+        ensures ended { is_ended_phase (entry self.old.view k).phase ≡ true → result ≡ CoreCancel.Over }
+        ensures vacant { (entry self.old.view k).phase ≡ Vacant → result ≡ CoreCancel.Vacant }
     {
         let found = words
             .table
@@ -148,15 +158,18 @@ impl<A: Allocator> CoreSeat<A> {
         CoreCancel::of_word(met)
     }
 
-    /// Reads the task's word, which is its entry from now on: the entry as it was, or that with the bit.
+    /// Reads the task's word, which is its entry from now on: the entry as it was, or that with the bit. A cancelled
+    /// word has the bit, so the entry is then as at [`Moved::Cancelled`].
     pub fn look(&mut self, words: &TaskWords<A>, k: u32) -> Word
         requires table { self.old.table ≡ words.now.table }
         requires task { k < words.now.tasks }
         ensures table { self.new.table ≡ self.old.table }
         ensures count { length self.old.view.entries ≡ words.now.tasks }
         ensures met { MeetsEntry (entry self.old.view k) result }
-        ensures tells { Tells self.old.view k result }
+        ensures tells { CoreTells self.old.view k result }
         ensures view { self.new.view ≡ with_entry self.old.view k result }
+        ensures phase { (result.phase ≡ (entry self.old.view k).phase) × (result.run ≡ (entry self.old.view k).run) }
+        ensures cancelled { is_cancelled result ≡ true → result ≡ marked (entry self.old.view k) }
     {
         let found = words
             .table
@@ -165,6 +178,14 @@ impl<A: Allocator> CoreSeat<A> {
         let met = Word::of_value(found);
         self.entries[k as usize] = met;
         met
+    }
+
+    /// How many handles are out, 0 to [`MOST_HANDLES`]. No word is touched, and no memory taken.
+    pub fn handles(&self) -> u8
+        ensures count { result ≡ self.now.view.out }
+        ensures most { result ≤ most_handles }
+    {
+        self.out
     }
 
     /// Cuts off a new handle, which has met and cancelled nothing.

@@ -1,6 +1,6 @@
 ghost use Rattle.std.specs.Prelude.{◌≡◌, ◌<◌, ◌≤◌};
 ghost use Rattle.task_word.specs.Views.{times, and_if};
-ghost use Rattle.task_word.specs.Answers.{is_yes, HandleCancels, HandleLooks};
+ghost use Rattle.task_word.specs.Answers.{is_handle_win, HandleCancels, HandleLooks};
 ghost use Rattle.task_word.specs.declared.answers.CancelAnswer.TheVariants as cancel;
 ghost use Rattle.task_word.specs.declared.answers.TaskState.TheVariants as state;
 
@@ -48,7 +48,7 @@ impl HandleSeat {
         ensures table { self.new.table ≡ self.old.table }
         ensures past { words.now.tasks ≤ k → (result ≡ cancel.NoTask) × (self.new ≡ self.old) }
         ensures met { k < words.now.tasks → HandleCancels self.old.view k result self.new.view }
-        ensures won { self.new.view.won ≡ and_if (is_yes result) k self.old.view.won }
+        ensures won { self.new.view.won ≡ and_if (is_handle_win result) k self.old.view.won }
     {
         if k >= words.tasks {
             return CancelAnswer::NoTask;

@@ -1,5 +1,5 @@
 //! What is so of all words and tables, in functions that do nothing: each ensures one law.
-ghost use Rattle.std.specs.Prelude.{◌≡◌, true};
+ghost use Rattle.std.specs.Prelude.{◌≡◌, ◌↔◌, true};
 ghost use Rattle.task_word.specs.Views.{most_handles};
 ghost use Rattle.task_word.specs.Laws.{OneWinner, MovesAreWrites, NoWriteLowersRank, MovesRaiseRank, CancelledWordStands, EndedWordStands};
 
@@ -44,37 +44,37 @@ pub fn most_handles_is_the_limit()
     ensures { MOST_HANDLES ≡ most_handles }
 {}
 
-/// Two words that `==` calls equal are one word.
+/// Two words compare as equal exactly when they are the same.
 pub fn word_equality_tells()
-    ensures { (a b : Word) → ⟦<Word as PartialEq>⟧.eq a b ≡ true → a ≡ b }
+    ensures { (a b : Word) → (⟦<Word as PartialEq>⟧.eq a b ≡ true) ↔ (a ≡ b) }
 {}
 
-/// Two phases that `==` calls equal are one phase.
+/// Two phases compare as equal exactly when they are the same.
 pub fn phase_equality_tells()
-    ensures { (a b : Phase) → ⟦<Phase as PartialEq>⟧.eq a b ≡ true → a ≡ b }
+    ensures { (a b : Phase) → (⟦<Phase as PartialEq>⟧.eq a b ≡ true) ↔ (a ≡ b) }
 {}
 
-/// Two answers of a move that `==` calls equal are one answer.
+/// Two answers of a move compare as equal exactly when they are the same.
 pub fn moved_equality_tells()
-    ensures { (a b : Moved) → ⟦<Moved as PartialEq>⟧.eq a b ≡ true → a ≡ b }
+    ensures { (a b : Moved) → (⟦<Moved as PartialEq>⟧.eq a b ≡ true) ↔ (a ≡ b) }
 {}
 
-/// Two answers of the core's cancel that `==` calls equal are one answer.
+/// Two answers of the core's cancel compare as equal exactly when they are the same.
 pub fn core_cancel_equality_tells()
-    ensures { (a b : CoreCancel) → ⟦<CoreCancel as PartialEq>⟧.eq a b ≡ true → a ≡ b }
+    ensures { (a b : CoreCancel) → (⟦<CoreCancel as PartialEq>⟧.eq a b ≡ true) ↔ (a ≡ b) }
 {}
 
-/// Two answers of a handle's cancel that `==` calls equal are one answer.
+/// Two answers of a handle's cancel compare as equal exactly when they are the same.
 pub fn cancel_answer_equality_tells()
-    ensures { (a b : CancelAnswer) → ⟦<CancelAnswer as PartialEq>⟧.eq a b ≡ true → a ≡ b }
+    ensures { (a b : CancelAnswer) → (⟦<CancelAnswer as PartialEq>⟧.eq a b ≡ true) ↔ (a ≡ b) }
 {}
 
-/// Two states that `==` calls equal are one state.
+/// Two states compare as equal exactly when they are the same.
 pub fn task_state_equality_tells()
-    ensures { (a b : TaskState) → ⟦<TaskState as PartialEq>⟧.eq a b ≡ true → a ≡ b }
+    ensures { (a b : TaskState) → (⟦<TaskState as PartialEq>⟧.eq a b ≡ true) ↔ (a ≡ b) }
 {}
 
-/// Two errors that `==` calls equal are one error.
+/// Two errors compare as equal exactly when they are the same.
 pub fn word_error_equality_tells()
-    ensures { (a b : WordError) → ⟦<WordError as PartialEq>⟧.eq a b ≡ true → a ≡ b }
+    ensures { (a b : WordError) → (⟦<WordError as PartialEq>⟧.eq a b ≡ true) ↔ (a ≡ b) }
 {}

@@ -4,8 +4,8 @@
 //!
 //! [`TaskWords::new`] makes a table of the words of the tasks 0, 1, .., all vacant, and the one [`CoreSeat`], which moves
 //! tasks. [`CoreSeat::split`] cuts off a [`HandleSeat`] for another thread, which cancels tasks and reads their states
-//! without a lock. All share the table by `&`. [`CoreSeat::join`] takes a handle back, and [`TaskWords::close`] gives the
-//! words as numbers once all threads have returned.
+//! without a lock. All share the table by `&`. [`CoreSeat::join`] takes a handle back, [`CoreSeat::handles`] says how many
+//! are out, and [`TaskWords::close`] gives the words as numbers once all threads have returned.
 //!
 //! ```rust
 //! let (words, mut core) = TaskWords::new(alloc, 2)?;  // the tasks 0 and 1
@@ -56,6 +56,8 @@
 //! [`TaskWords::close`] takes 8 bytes for each task, and gives the table's back. No other call takes memory. Each takes
 //! constant time, but `new` and `close`, which go over the tasks. A handle that is dropped and not joined counts as out for
 //! good.
+//!
+//! The tests stand in `src/tests.rt`, and those of sizes, handles and memory in `src/table_tests.rt`.
 #![tactic(auto)]
 
 mod answers;

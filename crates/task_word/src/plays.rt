@@ -26,9 +26,9 @@ impl Play<(), View> for Submits {
 }
 
 impl Play<(), View> for Moves {
-    ghost use Rattle.task_word.specs.Steps.{Moved};
+    ghost use Rattle.task_word.specs.Steps.{Exchanged};
 
-    ghost then = { λ s me found next. Moved s.word s.first s.second me found next };
+    ghost then = { λ s me found next. Exchanged s.word s.first s.second me found next };
 }
 
 impl Play<(), View> for CoreCancels {

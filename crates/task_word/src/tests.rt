@@ -1,7 +1,10 @@
-ghost use Rattle.std.specs.Prelude.{◌≡◌, IfSome};
+ghost use Rattle.std.specs.Prelude.{◌≡◌, ◌<◌, ◌∷◌, true, false, IfSome};
+ghost use Rattle.task_word.specs.declared.phases.Phase.TheVariants.{New};
+ghost use Rattle.task_word.specs.Words.{started, marked, is_live, is_cancelled};
+ghost use Rattle.task_word.specs.Views.{entry, with_entry};
 
 use crate::*;
-use std::alloc::Global;
+use std::alloc::{Allocator, Global};
 use std::test::Fail;
 use std::thread;
 
@@ -92,6 +95,72 @@ fn sixty_three_handles_may_be_out(rt: HostRuntime) -> Result<(), Fail> {
     core.join(&words, kept);
     assert!(rt; core.split(&words).is_ok());
     assert!(rt; core.split(&words).err() == Some(WordError::Seats));
+    Ok(())
+}
+
+#[test]
+fn handles_that_are_out_are_counted(rt: HostRuntime) -> Result<(), Fail> {
+    let (words, mut core) = TaskWords::new(rt.alloc(), 1)?;
+    assert!(rt; core.handles() == 0);
+    let first = core.split(&words)?;
+    let second = core.split(&words)?;
+    assert!(rt; core.handles() == 2);
+    core.join(&words, first);
+    assert!(rt; core.handles() == 1);
+    core.join(&words, second);
+    assert!(rt; core.handles() == 0);
+    for count in 1..=63u8 {
+        assert!(rt; core.split(&words).is_ok());
+        assert!(rt; core.handles() == count);
+    }
+    assert!(rt; core.split(&words).is_err() && core.handles() == MOST_HANDLES);
+    Ok(())
+}
+
+// Cancels a task that waits or is run and is not cancelled, as the core knows it. Whether this cancelled it: if not,
+// a handle did, and nothing but the bit of the entry changed.
+fn cancel_live<A: Allocator>(words: &TaskWords<A>, core: &mut CoreSeat<A>, task: u32) -> bool
+    requires table { core.old.table ≡ words.now.table }
+    requires task { task < words.now.tasks }
+    requires live { is_live (entry core.old.view task).phase ≡ true }
+    ensures table { core.new.table ≡ core.old.table }
+    ensures won { result ≡ true → core.new.view.own ≡ task ∷ core.old.view.own }
+    ensures late { result ≡ false → core.new.view ≡ with_entry core.old.view task (marked (entry core.old.view task)) }
+{
+    match core.cancel(words, task) {
+        CoreCancel::Won => true,
+        CoreCancel::Late => false,
+        CoreCancel::Over | CoreCancel::Vacant => unreachable!(),
+    }
+}
+
+// Begins a task's run. Whether it began: if not, nothing but the bit of the entry changed.
+fn begin<A: Allocator>(words: &TaskWords<A>, core: &mut CoreSeat<A>, task: u32) -> bool
+    requires table { core.old.table ≡ words.now.table }
+    requires task { task < words.now.tasks }
+    requires phase { (entry core.old.view task).phase ≡ New }
+    requires live { is_cancelled (entry core.old.view task) ≡ false }
+    ensures table { core.new.table ≡ core.old.table }
+    ensures yes { result ≡ true → core.new.view ≡ with_entry core.old.view task (started (entry core.old.view task)) }
+    ensures cancelled { result ≡ false → core.new.view ≡ with_entry core.old.view task (marked (entry core.old.view task)) }
+{
+    match core.start(words, task) {
+        Moved::Yes => true,
+        Moved::Cancelled => false,
+    }
+}
+
+#[test]
+fn the_core_cancels_or_comes_late(rt: HostRuntime) -> Result<(), Fail> {
+    let (words, mut core) = TaskWords::new(rt.alloc(), 1)?;
+    core.submit(&words, 0);
+    assert!(rt; begin(&words, &mut core, 0));
+    assert!(rt; cancel_live(&words, &mut core, 0));
+    let (words, mut core) = TaskWords::new(rt.alloc(), 1)?;
+    let mut handle = core.split(&words)?;
+    core.submit(&words, 0);
+    assert!(rt; handle.cancel(&words, 0) == CancelAnswer::Yes);
+    assert!(rt; !cancel_live(&words, &mut core, 0));
     Ok(())
 }
 

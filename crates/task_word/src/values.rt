@@ -1,7 +1,7 @@
 ghost use Rattle.std.specs.Prelude.{◌≡◌, ◌+◌, ◌<◌, ◌≢◌, ◌^◌, false};
 ghost use Rattle.task_word.specs.declared.phases.Phase.TheVariants.{Vacant, New, Running};
-ghost use Rattle.task_word.specs.Words.{vacant, new_in, value, rank, is_cancelled, submitted, started, rearmed, ended_well, ended_badly, marked, IsWord};
-ghost use Rattle.task_word.specs.Rule.{word_of};
+ghost use Rattle.task_word.specs.Words.{vacant_word, new_in, value, rank, is_cancelled, submitted, started, rearmed, ended_well, ended_badly, marked, IsWord};
+ghost use Rattle.task_word.specs.Rule.{word_of_value};
 
 use crate::phases::Phase;
 use std::marker::Model;
@@ -35,7 +35,7 @@ impl Model for Word {
 impl Word {
     /// The word of a task that was not submitted, without the bit.
     pub fn vacant() -> Word
-        ensures { result ≡ vacant }
+        ensures { result ≡ vacant_word }
     {
         Word {
             phase: Phase::Vacant,
@@ -193,8 +193,8 @@ impl Word {
 
     /// The word that has this value.
     pub(crate) fn of_value(value: u64) -> Word
-        requires { IsWord (word_of value) }
-        ensures { result ≡ word_of value }
+        requires { IsWord (word_of_value value) }
+        ensures { result ≡ word_of_value value }
     {
         let number = value % 8;
         let phase = if number == 0 {

@@ -1,8 +1,8 @@
 use Rattle.std.proofs.Common.{◌≡◌, ◌+◌, List, drop, ap, sym, ◌∙◌, None, refl, arith}
 use Rattle.std.proofs.lemmas.List.{take_rest}
 use Rattle.queue_code.specs.declared.instr.Instr.{Instr}
-use Rattle.queue_code.specs.Checks.{first_failing}
-use Rattle.queue_code.specs.Walks.{checks}
+use Rattle.queue_code.specs.Checks.{first_failed}
+use Rattle.queue_code.specs.Walks.{walk_checks}
 use Rattle.queue_code.proofs.Faults.{fault_is}
 use Rattle.queue_code.proofs.Sizes.{bounded_more, fault_more, walked_more, timed_more}
 use Rattle.queue_code.proofs.check.walk.Goals as goal
@@ -17,8 +17,8 @@ loop-index-preserved c =
     let n = c.loop-index.index in
     let p = c.loop-index.progress in
     let i = c.index-instrs-index.result in
-    let none : first_failing (checks p i (drop (n + 1) instrs)) ≡ None =
-    ap (λ (rest : List Instr). first_failing (checks p i rest)) (sym (take_rest instrs (n + 1))) ∙ sym c.fault_at.ensures ∙ c.in_default.is in
+    let none : first_failed (walk_checks p i (drop (n + 1) instrs)) ≡ None =
+    ap (λ (rest : List Instr). first_failed (walk_checks p i rest)) (sym (take_rest instrs (n + 1))) ∙ sym c.fault_at.ensures ∙ c.in_default.is in
     let low = c.loop-index-test.true in
     let is = c.index-instrs-index.is in
     let other = c.in_default-instr.not-Halt in

@@ -2,7 +2,7 @@ use Rattle.std.proofs.Common.{◌≡◌, ◌+◌, sym, subst, Some, None, arith,
 use Rattle.std.specs.List.{slice_get}
 use Rattle.std.proofs.lemmas.Option.{slice_get_within}
 use Rattle.queue_code.specs.declared.instr.Instr.{Instr}
-use Rattle.queue_code.specs.Codes.{call_of}
+use Rattle.queue_code.specs.Codes.{call_by}
 use Rattle.queue_code.specs.Cursors.{IsPlain}
 use Rattle.queue_code.proofs.Making.{makes, in_range, none_left, made_first, others_left, none_made, over_behind}
 use Rattle.queue_code.proofs.cursor.Cursor.make.Goals as goal
@@ -29,7 +29,7 @@ returns g c =
     let sound = c.in-Some.ensures.sound in
     let plain : IsPlain (Some c.in-Some.instr) = subst IsPlain (sym c.in-Some.ensures.instr) c.requires.plain in
     let m = makes code cursor c.in-Some.instr (cursor.steps + 1) sound c.requires.cursor at plain in
-    let none = λ (e : call_of cursor.base cursor.start cursor.tasks c.in-Some.instr ≡ None). none_made code cursor c.in-Some.instr sound at plain e in
+    let none = λ (e : call_by cursor.base cursor.start cursor.tasks c.in-Some.instr ≡ None). none_made code cursor c.in-Some.instr sound at plain e in
     rw (c.tasks.ensures, c.call_of-call.ensures) (record {
       cursor = m.cursor;
       call = made_first code cursor _ _ m none;

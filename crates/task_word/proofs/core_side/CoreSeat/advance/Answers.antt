@@ -2,7 +2,7 @@ use Rattle.std.proofs.Common.{◌≡◌, ◌+◌, sym, ap, ◌∙◌, refl, arit
 use Rattle.task_word.specs.Words.{value}
 use Rattle.task_word.specs.Writes.{Exchanges}
 use Rattle.task_word.specs.Views.{entry, with_entry, core_of}
-use Rattle.task_word.specs.Rule.{word_of}
+use Rattle.task_word.specs.Rule.{word_of_value}
 use Rattle.task_word.proofs.WordNumbers.{reads_back}
 use Rattle.task_word.proofs.SeatFields.{core_sits, found_it}
 use Rattle.task_word.proofs.CoreSteps.{moves}
@@ -26,7 +26,7 @@ pub invariant_of-self : goal.invariant_of-self
 invariant_of-self g c =
     let step = c.compare_exchange-found.ensures in
     let seat = c.self.inside.seat in
-    let read : word_of c.value.result ≡ c.args.next = ap word_of c.value.ensures.value ∙ reads_back c.args.next c.value.ensures.word in
+    let read : word_of_value c.value.result ≡ c.args.next = ap word_of_value c.value.ensures.value ∙ reads_back c.args.next c.value.ensures.word in
     core_sits _ _ _ _ seat.me _ c.self.inside.entries.items c.self.inside.out c.args.k c.args.next (with_entry (core_of seat.me.0) c.args.k c.args.next) step.0 step.1
     (found_it c.args.k _ c.args.next _ _ _ seat.me _ step.2 (refl {a = c.args.k + 1}) c.if-found-old.true read)
     refl
@@ -37,5 +37,5 @@ pub returns-then-found-old-clause-view : goal.returns-then-found-old-clause-view
 returns-then-found-old-clause-view g c =
     let step = c.compare_exchange-found.ensures in
     let seat = c.self.inside.seat in
-    let read : word_of c.value.result ≡ c.args.next = ap word_of c.value.ensures.value ∙ reads_back c.args.next c.value.ensures.word in
+    let read : word_of_value c.value.result ≡ c.args.next = ap word_of_value c.value.ensures.value ∙ reads_back c.args.next c.value.ensures.word in
     ap (λ m. core_of m.0) (found_it c.args.k _ c.args.next _ _ _ seat.me _ step.2 (refl {a = c.args.k + 1}) c.if-found-old.true read) ∙ ap (λ s. with_entry s.view c.args.k c.args.next) c.self.view_is

@@ -1,8 +1,8 @@
 use Rattle.std.proofs.Common.{◌≡◌, sym, ap, ◌∙◌, refl, arith, subst, length-set}
 use Rattle.task_word.specs.Words.{rank, is_cancelled}
 use Rattle.task_word.specs.Views.{handle_of, handle_cancelled, wins, and_if, MeetsHandle}
-use Rattle.task_word.specs.Rule.{word_of}
-use Rattle.task_word.specs.Answers.{cancel_answer, is_yes}
+use Rattle.task_word.specs.Rule.{word_of_value}
+use Rattle.task_word.specs.Answers.{cancel_answer, is_handle_win}
 use Rattle.task_word.proofs.HandleSteps.{handle_cancels}
 use Rattle.task_word.proofs.SeatFields.{handle_sits, keeps_met, yes_wins}
 use Rattle.task_word.proofs.handle_side.HandleSeat.cancel.Goals as goal
@@ -23,14 +23,14 @@ pub invariant_of-self : goal.invariant_of-self
 invariant_of-self g c =
     let step = c.fetch_or-found.ensures in
     let h = handle_of c.self.inside.seat.me.0 in
-    let met = word_of c.fetch_or-found.result in
+    let met = word_of_value c.fetch_or-found.result in
     handle_sits _ _ c.self.inside.seat.me _ (handle_cancelled h c.args.k met) step.0 (step.2 c.args.k refl).2 (length-set h.ranks c.args.k (rank met)) (length-set h.seen c.args.k (is_cancelled met)) c.self.invariant
 
 pub returns-clause-met : goal.returns-clause-met
 returns-clause-met g c in_n =
     let step = c.fetch_or-found.ensures.2 c.args.k refl in
     let h = handle_of c.self.inside.seat.me.0 in
-    let w = word_of c.fetch_or-found.result in
+    let w = word_of_value c.fetch_or-found.result in
     let is : handle_of c.fetch_or-found.new.seat.me.0 ≡ handle_cancelled h c.args.k w = ap (λ m. handle_of m.0) step.2 in
     let words = ap (λ s. s.table.words) c.self.view_is ∙ (ap (λ t. t.words) c.requires.table ∙ sym (ap (λ t. t.table.words) c.words.view_is)) in (
       w,
@@ -43,6 +43,6 @@ returns-clause-met g c in_n =
 pub returns-clause-won : goal.returns-clause-won
 returns-clause-won g c =
     let told = c.fetch_or-found.ensures.2 c.args.k refl in
-    let found = word_of c.fetch_or-found.result in
+    let found = word_of_value c.fetch_or-found.result in
     let answer : c.of_word.result ≡ cancel_answer found = c.of_word.ensures ∙ ap cancel_answer c.of_value.ensures in
-    ap (λ m. (handle_of m.0).won) told.2 ∙ (ap (λ s. and_if (wins found) c.args.k s.view.won) c.self.view_is ∙ ap (λ b. and_if b c.args.k c.args.self.now.view.won) (yes_wins found ∙ ap is_yes (sym answer)))
+    ap (λ m. (handle_of m.0).won) told.2 ∙ (ap (λ s. and_if (wins found) c.args.k s.view.won) c.self.view_is ∙ ap (λ b. and_if b c.args.k c.args.self.now.view.won) (yes_wins found ∙ ap is_handle_win (sym answer)))
