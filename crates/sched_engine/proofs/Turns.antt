@@ -1,5 +1,5 @@
 -- Turns: what a read, the answers to what it brought, and a write make of a run, and how a run ends.
-use Rattle.std.proofs.Common.{◌≡◌, ℕ, zero, suc, ◌+◌, ◌-◌, ◌*◌, ◌^◌, ◌<◌, ◌≤◌, List, [], ◌∷◌, ◌++◌, take, drop, length, Option, Some, None, Result, Ok, Err, MatchResult, inr, refl, ap, ◌∙◌, sym, subst, arith, append_assoc, append-nil, length-append, length-drop, take-append-drop}
+use Rattle.std.proofs.Common.{◌≡◌, ℕ, zero, suc, ◌+◌, ◌-◌, ◌*◌, ◌^◌, ◌<◌, ◌≤◌, List, [], ◌∷◌, ◌++◌, take, drop, length, Option, Some, None, Result, Ok, Err, MatchResult, inl, inr, refl, ap, ◌∙◌, sym, subst, arith, append_assoc, append-nil, length-append, length-drop, take-append-drop}
 use Rattle.std.proofs.lemmas.List.Elements.{All-append, All-cons, All-nil}
 use Rattle.std.specs.Io.KnownBytes.{Consumes, Appends, Keeps, IsAtEnd, prepend_known}
 use Rattle.executor_core.specs.declared.Event.{Event}
@@ -14,11 +14,12 @@ use Rattle.sched_engine.specs.declared.engine.Turn.TheVariants as t
 use Rattle.sched_engine.specs.declared.report.RunError.{RunError}
 use Rattle.sched_engine.specs.declared.report.RunError.TheVariants as x
 use Rattle.sched_engine.specs.Inputs.{AreEvents, input_of, IsRefused, BeginsWithEvent}
-use Rattle.sched_engine.specs.Running.{IsAccepted, IsTrace, Ran, Runs, Taken, piece, text_of}
+use Rattle.sched_engine.specs.Running.{IsAccepted, IsNoEventLine, IsTrace, Ran, Runs, Taken, piece, text_of}
 use Rattle.sched_engine.specs.Pieces.{Output}
 use Rattle.sched_engine.specs.Turns.{CutsSteps, Done, Extends, IsAnswered, IsBetweenTurns, IsCut, IsStanding, Opens, Progress, Setting, Turns, answers_to}
-use Rattle.trace_text.specs.Reading.{most_event_bytes}
-use Rattle.trace_text.proofs.Fronts.{unread_part}
+use Rattle.trace_text.specs.declared.front.Front.TheVariants as front
+use Rattle.trace_text.specs.Reading.{IsFront, most_event_bytes}
+use Rattle.trace_text.proofs.Fronts.{some_bytes, unread_part, unread_whatever_follows}
 use Rattle.sched_engine.proofs.Runs.{at_end, so_far, read_so_far, came, took, gave, gave_front}
 use Rattle.sched_engine.proofs.Giving.{wrote_none}
 use Rattle.sched_engine.proofs.Inputs.{event_says, input_of-append, line_is, lines_few, next_is, flow_happens}
@@ -204,11 +205,11 @@ out_of_memory run at done none near =
     taken_so_far run at (λ ahead. Unit {0}) (λ rest. Unit {0}) (λ events lines trace. Appends run.contents at.contents trace) done near tt (λ more. tt) (all_written run at done none)
 
 -- a rest that is refused
-pub refused : (run : Setting) (at : Progress) (n : ℕ) → Done run at → at.text ≡ [] → length at.held ≤ piece → ((more : List ℕ) → IsRefused (at.held ++ more)) → 0 < length at.held → n ≡ at.core.taken + 1 →
+pub refused : (run : Setting) (at : Progress) (n : ℕ) → Done run at → at.text ≡ [] → length at.held ≤ piece → IsFront front.Refused at.held → n ≡ at.core.taken + 1 →
     Runs (Err (x.EventLine n)) run.calls run.workers run.limit run.input at.left run.contents at.contents
-refused run at n done none near no_event some is =
-    taken_so_far run at (λ ahead. 0 < length ahead) (λ rest. IsRefused rest × (0 < length rest)) (λ events lines trace. (n ≡ events + 1) × Appends run.contents at.contents trace) done near some
-    (λ more. (no_event more, omega (arith, some, length-append at.held more))) (omega (arith, is, done.taken), all_written run at done none)
+refused run at n done none near stop is =
+    taken_so_far run at (IsNoEventLine at.left) (λ rest. IsRefused rest × (0 < length rest)) (λ events lines trace. (n ≡ events + 1) × Appends run.contents at.contents trace) done near (inl stop)
+    (λ more. (unread_whatever_follows at.held stop.0 stop.1 more, omega (arith, some_bytes at.held stop.1, length-append at.held more))) (omega (arith, is, done.taken), all_written run at done none)
 
 -- a further event at the limit
 pub full : (run : Setting) (at : Progress) → Done run at → at.text ≡ [] → length at.held ≤ piece → at.core.taken ≡ at.core.limit → BeginsWithEvent at.held →
@@ -229,8 +230,8 @@ ended run at report done blank end none is =
 pub cut_off : (run : Setting) (at : Progress) (n : ℕ) → Done run at → at.text ≡ [] → IsAtEnd at.left → IsLine at.held → length at.held < most_event_bytes → 0 < length at.held → n ≡ at.core.taken + 1 →
     Runs (Err (x.EventLine n)) run.calls run.workers run.limit run.input at.left run.contents at.contents
 cut_off run at n done none end part short some is =
-    taken_at_end run at (λ ahead. 0 < length ahead) (λ rest. IsRefused rest × (0 < length rest)) (λ events lines trace. (n ≡ events + 1) × Appends run.contents at.contents trace) done end
-    (omega (arith, short)) some (unread_part at.held part, some) (omega (arith, is, done.taken), all_written run at done none)
+    taken_at_end run at (IsNoEventLine at.left) (λ rest. IsRefused rest × (0 < length rest)) (λ events lines trace. (n ≡ events + 1) × Appends run.contents at.contents trace) done end
+    (omega (arith, short)) (inr ((part, short), some, end)) (unread_part at.held part, some) (omega (arith, is, done.taken), all_written run at done none)
 
 -- a fault of the reader
 pub faulted : (run : Setting) (at : Progress) (left : Option (List ℕ)) → IsBetweenTurns run at → Keeps at.left left → Runs (Err x.Read) run.calls run.workers run.limit run.input left run.contents at.contents

@@ -1,7 +1,7 @@
 -- What a run reads and writes.
 -- All of it is this project's rule.
 use Rattle.std.specs.Prelude.{◌≡◌, ℕ, ◌+◌, ◌<◌, ◌≤◌, List, [], ◌++◌, ◌⊎◌, Option, Some, Result, Ok, Err, IfSome, length, take}
-use Rattle.std.specs.Io.KnownBytes.{Appends, Consumes, Keeps}
+use Rattle.std.specs.Io.KnownBytes.{Appends, Consumes, IsAtEnd, Keeps}
 use Rattle.executor_core.specs.declared.Event.{Event}
 use Rattle.executor_core.specs.Counts.{IsWorkerCount}
 use Rattle.queue_code.specs.Calls.{Planned}
@@ -13,7 +13,8 @@ use Rattle.sched_engine.specs.declared.report.RunError.TheVariants as x
 use Rattle.sched_engine.specs.Ends.{IsOneFault, NoneMore}
 use Rattle.sched_engine.specs.Inputs.{input_of, AreEvents, IsRefused, BeginsWithEvent}
 use Rattle.trace_text.specs.Spelling.{IsLine, lines_text}
-use Rattle.trace_text.specs.Reading.{most_event_bytes}
+use Rattle.trace_text.specs.declared.front.Front.TheVariants as front
+use Rattle.trace_text.specs.Reading.{IsFront, most_event_bytes}
 use Rattle.plan_read.specs.Plans.{PlanTree}
 use Rattle.plan_read.specs.Reads.{out_of_memory}
 use Rattle.plan_read.specs.Texts.{TextWrites, fault_of_text}
@@ -68,12 +69,16 @@ pub record IsAccepted (text : List ℕ) (calls : List Planned) (workers limit : 
 abbrev pub IsUntouched : Option (List ℕ) → Option (List ℕ) → Option (List ℕ) → Option (List ℕ) → Type 0
 IsUntouched input left old new = Keeps input left × Keeps old new
 
+-- why the bytes behind the events are no event line: they are refused, or are a part of a line with which the input ends
+abbrev pub IsNoEventLine : Option (List ℕ) → List ℕ → Type 0
+IsNoEventLine left ahead = IsFront front.Refused ahead ⊎ (IsFront front.Part ahead × (0 < length ahead) × IsAtEnd left)
+
 -- what a run over these calls did, which stand for a plan
 abbrev pub Runs : Result Report RunError → List Planned → ℕ → ℕ → Option (List ℕ) → Option (List ℕ) → Option (List ℕ) → Option (List ℕ) → Type 0
 Runs (Ok r) calls workers limit input left old new =
     Taken calls workers limit input left (λ ahead. ahead ≡ []) (λ rest. rest ≡ []) (λ events lines trace. (events ≡ r.events) × (lines ≡ r.lines) × Appends old new trace)
 Runs (Err (x.EventLine n)) calls workers limit input left old new =
-    Taken calls workers limit input left (λ ahead. 0 < length ahead) (λ rest. IsRefused rest × (0 < length rest)) (λ events lines trace. (n ≡ events + 1) × Appends old new trace)
+    Taken calls workers limit input left (IsNoEventLine left) (λ rest. IsRefused rest × (0 < length rest)) (λ events lines trace. (n ≡ events + 1) × Appends old new trace)
 Runs (Err x.Full) calls workers limit input left old new =
     Taken calls workers limit input left BeginsWithEvent BeginsWithEvent (λ events lines trace. (events ≡ limit) × Appends old new trace)
 Runs (Err x.Read) calls workers limit input left old new =

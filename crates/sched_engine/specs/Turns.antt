@@ -10,13 +10,14 @@ use Rattle.executor_core.specs.Histories.{HistoryEntry, IsHistoryOf}
 use Rattle.executor_core.specs.Flows.{history_of, lines_from, lines_of, part_of}
 use Rattle.executor_core.specs.Machine.{Machine, room_of, state_of, workers_of, Stands, Steps, Continues}
 use Rattle.trace_text.specs.Spelling.{FitsEvent, IsLine, event_line, lines_text}
-use Rattle.trace_text.specs.Reading.{most_event_bytes}
+use Rattle.trace_text.specs.declared.front.Front.TheVariants as front
+use Rattle.trace_text.specs.Reading.{IsFront, most_event_bytes}
 use Rattle.sched_engine.specs.declared.answering.PieceEnd.{PieceEnd}
 use Rattle.sched_engine.specs.declared.answering.PieceEnd.TheVariants as e
 use Rattle.sched_engine.specs.declared.engine.Turn.{Turn}
 use Rattle.sched_engine.specs.declared.engine.Turn.TheVariants as t
 use Rattle.sched_engine.specs.declared.report.RunError.{RunError}
-use Rattle.sched_engine.specs.Inputs.{input_of, AreEvents, IsRefused, BeginsWithEvent}
+use Rattle.sched_engine.specs.Inputs.{input_of, AreEvents, BeginsWithEvent}
 use Rattle.sched_engine.specs.Pieces.{Gives, Output}
 use Rattle.sched_engine.specs.Running.{IsAccepted, Runs, text_of}
 
@@ -72,8 +73,8 @@ pub record IsAnswered (old new : Machine) (held : List ℕ) (taken : ℕ) (befor
 
 -- why the bytes that are held were not taken further
 abbrev pub IsPieceEnd : PieceEnd → Machine → List ℕ → Type 0
-IsPieceEnd e.Part core rest = IsLine rest × (length rest < most_event_bytes)
-IsPieceEnd e.Refused core rest = (0 < length rest) × ((more : List ℕ) → IsRefused (rest ++ more))
+IsPieceEnd e.Part core rest = IsFront front.Part rest
+IsPieceEnd e.Refused core rest = IsFront front.Refused rest
 IsPieceEnd e.Full core rest = (core.taken ≡ core.limit) × BeginsWithEvent rest
 IsPieceEnd e.Memory core rest = (core.taken < core.limit) × BeginsWithEvent rest
 

@@ -1,5 +1,5 @@
 -- LineForms: what follows the first word of a trace's lines, as parts.
-use Rattle.std.proofs.Common.{◌≡◌, ℕ, ◌^◌, Bool, true, false, Option, Some, None, List, [], ◌++◌, ap, sym, ◌∙◌, refl, arith, codes}
+use Rattle.std.proofs.Common.{◌≡◌, ℕ, ◌^◌, Bool, true, false, Option, Some, None, List, [], ◌++◌, ap, sym, ◌∙◌, refl, arith, append_assoc, codes}
 use Rattle.std.specs.Fmt.{decimal}
 use Rattle.std.proofs.lemmas.List.{append_cancel_left}
 use Rattle.sched_time.specs.declared.policies.Which.{Which}
@@ -13,7 +13,7 @@ use Rattle.executor_core.specs.declared.CancelEffect.{CancelEffect}
 use Rattle.executor_core.specs.declared.CancelEffect.TheVariants as effect
 use Rattle.executor_core.specs.declared.Outcome.{Outcome}
 use Rattle.executor_core.specs.declared.Outcome.TheVariants as outcome
-use Rattle.trace_text.specs.Spelling.{kind_text, refusal_text, error_text, effect_text, policy_text, truth_text, whether_text, outcome_text, FitsOutcome}
+use Rattle.trace_text.specs.Spelling.{kind_text, refusal_text, error_text, effect_text, policy_text, truth_text, whether_text, outcome_text, cancel_text, FitsCancel, FitsOutcome}
 use Rattle.trace_text.specs.Reading.{IsRead, IsUnread, Below, Any, text_then}
 use Rattle.trace_text.proofs.Clashes.{clashes}
 use Rattle.trace_text.proofs.Parts.{IsOnce, text_and, BothFit, then_part, once_part, number_once}
@@ -87,14 +87,28 @@ effect_once effect.Yes f s t p q h = absurd (clashes (codes "yes\n") (text_then 
 effect_once effect.No f s t p q h = absurd (clashes (codes "no\n") (text_then effect_text (codes "\n") f) s t refl h)
 effect_once effect.Absent f s t p q h = absurd (clashes (codes "none\n") (text_then effect_text (codes "\n") f) s t refl h)
 
+-- a policy
+pub policy_word_once : IsOnce policy_text Any
+policy_word_once which.Continue which.Continue s t p q h = (refl, append_cancel_left (policy_text which.Continue) s t h)
+policy_word_once which.Execute which.Execute s t p q h = (refl, append_cancel_left (policy_text which.Execute) s t h)
+policy_word_once which.Remove which.Remove s t p q h = (refl, append_cancel_left (policy_text which.Remove) s t h)
+policy_word_once which.Continue f s t p q h = absurd (clashes (policy_text which.Continue) (policy_text f) s t refl h)
+policy_word_once which.Execute f s t p q h = absurd (clashes (policy_text which.Execute) (policy_text f) s t refl h)
+policy_word_once which.Remove f s t p q h = absurd (clashes (policy_text which.Remove) (policy_text f) s t refl h)
+
 -- a policy before a space
 pub policy_once : IsOnce (text_then policy_text (codes " ")) Any
-policy_once which.Continue which.Continue s t p q h = (refl, append_cancel_left (codes "continue ") s t h)
-policy_once which.Execute which.Execute s t p q h = (refl, append_cancel_left (codes "execute ") s t h)
-policy_once which.Remove which.Remove s t p q h = (refl, append_cancel_left (codes "remove ") s t h)
-policy_once which.Continue f s t p q h = absurd (clashes (codes "continue ") (text_then policy_text (codes " ") f) s t refl h)
-policy_once which.Execute f s t p q h = absurd (clashes (codes "execute ") (text_then policy_text (codes " ") f) s t refl h)
-policy_once which.Remove f s t p q h = absurd (clashes (codes "remove ") (text_then policy_text (codes " ") f) s t refl h)
+policy_once v u s t p q h =
+    let r = policy_word_once v u (codes " " ++ s) (codes " " ++ t) p q (sym (append_assoc (policy_text v) (codes " ") s) ∙ (h ∙ append_assoc (policy_text u) (codes " ") t)) in
+    (r.0, append_cancel_left (codes " ") s t r.1)
+
+-- no policy, and so none before a space
+pub unread_policy_word : (bytes : List ℕ) → IsUnread policy_text Any bytes → IsUnread (text_then policy_text (codes " ")) Any bytes
+unread_policy_word bytes never v tail f h = never v (codes " " ++ tail) f (h ∙ append_assoc (policy_text v) (codes " ") tail)
+
+-- a policy, and no space behind it
+pub behind_policy_word : (bytes rest : List ℕ) (v : Which) → IsRead policy_text Any bytes v rest → ((tail : List ℕ) → rest ≡ codes " " ++ tail → ⊥) → IsUnread (text_then policy_text (codes " ")) Any bytes
+behind_policy_word bytes rest v front never u tail f h = never tail (policy_word_once v u rest (codes " " ++ tail) tt f (sym front.1 ∙ (h ∙ append_assoc (policy_text u) (codes " ") tail))).1
 
 -- what a policy is set to, before the newline
 pub truth_once : IsOnce (text_then truth_text (codes "\n")) Any
@@ -252,13 +266,6 @@ refuse_text = text_and decimal (codes " ") (text_then refusal_text (codes "\n"))
 abbrev pub FitsRefuse : ℕ × Refusal → Type 0
 FitsRefuse = BothFit (Below (2 ^ 32)) Any
 
--- a task and what a cancel did to it
-abbrev pub cancel_text : ℕ × CancelEffect → List ℕ
-cancel_text = text_and decimal (codes " ") (text_then effect_text (codes "\n"))
-
-abbrev pub FitsCancel : ℕ × CancelEffect → Type 0
-FitsCancel = BothFit (Below (2 ^ 32)) Any
-
 -- a policy and what it is set to
 abbrev pub set_text : Which × Bool → List ℕ
 set_text = text_and policy_text (codes " ") (text_then truth_text (codes "\n"))
@@ -325,7 +332,7 @@ refuse_once = once_part decimal (Below (2 ^ 32)) (codes " ") (text_then refusal_
 
 -- a task with an effect
 pub cancel_once : IsOnce cancel_text FitsCancel
-cancel_once = once_part decimal (Below (2 ^ 32)) (codes " ") (text_then effect_text (codes "\n")) Any task_once effect_once
+cancel_once v u s t p q h = once_part decimal (Below (2 ^ 32)) (codes " ") (text_then effect_text (codes "\n")) Any task_once effect_once v u s t (p, tt) (q, tt) h
 
 -- a policy with what it is set to
 pub set_once : IsOnce set_text FitsSet
@@ -390,7 +397,7 @@ behind_refused bytes rest v front never = then_part decimal (Below (2 ^ 32)) (co
 
 -- a task, and not what a cancel did to it
 pub behind_cancelled : (bytes rest : List ℕ) (v : ℕ) → IsRead (text_then decimal (codes " ")) (Below (2 ^ 32)) bytes v rest → IsUnread (text_then effect_text (codes "\n")) Any rest → IsUnread cancel_text FitsCancel bytes
-behind_cancelled bytes rest v front never = then_part decimal (Below (2 ^ 32)) (codes " ") (text_then effect_text (codes "\n")) Any bytes rest v task_once front.0 front.1 never
+behind_cancelled bytes rest v front never = λ u tail f h. then_part decimal (Below (2 ^ 32)) (codes " ") (text_then effect_text (codes "\n")) Any bytes rest v task_once front.0 front.1 never u tail (f, tt) h
 
 -- how many tasks are queued, and not how many are run
 pub behind_queue : (bytes rest : List ℕ) (v : ℕ) → IsRead (text_then decimal (codes " running ")) (Below (2 ^ 32)) bytes v rest → IsUnread running_text FitsRunning rest → IsUnread ask_text FitsAsk bytes

@@ -20,13 +20,13 @@ use Rattle.executor_core.specs.declared.Outcome.TheVariants as outcome
 use Rattle.executor_core.specs.declared.Message.{Message}
 use Rattle.executor_core.specs.declared.Message.TheVariants.{Answer, End}
 use Rattle.executor_core.specs.declared.Line.{Line}
-use Rattle.trace_text.specs.Spelling.{IsLine, EndsNumber, message_text, error_text, outcome_text, kind_text, refusal_text, effect_text, policy_text, truth_text, whether_text, line_text, FitsMessage, FitsLine, FitsOutcome}
+use Rattle.trace_text.specs.Spelling.{IsLine, EndsNumber, message_text, error_text, outcome_text, kind_text, refusal_text, effect_text, policy_text, truth_text, whether_text, cancel_text, FitsCancel, line_text, FitsMessage, FitsLine, FitsOutcome}
 use Rattle.trace_text.specs.Reading.{IsUnread, Below, Any, text_then, LinesAreOne, LinesEndOnce}
 use Rattle.trace_text.proofs.Digits.{one_number}
 use Rattle.trace_text.proofs.Clashes.{clashes}
 use Rattle.trace_text.proofs.EventTexts.{IsEnded, ended_number, ended_behind, number_is_line}
 use Rattle.trace_text.proofs.Parts.{IsOnce}
-use Rattle.trace_text.proofs.LineForms.{start_text, FitsStart, finish_text, FitsFinish, submit_text, FitsSubmit, refuse_text, FitsRefuse, cancel_text, FitsCancel, set_text, FitsSet, ask_text, FitsAsk, outcome_is, run_text, due_text, kind_due_text, running_text, ends_text, start_once, finish_once, submit_once, refuse_once, cancel_once, set_once, ask_once, error_once, last_task_once}
+use Rattle.trace_text.proofs.LineForms.{start_text, FitsStart, finish_text, FitsFinish, submit_text, FitsSubmit, refuse_text, FitsRefuse, set_text, FitsSet, ask_text, FitsAsk, outcome_is, run_text, due_text, kind_due_text, running_text, ends_text, start_once, finish_once, submit_once, refuse_once, cancel_once, set_once, ask_once, error_once, last_task_once}
 
 -- ---- the first word of a line behind its moment, and what follows it
 
@@ -92,12 +92,12 @@ unread_refuse bytes never m tail f h = absurd (clashes (codes " refuse ") (messa
 
 -- bytes behind ` cancel ` that are no task with an effect
 pub unread_cancel : (bytes : List ℕ) → IsUnread cancel_text FitsCancel bytes → IsUnread message_text FitsMessage (codes " cancel " ++ bytes)
-unread_cancel bytes never (Answer (a.Cancel k e)) tail f h = never (k, e) tail (f, tt) (append_cancel_left (codes " cancel ") bytes (cancel_text (k, e) ++ tail) h)
+unread_cancel bytes never (Answer (a.Cancel k e)) tail f h = never (k, e) tail f (append_cancel_left (codes " cancel ") bytes (cancel_text (k, e) ++ tail) h)
 unread_cancel bytes never m tail f h = absurd (clashes (codes " cancel ") (message_word m) bytes (after_message_word m ++ tail) refl h)
 
 -- bytes behind ` outside ` that are no task with an effect
 pub unread_outside : (bytes : List ℕ) → IsUnread cancel_text FitsCancel bytes → IsUnread message_text FitsMessage (codes " outside " ++ bytes)
-unread_outside bytes never (Answer (a.Outside k e)) tail f h = never (k, e) tail (f, tt) (append_cancel_left (codes " outside ") bytes (cancel_text (k, e) ++ tail) h)
+unread_outside bytes never (Answer (a.Outside k e)) tail f h = never (k, e) tail f (append_cancel_left (codes " outside ") bytes (cancel_text (k, e) ++ tail) h)
 unread_outside bytes never m tail f h = absurd (clashes (codes " outside ") (message_word m) bytes (after_message_word m ++ tail) refl h)
 
 -- bytes behind ` policy ` that are no policy with what it is set to
@@ -109,6 +109,10 @@ unread_policy bytes never m tail f h = absurd (clashes (codes " policy ") (messa
 pub unread_ask : (bytes : List ℕ) → IsUnread ask_text FitsAsk bytes → IsUnread message_text FitsMessage (codes " ask queue " ++ bytes)
 unread_ask bytes never (Answer (a.Ask q r shut over)) tail f h = never (q, (r, (shut, over))) tail (f.0, (f.1, (tt, tt))) (append_cancel_left (codes " ask queue ") bytes (ask_text (q, (r, (shut, over))) ++ tail) h)
 unread_ask bytes never m tail f h = absurd (clashes (codes " ask queue ") (message_word m) bytes (after_message_word m ++ tail) refl h)
+
+-- bytes of a word, with no message behind it
+pub unread_behind : (word bytes rest : List ℕ) → bytes ≡ word ++ rest → IsUnread message_text FitsMessage (word ++ rest) → IsUnread message_text FitsMessage bytes
+unread_behind word bytes rest is never m tail f h = never m tail f (sym is ∙ h)
 
 -- none of the first words
 pub unread_words : (bytes : List ℕ)
@@ -179,8 +183,8 @@ message_once (Answer (a.Finish w1 k1 n1 o1)) (Answer (a.Finish w2 k2 n2 o2)) s t
     (ap (λ l. codes " finish " ++ (l ++ s)) (sym (finish_is w1 k1 n1 o1)) ∙ (h ∙ ap (λ l. codes " finish " ++ (l ++ t)) (finish_is w2 k2 n2 o2)))
 message_once (Answer (a.Submit k1 kind1 d1)) (Answer (a.Submit k2 kind2 d2)) s t p q h = one_form (codes " submit ") submit_text FitsSubmit (λ v. Answer (a.Submit v.0 v.1.0 v.1.1)) submit_once (k1, (kind1, d1)) (k2, (kind2, d2)) s t (p.0, (tt, p.1)) (q.0, (tt, q.1)) h
 message_once (Answer (a.Refuse k1 reason1)) (Answer (a.Refuse k2 reason2)) s t p q h = one_form (codes " refuse ") refuse_text FitsRefuse (λ v. Answer (a.Refuse v.0 v.1)) refuse_once (k1, reason1) (k2, reason2) s t (p, tt) (q, tt) h
-message_once (Answer (a.Cancel k1 e1)) (Answer (a.Cancel k2 e2)) s t p q h = one_form (codes " cancel ") cancel_text FitsCancel (λ v. Answer (a.Cancel v.0 v.1)) cancel_once (k1, e1) (k2, e2) s t (p, tt) (q, tt) h
-message_once (Answer (a.Outside k1 e1)) (Answer (a.Outside k2 e2)) s t p q h = one_form (codes " outside ") cancel_text FitsCancel (λ v. Answer (a.Outside v.0 v.1)) cancel_once (k1, e1) (k2, e2) s t (p, tt) (q, tt) h
+message_once (Answer (a.Cancel k1 e1)) (Answer (a.Cancel k2 e2)) s t p q h = one_form (codes " cancel ") cancel_text FitsCancel (λ v. Answer (a.Cancel v.0 v.1)) cancel_once (k1, e1) (k2, e2) s t p q h
+message_once (Answer (a.Outside k1 e1)) (Answer (a.Outside k2 e2)) s t p q h = one_form (codes " outside ") cancel_text FitsCancel (λ v. Answer (a.Outside v.0 v.1)) cancel_once (k1, e1) (k2, e2) s t p q h
 message_once (Answer (a.Policy which1 value1)) (Answer (a.Policy which2 value2)) s t p q h = one_form (codes " policy ") set_text FitsSet (λ v. Answer (a.Policy v.0 v.1)) set_once (which1, value1) (which2, value2) s t (tt, tt) (tt, tt) h
 message_once (Answer (a.Ask q1 r1 shut1 over1)) (Answer (a.Ask q2 r2 shut2 over2)) s t p q h = one_form (codes " ask queue ") ask_text FitsAsk (λ v. Answer (a.Ask v.0 v.1.0 v.1.1.0 v.1.1.1)) ask_once (q1, (r1, (shut1, over1))) (q2, (r2, (shut2, over2))) s t (p.0, (p.1, (tt, tt))) (q.0, (q.1, (tt, tt))) h
 message_once (Answer (a.Error e1)) (Answer (a.Error e2)) s t p q h = one_form (codes " error ") (text_then error_text (codes "\n")) Any (λ e. Answer (a.Error e)) error_once e1 e2 s t tt tt h

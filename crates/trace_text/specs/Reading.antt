@@ -35,12 +35,24 @@ Below limit n = n < limit
 abbrev pub Any : {V : Type 0} → V → Type 0
 Any v = Unit {0}
 
--- `Event e n`: the line of the event e stands at the front, n bytes with its newline; `Part`: no newline yet, and room for
--- one; `Refused`: whatever follows, no event's line stands at the front
+-- no newline yet, and fewer bytes than an event's line may have
+abbrev pub IsPart : List ℕ → Type 0
+IsPart bytes = IsLine bytes × (length bytes < most_event_bytes)
+
+-- one of three. `Event e n`: the line of the event e stands at the front, n bytes with its newline; `Part`: bytes of which
+-- more may make a line; `Refused`: neither, so that the first line is no event's, or is too long
 abbrev pub IsFront : Front → List ℕ → Type 0
 IsFront (front.Event e n) bytes = IsRead event_line FitsEvent bytes e (drop n bytes) × (0 < n) × (n ≤ length bytes)
-IsFront front.Part bytes = IsLine bytes × (length bytes < most_event_bytes)
-IsFront front.Refused bytes = (0 < length bytes) × ((more : List ℕ) → IsUnread event_line FitsEvent (bytes ++ more))
+IsFront front.Part bytes = IsPart bytes
+IsFront front.Refused bytes = IsUnread event_line FitsEvent bytes × (IsPart bytes → ⊥)
+
+-- of some bytes one front is so
+abbrev pub FrontsAreOne : Type 0
+FrontsAreOne = (a b : Front) (bytes : List ℕ) → IsFront a bytes → IsFront b bytes → a ≡ b
+
+-- a front that is no part is so whatever follows
+abbrev pub FrontsStay : Type 0
+FrontsStay = (a : Front) (bytes more : List ℕ) → a ≢ front.Part → IsFront a bytes → IsFront a (bytes ++ more)
 
 -- one line spells one event, and no event's line is the front of another's
 abbrev pub EventLinesAreOne : Type 0

@@ -85,6 +85,10 @@ effect_text effect.Yes = codes "yes"
 effect_text effect.No = codes "no"
 effect_text effect.Absent = codes "none"
 
+-- a task and what a cancel did to it, and the newline
+abbrev pub cancel_text : ℕ × CancelEffect → List ℕ
+cancel_text v = decimal v.0 ++ (codes " " ++ (effect_text v.1 ++ codes "\n"))
+
 -- the word of a policy
 abbrev pub policy_text : Which → List ℕ
 policy_text which.Continue = codes "continue"
@@ -113,8 +117,8 @@ outcome_text outcome.Ended = codes " ended\n"
 abbrev pub answer_text : Answer → List ℕ
 answer_text (answer.Submit k kind d) = codes " submit " ++ (decimal k ++ (codes " " ++ (kind_text kind ++ (codes " due " ++ (decimal d ++ codes "\n")))))
 answer_text (answer.Refuse k reason) = codes " refuse " ++ (decimal k ++ (codes " " ++ (refusal_text reason ++ codes "\n")))
-answer_text (answer.Cancel k e) = codes " cancel " ++ (decimal k ++ (codes " " ++ (effect_text e ++ codes "\n")))
-answer_text (answer.Outside k e) = codes " outside " ++ (decimal k ++ (codes " " ++ (effect_text e ++ codes "\n")))
+answer_text (answer.Cancel k e) = codes " cancel " ++ cancel_text (k, e)
+answer_text (answer.Outside k e) = codes " outside " ++ cancel_text (k, e)
 answer_text (answer.Policy which value) = codes " policy " ++ (policy_text which ++ (codes " " ++ (truth_text value ++ codes "\n")))
 answer_text answer.Shutdown = codes " shutdown\n"
 answer_text answer.ShutdownAgain = codes " shutdown again\n"
@@ -151,6 +155,10 @@ FitsOutcome (outcome.Failed c) = c < 2 ^ 32
 FitsOutcome (outcome.Again d) = d < 2 ^ 64
 FitsOutcome outcome.Dropped = Unit {0}
 FitsOutcome outcome.Ended = Unit {0}
+
+-- a task below 2^32
+abbrev pub FitsCancel : ℕ × CancelEffect → Type 0
+FitsCancel v = v.0 < 2 ^ 32
 
 -- a due moment and the number of a run below 2^64, a task and a number of tasks below 2^32, a worker below 256
 abbrev pub FitsAnswer : Answer → Type 0

@@ -5,7 +5,6 @@ use Rattle.std.specs.Prelude.{◌≡◌, ℕ, List, ◌++◌}
 pub record Puts (old new text : List ℕ) : Type 0 where
   pub is : new ≡ old ++ text
 
--- the bytes of a text, and how many more there is room for
-pub record TextAndRoom : Type 0 where
-  pub text : List ℕ
-  pub room : ℕ
+-- how many bytes of room are enough for any line of a trace (this project's limit)
+abbrev pub line_room : ℕ
+line_room = 128

@@ -1,14 +1,14 @@
 //! Answers that lines of a trace tell, read behind their first word. Each function here answers what a line says that begins
 //! with that word, of which the bytes are what follows, and what follows its newline; `None` exactly when there is no such line.
 ghost use Rattle.std.specs.Prelude.{MatchOption, ◌++◌, codes};
-ghost use Rattle.trace_text.specs.Spelling.{message_text, FitsMessage};
+ghost use Rattle.trace_text.specs.Spelling.{message_text, FitsMessage, cancel_text, FitsCancel};
 ghost use Rattle.trace_text.specs.Reading.{IsRead, IsUnread};
 
 use crate::scan::{code_before, number_before, strip, strip_word, worker_before};
 use crate::words::{
     split_effect, split_kind, split_outcome, split_refusal, split_truth, split_whether, split_which,
 };
-use executor_core::{Answer, Message};
+use executor_core::{Answer, CancelEffect, Message};
 
 /// A worker that starts a run, or gets no work.
 #[inline(always)]
@@ -102,9 +102,10 @@ pub fn split_refuse(bytes: &[u8]) -> Option<(Message, &[u8])>
     Some((Message::Answer(Answer::Refuse { task, refusal }), rest))
 }
 
-/// A task of which the plan asked for a cancel.
-pub fn split_cancel(bytes: &[u8]) -> Option<(Message, &[u8])>
-    ensures { MatchOption result (IsUnread message_text FitsMessage (codes " cancel " ++ bytes.now)) (λ r. IsRead message_text FitsMessage (codes " cancel " ++ bytes.now) r.0 r.1.now) }
+/// A task of which a cancel was asked for, by the plan or from outside, and what that did. Both words have this behind them, so
+/// that these bytes alone are told of.
+pub fn split_cancel(bytes: &[u8]) -> Option<((u32, CancelEffect), &[u8])>
+    ensures { MatchOption result (IsUnread cancel_text FitsCancel bytes.now) (λ r. IsRead cancel_text FitsCancel bytes.now r.0 r.1.now) }
 {
     let Some((task, rest)) = code_before(bytes, b" ") else {
         return None;
@@ -112,20 +113,7 @@ pub fn split_cancel(bytes: &[u8]) -> Option<(Message, &[u8])>
     let Some((effect, rest)) = split_effect(rest) else {
         return None;
     };
-    Some((Message::Answer(Answer::Cancel { task, effect }), rest))
-}
-
-/// A task of which a cancel was asked for from outside the plan.
-pub fn split_outside(bytes: &[u8]) -> Option<(Message, &[u8])>
-    ensures { MatchOption result (IsUnread message_text FitsMessage (codes " outside " ++ bytes.now)) (λ r. IsRead message_text FitsMessage (codes " outside " ++ bytes.now) r.0 r.1.now) }
-{
-    let Some((task, rest)) = code_before(bytes, b" ") else {
-        return None;
-    };
-    let Some((effect, rest)) = split_effect(rest) else {
-        return None;
-    };
-    Some((Message::Answer(Answer::Outside { task, effect }), rest))
+    Some(((task, effect), rest))
 }
 
 /// A policy, and what it was set to.

@@ -3,11 +3,12 @@
 
 ghost use Rattle.std.specs.Prelude.{◌≡◌, ℕ, ◌+◌, ◌≤◌, ◌<◌, ◌++◌, length, take, codes};
 ghost use Rattle.std.specs.Fmt.{decimal};
-ghost use Rattle.trace_text.specs.Spelling.{kind_text, refusal_text, error_text, effect_text, policy_text, truth_text, whether_text, outcome_text, answer_text};
+ghost use Rattle.trace_text.specs.Spelling.{kind_text, refusal_text, error_text, effect_text, policy_text, truth_text, whether_text, outcome_text, cancel_text, answer_text};
 ghost use Rattle.trace_text.specs.Writing.{Puts};
 ghost use Rattle.executor_core.specs.declared.Answer.TheVariants as a;
 
 use crate::put::{put_number, put_text};
+use crate::words::{CONTINUE, EXECUTE, REMOVE};
 use executor_core::{Answer, CancelEffect, EventError, Kind, Outcome, Refusal};
 use sched_time::Which;
 
@@ -92,7 +93,7 @@ fn put_refuse(buffer: &mut [u8], at: usize, task: u32, refusal: Refusal) -> usiz
 fn put_effect(buffer: &mut [u8], at: usize, task: u32, effect: CancelEffect) -> usize
     requires { at + 60 ≤ length buffer.old }
     ensures end { result ≤ at + 60 }
-    ensures put { Puts (take at buffer.old) (take result buffer.new) (decimal task ++ (codes " " ++ (effect_text effect ++ codes "\n"))) }
+    ensures put { Puts (take at buffer.old) (take result buffer.new) (cancel_text (task, effect)) }
 {
     let at = put_number(buffer, at, task as u64);
     let at = put_text(buffer, at, *b" ");
@@ -298,9 +299,9 @@ fn put_policy_text(buffer: &mut [u8], at: usize, which: Which) -> usize
     ensures put { Puts (take at buffer.old) (take result buffer.new) (policy_text which) }
 {
     match which {
-        Which::Continue => put_text(buffer, at, *b"continue"),
-        Which::Execute => put_text(buffer, at, *b"execute"),
-        Which::Remove => put_text(buffer, at, *b"remove"),
+        Which::Continue => put_text(buffer, at, CONTINUE),
+        Which::Execute => put_text(buffer, at, EXECUTE),
+        Which::Remove => put_text(buffer, at, REMOVE),
     }
 }
 

@@ -1,7 +1,6 @@
 //! What stands at the front of bytes that are read piece by piece.
-ghost use Rattle.std.specs.Prelude.{◌≡◌, ◌<◌, ◌↔◌, IsTrue, length};
-ghost use Rattle.trace_text.specs.Spelling.{IsLine};
-ghost use Rattle.trace_text.specs.Reading.{IsFront};
+ghost use Rattle.std.specs.Prelude.{◌↔◌, IsTrue};
+ghost use Rattle.trace_text.specs.Reading.{IsFront, IsPart};
 
 use crate::event::split_event;
 use executor_core::Event;
@@ -15,13 +14,14 @@ pub const MOST_EVENT_BYTES: usize = 63;
 pub enum Front {
     /// The line of an event, and how many bytes it has, with its newline.
     Event(Event, usize),
-    /// No newline yet, and fewer than [`MOST_EVENT_BYTES`] bytes: more of them may make a line.
+    /// No newline yet, and fewer than [`MOST_EVENT_BYTES`] bytes: more of them may make a line, or show that there is none.
     Part,
-    /// No event's line, whatever follows.
+    /// The first line is no event's, or no newline is among the first [`MOST_EVENT_BYTES`] bytes: so it stays whatever follows.
     Refused,
 }
 
-/// What stands at the front of some bytes, in one pass over the line where it is an event's.
+/// What stands at the front of some bytes, of the three one alone ([`fronts_are_one`](crate::fronts_are_one)), in one pass over
+/// the line where it is an event's.
 #[inline]
 pub fn front_event(bytes: &[u8]) -> Front
     ensures { IsFront result bytes.now }
@@ -39,7 +39,7 @@ pub fn front_event(bytes: &[u8]) -> Front
 /// room for one.
 #[cold]
 fn is_part(bytes: &[u8]) -> bool
-    ensures { IsTrue result ↔ (IsLine bytes.now × (length bytes.now < MOST_EVENT_BYTES)) }
+    ensures { IsTrue result ↔ IsPart bytes.now }
 {
     bytes.len() < MOST_EVENT_BYTES && memchr(b'\n', bytes).is_none()
 }

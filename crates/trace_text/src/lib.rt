@@ -6,8 +6,8 @@
 //!   piece, in one pass, and tells a part of a line from one that is refused. [`split_event`] also gives what follows.
 //! - [`read_line`] reads one line of a trace, with its newline. [`split_line`] reads at the front of a trace, and also gives what
 //!   follows, so that a trace is read line by line with no search for newlines.
-//! - [`write_line`] and [`write_lines`] append to a `Vec<u8>`. A [`TextBuffer`] does the same in a buffer that keeps its bytes,
-//!   so that none is cleared before it is written: the faster of the two. [`put_line`] writes at a place of any slice.
+//! - [`write_line`] appends to a `Vec<u8>`: it makes room and calls [`put_line`], which writes at a place of any slice. In a
+//!   buffer that keeps its bytes [`put_line`] alone is the faster of the two, as none is cleared before it is written.
 //!
 //! ```rust
 //! read_event(b"finish 0 ok 7\n");    // Some(Event::Finish(0, Ending::Value(7)))
@@ -20,8 +20,8 @@
 //! let trace = b"5 clock\n5 start 0 idle\n";
 //! split_line(trace);                 // Some((the line of the clock, b"5 start 0 idle\n"))
 //!
-//! let mut text = TextBuffer::new(alloc, 10 * LINE_ROOM)?;
-//! text.write_line(&Line { moment: 5, message: Message::Answer(Answer::Clock) })?;
+//! let mut text = Vec::with_capacity(alloc, 10 * LINE_ROOM)?;
+//! write_line(&mut text, &Line { moment: 5, message: Message::Answer(Answer::Clock) })?;
 //! text.as_slice();                   // b"5 clock\n"
 //! ```
 //!
@@ -63,13 +63,14 @@
 //!
 //! Lines are written in the order in which they are given. One line spells one event, and no event's line is the front of
 //! another's ([`event_lines_are_one`]); so it is with the lines of a trace ([`lines_are_one`]), of which each has one newline, its
-//! last byte ([`lines_end_once`]): so bytes are read in one way.
+//! last byte ([`lines_end_once`]): so bytes are read in one way. Of some bytes one [`Front`] alone is so ([`fronts_are_one`]), and
+//! but for a part it is so whatever follows ([`fronts_stay`]).
 //!
 //! # Errors
 //!
 //! [`TextError::Memory`]: the memory for a text was refused. Where there is room for [`LINE_ROOM`] bytes a line it does not come.
-//! A line that was not written leaves the text as it was, and the room for more; of several lines a front was written. A reader
-//! has no errors: it answers `None`, or [`Front::Refused`].
+//! A line that was not written leaves the text as it was, and the room for more. A reader has no errors: it answers `None`, or
+//! [`Front::Refused`].
 //!
 //! # Memory and cost
 //!
@@ -77,6 +78,8 @@
 //! line is looked for among twelve, those that are most frequent first. Writers write each byte where it stays, and take memory
 //! only where there is less room than [`LINE_ROOM`] bytes; a capacity never falls. The longest event's line has 35 bytes, the
 //! longest line of a trace 104.
+//!
+//! The tests of a module stand beside it, as `src/line/tests.rt`.
 #![tactic(auto)]
 
 mod answer;
@@ -90,17 +93,15 @@ mod message;
 mod message_text;
 mod put;
 mod scan;
-mod text_buffer;
 mod text_error;
 mod words;
 
 pub use event::{read_event, split_event};
 pub use front::{Front, MOST_EVENT_BYTES, front_event};
 pub use laws::{
-    event_lines_are_one, front_equality_tells, lines_are_one, lines_end_once,
-    most_event_bytes_is_the_limit, text_error_equality_tells,
+    event_lines_are_one, front_equality_tells, fronts_are_one, fronts_stay, line_room_is_the_limit,
+    lines_are_one, lines_end_once, most_event_bytes_is_the_limit, text_error_equality_tells,
 };
 pub use line::{read_line, split_line};
-pub use line_text::{LINE_ROOM, put_line, write_line, write_lines};
-pub use text_buffer::TextBuffer;
+pub use line_text::{LINE_ROOM, put_line, write_line};
 pub use text_error::TextError;

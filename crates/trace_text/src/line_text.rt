@@ -1,6 +1,6 @@
 //! The text of a trace's lines, appended.
-ghost use Rattle.std.specs.Prelude.{◌≡◌, ℕ, ◌+◌, ◌*◌, ◌≤◌, ◌<◌, ◌++◌, OnOk, OnErr, IsOk, length, take, vec_len, vec_capacity};
-ghost use Rattle.trace_text.specs.Spelling.{line_text, lines_text};
+ghost use Rattle.std.specs.Prelude.{◌≡◌, ◌+◌, ◌≤◌, ◌<◌, ◌++◌, OnOk, OnErr, IsOk, length, take, vec_len, vec_capacity};
+ghost use Rattle.trace_text.specs.Spelling.{line_text};
 ghost use Rattle.trace_text.specs.Writing.{Puts};
 
 use crate::message_text::put_message;
@@ -12,22 +12,8 @@ use std::alloc::Allocator;
 /// How many bytes of room are enough for any line of a trace. The longest has 104, with its newline.
 pub const LINE_ROOM: usize = 128;
 
-/// Appends the text of lines, each with its newline. An `Err` leaves the text of a front of them, one line less at least, and
-/// does not come where there is room for [`LINE_ROOM`] bytes a line. The capacity never falls.
-pub fn write_lines<A: Allocator>(out: &mut Vec<u8, A>, lines: &[Line]) -> Result<(), TextError>
-    ensures ok { OnOk result (out.new.items ≡ out.old.items ++ lines_text lines.now) }
-    ensures err { OnErr result ((n : ℕ) × (n < length lines.now) × (out.new.items ≡ out.old.items ++ lines_text (take n lines.now))) }
-    ensures room { vec_len out.old + LINE_ROOM * length lines.now ≤ vec_capacity out.old → IsOk result }
-    ensures keeps { vec_capacity out.old ≤ vec_capacity out.new }
-{
-    for line in lines {
-        write_line(out, line)?;
-    }
-    Ok(())
-}
-
-/// Appends the text of a line, with its newline. An `Err` leaves the items and the capacity as they were, and does not come
-/// where there is room for [`LINE_ROOM`] bytes. The capacity never falls.
+/// Appends the text of a line, with its newline: makes room for [`LINE_ROOM`] bytes, and lets [`put_line`] put it there. An `Err`
+/// leaves the items and the capacity as they were, and does not come where there is that room. The capacity never falls.
 #[inline]
 pub fn write_line<A: Allocator>(out: &mut Vec<u8, A>, line: &Line) -> Result<(), TextError>
     ensures ok { OnOk result (out.new.items ≡ out.old.items ++ line_text line.now) }

@@ -4,8 +4,8 @@ ghost use Rattle.trace_text.specs.Spelling.{message_text, FitsMessage};
 ghost use Rattle.trace_text.specs.Reading.{IsRead, IsUnread};
 
 use crate::answer::{
-    split_ask, split_cancel, split_finish, split_outside, split_policy, split_refuse,
-    split_shutdown, split_start, split_submit,
+    split_ask, split_cancel, split_finish, split_policy, split_refuse, split_shutdown, split_start,
+    split_submit,
 };
 use crate::scan::{code_before, strip_word};
 use crate::words::split_error;
@@ -33,10 +33,12 @@ pub fn split_message(bytes: &[u8]) -> Option<(Message, &[u8])>
         return split_end(rest);
     }
     if let Some(rest) = strip_word(bytes, *b" outside ") {
-        return split_outside(rest);
+        let ((task, effect), rest) = split_cancel(rest)?;
+        return Some((Message::Answer(Answer::Outside { task, effect }), rest));
     }
     if let Some(rest) = strip_word(bytes, *b" cancel ") {
-        return split_cancel(rest);
+        let ((task, effect), rest) = split_cancel(rest)?;
+        return Some((Message::Answer(Answer::Cancel { task, effect }), rest));
     }
     if let Some(rest) = strip_word(bytes, *b" refuse ") {
         return split_refuse(rest);

@@ -7,6 +7,13 @@ use crate::scan::{code_before, number_before, strip, strip_word};
 use executor_core::{Answer, CancelEffect, EventError, Kind, Message, Outcome, Refusal};
 use sched_time::Which;
 
+/// The word of [`Which::Continue`].
+pub const CONTINUE: [u8; 8] = *b"continue";
+/// The word of [`Which::Execute`].
+pub const EXECUTE: [u8; 7] = *b"execute";
+/// The word of [`Which::Remove`].
+pub const REMOVE: [u8; 6] = *b"remove";
+
 /// What a finished run led to, of which these bytes follow the space, to the newline, and what follows it.
 #[inline(always)]
 pub fn split_outcome(bytes: &[u8]) -> Option<(Outcome, &[u8])>
@@ -89,13 +96,22 @@ pub fn split_effect(bytes: &[u8]) -> Option<(CancelEffect, &[u8])>
 pub fn split_which(bytes: &[u8]) -> Option<(Which, &[u8])>
     ensures { MatchOption result (IsUnread (text_then policy_text (codes " ")) Any bytes.now) (λ r. IsRead (text_then policy_text (codes " ")) Any bytes.now r.0 r.1.now) }
 {
-    if let Some(rest) = strip_word(bytes, *b"continue ") {
+    let (which, rest) = split_policy_word(bytes)?;
+    let rest = strip(rest, b" ")?;
+    Some((which, rest))
+}
+
+/// A policy, and what follows its word.
+fn split_policy_word(bytes: &[u8]) -> Option<(Which, &[u8])>
+    ensures { MatchOption result (IsUnread policy_text Any bytes.now) (λ r. IsRead policy_text Any bytes.now r.0 r.1.now) }
+{
+    if let Some(rest) = strip_word(bytes, CONTINUE) {
         return Some((Which::Continue, rest));
     }
-    if let Some(rest) = strip_word(bytes, *b"execute ") {
+    if let Some(rest) = strip_word(bytes, EXECUTE) {
         return Some((Which::Execute, rest));
     }
-    if let Some(rest) = strip_word(bytes, *b"remove ") {
+    if let Some(rest) = strip_word(bytes, REMOVE) {
         return Some((Which::Remove, rest));
     }
     None

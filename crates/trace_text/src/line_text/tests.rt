@@ -1,8 +1,10 @@
 //! Lines of a trace by hand.
-use crate::line_text::write_lines;
+use crate::line_text::write_line;
 use executor_core::{Answer, CancelEffect, EventError, Kind, Line, Message, Outcome, Refusal};
 use sched_time::Which;
 use std::process::Abort;
+
+mod heaps;
 
 /// Checks the text of the line of an answer.
 fn writes(rt: &(impl AllocGlobal + Abort), moment: u64, answer: Answer, text: &str) {
@@ -12,7 +14,7 @@ fn writes(rt: &(impl AllocGlobal + Abort), moment: u64, answer: Answer, text: &s
 /// Checks the text of one line.
 fn writes_message(rt: &(impl AllocGlobal + Abort), moment: u64, message: Message, text: &str) {
     let mut out = Vec::new(rt.alloc());
-    let said = write_lines(&mut out, &[Line { moment, message }]);
+    let said = write_line(&mut out, &Line { moment, message });
     assert!(rt; said.is_ok(), "{text}");
     assert!(rt; out.as_slice() == text.as_bytes(), "{text}");
 }

@@ -105,7 +105,7 @@ returns-in-Refused-clause-turns g c = λ run between.
     let finished = wrote run answered after c.clear.new.self done (subst (Appends given after) c.bytes.ensures c.if-not-write_text.ensures.bytes) c.clear.ensures in
     let here : Progress = record { left = reader; held = new.held; text = c.clear.new.self; contents = after; core = new.core; count = new.count } in
     let stop = subst (λ (end : PieceEnd). IsPieceEnd end new.core new.held) c.in-Refused.is ok.end in
-    subst (λ (e : RunError). Runs (Err e) run.calls run.workers run.limit run.input reader run.contents after) (sym c.refused_line.ensures) (refused run here (new.core.taken + 1) finished c.clear.ensures near stop.1 stop.0 refl)
+    subst (λ (e : RunError). Runs (Err e) run.calls run.workers run.limit run.input reader run.contents after) (sym c.refused_line.ensures) (refused run here (new.core.taken + 1) finished c.clear.ensures near stop refl)
 
 pub returns-in-Full-clause-turns : goal.returns-in-Full-clause-turns
 returns-in-Full-clause-turns g c = λ run between.
