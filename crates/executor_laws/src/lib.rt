@@ -24,12 +24,16 @@
 //! No function fails, takes memory, or does anything when it runs.
 #![tactic(auto)]
 
+mod cancels;
 mod equality;
 mod laws;
 mod positions;
 mod states;
 mod sweeps;
 
+pub use cancels::{
+    cancels_go_by_words, cancels_touch_one_task, only_calls_sweep, outside_needs_its_cancel,
+};
 pub use equality::{
     answer_equality_tells, cancel_effect_equality_tells, core_error_equality_tells,
     event_equality_tells, event_error_equality_tells, happening_equality_tells,
