@@ -1,16 +1,15 @@
 -- What a cancel from outside is answered, by words, and that it touches one task alone.
-use Rattle.std.proofs.Common.{◌≡◌, ◌≢◌, ℕ, ◌==◌, ◌&&◌, ◌||◌, nat_lt, nat_le, Bool, true, false, cond, List, [], ◌∷◌, Option, Some, None, refl, sym, ap, ◌∙◌, arith, subst}
+use Rattle.std.proofs.Common.{◌≡◌, ◌≢◌, ℕ, ◌==◌, ◌&&◌, ◌||◌, nat_lt, nat_le, Bool, true, false, cond, List, [], Option, Some, None, refl, sym, ap, ◌∙◌, arith, subst}
 use Rattle.std.specs.Prelude.{slice_get, max, not, ◌-◌}
 use Rattle.std.specs.Option.{option_map_or}
 use Rattle.std.proofs.lemmas.Bool.{false≢true, and_parts, and_from, not_from_false, ne_eqb, eq-eqb}
 use Rattle.std.proofs.lemmas.Bool.Decides.{nat_tests}
 use Rattle.std.proofs.lemmas.Option.{none-some, same_Some}
-use Rattle.task_word.specs.Words.{marked}
 use Rattle.task_word.specs.declared.phases.Phase.TheVariants as w
 use Rattle.sched_time.specs.declared.timing.Ending.{Ending}
 use Rattle.queue_code.specs.declared.call.CodeCall.{CodeCall}
 use Rattle.queue_code.specs.declared.call.CodeCall.TheVariants as c
-use Rattle.queue_code.specs.Calls.{Planned, Terms, IsOrderly, numbers, task_count, terms_of, due_at}
+use Rattle.queue_code.specs.Calls.{Planned, Terms, numbers, task_count, terms_of, due_at}
 use Rattle.executor_core.specs.declared.policies.Policies.{Policies}
 use Rattle.executor_core.specs.declared.task.Phase.{Phase}
 use Rattle.executor_core.specs.declared.task.Phase.TheVariants as ph
@@ -29,9 +28,9 @@ use Rattle.executor_core.specs.declared.types.Need.{Need}
 use Rattle.executor_core.specs.declared.types.Need.TheVariants as n
 use Rattle.executor_core.specs.View.{Fate, View, is_running, is_waiting, is_enabled, first_enabled}
 use Rattle.executor_core.specs.Answers.{Reply, plain, called, kind_of, swept, is_swept, is_ended_by, set_policy, setting_sweeps, started, finished, outcome_in, stops_periodic, due_next, effect_on}
-use Rattle.executor_core.specs.Histories.{HistoryEntry, IsHistoryOf, happenings, is_submit, is_end}
+use Rattle.executor_core.specs.Histories.{happenings, is_submit, is_end}
 use Rattle.executor_core.specs.State.{State, view_of_state, seen_task, was_submitted, after, reply_of, state_after}
-use Rattle.executor_core.specs.Tasks.{word_of, word_phase}
+use Rattle.executor_core.specs.Tasks.{word_phase}
 use Rattle.executor_core.specs.Needs.{need_of, need_of_answer, need_of_cancel, need_of_finish}
 use Rattle.executor_core.proofs.Agree.{after_agrees}
 use Rattle.executor_core.proofs.Cancels.{of_vacant, of_waiting, of_running, of_cancelled, of_done, of_failed, live_is_used}
@@ -476,6 +475,7 @@ touches_one calls workers s j used =
     record {
       rest = refl;
       others = λ k apart. others_stay calls s j k (ne_eqb j k (λ q. apart (sym q)));
+      own = λ i. record t { cancelled = ((same i && true) || (false || false)) || t.cancelled; kept = and_true t.kept i || ((same i && true) && (is_waiting ((view_of_state calls s).fate j) && not s.policies.removes)) };
       word = λ i. record { phase = word_phase t.phase; run = t.run; marked = ((same i && true) || (false || false)) || t.cancelled };
       enabled = enabled_but calls s j;
       answers = answers_stay calls workers s j;

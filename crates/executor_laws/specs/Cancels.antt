@@ -1,6 +1,6 @@
 -- What a cancel from outside the plan is answered, by the word of its task, and what it leaves to the steps after it.
 -- All of it is this project's rule.
-use Rattle.std.specs.Prelude.{◌≡◌, ◌≢◌, ℕ, ◌<◌, ◌==◌, ◌&&◌, not, nat_lt, Bool, true, false, if◌then◌else◌, List, []}
+use Rattle.std.specs.Prelude.{◌≡◌, ◌≢◌, ℕ, ◌<◌, ◌==◌, ◌&&◌, ◌||◌, not, nat_lt, Bool, true, false, if◌then◌else◌, List, []}
 use Rattle.std.specs.Option.{option_map_or}
 use Rattle.std.specs.List.{list_any}
 use Rattle.task_word.specs.Words.{Parts, marked}
@@ -17,8 +17,8 @@ use Rattle.executor_core.specs.declared.types.Answer.{Answer}
 use Rattle.executor_core.specs.declared.types.Answer.TheVariants as a
 use Rattle.executor_core.specs.declared.types.Need.{Need}
 use Rattle.executor_core.specs.declared.types.Need.TheVariants as n
-use Rattle.executor_core.specs.View.{is_enabled, first_enabled}
-use Rattle.executor_core.specs.Answers.{Reply, plain}
+use Rattle.executor_core.specs.View.{is_waiting, is_enabled, first_enabled}
+use Rattle.executor_core.specs.Answers.{plain}
 use Rattle.executor_core.specs.Histories.{HistoryEntry, IsHistoryOf, happenings, is_call, is_end}
 use Rattle.executor_core.specs.State.{State, view_of_state, after, next, reply_of}
 use Rattle.executor_core.specs.Tasks.{word_of}
@@ -80,6 +80,8 @@ pub record TouchesOneTask (calls : List Planned) (workers : ℕ) (s t : State) (
   pub rest : t ≡ record s { tasks = t.tasks }
   pub others : (k : ℕ) → k ≢ j → t.tasks k ≡ s.tasks k
   pub word : word_of (t.tasks j) ≡ marked (word_of (s.tasks j))
+  -- that task is kept where it waited and the remove policy is false
+  pub own : t.tasks j ≡ record (s.tasks j) { cancelled = true; kept = (s.tasks j).kept || (is_waiting ((view_of_state calls s).fate j) && not s.policies.removes) }
   -- a start finds the same tasks but that one
   pub enabled : (k : ℕ) → is_enabled (view_of_state calls t) k ≡ (is_enabled (view_of_state calls s) k && not (j == k))
   -- each happening has the same answer, but those that tell of that task or count tasks

@@ -11,3 +11,4 @@ pub mod Policies
 pub mod Asks
 pub mod NeedWrites
 pub mod Cancels
+pub mod Lines
