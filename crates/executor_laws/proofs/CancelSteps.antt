@@ -27,7 +27,7 @@ use Rattle.executor_core.specs.declared.types.Answer.TheVariants as a
 use Rattle.executor_core.specs.declared.types.Need.{Need}
 use Rattle.executor_core.specs.declared.types.Need.TheVariants as n
 use Rattle.executor_core.specs.View.{Fate, View, is_running, is_waiting, is_enabled, first_enabled}
-use Rattle.executor_core.specs.Answers.{Reply, plain, called, kind_of, swept, is_swept, is_ended_by, set_policy, setting_sweeps, started, finished, outcome_in, stops_periodic, due_next, effect_on}
+use Rattle.executor_core.specs.Answers.{Reply, plain, called, kind_of, swept, is_swept, is_ended_by, set_policy, setting_sweeps, started, finished, queue_size, running_count, is_terminated, outcome_in, stops_periodic, due_next, effect_on}
 use Rattle.executor_core.specs.Histories.{happenings, is_submit, is_end}
 use Rattle.executor_core.specs.State.{State, view_of_state, seen_task, was_submitted, after, reply_of, state_after}
 use Rattle.executor_core.specs.Tasks.{word_phase}
@@ -284,6 +284,63 @@ answers_stay calls workers s j (h.Cancel k) q = by (nat_lt k (task_count calls))
     by true q = ap (a.Outside k) (effect_stays calls s j k q)
     by false q = refl
 
+-- the queue after task j was cancelled
+abbrev left_at : List Planned → State → ℕ → ℕ
+left_at calls s j = queue_size calls (view_of_state calls (cancelled_at calls s j))
+
+call_asks : (calls : List Planned) (s : State) (j moment queue running : ℕ) (shut terminated : Bool) (call : CodeCall) → (called calls (at (view_of_state calls s) moment) call).answer ≡ a.Ask queue running shut terminated →
+    (called calls (at (view_of_state calls (cancelled_at calls s j)) moment) call).answer ≡ a.Ask (left_at calls s j) running shut (is_terminated shut (left_at calls s j) running)
+call_asks calls s j moment queue running shut terminated (c.Submit task timing delay) q = absurd (by s.shut q)
+  where
+    by : (b : Bool) → cond b (a.Refuse task refusal.Rejected) (a.Submit task (kind_of timing) (due_at (terms_of calls task) 0 None)) ≡ a.Ask queue running shut terminated → ⊥
+    by true q = cc
+    by false q = cc
+call_asks calls s j moment queue running shut terminated (c.Illegal task) q = absurd cc
+call_asks calls s j moment queue running shut terminated (c.Cancel task) q = absurd cc
+call_asks calls s j moment queue running shut terminated (c.SetPolicy which value) q = absurd cc
+call_asks calls s j moment queue running shut terminated c.Shutdown q = absurd (by s.shut q)
+  where
+    by : (b : Bool) → (shutdown_reply calls (at (view_of_state calls s) moment) s.policies b).answer ≡ a.Ask queue running shut terminated → ⊥
+    by true q = cc
+    by false q = cc
+call_asks calls s j moment queue running shut terminated c.Ask q =
+    let left = left_at calls s j in
+    let runs : running_count calls (view_of_state calls s) ≡ running = cc in
+    let closed : s.shut ≡ shut = cc in λ i. a.Ask left (runs i) (closed i) (is_terminated (closed i) left (runs i))
+
+asks_stay : (calls : List Planned) (workers : ℕ) (s : State) (j : ℕ) (happening : Happening) (queue running : ℕ) (shut terminated : Bool) → (reply_of calls workers s happening).answer ≡ a.Ask queue running shut terminated →
+    (reply_of calls workers (cancelled_at calls s j) happening).answer ≡ a.Ask (left_at calls s j) running shut (is_terminated shut (left_at calls s j) running)
+asks_stay calls workers s j h.Call queue running shut terminated q = by (slice_get calls s.made) q
+  where
+    by : (call : Option Planned) → (call_reply calls s call).answer ≡ a.Ask queue running shut terminated →
+        (call_reply calls (cancelled_at calls s j) call).answer ≡ a.Ask (left_at calls s j) running shut (is_terminated shut (left_at calls s j) running)
+    by None q = absurd cc
+    by (Some p) q = call_asks calls s j (max s.moment p.0) queue running shut terminated p.1 q
+asks_stay calls workers s j (h.Clock moment) queue running shut terminated q = absurd (by _ _ q)
+  where
+    by : (b d : Bool) → cond b (a.Error x.Backward) (cond d (a.Error x.TooFar) a.Clock) ≡ a.Ask queue running shut terminated → ⊥
+    by true d q = cc
+    by false true q = cc
+    by false false q = cc
+asks_stay calls workers s j (h.Start v) queue running shut terminated q = absurd (by (nat_lt v workers) (s.workers v) (first_enabled (view_of_state calls s) (numbers calls)) q)
+  where
+    by : (b : Bool) (work first : Option ℕ) → cond b (option_map_or (λ _. a.Error x.Busy) work (started (view_of_state calls s) v first)) (a.Error x.NoWorker) ≡ a.Ask queue running shut terminated → ⊥
+    by true None None q = cc
+    by true None (Some k) q = cc
+    by true (Some k) first q = cc
+    by false work first q = cc
+asks_stay calls workers s j (h.Finish v ending) queue running shut terminated q = absurd (by (nat_lt v workers) (s.workers v) q)
+  where
+    by : (b : Bool) (work : Option ℕ) → cond b (finished calls (view_of_state calls s) v ending work) (a.Error x.NoWorker) ≡ a.Ask queue running shut terminated → ⊥
+    by true None q = cc
+    by true (Some k) q = cc
+    by false work q = cc
+asks_stay calls workers s j (h.Cancel k) queue running shut terminated q = absurd (by (nat_lt k (task_count calls)) q)
+  where
+    by : (b : Bool) → cond b (a.Outside k (effect_on ((view_of_state calls s).fate k))) (a.Error x.NoTask) ≡ a.Ask queue running shut terminated → ⊥
+    by true q = cc
+    by false q = cc
+
 -- ---- what is needed
 
 -- a need stays where it does not name task j, and else another one stands for it
@@ -479,6 +536,7 @@ touches_one calls workers s j used =
       word = λ i. record { phase = word_phase t.phase; run = t.run; marked = ((same i && true) || (false || false)) || t.cancelled };
       enabled = enabled_but calls s j;
       answers = answers_stay calls workers s j;
+      asks = asks_stay calls workers s j;
       ends = ends_but calls workers s j;
       needs = λ happening. (needs_turn calls workers s j happening (used happening)).0;
       instead = λ happening. (needs_turn calls workers s j happening (used happening)).1;

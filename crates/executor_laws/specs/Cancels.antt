@@ -18,7 +18,7 @@ use Rattle.executor_core.specs.declared.types.Answer.TheVariants as a
 use Rattle.executor_core.specs.declared.types.Need.{Need}
 use Rattle.executor_core.specs.declared.types.Need.TheVariants as n
 use Rattle.executor_core.specs.View.{is_waiting, is_enabled, first_enabled}
-use Rattle.executor_core.specs.Answers.{plain}
+use Rattle.executor_core.specs.Answers.{plain, queue_size, is_terminated}
 use Rattle.executor_core.specs.Histories.{HistoryEntry, IsHistoryOf, happenings, is_call, is_end}
 use Rattle.executor_core.specs.State.{State, view_of_state, after, next, reply_of}
 use Rattle.executor_core.specs.Tasks.{word_of}
@@ -87,6 +87,9 @@ pub record TouchesOneTask (calls : List Planned) (workers : ℕ) (s t : State) (
   -- each happening has the same answer, but those that tell of that task or count tasks
   pub answers : (happening : Happening) → tells_of j (reply_of calls workers s happening).answer ≡ false
       → (reply_of calls workers t happening).answer ≡ (reply_of calls workers s happening).answer
+  -- an ask counts the queue anew, and its other parts stay
+  pub asks : (happening : Happening) (queue running : ℕ) (shut terminated : Bool) → (reply_of calls workers s happening).answer ≡ a.Ask queue running shut terminated
+      → let left = queue_size calls (view_of_state calls t) in (reply_of calls workers t happening).answer ≡ a.Ask left running shut (is_terminated shut left running)
   -- each happening ends the same tasks but that one
   pub ends : (happening : Happening) (k : ℕ) → is_end k (reply_of calls workers t happening).ends ≡ (is_end k (reply_of calls workers s happening).ends && not (j == k))
   -- each need stays, but those that named that task
