@@ -14,3 +14,4 @@ pub mod Kept
 pub mod Asks
 pub mod Lines
 pub mod WordMoves
+pub mod CancelSteps

@@ -3,7 +3,7 @@ use Rattle.std.proofs.Common.{◌≡◌, ℕ, ◌+◌, ◌≤◌, ◌==◌, nat_
 use Rattle.std.specs.Prelude.{slice_get, max, ◌^◌, ◌||◌}
 use Rattle.std.specs.Option.{option_map_or}
 use Rattle.std.specs.List.{list_any}
-use Rattle.std.proofs.lemmas.Bool.{false≢true, eqb-true, eq-eqb}
+use Rattle.std.proofs.lemmas.Bool.{false≢true, eqb-true, eq-eqb, or_from}
 use Rattle.std.proofs.lemmas.Bool.Decides.{nat_tests}
 use Rattle.std.proofs.lemmas.Option.{none-some, same_Some}
 use Rattle.executor_core.specs.declared.types.EventError.TheVariants as x
@@ -180,10 +180,29 @@ works_since calls workers (f ∷ later) before e w k n d m start unended =
     let parts = none_of_parts (finishes_by w f.answer) (list_any (λ g. finishes_by w g.answer) later) unended in
     keeps w k f.answer (work_of w (later ++ e ∷ before)) (entry_tells calls workers (later ++ e ∷ before) f w m) parts.0 (works_since calls workers later before e w k n d m.0 start parts.1)
 
+-- a worker that works is not started
+starts_none : (w k : ℕ) (r : Answer) (work : Option ℕ) → Told w work r → work ≡ Some k → starts_by w r ≡ false
+starts_none w k (a.Start u j n d) work told is =
+    let by : (b : Bool) → (u == w) ≡ b → b ≡ false = elim [ true ↦ λ same. absurd (none-some k (sym (told same) ∙ is)) | false ↦ λ other. refl ] in
+    by (u == w) refl
+starts_none w k _ work told is = refl
+
+-- a start with no finish after it is the last one
+none_started : (calls : List Planned) (workers : ℕ) (later before : List HistoryEntry) (e : HistoryEntry) (w k n d : ℕ) → IsHistoryOf calls workers (later ++ e ∷ before) → e.answer ≡ a.Start w k n d →
+    list_any (λ f. finishes_by w f.answer) later ≡ false → list_any (λ f. starts_by w f.answer) later ≡ false
+none_started calls workers [] before e w k n d m start unended = refl
+none_started calls workers (f ∷ later) before e w k n d m start unended =
+    let parts = none_of_parts (finishes_by w f.answer) (list_any (λ g. finishes_by w g.answer) later) unended in
+    let works = works_since calls workers later before e w k n d m.0 start parts.1 in
+    or_from (starts_by w f.answer) (list_any (λ g. starts_by w g.answer) later) (starts_none w k f.answer (work_of w (later ++ e ∷ before)) (entry_tells calls workers (later ++ e ∷ before) f w m) works)
+    (none_started calls workers later before e w k n d m.0 start parts.1)
+
 -- the law that a worker's task is that of its last start
 pub work_is_the_last_start : WorkIsTheLastStart
 work_is_the_last_start calls workers past w k m = (
-  last_start past w k,
+  λ q.
+      let s = last_start past w k q in
+      (s, none_started calls workers s.later s.before s.e w k s.run s.due (subst (IsHistoryOf calls workers) s.parts m) s.start s.unfinished),
   λ s. subst (λ l. work_of w l ≡ Some k) (sym s.parts) (works_since calls workers s.later s.before s.e w k s.run s.due (subst (IsHistoryOf calls workers) s.parts m) s.start s.unfinished),
 )
 

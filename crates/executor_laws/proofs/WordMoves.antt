@@ -357,7 +357,7 @@ is_vacant ph.Failed q = absurd (false≢true (sym q))
 is_vacant ph.Dropped q = absurd (false≢true (sym q))
 
 -- a task that is submitted is one of the calls, and was not submitted before: just one call is its submission
-submits_once : (calls : List Planned) (workers : ℕ) (past : List HistoryEntry) (happening : Happening) (k : ℕ) → IsOrderly calls → IsHistoryOf calls workers past →
+pub submits_once : (calls : List Planned) (workers : ℕ) (past : List HistoryEntry) (happening : Happening) (k : ℕ) → IsOrderly calls → IsHistoryOf calls workers past →
     is_submit k (reply_of calls workers (after calls workers (happenings past)) happening).answer ≡ true → (((after calls workers (happenings past)).tasks k).phase ≡ ph.Vacant) × (k < task_count calls)
 submits_once calls workers past happening k orderly means q =
     let s = after calls workers (happenings past) in

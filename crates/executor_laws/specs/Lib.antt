@@ -10,3 +10,5 @@ pub mod TaskWords
 pub mod Policies
 pub mod Asks
 pub mod NeedWrites
+pub mod Cancels
+pub mod Lines

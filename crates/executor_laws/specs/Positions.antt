@@ -12,15 +12,11 @@ use Rattle.executor_core.specs.declared.types.Happening.{Happening}
 use Rattle.executor_core.specs.declared.types.Happening.TheVariants as h
 use Rattle.executor_core.specs.declared.types.Answer.{Answer}
 use Rattle.executor_core.specs.declared.types.Answer.TheVariants as a
-use Rattle.executor_core.specs.declared.types.Outcome.TheVariants as o
-use Rattle.executor_core.specs.declared.types.Line.{Line}
-use Rattle.executor_core.specs.declared.types.Message.{Message}
-use Rattle.executor_core.specs.declared.types.Message.TheVariants as m
 use Rattle.queue_code.specs.Calls.{Planned, how_many, numbers, task_count, IsOrderly, terms_of}
 use Rattle.executor_core.specs.View.{View, is_waiting, is_enabled, precedes, first_enabled}
 use Rattle.executor_core.specs.Histories.{HistoryEntry, IsHistoryOf, MayCome, happenings, is_call, is_finish, last_finish, view_of_history, made, now_of, work_of}
 use Rattle.executor_core.specs.Within.{latest_due}
-use Rattle.executor_core.specs.Flows.{reached, flow, happening_of, lines_of}
+use Rattle.executor_core.specs.Flows.{reached, flow, happening_of}
 
 -- ---- the work of a worker
 
@@ -45,10 +41,12 @@ pub record StartedLast (past : List HistoryEntry) (w k : ℕ) : Type 0 where
   pub start : e.answer ≡ a.Start w k run due
   pub unfinished : list_any (λ f. finishes_by w f.answer) later ≡ false
 
--- the work of a worker is the task of its last start, where no finish came after it
+-- the work of a worker is the task of its last start, where no finish came after it; where a start has no finish after it,
+-- its task is the work
 abbrev pub WorkIsTheLastStart : Type 0
 WorkIsTheLastStart = (calls : List Planned) (workers : ℕ) (past : List HistoryEntry) (w k : ℕ) → IsHistoryOf calls workers past
-    → (work_of w past ≡ Some k → StartedLast past w k) × (StartedLast past w k → work_of w past ≡ Some k)
+    → (work_of w past ≡ Some k → (start : StartedLast past w k) × (list_any (λ e. starts_by w e.answer) start.later ≡ false))
+    × (StartedLast past w k → work_of w past ≡ Some k)
 
 -- one while it works
 abbrev pub busy : Option ℕ → ℕ
@@ -193,25 +191,6 @@ WaitingIsATask = (calls : List Planned) (workers : ℕ) (past : List HistoryEntr
 abbrev pub WaitingIsDueInTime : Type 0
 WaitingIsDueInTime = (calls : List Planned) (workers : ℕ) (past : List HistoryEntry) (k : ℕ) → IsOrderly calls → IsHistoryOf calls workers past
     → is_waiting ((view_of_history calls past).fate k) ≡ true → ((view_of_history calls past).fate k).due ≤ latest_due
-
--- ---- the lines
-
--- the due moment that an answer names, where it names one, is not later than the latest due moment
-abbrev pub IsDueInTime : Answer → Type 0
-IsDueInTime (a.Submit task kind due) = due ≤ latest_due
-IsDueInTime (a.Start worker task run due) = due ≤ latest_due
-IsDueInTime (a.Finish worker task run (o.Again due)) = due ≤ latest_due
-IsDueInTime _ = Unit {0}
-
--- the same of what a line says
-abbrev pub SaysInTime : Message → Type 0
-SaysInTime (m.Answer answer) = IsDueInTime answer
-SaysInTime (m.End task) = Unit {0}
-
--- each line of a history is of a moment within the limit, and names no due moment that is later than the latest one
-abbrev pub LinesAreInTime : Type 0
-LinesAreInTime = (calls : List Planned) (workers : ℕ) (past : List HistoryEntry) (n : ℕ) (line : Line) → IsOrderly calls → IsHistoryOf calls workers past
-    → slice_get (lines_of calls past) n ≡ Some line → (line.moment ≤ longest) × SaysInTime line.message
 
 -- ---- the last finish of a task
 

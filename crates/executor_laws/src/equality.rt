@@ -1,82 +1,82 @@
-//! What the comparisons of the executor's types say: `==` leaves no field out.
-ghost use Rattle.std.specs.Prelude.{◌≡◌, true};
+//! What the comparisons of the executor's types say: `==` is true of a value and itself, and leaves no field out.
+ghost use Rattle.std.specs.Prelude.{◌≡◌, ◌↔◌, true};
 
 use executor_core::{
     Answer, CancelEffect, CoreError, Event, EventError, Happening, Kind, Line, Message, Need,
     Outcome, Phase, Policies, Refusal, Task,
 };
 
-/// `==` of two CoreErrors says that they are equal.
+/// Two errors of a core compare as equal exactly when they are the same.
 pub fn core_error_equality_tells()
-    ensures { (a b : CoreError) → ⟦<CoreError as PartialEq>⟧.eq a b ≡ true → a ≡ b }
+    ensures { (a b : CoreError) → (⟦<CoreError as PartialEq>⟧.eq a b ≡ true) ↔ (a ≡ b) }
 {}
 
-/// `==` of two Phases says that they are equal.
+/// Two phases compare as equal exactly when they are the same.
 pub fn phase_equality_tells()
-    ensures { (a b : Phase) → ⟦<Phase as PartialEq>⟧.eq a b ≡ true → a ≡ b }
+    ensures { (a b : Phase) → (⟦<Phase as PartialEq>⟧.eq a b ≡ true) ↔ (a ≡ b) }
 {}
 
-/// `==` of two Tasks says that they are equal.
+/// Two tasks compare as equal exactly when they are the same.
 pub fn task_equality_tells()
-    ensures { (a b : Task) → ⟦<Task as PartialEq>⟧.eq a b ≡ true → a ≡ b }
+    ensures { (a b : Task) → (⟦<Task as PartialEq>⟧.eq a b ≡ true) ↔ (a ≡ b) }
 {}
 
-/// `==` of two Events says that they are equal.
+/// Two events compare as equal exactly when they are the same.
 pub fn event_equality_tells()
-    ensures { (a b : Event) → ⟦<Event as PartialEq>⟧.eq a b ≡ true → a ≡ b }
+    ensures { (a b : Event) → (⟦<Event as PartialEq>⟧.eq a b ≡ true) ↔ (a ≡ b) }
 {}
 
-/// `==` of two Happenings says that they are equal.
+/// Two happenings compare as equal exactly when they are the same.
 pub fn happening_equality_tells()
-    ensures { (a b : Happening) → ⟦<Happening as PartialEq>⟧.eq a b ≡ true → a ≡ b }
+    ensures { (a b : Happening) → (⟦<Happening as PartialEq>⟧.eq a b ≡ true) ↔ (a ≡ b) }
 {}
 
-/// `==` of two Kinds says that they are equal.
+/// Two kinds compare as equal exactly when they are the same.
 pub fn kind_equality_tells()
-    ensures { (a b : Kind) → ⟦<Kind as PartialEq>⟧.eq a b ≡ true → a ≡ b }
+    ensures { (a b : Kind) → (⟦<Kind as PartialEq>⟧.eq a b ≡ true) ↔ (a ≡ b) }
 {}
 
-/// `==` of two Refusals says that they are equal.
+/// Two refusals compare as equal exactly when they are the same.
 pub fn refusal_equality_tells()
-    ensures { (a b : Refusal) → ⟦<Refusal as PartialEq>⟧.eq a b ≡ true → a ≡ b }
+    ensures { (a b : Refusal) → (⟦<Refusal as PartialEq>⟧.eq a b ≡ true) ↔ (a ≡ b) }
 {}
 
-/// `==` of two EventErrors says that they are equal.
+/// Two errors of events compare as equal exactly when they are the same.
 pub fn event_error_equality_tells()
-    ensures { (a b : EventError) → ⟦<EventError as PartialEq>⟧.eq a b ≡ true → a ≡ b }
+    ensures { (a b : EventError) → (⟦<EventError as PartialEq>⟧.eq a b ≡ true) ↔ (a ≡ b) }
 {}
 
-/// `==` of two CancelEffects says that they are equal.
+/// Two effects of cancels compare as equal exactly when they are the same.
 pub fn cancel_effect_equality_tells()
-    ensures { (a b : CancelEffect) → ⟦<CancelEffect as PartialEq>⟧.eq a b ≡ true → a ≡ b }
+    ensures { (a b : CancelEffect) → (⟦<CancelEffect as PartialEq>⟧.eq a b ≡ true) ↔ (a ≡ b) }
 {}
 
-/// `==` of two Needs says that they are equal.
+/// Two needs compare as equal exactly when they are the same.
 pub fn need_equality_tells()
-    ensures { (a b : Need) → ⟦<Need as PartialEq>⟧.eq a b ≡ true → a ≡ b }
+    ensures { (a b : Need) → (⟦<Need as PartialEq>⟧.eq a b ≡ true) ↔ (a ≡ b) }
 {}
 
-/// `==` of two Outcomes says that they are equal.
+/// Two outcomes compare as equal exactly when they are the same.
 pub fn outcome_equality_tells()
-    ensures { (a b : Outcome) → ⟦<Outcome as PartialEq>⟧.eq a b ≡ true → a ≡ b }
+    ensures { (a b : Outcome) → (⟦<Outcome as PartialEq>⟧.eq a b ≡ true) ↔ (a ≡ b) }
 {}
 
-/// `==` of two Answers says that they are equal.
+/// Two answers compare as equal exactly when they are the same.
 pub fn answer_equality_tells()
-    ensures { (a b : Answer) → ⟦<Answer as PartialEq>⟧.eq a b ≡ true → a ≡ b }
+    ensures { (a b : Answer) → (⟦<Answer as PartialEq>⟧.eq a b ≡ true) ↔ (a ≡ b) }
 {}
 
-/// `==` of two Lines says that they are equal.
+/// Two lines compare as equal exactly when they are the same.
 pub fn line_equality_tells()
-    ensures { (a b : Line) → ⟦<Line as PartialEq>⟧.eq a b ≡ true → a ≡ b }
+    ensures { (a b : Line) → (⟦<Line as PartialEq>⟧.eq a b ≡ true) ↔ (a ≡ b) }
 {}
 
-/// `==` of two Messages says that they are equal.
+/// Two messages compare as equal exactly when they are the same.
 pub fn message_equality_tells()
-    ensures { (a b : Message) → ⟦<Message as PartialEq>⟧.eq a b ≡ true → a ≡ b }
+    ensures { (a b : Message) → (⟦<Message as PartialEq>⟧.eq a b ≡ true) ↔ (a ≡ b) }
 {}
 
-/// `==` of two Policies says that they are equal.
+/// Two values of the policies compare as equal exactly when they are the same.
 pub fn policies_equality_tells()
-    ensures { (a b : Policies) → ⟦<Policies as PartialEq>⟧.eq a b ≡ true → a ≡ b }
+    ensures { (a b : Policies) → (⟦<Policies as PartialEq>⟧.eq a b ≡ true) ↔ (a ≡ b) }
 {}

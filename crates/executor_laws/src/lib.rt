@@ -9,10 +9,12 @@
 //! # Behaviour
 //!
 //! The first group says what a client of the executor may rely on: due moments, order, ties, overlap, failures, cancels.
-//! The second one says what the definitions, which count and recur over a history, say of the positions in it. The
-//! third one is on states: what the words of the tasks say of the history, that no answer lowers the rank of a word or
-//! changes a cancelled one, that an error changes nothing, and that a need names what a step moves. The fourth one is on policies, the shutdown, sweeps and kept
-//! tasks. The last one says that `==` of the executor's types leaves no field out.
+//! The second one says what the definitions, which count and recur over a history, say of the positions in it, and the
+//! ranges of the numbers in its lines. The third one is on states: what the words of the tasks say of the history, that no
+//! answer lowers the rank of a word or changes a cancelled one, that an error changes nothing, and that a need names what a
+//! step moves. The fourth one is on cancels from outside, as a layer needs them that meets them in words first: the word of a
+//! task decides the answer, and a cancel with an effect touches its task alone. The fifth one is on policies, the shutdown,
+//! sweeps and kept tasks. The last one says that `==` of the executor's types is true exactly of the same values.
 //!
 //! # Order and ties
 //!
@@ -22,14 +24,22 @@
 //! # Errors, memory and cost
 //!
 //! No function fails, takes memory, or does anything when it runs.
+//!
+//! # Tests
+//!
+//! None stand here: a law is proved. The tests of the definitions that the laws are about stand in `executor_plain`.
 #![tactic(auto)]
 
+mod cancels;
 mod equality;
 mod laws;
 mod positions;
 mod states;
 mod sweeps;
 
+pub use cancels::{
+    cancels_go_by_words, cancels_touch_one_task, only_calls_sweep, outside_needs_its_cancel,
+};
 pub use equality::{
     answer_equality_tells, cancel_effect_equality_tells, core_error_equality_tells,
     event_equality_tells, event_error_equality_tells, happening_equality_tells,
@@ -46,7 +56,7 @@ pub use laws::{
 };
 pub use positions::{
     asks_by_position, finish_keeps_now, first_is_the_least, flow_keeps_the_events,
-    flow_makes_what_is_reached, flow_may_come, last_finish_is_the_last, lines_are_in_time,
+    flow_makes_what_is_reached, flow_may_come, last_finish_is_the_last, lines_are_in_range,
     none_is_enabled, now_is_the_greatest, reached_is_a_front, starts_exceed_finishes,
     tasks_are_submitted, terms_are_its_own, waiting_is_a_task, waiting_is_due_in_time,
     work_is_the_last_start,

@@ -1,8 +1,10 @@
 //! What the definitions by recursion say of the positions in a history.
-ghost use Rattle.executor_laws.specs.Positions.{WorkIsTheLastStart, StartsExceedFinishes, NowIsTheGreatest, FirstIsTheLeast, NoneIsEnabled, ReachedIsAFront, TasksAreSubmitted, TermsAreItsOwn, FlowKeepsTheEvents, FlowMakesWhatIsReached, FlowMayCome, WaitingIsATask, WaitingIsDueInTime, LinesAreInTime, LastFinishIsTheLast, FinishKeepsNow};
+ghost use Rattle.executor_laws.specs.Positions.{WorkIsTheLastStart, StartsExceedFinishes, NowIsTheGreatest, FirstIsTheLeast, NoneIsEnabled, ReachedIsAFront, TasksAreSubmitted, TermsAreItsOwn, FlowKeepsTheEvents, FlowMakesWhatIsReached, FlowMayCome, WaitingIsATask, WaitingIsDueInTime, LastFinishIsTheLast, FinishKeepsNow};
+ghost use Rattle.executor_laws.specs.Lines.{LinesAreInRange};
 ghost use Rattle.executor_laws.specs.Asks.{AsksByPosition};
 
-/// The work of a worker is the task of its last start, where no finish came after it.
+/// The work of a worker is the task of its last start, where no finish came after it; where a start has no finish after it,
+/// its task is the work.
 pub fn work_is_the_last_start()
     ensures { WorkIsTheLastStart }
 {}
@@ -67,10 +69,11 @@ pub fn waiting_is_due_in_time()
     ensures { WaitingIsDueInTime }
 {}
 
-/// Each line of a history has a moment of at most 2^62 nanoseconds, and each due moment in it is at
-/// most 2^63.
-pub fn lines_are_in_time()
-    ensures { LinesAreInTime }
+/// Each line of a history has a moment of at most 2^62 nanoseconds. Each due moment in it is at most 2^63, each task is one
+/// of the plan and each worker one of the workers, a run has a number below the length of the history, no more tasks are
+/// counted than there are, and a value or a code is one that a run ended with.
+pub fn lines_are_in_range()
+    ensures { LinesAreInRange }
 {}
 
 /// The last finish of a task is the one with no other after it, at its moment.

@@ -32,6 +32,10 @@
 //! An answer to a start, and the tasks of a sweep, go over the whole history once and more for each task; an answer to
 //! a question goes over what stands before each entry once and more for each task, and each other one over the whole
 //! history a few times: it is slow, and for tests.
+//!
+//! # Tests
+//!
+//! `src/tests` compares this program with cores, and the tests of `executor_core` by itself stand in `src/tests/cores`.
 #![tactic(auto)]
 
 mod ends;
