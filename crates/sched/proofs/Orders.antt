@@ -17,14 +17,14 @@ use Rattle.sched_engine.specs.CodeTexts.{Listed}
 use Rattle.sched_engine.specs.declared.report.Report.{Report}
 use Rattle.sched_engine.specs.declared.report.RunError.{RunError}
 use Rattle.sched_engine.specs.declared.report.RunError.TheVariants as x
-use Rattle.sched.specs.declared.fault_lines.Fault.{Fault}
-use Rattle.sched.specs.declared.fault_lines.Fault.TheVariants.{TraceFile, TraceTooLong, Run}
+use Rattle.sched.specs.declared.error.ProgramError.{ProgramError}
+use Rattle.sched.specs.declared.error.ProgramError.TheVariants.{TraceFile, TraceTooLong, Run}
 use Rattle.sched.specs.declared.arguments.RunArguments.{RunArguments}
-use Rattle.sched.specs.Answers.{ListedAsAsked, RanAsAsked, Tells}
-use Rattle.sched.specs.Faults.{IsToldAs}
+use Rattle.sched.specs.Answers.{ListedAsAsked, RanAsAsked, TellsEnd}
+use Rattle.sched.specs.Errors.{IsToldAs}
 use Rattle.sched.specs.Findings.{IsCheckedAsAsked}
 use Rattle.trace_check.specs.Standing.{most_bytes}
-use Rattle.sched.specs.Order.{AnswersCheck, AnswersCode, AnswersRun, code_faults, first_of, is_worker_count, plan_fault, run_faults}
+use Rattle.sched.specs.Order.{AnswersCheck, AnswersCode, AnswersRun, code_faults, first_present, is_worker_count, plan_fault, run_faults}
 
 -- what stays is kept
 pub kept : (contents : Option (List ℕ)) → Keeps contents contents
@@ -52,7 +52,7 @@ memory_or_not k.TooMany = inr (λ q. cc)
 memory_or_not k.Memory = inl refl
 
 -- a fault of a plan's text is told as want of memory, or as itself
-pub told_plan : (text : List ℕ) (fault : PlanFault) (told : Fault) → (fault_of_text text ≡ Some fault) ⊎ (fault ≡ out_of_memory) → IsToldAs (x.Plan fault) told
+pub told_plan : (text : List ℕ) (fault : PlanFault) (told : ProgramError) → (fault_of_text text ≡ Some fault) ⊎ (fault ≡ out_of_memory) → IsToldAs (x.Plan fault) told
     → (told ≡ Run x.Memory) ⊎ (plan_fault text ≡ Some told)
 told_plan text fault told why is = elim (memory_or_not fault.kind) [
   | inl memory ↦ inl (is.0 memory)
@@ -88,7 +88,7 @@ too_long n long = grind (arith, nat_tests)
 -- ---- a check
 
 -- the plan has a fault
-pub check_wrong_plan : (text : List ℕ) (fault : PlanFault) (told : Fault) (IsPlan IsTrace : Option (List ℕ) → Type 0) (workers : ℕ) (contents : Option (List ℕ))
+pub check_wrong_plan : (text : List ℕ) (fault : PlanFault) (told : ProgramError) (IsPlan IsTrace : Option (List ℕ) → Type 0) (workers : ℕ) (contents : Option (List ℕ))
     → (fault_of_text text ≡ Some fault) ⊎ (fault ≡ out_of_memory) → IsToldAs (x.Plan fault) told → IsPlan (Some text)
     → AnswersCheck (Err told) IsPlan IsTrace workers contents contents
 check_wrong_plan text fault told IsPlan IsTrace workers contents why is read = elim (told_plan text fault told why is) [
@@ -103,7 +103,7 @@ check_wrong_plan text fault told IsPlan IsTrace workers contents why is read = e
 ]
 
 -- the trace's file was not read, or is too long
-pub check_no_trace : (text : List ℕ) (plan : PlanTree) (fault : Fault) (IsPlan IsFront IsTrace : Option (List ℕ) → Type 0) (workers : ℕ) (contents : Option (List ℕ))
+pub check_no_trace : (text : List ℕ) (plan : PlanTree) (fault : ProgramError) (IsPlan IsFront IsTrace : Option (List ℕ) → Type 0) (workers : ℕ) (contents : Option (List ℕ))
     → TextWrites text plan → IsPlan (Some text) → ((trace : Option (List ℕ)) → IsFront trace → IsTrace trace)
     → (fault ≡ TraceTooLong) ⊎ (fault ≡ Run x.Memory) ⊎ ((fault ≡ TraceFile) × IsFront None)
     → (fault ≡ TraceTooLong → (trace : List ℕ) × IsFront (Some trace) × (most_bytes < length trace))
@@ -130,7 +130,7 @@ check_no_trace text plan fault IsPlan IsFront IsTrace workers contents writes re
     })
 
 -- where the number of workers is out of range that is told
-told_workers : (answer : Result ℕ Fault) (plan : PlanTree) (workers : ℕ) (trace : List ℕ) (old new : Option (List ℕ)) → is_worker_count workers ≡ false
+told_workers : (answer : Result ℕ ProgramError) (plan : PlanTree) (workers : ℕ) (trace : List ℕ) (old new : Option (List ℕ)) → is_worker_count workers ≡ false
     → (¬ IsWorkerCount workers → answer ≡ Err (Run x.Workers)) → IsCheckedAsAsked answer plan workers trace old new
     → (answer ≡ Err (Run x.Workers)) × Keeps old new
 told_workers answer plan workers trace old new few wrong checked =
@@ -139,7 +139,7 @@ told_workers answer plan workers trace old new few wrong checked =
     (is, c.1)
 
 -- both files were read
-pub check_both : (text : List ℕ) (plan : PlanTree) (trace : List ℕ) (answer : Result ℕ Fault) (IsPlan IsTrace : Option (List ℕ) → Type 0) (workers : ℕ) (old new : Option (List ℕ))
+pub check_both : (text : List ℕ) (plan : PlanTree) (trace : List ℕ) (answer : Result ℕ ProgramError) (IsPlan IsTrace : Option (List ℕ) → Type 0) (workers : ℕ) (old new : Option (List ℕ))
     → TextWrites text plan → IsPlan (Some text) → IsTrace (Some trace) → length trace ≤ most_bytes
     → (¬ IsWorkerCount workers → answer ≡ Err (Run x.Workers))
     → IsCheckedAsAsked answer plan workers trace old new
@@ -162,15 +162,15 @@ check_both text plan trace answer IsPlan IsTrace workers old new writes read tra
 -- ---- a listing
 
 -- a text that writes a plan has none of the faults of a listing
-no_code_fault : (text : List ℕ) (plan : PlanTree) → TextWrites text plan → first_of (code_faults (Some text)) ≡ None
+no_code_fault : (text : List ℕ) (plan : PlanTree) → TextWrites text plan → first_present (code_faults (Some text)) ≡ None
 no_code_fault text plan writes = rw (no_plan_fault text plan writes) refl
 
 -- the plan's file was read
-pub code_read : (text : List ℕ) (answer : Result ℕ Fault) (IsPlan : Option (List ℕ) → Type 0) (old new : Option (List ℕ))
+pub code_read : (text : List ℕ) (answer : Result ℕ ProgramError) (IsPlan : Option (List ℕ) → Type 0) (old new : Option (List ℕ))
     → IsPlan (Some text) → ListedAsAsked answer text old new → AnswersCode answer IsPlan old new
 code_read text answer IsPlan old new read all = go all.ended all.listed all.told
   where
-    go : (ended : Result (Unit {0}) RunError) → Listed ended text old new → Tells ended answer → AnswersCode answer IsPlan old new
+    go : (ended : Result (Unit {0}) RunError) → Listed ended text old new → TellsEnd ended answer → AnswersCode answer IsPlan old new
     go (Ok done) listed told = inr (Some text, read, rw (no_code_fault text listed.1.plan listed.1.reads) all)
     go (Err x.Write) listed told = inr (Some text, read, rw (no_code_fault text listed.1.plan listed.1.reads) all)
     go (Err (x.Plan fault)) listed told = elim (told_plan text fault told.0 listed.0 told.1) [
@@ -192,18 +192,18 @@ some_events limit more = grind (arith, nat_tests)
 
 -- what a run may go over has none of the faults of a run
 no_run_fault : (text : List ℕ) (plan : PlanTree) (workers limit : ℕ) → TextWrites text plan → IsWorkerCount workers → 0 < limit
-    → first_of (run_faults (Some text) workers limit) ≡ None
+    → first_present (run_faults (Some text) workers limit) ≡ None
 no_run_fault text plan workers limit writes all more = rw (no_plan_fault text plan writes, counted workers all, some_events limit more) refl
 
 -- the plan's file was read
-pub run_read : (text : List ℕ) (answer : Result ℕ Fault) (IsPlan : Option (List ℕ) → Type 0) (asked : RunArguments) (input left old new : Option (List ℕ))
+pub run_read : (text : List ℕ) (answer : Result ℕ ProgramError) (IsPlan : Option (List ℕ) → Type 0) (asked : RunArguments) (input left old new : Option (List ℕ))
     → IsPlan (Some text) → RanAsAsked answer asked text input left old new → AnswersRun answer IsPlan asked input left old new
 run_read text answer IsPlan asked input left old new read all = go all.ended all.ran all.told
   where
     accepted : (calls : _) → IsAccepted text calls asked.workers asked.limit → AnswersRun answer IsPlan asked input left old new
     accepted calls a = inr (Some text, read, rw (no_run_fault text a.plan asked.workers asked.limit a.reads a.counted a.positive) all)
 
-    go : (ended : Result Report RunError) → Ran ended text asked.workers asked.limit input left old new → Tells ended answer → AnswersRun answer IsPlan asked input left old new
+    go : (ended : Result Report RunError) → Ran ended text asked.workers asked.limit input left old new → TellsEnd ended answer → AnswersRun answer IsPlan asked input left old new
     go (Ok report) ran told = accepted ran.0 ran.1
     go (Err (x.Plan fault)) ran told = elim (told_plan text fault told.0 ran.0 told.1) [
       | inl memory ↦ inl (told.2 ∙ ap Err memory, ran.1)

@@ -1,32 +1,32 @@
 -- Answers: how the end of a run is told.
 -- All of it is this project's rule.
 use Rattle.std.specs.Prelude.{◌≡◌, ℕ, List, Option, Result, Ok, Err}
-use Rattle.sched.specs.Faults.{IsToldAs, status_of}
+use Rattle.sched.specs.Errors.{IsToldAs, status_of}
 use Rattle.sched.specs.declared.arguments.RunArguments.{RunArguments}
-use Rattle.sched.specs.declared.fault_lines.Fault.{Fault}
+use Rattle.sched.specs.declared.error.ProgramError.{ProgramError}
 use Rattle.sched_engine.specs.Running.{Ran}
 use Rattle.sched_engine.specs.CodeTexts.{Listed}
 use Rattle.sched_engine.specs.declared.report.Report.{Report}
 use Rattle.sched_engine.specs.declared.report.RunError.{RunError}
 
--- what was done is told by status 0, and what was not by its fault
-abbrev pub Tells : {T : Type 0} → Result T RunError → Result ℕ Fault → Type 0
-Tells (Ok done) answer = answer ≡ Ok 0
-Tells (Err error) answer = (fault : Fault) × IsToldAs error fault × (answer ≡ Err fault)
+-- what was done is told by status 0, and what was not by its error
+abbrev pub TellsEnd : {T : Type 0} → Result T RunError → Result ℕ ProgramError → Type 0
+TellsEnd (Ok done) answer = answer ≡ Ok 0
+TellsEnd (Err error) answer = (fault : ProgramError) × IsToldAs error fault × (answer ≡ Err fault)
 
 -- the run that was asked for, over the plan that the text writes, and its end as the answer tells it
-pub record RanAsAsked (answer : Result ℕ Fault) (asked : RunArguments) (text : List ℕ) (input left old new : Option (List ℕ)) : Type 0 where
+pub record RanAsAsked (answer : Result ℕ ProgramError) (asked : RunArguments) (text : List ℕ) (input left old new : Option (List ℕ)) : Type 0 where
   pub ended : Result Report RunError
   pub ran : Ran ended text asked.workers asked.limit input left old new
-  pub told : Tells ended answer
+  pub told : TellsEnd ended answer
 
 -- the listing of the plan that the text writes, and its end as the answer tells it
-pub record ListedAsAsked (answer : Result ℕ Fault) (text : List ℕ) (old new : Option (List ℕ)) : Type 0 where
+pub record ListedAsAsked (answer : Result ℕ ProgramError) (text : List ℕ) (old new : Option (List ℕ)) : Type 0 where
   pub ended : Result (Unit {0}) RunError
   pub listed : Listed ended text old new
-  pub told : Tells ended answer
+  pub told : TellsEnd ended answer
 
 -- the exit status that goes with an answer
-abbrev pub exit_status_of : Result ℕ Fault → ℕ
+abbrev pub exit_status_of : Result ℕ ProgramError → ℕ
 exit_status_of (Ok status) = status
 exit_status_of (Err fault) = status_of fault

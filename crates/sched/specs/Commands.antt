@@ -8,11 +8,11 @@ use Rattle.clap.specs.declared.builder.action.ArgAction.TheVariants.{Set}
 use Rattle.clap.specs.declared.builder.value_parser.ValueParser.TheVariants.{Signed}
 use Rattle.clap.specs.declared.error.kind.ErrorKind.{ErrorKind}
 use Rattle.clap.specs.declared.error.kind.ErrorKind.TheVariants as k
-use Rattle.sched.specs.declared.fault_lines.Fault.{Fault}
-use Rattle.sched.specs.declared.fault_lines.Fault.TheVariants.{Run}
+use Rattle.sched.specs.declared.error.ProgramError.{ProgramError}
+use Rattle.sched.specs.declared.error.ProgramError.TheVariants.{Run}
 use Rattle.executor_core.specs.Counts.{most_workers}
 use Rattle.sched_engine.specs.declared.report.RunError.TheVariants as x
-use Rattle.sched.specs.Faults.{status_of}
+use Rattle.sched.specs.Errors.{status_of}
 
 -- PLAN: a text, which has to be there
 abbrev pub plan_rule : Rule
@@ -77,13 +77,13 @@ abbrev pub IsHelp : ErrorKind → Type 0
 IsHelp kind = (kind ≡ k.DisplayHelp) ⊎ (kind ≡ k.DisplayVersion)
 
 -- help exits with 0 unless it can't be written, want of memory is told as that, and a mistake exits with 2
-pub record IsShown (kind : ErrorKind) (result : Result ℕ Fault) : Type 0 where
+pub record IsShown (kind : ErrorKind) (result : Result ℕ ProgramError) : Type 0 where
   pub memory : kind ≡ k.OutOfMemory → result ≡ Err (Run x.Memory)
   pub help : IsHelp kind → MatchResult result (λ s. s ≡ 0) (λ e. e ≡ Run x.Write)
   pub mistake : kind ≢ k.OutOfMemory → (IsHelp kind → ⊥) → result ≡ Ok 2
 
 -- arguments that the command line does not take, help among them, are answered as one of the kinds that clap may give them, or as want of memory
-abbrev pub IsRefusal : List (List ℕ) → Result ℕ Fault → Type 0
+abbrev pub IsRefusal : List (List ℕ) → Result ℕ ProgramError → Type 0
 IsRefusal arguments result = fault_of sched_app arguments ≢ []
     → (kind : ErrorKind) × ((kind ≡ k.OutOfMemory) ⊎ IsAmong kind (fault_of sched_app arguments)) × IsShown kind result
 
@@ -91,7 +91,10 @@ IsRefusal arguments result = fault_of sched_app arguments ≢ []
 abbrev pub NamesCheck : List (List ℕ) → Type 0
 NamesCheck arguments = (rows : List Row) × (subcommand_of sched_app arguments ≡ Some (codes "check", rows))
 
--- arguments that it takes end with 0, with 1 where a check found that a trace breaks, or with a fault whose exit status is 1
-abbrev pub IsTaken : List (List ℕ) → Result ℕ Fault → Type 0
-IsTaken arguments result = fault_of sched_app arguments ≡ []
-    → MatchResult result (λ s. (s ≡ 0) ⊎ ((s ≡ 1) × NamesCheck arguments)) (λ e. status_of e ≡ 1)
+-- what was asked for ends with 0, with 1 where a check found that a trace breaks, or with an error whose exit status is 1
+abbrev pub IsEndOf : List (List ℕ) → Result ℕ ProgramError → Type 0
+IsEndOf arguments result = MatchResult result (λ s. (s ≡ 0) ⊎ ((s ≡ 1) × NamesCheck arguments)) (λ e. status_of e ≡ 1)
+
+-- arguments that it takes end so
+abbrev pub IsTaken : List (List ℕ) → Result ℕ ProgramError → Type 0
+IsTaken arguments result = fault_of sched_app arguments ≡ [] → IsEndOf arguments result

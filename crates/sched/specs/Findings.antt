@@ -10,8 +10,8 @@ use Rattle.trace_check.specs.Findings.{Finds}
 use Rattle.trace_check.specs.declared.finding.Finding.{Finding}
 use Rattle.trace_check.specs.declared.finding.Finding.TheVariants.{Conforms, Breaks}
 use Rattle.sched_engine.specs.declared.report.RunError.TheVariants as x
-use Rattle.sched.specs.declared.fault_lines.Fault.{Fault}
-use Rattle.sched.specs.declared.fault_lines.Fault.TheVariants.{Run}
+use Rattle.sched.specs.declared.error.ProgramError.{ProgramError}
+use Rattle.sched.specs.declared.error.ProgramError.TheVariants.{Run}
 
 -- the line that tells a finding
 abbrev pub finding_text : Finding → List ℕ
@@ -25,7 +25,7 @@ finding_status (Breaks line) = 1
 
 -- how a check of a trace against a plan is told: what is found is written, and told by the status. Where the writer is at fault a front
 -- of it was written, and nothing where the number of workers is out of range or memory ran out
-abbrev pub IsCheckedAsAsked : Result ℕ Fault → PlanTree → ℕ → List ℕ → Option (List ℕ) → Option (List ℕ) → Type 0
+abbrev pub IsCheckedAsAsked : Result ℕ ProgramError → PlanTree → ℕ → List ℕ → Option (List ℕ) → Option (List ℕ) → Type 0
 IsCheckedAsAsked (Ok status) plan workers trace old new =
     (finding : Finding) × Finds (calls_of plan) workers trace finding × (status ≡ finding_status finding) × Appends old new (finding_text finding)
 IsCheckedAsAsked (Err (Run x.Write)) plan workers trace old new =

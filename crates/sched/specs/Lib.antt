@@ -1,8 +1,10 @@
 pub use Rattle.sched_engine.specs.Running
-pub mod Faults
+pub mod Errors
+pub mod Lines
 pub mod Commands
 pub mod Arguments
 pub mod Fronts
 pub mod Answers
 pub mod Findings
 pub mod Order
+pub mod Serving

@@ -7,25 +7,25 @@ use Rattle.plan_read.specs.Texts.{fault_of_text, plan_of_text}
 use Rattle.sched_engine.specs.Running.{IsUntouched}
 use Rattle.sched_engine.specs.declared.report.RunError.TheVariants as x
 use Rattle.sched.specs.declared.arguments.RunArguments.{RunArguments}
-use Rattle.sched.specs.declared.fault_lines.Fault.{Fault}
-use Rattle.sched.specs.declared.fault_lines.Fault.TheVariants.{PlanFile, TraceFile, TraceTooLong, Run}
+use Rattle.sched.specs.declared.error.ProgramError.{ProgramError}
+use Rattle.sched.specs.declared.error.ProgramError.TheVariants.{PlanFile, TraceFile, TraceTooLong, Run}
 use Rattle.sched.specs.Answers.{ListedAsAsked, RanAsAsked}
 use Rattle.sched.specs.Findings.{IsCheckedAsAsked}
 use Rattle.trace_check.specs.Standing.{most_bytes}
 
 -- ---- the lists. What was read of a file is its bytes, or nothing where it can't be read
 
-infixr 8 ◌unless◌
--- this fault, unless a test holds
-abbrev pub ◌unless◌ : Fault → Bool → Option Fault
-fault unless holds = if holds then None else Some fault
+infixr 8 ◌barring◌
+-- this fault, barring a test holds
+abbrev pub ◌barring◌ : ProgramError → Bool → Option ProgramError
+fault barring holds = if holds then None else Some fault
 
 -- the bytes that were read of a file
 abbrev pub bytes_of : Option (List ℕ) → List ℕ
 bytes_of read = unwrap_or read []
 
 -- the fault of a plan's text
-abbrev pub plan_fault : List ℕ → Option Fault
+abbrev pub plan_fault : List ℕ → Option ProgramError
 plan_fault text = option_map (λ fault. Run (x.Plan fault)) (fault_of_text text)
 
 -- there may be this many workers
@@ -33,73 +33,73 @@ abbrev pub is_worker_count : ℕ → Bool
 is_worker_count workers = nat_le 1 workers && nat_le workers most_workers
 
 -- the faults of `sched code`
-abbrev pub code_faults : Option (List ℕ) → List (Option Fault)
+abbrev pub code_faults : Option (List ℕ) → List (Option ProgramError)
 code_faults plan =
-    (PlanFile unless is_some plan)
+    (PlanFile barring is_some plan)
     ∷ plan_fault (bytes_of plan)
     ∷ []
 
 -- the faults of `sched run`, before an event is read
-abbrev pub run_faults : Option (List ℕ) → ℕ → ℕ → List (Option Fault)
+abbrev pub run_faults : Option (List ℕ) → ℕ → ℕ → List (Option ProgramError)
 run_faults plan workers limit =
-    (PlanFile unless is_some plan)
+    (PlanFile barring is_some plan)
     ∷ plan_fault (bytes_of plan)
-    ∷ (Run x.Workers unless is_worker_count workers)
-    ∷ (Run x.Limit unless nat_lt 0 limit)
+    ∷ (Run x.Workers barring is_worker_count workers)
+    ∷ (Run x.Limit barring nat_lt 0 limit)
     ∷ []
 
 -- the faults of `sched check`, before a line of the trace is looked at
-abbrev pub check_faults : Option (List ℕ) → Option (List ℕ) → ℕ → List (Option Fault)
+abbrev pub check_faults : Option (List ℕ) → Option (List ℕ) → ℕ → List (Option ProgramError)
 check_faults plan trace workers =
-    (PlanFile unless is_some plan)
+    (PlanFile barring is_some plan)
     ∷ plan_fault (bytes_of plan)
-    ∷ (TraceFile unless is_some trace)
-    ∷ (TraceTooLong unless nat_le (length (bytes_of trace)) most_bytes)
-    ∷ (Run x.Workers unless is_worker_count workers)
+    ∷ (TraceFile barring is_some trace)
+    ∷ (TraceTooLong barring nat_le (length (bytes_of trace)) most_bytes)
+    ∷ (Run x.Workers barring is_worker_count workers)
     ∷ []
 
 -- ---- the answers
 
 -- the first fault of a list
-abbrev pub first_of : List (Option Fault) → Option Fault
-first_of [] = None
-first_of (None ∷ rest) = first_of rest
-first_of (Some fault ∷ rest) = Some fault
+abbrev pub first_present : List (Option ProgramError) → Option ProgramError
+first_present [] = None
+first_present (None ∷ rest) = first_present rest
+first_present (Some fault ∷ rest) = Some fault
 
 -- where there is a fault it is told, and nothing was done; where there is none, this was done
-abbrev pub ToldOr : Option Fault → Result ℕ Fault → Type 0 → Type 0 → Type 0
+abbrev pub ToldOr : Option ProgramError → Result ℕ ProgramError → Type 0 → Type 0 → Type 0
 ToldOr (Some fault) answer untouched done = (answer ≡ Err fault) × untouched
 ToldOr None answer untouched done = done
 
 -- what `sched code` answers to what was read of the plan's file: its first fault, or a listing. Want of memory may come in
 -- place of each answer, with nothing written
-abbrev pub AnswersCode : Result ℕ Fault → (Option (List ℕ) → Type 0) → Option (List ℕ) → Option (List ℕ) → Type 0
+abbrev pub AnswersCode : Result ℕ ProgramError → (Option (List ℕ) → Type 0) → Option (List ℕ) → Option (List ℕ) → Type 0
 AnswersCode answer IsPlan old new =
     ((answer ≡ Err (Run x.Memory)) × Keeps old new)
     ⊎ ((plan : Option (List ℕ)) × IsPlan plan
-    × ToldOr (first_of (code_faults plan)) answer (Keeps old new) (ListedAsAsked answer (bytes_of plan) old new))
+    × ToldOr (first_present (code_faults plan)) answer (Keeps old new) (ListedAsAsked answer (bytes_of plan) old new))
 
 -- what `sched run` answers to what was read of the plan's file: its first fault, or what a run answers. Want of memory may come
 -- in place of each fault, with nothing read or written
-abbrev pub AnswersRun : Result ℕ Fault → (Option (List ℕ) → Type 0) → RunArguments → Option (List ℕ) → Option (List ℕ) → Option (List ℕ) → Option (List ℕ) → Type 0
+abbrev pub AnswersRun : Result ℕ ProgramError → (Option (List ℕ) → Type 0) → RunArguments → Option (List ℕ) → Option (List ℕ) → Option (List ℕ) → Option (List ℕ) → Type 0
 AnswersRun answer IsPlan asked input left old new =
     ((answer ≡ Err (Run x.Memory)) × IsUntouched input left old new)
     ⊎ ((plan : Option (List ℕ)) × IsPlan plan
-    × ToldOr (first_of (run_faults plan asked.workers asked.limit)) answer (IsUntouched input left old new)
+    × ToldOr (first_present (run_faults plan asked.workers asked.limit)) answer (IsUntouched input left old new)
     (RanAsAsked answer asked (bytes_of plan) input left old new))
 
 -- what was read of the plan's file and of the trace's, which is read only where the plan has no fault, and the first fault, or
 -- what is found
-pub record ChecksFiles (answer : Result ℕ Fault) (IsPlan IsTrace : Option (List ℕ) → Type 0) (workers : ℕ) (old new : Option (List ℕ)) : Type 0 where
+pub record ChecksFiles (answer : Result ℕ ProgramError) (IsPlan IsTrace : Option (List ℕ) → Type 0) (workers : ℕ) (old new : Option (List ℕ)) : Type 0 where
   pub plan : Option (List ℕ)
   pub trace : Option (List ℕ)
   pub plan_read : IsPlan plan
-  pub trace_read : first_of (code_faults plan) ≡ None → IsTrace trace
-  pub told : ToldOr (first_of (check_faults plan trace workers)) answer (Keeps old new)
+  pub trace_read : first_present (code_faults plan) ≡ None → IsTrace trace
+  pub told : ToldOr (first_present (check_faults plan trace workers)) answer (Keeps old new)
       (IsCheckedAsAsked answer (plan_of_text (bytes_of plan)) workers (bytes_of trace) old new)
 
 -- what `sched check` answers to what was read of its two files. Want of memory may come in place of each answer, with nothing
 -- written
-abbrev pub AnswersCheck : Result ℕ Fault → (Option (List ℕ) → Type 0) → (Option (List ℕ) → Type 0) → ℕ → Option (List ℕ) → Option (List ℕ) → Type 0
+abbrev pub AnswersCheck : Result ℕ ProgramError → (Option (List ℕ) → Type 0) → (Option (List ℕ) → Type 0) → ℕ → Option (List ℕ) → Option (List ℕ) → Type 0
 AnswersCheck answer IsPlan IsTrace workers old new =
     ((answer ≡ Err (Run x.Memory)) × Keeps old new) ⊎ ChecksFiles answer IsPlan IsTrace workers old new

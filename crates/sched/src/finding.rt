@@ -2,11 +2,11 @@
 
 ghost use Rattle.std.specs.Prelude.{◌≡◌, ◌≤◌, ◌↔◌, IfOk, IsErrOf, MatchResult, length, string_bytes};
 ghost use Rattle.executor_core.specs.Counts.{IsWorkerCount};
-ghost use Rattle.sched.specs.Faults.{status_of as fault_status};
+ghost use Rattle.sched.specs.Errors.{status_of as fault_status};
 ghost use Rattle.sched.specs.Findings.{IsCheckedAsAsked, finding_text, finding_status};
 ghost use Rattle.trace_check.specs.Standing.{most_bytes};
 
-use crate::fault_lines::Fault;
+use crate::error::ProgramError;
 use plan_read::Plan;
 use sched_engine::{RunError, Sink, write_text};
 use std::alloc::{AllocError, Allocator};
@@ -21,20 +21,20 @@ pub fn write_finding<A: Allocator + Copy, B: Allocator, W: Sink>(
     workers: u8,
     trace: &[u8],
     writer: &mut W,
-) -> Result<u8, Fault>
+) -> Result<u8, ProgramError>
     requires { length trace.now ≤ most_bytes }
     ensures found { IsCheckedAsAsked result plan.now workers trace.now (W.contents writer.old) (W.contents writer.new) }
-    ensures workers { IsErrOf result (Fault.Run RunError.Workers) ↔ ¬ IsWorkerCount workers }
+    ensures workers { IsErrOf result (ProgramError.Run RunError.Workers) ↔ ¬ IsWorkerCount workers }
     ensures status { MatchResult result (λ s. s ≤ 1) (λ e. fault_status e ≡ 1) }
 {
     let finding = match check(alloc, plan, workers, trace) {
         Ok(finding) => finding,
-        Err(CheckError::Workers) => return Err(Fault::Run(RunError::Workers)),
-        Err(CheckError::Memory) => return Err(Fault::Run(RunError::Memory)),
+        Err(CheckError::Workers) => return Err(ProgramError::Run(RunError::Workers)),
+        Err(CheckError::Memory) => return Err(ProgramError::Run(RunError::Memory)),
     };
     let line = line_of(alloc, finding)?;
     if !write_text(writer, line.as_bytes()) {
-        return Err(Fault::Run(RunError::Write));
+        return Err(ProgramError::Run(RunError::Write));
     }
     Ok(status_of(finding))
 }

@@ -2,9 +2,9 @@
 
 ghost use Rattle.std.specs.Prelude.{◌≡◌, true};
 
-use crate::fault_lines::Fault;
+use crate::error::ProgramError;
 
-/// Two faults that compare as equal are the same.
-pub fn fault_equality_tells()
-    ensures { (a b : Fault) → ⟦<Fault as PartialEq>⟧.eq a b ≡ true → a ≡ b }
+/// Two errors that compare as equal are the same.
+pub fn program_error_equality_tells()
+    ensures { (a b : ProgramError) → ⟦<ProgramError as PartialEq>⟧.eq a b ≡ true → a ≡ b }
 {}

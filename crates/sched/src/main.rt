@@ -38,15 +38,22 @@
 //! A run takes what [`sched_engine::run`] takes, the text of the plan, and while the plan is read its tree. Its memory does not
 //! grow with the number of events, nor with the calls that a repeated block makes, but for the tables of its tasks and for room
 //! for a line for each call that one clock reaches. A check takes the text of the trace, and what a core takes.
+//!
+//! # Tests
+//!
+//! `tests/` has a file for the command line, its help, the files, the lines of errors and whole programs, in the world of
+//! `world.rt`. `tools/sizes` runs the built program at the greatest sizes.
 #![tactic(auto)]
 
 mod arguments;
 mod command;
-mod fault_lines;
+mod error;
+mod error_line;
 mod files;
 mod finding;
 mod laws;
 mod program;
+mod serving;
 #[cfg(test)]
 mod tests;
 mod work;

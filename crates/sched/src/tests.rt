@@ -1,5 +1,5 @@
 mod command_line;
-mod fault_lines;
+mod error_lines;
 mod files;
 mod help;
 mod programs;

@@ -3,12 +3,12 @@
 ghost use Rattle.std.specs.Prelude.{◌≡◌, ◌≤◌, MatchResult, Result};
 ghost use Rattle.std.specs.declared.io.Error.{Error};
 ghost use Rattle.sched.specs.Answers.{ListedAsAsked, RanAsAsked};
-ghost use Rattle.sched.specs.Faults.{status_of};
+ghost use Rattle.sched.specs.Errors.{status_of};
 ghost use Rattle.sched.specs.Fronts.{IsReadOf, most_of_plan, most_of_trace};
 ghost use Rattle.sched.specs.Order.{AnswersCheck, AnswersCode, AnswersRun};
 
-use crate::arguments::RunArguments;
-use crate::fault_lines::Fault;
+use crate::arguments::{CheckArguments, RunArguments};
+use crate::error::ProgramError;
 use crate::files::{plan_text, trace_text};
 use crate::finding::write_finding;
 use plan_read::read_plan;
@@ -25,7 +25,7 @@ pub fn run_file<P: Read + Drop, S: Source, W: Sink>(
     plan: io::Result<P>,
     reader: &mut S,
     writer: &mut W,
-) -> Result<u8, Fault>
+) -> Result<u8, ProgramError>
     ensures answers { AnswersRun result (IsReadOf P.remaining most_of_plan plan) asked.now (S.remaining reader.old) (S.remaining reader.new) (W.contents writer.old) (W.contents writer.new) }
     ensures status { MatchResult result (λ s. s ≡ 0) (λ e. status_of e ≡ 1) }
 {
@@ -41,7 +41,7 @@ fn run_text<A: Room, S: Source, W: Sink>(
     text: &[u8],
     reader: &mut S,
     writer: &mut W,
-) -> Result<u8, Fault>
+) -> Result<u8, ProgramError>
     ensures ran { RanAsAsked result asked.now text.now (S.remaining reader.old) (S.remaining reader.new) (W.contents writer.old) (W.contents writer.new) }
     ensures status { MatchResult result (λ s. s ≡ 0) (λ e. status_of e ≡ 1) }
 {
@@ -55,7 +55,7 @@ pub fn list_file<P: Read + Drop, W: Sink>(
     alloc: Global,
     plan: io::Result<P>,
     writer: &mut W,
-) -> Result<u8, Fault>
+) -> Result<u8, ProgramError>
     ensures answers { AnswersCode result (IsReadOf P.remaining most_of_plan plan) (W.contents writer.old) (W.contents writer.new) }
     ensures status { MatchResult result (λ s. s ≡ 0) (λ e. status_of e ≡ 1) }
 {
@@ -63,7 +63,7 @@ pub fn list_file<P: Read + Drop, W: Sink>(
 }
 
 /// Writes the listing of a plan's text. `Ok` is the exit status, 0.
-fn list_text<A: Room, W: Sink>(alloc: A, text: &[u8], writer: &mut W) -> Result<u8, Fault>
+fn list_text<A: Room, W: Sink>(alloc: A, text: &[u8], writer: &mut W) -> Result<u8, ProgramError>
     ensures listed { ListedAsAsked result text.now (W.contents writer.old) (W.contents writer.new) }
     ensures status { MatchResult result (λ s. s ≡ 0) (λ e. status_of e ≡ 1) }
 {
@@ -71,27 +71,27 @@ fn list_text<A: Room, W: Sink>(alloc: A, text: &[u8], writer: &mut W) -> Result<
     Ok(0)
 }
 
-/// Checks the trace of a file against the plan of a file, as the system opens them, and writes what is found. The trace's is
-/// opened where the plan is one. `Ok` is the exit status: 0 where the trace conforms, 1 where it breaks. At a fault of a file,
+/// Checks the trace of a file against the plan of a file, as the system opens them, and writes what is found, as asked. The
+/// trace's is opened where the plan is one. `Ok` is the exit status: 0 where the trace conforms, 1 where it breaks. At a fault of a file,
 /// the plan or the number of workers, the first in this order, nothing is written.
-pub fn check_files<P: Read + Drop, T: Read + Drop, O: FnOnce() -> io::Result<T> + Drop, W: Sink>(
+pub fn check_files<P: Read + Drop, O: Fn(&str) -> io::Result<P> + Drop, W: Sink>(
     alloc: Global,
+    asked: &CheckArguments<'_>,
     plan: io::Result<P>,
-    open_trace: O,
-    workers: u8,
+    open_file: O,
     writer: &mut W,
-) -> Result<u8, Fault>
-    requires { O.pre open_trace }
+) -> Result<u8, ProgramError>
+    requires { O.IsAlwaysCallable open_file }
     ensures answers { AnswersCheck result (IsReadOf P.remaining most_of_plan plan)
-        (λ trace. (opened : Result T Error) × O.post open_trace opened × IsReadOf T.remaining most_of_trace opened trace)
-        workers (W.contents writer.old) (W.contents writer.new) }
+        (λ text. (trace : Result P Error) × O.post open_file asked.now.trace trace × IsReadOf P.remaining most_of_trace trace text)
+        asked.now.workers (W.contents writer.old) (W.contents writer.new) }
     ensures status { MatchResult result (λ s. s ≤ 1) (λ e. status_of e ≡ 1) }
 {
     let text = plan_text(alloc, plan)?;
     let plan = match read_plan(alloc, &text) {
         Ok(plan) => plan,
-        Err(fault) => return Err(Fault::from(RunError::Plan(fault))),
+        Err(fault) => return Err(ProgramError::from(RunError::Plan(fault))),
     };
-    let trace = trace_text(alloc, open_trace())?;
-    write_finding(alloc, &plan, workers, &trace, writer)
+    let trace = trace_text(alloc, open_file(asked.trace))?;
+    write_finding(alloc, &plan, asked.workers, &trace, writer)
 }

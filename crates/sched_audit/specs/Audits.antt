@@ -27,8 +27,8 @@ FindsByText plan_text workers text finding = (plan : PlanTree) → TextWrites pl
 
 -- why there is no audit of a run: it wrote no whole trace, or one that is longer than a check takes, or memory ran out, which
 -- says nothing of the run
-abbrev pub FailsBy : AuditError → List ℕ → ℕ → ℕ → List ℕ → Type 0
-FailsBy (f.Run e) plan_text workers limit input = (¬ IsWhole (Err e)) × (output : List ℕ) × RanInMemory (Err e) plan_text workers limit input output
-FailsBy f.TooLong plan_text workers limit input =
+abbrev pub HasNoAudit : AuditError → List ℕ → ℕ → ℕ → List ℕ → Type 0
+HasNoAudit (f.Run e) plan_text workers limit input = (¬ IsWhole (Err e)) × (output : List ℕ) × RanInMemory (Err e) plan_text workers limit input output
+HasNoAudit f.TooLong plan_text workers limit input =
     (answer : Result Report RunError) × (output : List ℕ) × RanInMemory answer plan_text workers limit input output × IsWhole answer × (most_bytes < length output)
-FailsBy f.Memory plan_text workers limit input = Unit {0}
+HasNoAudit f.Memory plan_text workers limit input = Unit {0}

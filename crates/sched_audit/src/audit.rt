@@ -2,7 +2,7 @@
 ghost use Rattle.std.specs.Prelude.{◌≡◌, ◌≤◌, length, IfOk, IfErr, MatchOption, Err};
 ghost use Rattle.sched_engine.specs.Running.{RanInMemory};
 ghost use Rattle.trace_check.specs.Standing.{most_bytes};
-ghost use Rattle.sched_audit.specs.Audits.{IsWhole, FindsByText, FailsBy};
+ghost use Rattle.sched_audit.specs.Audits.{IsWhole, FindsByText, HasNoAudit};
 
 use crate::error::AuditError;
 use plan_compile::calls_are_in_order;
@@ -41,7 +41,7 @@ pub fn run_and_check<A: Room>(
     ensures whole { IfOk result (λ audit. IsWhole audit.answer) }
     ensures finds { IfOk result (λ audit. FindsByText plan_text.now workers audit.trace.items audit.finding) }
     ensures conforms { IfOk result (λ audit. audit.finding ≡ Finding.Conforms) }
-    ensures fails { IfErr result (λ e. FailsBy e plan_text.now workers limit input.now) }
+    ensures fails { IfErr result (λ e. HasNoAudit e plan_text.now workers limit input.now) }
 {
     calls_are_in_order();
     let (answer, trace) = run_in_memory(alloc, plan_text, workers, limit, input);

@@ -42,6 +42,10 @@
 //! The trace is held whole. The plan is read twice, once for the run and once for the check, and what the run took is
 //! given back before the check begins, but for the trace. A line costs its answer twice: once when it is written, and once when
 //! it is checked.
+//!
+//! # Tests
+//!
+//! `tests.rt` has examples and the texts of errors, and `tests/sizes.rt` runs, checks and listings of 80 KB and more.
 #![tactic(auto)]
 
 mod audit;

@@ -1,3 +1,5 @@
+mod sizes;
+
 use crate::audit::{Audit, run_and_check};
 use crate::error::AuditError;
 use plan_read::{PlanFault, PlanFaultKind};
@@ -166,21 +168,32 @@ fn what_is_refused_has_no_audit(rt: HostRuntime) {
     fails(&rt, ONE_DELAY, 1, 0, AuditError::Run(RunError::Limit));
 }
 
+/// The text of an error, and how it is shown to programmers.
 #[test]
 fn each_error_says_what_is_wrong(rt: HostRuntime) -> Result<(), Fail> {
+    let fault = PlanFault {
+        kind: PlanFaultKind::BadName,
+        block: 2,
+        call: 1,
+    };
     let texts = [
         (
             AuditError::Run(RunError::Workers),
-            "the number of workers is not 1 to 64",
+            "the number of workers is not 1 to 64 Run(Workers)",
+        ),
+        (
+            AuditError::Run(RunError::Plan(fault)),
+            "plan: BadName block 2 call 1 Run(Plan(PlanFault { kind: BadName, block: 2, call: 1 }))",
         ),
         (
             AuditError::TooLong,
-            "the trace has more than 67,108,864 bytes",
+            "the trace has more than 67,108,864 bytes TooLong",
         ),
-        (AuditError::Memory, "out of memory"),
+        (AuditError::Memory, "out of memory Memory"),
     ];
     for (error, text) in texts {
-        assert_eq!(rt; format!(in rt.alloc(); "{error}")?.as_str(), text);
+        let said = format!(in rt.alloc(); "{error} {error:?}")?;
+        assert!(rt; said.as_str() == text, "{said}");
     }
     Ok(())
 }

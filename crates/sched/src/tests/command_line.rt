@@ -1,6 +1,6 @@
 //! What the command line takes.
 
-use crate::arguments::Asked;
+use crate::arguments::{Asked, CheckArguments, CodeArguments, RunArguments};
 use std::alloc::Global;
 use std::process::Abort;
 use std::test::Fail;
@@ -80,4 +80,37 @@ status 2 | sched run p --workers 1 --limit 4294967296";
 #[test]
 fn refuses_what_is_missing_too_much_or_out_of_range(rt: HostRuntime) -> Result<(), Fail> {
     tells_each(&rt, REFUSED)
+}
+
+/// How what is asked for is shown to programmers.
+#[test]
+fn shows_what_is_asked_for_to_programmers(rt: HostRuntime) -> Result<(), Fail> {
+    let run = RunArguments {
+        path: "p",
+        workers: 2,
+        limit: 3,
+    };
+    let check = CheckArguments {
+        path: "p",
+        trace: "t",
+        workers: 2,
+    };
+    for (asked, text) in [
+        (
+            Asked::Run(run),
+            "Run(RunArguments { path: \"p\", workers: 2, limit: 3 })",
+        ),
+        (
+            Asked::Code(CodeArguments { path: "p" }),
+            "Code(CodeArguments { path: \"p\" })",
+        ),
+        (
+            Asked::Check(check),
+            "Check(CheckArguments { path: \"p\", trace: \"t\", workers: 2 })",
+        ),
+    ] {
+        let shown = format!(in rt.alloc(); "{asked:?}")?;
+        assert!(rt; shown.as_str() == text, "{shown}");
+    }
+    Ok(())
 }

@@ -2,7 +2,7 @@
 
 use super::world::{Given, GivenFile};
 use super::{ends_given, given};
-use crate::fault_lines::Fault;
+use crate::error::ProgramError;
 use crate::files::{MOST_OF_PLAN, MOST_OF_TRACE, plan_front, plan_text, trace_text, whole_trace};
 use std::fs;
 use std::test::Fail;
@@ -54,7 +54,10 @@ fn does_not_take_a_broken_file_for_its_front(rt: HostRuntime) {
         rest: b"version = 1\n",
         is_broken: true,
     };
-    assert_eq!(rt; plan_front(rt.alloc(), broken).err(), Some(Fault::PlanFile));
+    assert_eq!(rt;
+        plan_front(rt.alloc(), broken).err(),
+        Some(ProgramError::PlanFile)
+    );
     let given = Given {
         plan: broken,
         ..given(&RUN, "")
@@ -80,7 +83,7 @@ fn reads_no_byte_past_those_that_it_takes(rt: HostRuntime) -> Result<(), Fail> {
 fn does_not_take_a_missing_file_for_an_empty_one(rt: HostRuntime) {
     assert_eq!(rt;
         plan_text(rt.alloc(), fs::open(&rt, "no such plan.toml")).err(),
-        Some(Fault::PlanFile)
+        Some(ProgramError::PlanFile)
     );
     let given = Given {
         name: "another.toml",
@@ -97,6 +100,6 @@ fn reads_the_whole_of_a_trace(rt: HostRuntime) {
     assert_eq!(rt; text.ok().map(|text| text.len()), Some(8));
     assert_eq!(rt;
         trace_text(rt.alloc(), fs::open(&rt, "no such trace")).err(),
-        Some(Fault::TraceFile)
+        Some(ProgramError::TraceFile)
     );
 }

@@ -2,11 +2,11 @@ use Rattle.std.proofs.Common.{ap, ◌≡◌, ◌<◌, ◌≤◌, ◌∙◌, sym,
 use Rattle.std.specs.Prelude.{IfOk, IfSome}
 use Rattle.std.proofs.lemmas.List.{length-take, length-replicate, take_all}
 use Rattle.std.specs.declared.io.Error.{Error}
-use Rattle.sched.specs.Faults.{IsOrMemory}
+use Rattle.sched.specs.Errors.{IsOrMemory}
 use Rattle.sched.specs.Fronts.{IsReadOf, most_of_trace}
 use Rattle.trace_check.specs.Standing.{most_bytes}
-use Rattle.sched.specs.declared.fault_lines.Fault.{Fault}
-use Rattle.sched.specs.declared.fault_lines.Fault.TheVariants.{TraceFile, TraceTooLong}
+use Rattle.sched.specs.declared.error.ProgramError.{ProgramError}
+use Rattle.sched.specs.declared.error.ProgramError.TheVariants.{TraceFile, TraceTooLong}
 use Rattle.sched.proofs.files.trace_text.Goals as goal
 
 -- all bytes are the front of them where they are few enough
@@ -15,7 +15,7 @@ all_are_front most None text all short = all
 all_are_front most (Some bytes) text all short = all ∙ sym (take_all most bytes (omega (arith, ap length all, short)))
 
 -- what was read of a file that was opened
-read_all : {R V : Type 0} (remaining : R → Option (List ℕ)) (opened : Result R Error) (reader : R) (items : V → List ℕ) (result : Result V Fault)
+read_all : {R V : Type 0} (remaining : R → Option (List ℕ)) (opened : Result R Error) (reader : R) (items : V → List ℕ) (result : Result V ProgramError)
     → opened ≡ Ok reader → IfOk result (λ t. IfSome (remaining reader) (λ bytes. items t ≡ bytes)) → IfOk result (λ t. length (items t) ≤ most_bytes)
     → IfOk result (λ t. IsReadOf remaining most_of_trace opened (Some (items t)))
 read_all remaining opened reader items (Ok t) is all short = rw is (all_are_front most_of_trace (remaining reader) (items t) all (omega (arith, short)))
@@ -28,7 +28,7 @@ front_is_long longest most None more long = let zero : ℕ = 0 in (replicate mos
 front_is_long longest most (Some bytes) more long = (take most bytes, refl, omega (arith, length-take most bytes, long))
 
 -- the fault of a file is not that it is too long
-not_long : {T : Type 0} (fault : Fault) (result : Result T Fault) → IsOrMemory TraceFile fault → result ≡ Err fault → result ≡ Err TraceTooLong → ⊥
+not_long : {T : Type 0} (fault : ProgramError) (result : Result T ProgramError) → IsOrMemory TraceFile fault → result ≡ Err fault → result ≡ Err TraceTooLong → ⊥
 not_long fault result (inl file) is long = cc
 not_long fault result (inr memory) is long = cc
 

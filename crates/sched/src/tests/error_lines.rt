@@ -2,22 +2,23 @@
 
 use super::world::World;
 use super::{ends, given};
-use crate::fault_lines::{Fault, told};
+use crate::error::ProgramError;
+use crate::error_line::{ErrorLine, told};
 use plan_read::{PlanFault, PlanFaultKind};
 use sched_engine::RunError;
 use std::process::Abort;
 use std::test::Fail;
 
 /// Checks that a fault is told by just this line on standard error, and this status.
-fn is_told(rt: &(impl AllocGlobal + Abort), fault: Fault, status: u8, line: &str) {
+fn is_told(rt: &(impl AllocGlobal + Abort), fault: ProgramError, status: u8, line: &str) {
     let world = World::new(rt.alloc(), given(&[], ""));
     let code = told(&world, Err(fault));
     ends(rt, &world.end(code), status, "", line)
 }
 
 /// A fault of a plan in the second call of its third block.
-fn of_plan(kind: PlanFaultKind) -> Fault {
-    Fault::from(RunError::Plan(PlanFault {
+fn of_plan(kind: PlanFaultKind) -> ProgramError {
+    ProgramError::from(RunError::Plan(PlanFault {
         kind,
         block: 3,
         call: 2,
@@ -73,16 +74,36 @@ fn tells_each_end_of_a_run(rt: HostRuntime) {
         ),
         (RunError::Limit, "sched: the limit on events is 0\n"),
     ] {
-        is_told(&rt, Fault::from(error), 1, line);
+        is_told(&rt, ProgramError::from(error), 1, line);
     }
 }
 
 #[test]
 fn tells_faults_of_the_plan_file_and_of_the_arguments(rt: HostRuntime) {
-    is_told(&rt, Fault::PlanFile, 1, "sched: plan file not read\n");
-    is_told(&rt, Fault::TraceFile, 1, "sched: trace file not read\n");
-    is_told(&rt, Fault::TraceTooLong, 1, "sched: trace file too long\n");
-    is_told(&rt, Fault::Arguments, 2, "sched: command line not UTF-8\n");
+    is_told(
+        &rt,
+        ProgramError::PlanFile,
+        1,
+        "sched: plan file not read\n",
+    );
+    is_told(
+        &rt,
+        ProgramError::TraceFile,
+        1,
+        "sched: trace file not read\n",
+    );
+    is_told(
+        &rt,
+        ProgramError::TraceTooLong,
+        1,
+        "sched: trace file too long\n",
+    );
+    is_told(
+        &rt,
+        ProgramError::Arguments,
+        2,
+        "sched: command line not UTF-8\n",
+    );
 }
 
 #[test]
@@ -92,4 +113,25 @@ fn tells_a_status_by_no_line(rt: HostRuntime) {
         let code = told(&world, Ok(status));
         ends(&rt, &world.end(code), status, "", "");
     }
+}
+
+/// How errors and their lines are shown to programmers.
+#[test]
+fn shows_errors_to_programmers(rt: HostRuntime) -> Result<(), Fail> {
+    for (error, text) in [
+        (ProgramError::TraceTooLong, "ErrorLine(TraceTooLong)"),
+        (
+            ProgramError::Run(RunError::EventLine(9)),
+            "ErrorLine(Run(EventLine(9)))",
+        ),
+        (
+            of_plan(PlanFaultKind::BadName),
+            "ErrorLine(Run(Plan(PlanFault { kind: BadName, block: 3, call: 2 })))",
+        ),
+    ] {
+        let line = ErrorLine(error);
+        let shown = format!(in rt.alloc(); "{line:?}")?;
+        assert!(rt; shown.as_str() == text, "{shown}");
+    }
+    Ok(())
 }

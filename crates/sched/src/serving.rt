@@ -1,0 +1,42 @@
+//! What the program does for the arguments of its command line, over any files, events and output.
+
+ghost use Rattle.std.specs.Prelude.{map, string_bytes, IfErr, IfOk};
+ghost use Rattle.clap.specs.Words.{FailsBy, fault_of};
+ghost use Rattle.sched.specs.Commands.{IsEndOf, sched_app};
+ghost use Rattle.sched.specs.Serving.{Serves};
+ghost use Rattle.sched_engine.specs.Running.{IsUntouched};
+
+use crate::arguments::Asked;
+use crate::error::ProgramError;
+use crate::work::{check_files, list_file, run_file};
+use clap::Error;
+use sched_engine::{Sink, Source};
+use std::alloc::Global;
+use std::io;
+use std::io::Read;
+
+/// Does what the arguments of a command line ask for, the program's name first: it opens the files that they name, reads events
+/// from the reader and writes to the writer. `Ok` is how that ended: with an exit status, 0 or, where a trace breaks, 1, or with an
+/// error. `Err` is help, a fault of the command line or want of memory, which is to be shown: nothing was read or written.
+pub fn serve<P: Read + Drop, O: Fn(&str) -> io::Result<P> + Drop, S: Source, W: Sink>(
+    alloc: Global,
+    arguments: &[String],
+    open_file: O,
+    reader: &mut S,
+    writer: &mut W,
+) -> Result<Result<u8, ProgramError>, Error>
+    requires { O.IsAlwaysCallable open_file }
+    ensures serves { IfOk result (λ answer. Serves (map string_bytes arguments.now) answer P.remaining (O.post open_file) (S.remaining reader.old) (S.remaining reader.new) (W.contents writer.old) (W.contents writer.new)) }
+    ensures fails { FailsBy (fault_of sched_app (map string_bytes arguments.now)) result }
+    ensures untouched { IfErr result (λ _. IsUntouched (S.remaining reader.old) (S.remaining reader.new) (W.contents writer.old) (W.contents writer.new)) }
+    ensures status { IfOk result (IsEndOf (map string_bytes arguments.now)) }
+{
+    match Asked::parse(alloc, arguments)? {
+        Asked::Run(asked) => Ok(run_file(alloc, &asked, open_file(asked.path), reader, writer)),
+        Asked::Code(asked) => Ok(list_file(alloc, open_file(asked.path), writer)),
+        Asked::Check(asked) => {
+            let plan = open_file(asked.path);
+            Ok(check_files(alloc, &asked, plan, open_file, writer))
+        }
+    }
+}
