@@ -1,3 +1,4 @@
+mod examples;
 mod sizes;
 
 use crate::audit::{Audit, run_and_check};
