@@ -5,7 +5,7 @@ use Rattle.std.proofs.lemmas.Bool.Decides.{nat_tests}
 use Rattle.std.specs.List.{AllByRecursion, list_all}
 use Rattle.toml.specs.Data.{Members, get_member}
 use Rattle.plan_read.specs.declared.faults.Place.{Place}
-use Rattle.plan_read.specs.Checks.{first_failing, header_checks, top_checks}
+use Rattle.plan_read.specs.Checks.{place_fault, header_checks, top_checks}
 use Rattle.plan_read.specs.Keys.{fits, Tables, header_keys, top_keys}
 use Rattle.plan_read.specs.Plans.{BlockTree, PlanTree, end_from, end_of_block, made_from}
 use Rattle.plan_read.specs.Values.{tables_at, header_of}
@@ -28,7 +28,7 @@ pub record Passed (made : ℕ) (ms : Members) : Type 0 where
   pub fits_plan : made + (header_of ms).times * length (tables_at (codes "call") ms) ≤ 65536
 
 -- a header none of whose checks fails says so
-pub passed : (p : Place) (end made : ℕ) (ms : Members) → first_failing p (header_checks end made ms) ≡ None → Passed made ms
+pub passed : (p : Place) (end made : ℕ) (ms : Members) → place_fault p (header_checks end made ms) ≡ None → Passed made ms
 unfolding header_checks
 passed p end made ms none =
     let a = all_pass p (header_checks end made ms) none in
@@ -58,7 +58,7 @@ pub record TopPassed (ms : Members) : Type 0 where
   pub few : length (tables_at (codes "block") ms) ≤ 256
 
 -- a top none of whose checks fails says so
-pub top_passed : (p : Place) (ms : Members) → first_failing p (top_checks ms) ≡ None → TopPassed ms
+pub top_passed : (p : Place) (ms : Members) → place_fault p (top_checks ms) ≡ None → TopPassed ms
 unfolding top_checks
 top_passed p ms none =
     let a = all_pass p (top_checks ms) none in

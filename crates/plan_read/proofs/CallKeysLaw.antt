@@ -18,7 +18,7 @@ use Rattle.plan_read.specs.declared.call_keys.CallKey.{CallKey}
 use Rattle.plan_read.specs.declared.call_keys.CallKey.TheVariants as keys
 use Rattle.plan_read.specs.declared.call_keys.Row.{Row}
 use Rattle.plan_read.proofs.Words.{differs}
-use Rattle.plan_read.specs.CallKeys.{word_of, call_key_of_word, slot, with_slot}
+use Rattle.plan_read.specs.CallKeys.{key_word, call_key_of_word, slot, with_slot}
 
 abbrev pub Entry : Type 0
 Entry = String Global × Value
@@ -26,7 +26,7 @@ Entry = String Global × Value
 -- ---- keys and their words
 
 -- a key is named by its word
-pub named_by_word : (k : CallKey) → call_key_of_word (word_of k) ≡ Some k
+pub named_by_word : (k : CallKey) → call_key_of_word (key_word k) ≡ Some k
 named_by_word keys.Op = refl
 named_by_word keys.At = refl
 named_by_word keys.Name = refl
@@ -37,24 +37,24 @@ named_by_word keys.Which = refl
 named_by_word keys.Value = refl
 
 -- a word that is a key's names it
-pub names_key : (w : List ℕ) (k : CallKey) → w ≡ word_of k → Some k ≡ call_key_of_word w
+pub names_key : (w : List ℕ) (k : CallKey) → w ≡ key_word k → Some k ≡ call_key_of_word w
 names_key w k is = sym (ap call_key_of_word is ∙ named_by_word k)
 
 -- a word that is no key's names none
-pub names_none : (w : List ℕ) → ((k : CallKey) → w ≢ word_of k) → None ≡ call_key_of_word w
+pub names_none : (w : List ℕ) → ((k : CallKey) → w ≢ key_word k) → None ≡ call_key_of_word w
 names_none w other =
-    let apart = λ (k : CallKey). differs w (word_of k) (other k) in
+    let apart = λ (k : CallKey). differs w (key_word k) (other k) in
     rw (apart keys.Op, apart keys.At, apart keys.Name, apart keys.Delay, apart keys.First, apart keys.Period, apart keys.Which, apart keys.Value) refl
 
-one_word : (w : List ℕ) (j k : CallKey) (rest : Option CallKey) → (rest ≡ Some k → w ≡ word_of k) → (if bytes_eq w (word_of j) then Some j else rest) ≡ Some k → w ≡ word_of k
+one_word : (w : List ℕ) (j k : CallKey) (rest : Option CallKey) → (rest ≡ Some k → w ≡ key_word k) → (if bytes_eq w (key_word j) then Some j else rest) ≡ Some k → w ≡ key_word k
 one_word w j k rest more h =
-    elim (cases_Bool (bytes_eq w (word_of j))) [
-      | inl t ↦ (let e : j ≡ k = (let g = rw t at h in cc) in (bytes_eq-Decides w (word_of j)).0 t ∙ ap word_of e)
+    elim (cases_Bool (bytes_eq w (key_word j))) [
+      | inl t ↦ (let e : j ≡ k = (let g = rw t at h in cc) in (bytes_eq-Decides w (key_word j)).0 t ∙ ap key_word e)
       | inr f ↦ more (rw f at h)
     ]
 
 -- the word that names a key is its word
-pub word_is : (w : List ℕ) (k : CallKey) → call_key_of_word w ≡ Some k → w ≡ word_of k
+pub word_is : (w : List ℕ) (k : CallKey) → call_key_of_word w ≡ Some k → w ≡ key_word k
 word_is w k h =
     one_word w keys.Op k _ (one_word w keys.At k _ (one_word w keys.Name k _ (one_word w keys.Delay k _ (one_word w keys.First k _ (one_word w keys.Period k _ (one_word w keys.Which k _ (one_word w keys.Value k None (λ e. absurd (cc))))))))) h
 
@@ -92,7 +92,7 @@ found_there (first ∷ done) e more h =
 
 -- what a row has at a key after a value was put at another
 abbrev Puts : CallKey → Bor Value → Row → CallKey → Type 0
-Puts j v r k = slot k (with_slot j v r) ≡ (if bytes_eq (word_of k) (word_of j) then Some v else slot k r)
+Puts j v r k = slot k (with_slot j v r) ≡ (if bytes_eq (key_word k) (key_word j) then Some v else slot k r)
 
 -- a value was put at its key alone
 pub slot_with : (j k : CallKey) (v : Bor Value) (r : Row) → Puts j v r k
@@ -110,26 +110,26 @@ keeps all done e None w apart h = still_none w done e (is_eq-slice_cmp w (string
 keeps all done e (Some v) w apart h = h
 
 -- after an entry whose key is no key of a call
-pub passed_over : (all done : List Entry) (e : Entry) (r : Row) → call_key_of_word (string_bytes e.0) ≡ None → ((k : CallKey) → Sees all done (slot k r) (word_of k))
-    → (k : CallKey) → Sees all (done ++ e ∷ []) (slot k r) (word_of k)
+pub passed_over : (all done : List Entry) (e : Entry) (r : Row) → call_key_of_word (string_bytes e.0) ≡ None → ((k : CallKey) → Sees all done (slot k r) (key_word k))
+    → (k : CallKey) → Sees all (done ++ e ∷ []) (slot k r) (key_word k)
 passed_over all done e r none h k =
-    elim (cases_Bool (bytes_eq (word_of k) (string_bytes e.0))) [
-      | inl t ↦ absurd (let s = rw ((bytes_eq-Decides (word_of k) (string_bytes e.0)).0 t) at (named_by_word k) in cc)
-      | inr f ↦ keeps all done e (slot k r) (word_of k) f (h k)
+    elim (cases_Bool (bytes_eq (key_word k) (string_bytes e.0))) [
+      | inl t ↦ absurd (let s = rw ((bytes_eq-Decides (key_word k) (string_bytes e.0)).0 t) at (named_by_word k) in cc)
+      | inr f ↦ keeps all done e (slot k r) (key_word k) f (h k)
     ]
 
 -- after an entry whose value was kept
 pub kept : (all done : List Entry) (e : Entry) (more : List Entry) (r : Row) (j : CallKey) (v : Bor Value) → all ≡ done ++ e ∷ more → IsStrictlySortedBy string_cmp (keys_of all)
-    → call_key_of_word (string_bytes e.0) ≡ Some j → v.now ≡ e.1 → ((k : CallKey) → Sees all done (slot k r) (word_of k))
-    → (k : CallKey) → Sees all (done ++ e ∷ []) (slot k (with_slot j v r)) (word_of k)
+    → call_key_of_word (string_bytes e.0) ≡ Some j → v.now ≡ e.1 → ((k : CallKey) → Sees all done (slot k r) (key_word k))
+    → (k : CallKey) → Sees all (done ++ e ∷ []) (slot k (with_slot j v r)) (key_word k)
 kept all done e more r j v is sorted named same h k =
-    let word : string_bytes e.0 ≡ word_of j = word_is (string_bytes e.0) j named in
+    let word : string_bytes e.0 ≡ key_word j = word_is (string_bytes e.0) j named in
     let there : lookup (at_word (string_bytes e.0)) all ≡ Some e.1 = rw is (found_there done e more (rw is at sorted)) in
-    elim (cases_Bool (bytes_eq (word_of k) (word_of j))) [
+    elim (cases_Bool (bytes_eq (key_word k) (key_word j))) [
       | inl t ↦ (
-          let own : word_of k ≡ string_bytes e.0 = (bytes_eq-Decides (word_of k) (word_of j)).0 t ∙ sym word in
+          let own : key_word k ≡ string_bytes e.0 = (bytes_eq-Decides (key_word k) (key_word j)).0 t ∙ sym word in
           rw (slot_with j k v r, t) (rw (own, same) there))
-      | inr f ↦ rw (slot_with j k v r, f) (keeps all done e (slot k r) (word_of k) (rw word f) (h k))
+      | inr f ↦ rw (slot_with j k v r, f) (keeps all done e (slot k r) (key_word k) (rw word f) (h k))
     ]
 
 -- after all entries

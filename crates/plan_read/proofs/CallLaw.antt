@@ -16,10 +16,10 @@ use Rattle.plan_read.specs.declared.plans.Op.TheVariants as ops
 use Rattle.plan_read.specs.declared.sites.Site.{Site}
 use Rattle.plan_read.specs.declared.verbs.Verb.{Verb}
 use Rattle.plan_read.specs.declared.verbs.Verb.TheVariants as verbs
-use Rattle.plan_read.specs.Checks.{first_failing, call_checks, verb_checks, key_checks, new_name_checks, known_name_checks, name_checks, time_checks, is_clear, are_spans_short, is_verb}
+use Rattle.plan_read.specs.Checks.{place_fault, call_checks, verb_checks, key_checks, new_name_checks, known_name_checks, name_checks, time_checks, is_clear, are_spans_short, is_verb}
 use Rattle.plan_read.specs.Keys.{fits, Text, Integer, Truth, Policy, Key, call_keys, own_keys, has_required, are_typed, verb_of_word, which_of_word}
-use Rattle.plan_read.specs.Plans.{PlanTree, find, submissions_before, last_moment, last_offset}
-use Rattle.plan_read.specs.Values.{text_or, integer_or, verb_at, name_at, op_of, call_of, target_of, span_at, period_at}
+use Rattle.plan_read.specs.Plans.{PlanTree, find, submissions_before, moment_in_last, last_offset}
+use Rattle.plan_read.specs.Values.{text_or, integer_or, verb_at, name_at, op_of, written_call, target_of, span_at, period_at}
 use Rattle.plan_read.specs.Writes.{HasOnly, IsCallOf, HasNewName, DelayAt, PeriodAt, WritesOp, WritesCall}
 use Rattle.plan_read.proofs.Accepted.{list_all_true, le_from_test}
 use Rattle.plan_read.proofs.Failing.{all_pass, none_fails, parts, last}
@@ -52,15 +52,15 @@ truth_there (Some (datetime t)) there typed = absurd (cc)
 truth_there (Some (array ds)) there typed = absurd (cc)
 truth_there (Some (table ms)) there typed = absurd (cc)
 
-policy_text : (o : Option Data) → fits Policy o ≡ true → fits Text o ≡ true
-policy_text None typed = refl
-policy_text (Some (string s)) typed = refl
-policy_text (Some (boolean b)) typed = absurd (cc)
-policy_text (Some (integer n)) typed = absurd (cc)
-policy_text (Some (float x)) typed = absurd (cc)
-policy_text (Some (datetime t)) typed = absurd (cc)
-policy_text (Some (array ds)) typed = absurd (cc)
-policy_text (Some (table ms)) typed = absurd (cc)
+policy_is_text : (o : Option Data) → fits Policy o ≡ true → fits Text o ≡ true
+policy_is_text None typed = refl
+policy_is_text (Some (string s)) typed = refl
+policy_is_text (Some (boolean b)) typed = absurd (cc)
+policy_is_text (Some (integer n)) typed = absurd (cc)
+policy_is_text (Some (float x)) typed = absurd (cc)
+policy_is_text (Some (datetime t)) typed = absurd (cc)
+policy_is_text (Some (array ds)) typed = absurd (cc)
+policy_is_text (Some (table ms)) typed = absurd (cc)
 
 policy_word : (o : Option Data) → is_some o ≡ true → fits Policy o ≡ true → is_some (which_of_word (unwrap_or (option_and_then as_str o) [])) ≡ true
 policy_word None there typed = absurd (cc)
@@ -98,7 +98,7 @@ record KeysPass (verb : Verb) (ms : Members) : Type 0 where
   offset : fits Integer (get_member (codes "at") ms) ≡ true
   word : fits Text (get_member (codes "op") ms) ≡ true
 
-keys_pass : (p : Place) (verb : Verb) (ms : Members) → first_failing p (key_checks verb ms) ≡ None → KeysPass verb ms
+keys_pass : (p : Place) (verb : Verb) (ms : Members) → place_fault p (key_checks verb ms) ≡ None → KeysPass verb ms
 unfolding key_checks
 keys_pass p verb ms none =
     let k = all_pass p (key_checks verb ms) none in
@@ -108,7 +108,7 @@ keys_pass p verb ms none =
     record { keys = k.0; there = r.1; typed = u.1; offset = u.0; word = t.0 }
 
 new_name : (p : Place) (subs : List (List ℕ × Site)) (ms : Members) → is_some (get_member (codes "name") ms) ≡ true → fits Text (get_member (codes "name") ms) ≡ true
-    → first_failing p (new_name_checks (find (name_at ms) subs) ms) ≡ None → HasNewName subs ms (name_at ms)
+    → place_fault p (new_name_checks (find (name_at ms) subs) ms) ≡ None → HasNewName subs ms (name_at ms)
 new_name p subs ms there typed none =
     let n = all_pass p (new_name_checks (find (name_at ms) subs) ms) none in
     (text_there (get_member (codes "name") ms) [] there typed, n.0, none_of (find (name_at ms) subs) n.1.0)
@@ -130,7 +130,7 @@ typed_all : (keys : List Key) (ms : Members) → are_typed keys ms ≡ true → 
 typed_all keys ms h = list_all_true (λ k. fits k.shape (get_member k.name ms)) keys h
 
 op_written : (p : Place) (verb : Verb) (block : ℕ) (unit : TimeUnit) (subs : List (List ℕ × Site)) (ms : Members) → IsCallOf verb ms → KeysPass verb ms
-    → first_failing p (name_checks verb (find (name_at ms) subs) block ms) ≡ None → are_spans_short verb unit ms ≡ true
+    → place_fault p (name_checks verb (find (name_at ms) subs) block ms) ≡ None → are_spans_short verb unit ms ≡ true
     → WritesOp block unit subs ms (op_of verb (find (name_at ms) subs) unit ms)
 unfolding name_checks op_of
 op_written p verbs.Schedule block unit subs ms is k names short =
@@ -158,7 +158,7 @@ op_written p verbs.Policy block unit subs ms is k names short =
     let typed = typed_all (own_keys verbs.Policy) ms k.typed in
     let which = get_member (codes "which") ms in
     let word = text_or [] (codes "which") ms in
-    (is, word, text_there which [] there.0 (policy_text which typed.0), some_of (which_of_word word) Continue (policy_word which there.0 typed.0), truth_there (get_member (codes "value") ms) there.1.0 typed.1.0)
+    (is, word, text_there which [] there.0 (policy_is_text which typed.0), some_of (which_of_word word) Continue (policy_word which there.0 typed.0), truth_there (get_member (codes "value") ms) there.1.0 typed.1.0)
 op_written p verbs.Shutdown block unit subs ms is k names short = is
 op_written p verbs.Ask block unit subs ms is k names short = is
 
@@ -177,8 +177,8 @@ call_is_of ms there known k =
 
 -- the call that no check refuses
 pub call_written : (p : Place) (earlier : PlanTree) (h : Header) (before : List Call) (ms : Members)
-    → first_failing p (call_checks (find (name_at ms) (submissions_before earlier h before)) (length earlier) h (last_offset before) ms) ≡ None
-    → WritesCall earlier h before ms (call_of (find (name_at ms) (submissions_before earlier h before)) h ms)
+    → place_fault p (call_checks (find (name_at ms) (submissions_before earlier h before)) (length earlier) h (last_offset before) ms) ≡ None
+    → WritesCall earlier h before ms (written_call (find (name_at ms) (submissions_before earlier h before)) h ms)
 unfolding verb_checks time_checks
 call_written p earlier h before ms none =
     let verb = verb_at ms in
@@ -190,12 +190,12 @@ call_written p earlier h before ms none =
     let k = keys_pass p verb ms d.1 in
     let t = all_pass p (time_checks verb h (last_offset before) ms) a.1 in
     let at = span_at h.unit (codes "at") ms in
-    let first = and_parts (nat_le at longest) (are_spans_short verb h.unit ms && nat_le (last_moment h at) longest) (and_assoc (nat_le at longest) (are_spans_short verb h.unit ms) (nat_le (last_moment h at) longest) t.1.0) in
-    let short = and_parts (are_spans_short verb h.unit ms) (nat_le (last_moment h at) longest) first.1 in
+    let first = and_parts (nat_le at longest) (are_spans_short verb h.unit ms && nat_le (moment_in_last h at) longest) (and_assoc (nat_le at longest) (are_spans_short verb h.unit ms) (nat_le (moment_in_last h at) longest) t.1.0) in
+    let short = and_parts (are_spans_short verb h.unit ms) (nat_le (moment_in_last h at) longest) first.1 in
     let ordered = and_parts (nat_le (last_offset before) at) (nat_le h.times 1 || nat_le at h.every) t.1.1.0 in
     record {
       at = span_fits h.unit (codes "at") ms k.offset t.0 (le_from_test at longest first.0);
-      last = le_from_test (last_moment h at) longest short.1;
+      last = le_from_test (moment_in_last h at) longest short.1;
       order = le_from_test (last_offset before) at ordered.0;
       within = or_le h.times 1 at h.every ordered.1;
       op = op_written p verb (length earlier) h.unit (submissions_before earlier h before) ms (call_is_of ms v.0 v.1.0 k) k b.1 short.0;
@@ -218,20 +218,20 @@ clear_back block s (inr h) = rw h (or_yes (s.target.block == block))
 record Stands (p : Place) (block : ℕ) (unit : TimeUnit) (subs : List (List ℕ × Site)) (ms : Members) (op : Op) : Type 0 where
   verb : Verb
   word : IsCallOf verb ms
-  keys : first_failing p (key_checks verb ms) ≡ None
-  names : first_failing p (name_checks verb (find (name_at ms) subs) block ms) ≡ None
+  keys : place_fault p (key_checks verb ms) ≡ None
+  names : place_fault p (name_checks verb (find (name_at ms) subs) block ms) ≡ None
   short : are_spans_short verb unit ms ≡ true
   is : op ≡ op_of verb (find (name_at ms) subs) unit ms
 
 keys_stand : (p : Place) (verb : Verb) (ms : Members) → fits Integer (get_member (codes "at") ms) ≡ true → IsCallOf verb ms
-    → has_required (own_keys verb) ms ≡ true → are_typed (own_keys verb) ms ≡ true → first_failing p (key_checks verb ms) ≡ None
+    → has_required (own_keys verb) ms ≡ true → are_typed (own_keys verb) ms ≡ true → place_fault p (key_checks verb ms) ≡ None
 unfolding key_checks
 keys_stand p verb ms at is there typed = none_fails p (key_checks verb ms) (is.3, (rw (is.1, there) refl, (rw (is.1, at, typed) refl, tt)))
 
 name_is : (subs : List (List ℕ × Site)) (ms : Members) (name : List ℕ) → HasNewName subs ms name → name_at ms ≡ name
 name_is subs ms name w = rw w.0 refl
 
-new_stands : (p : Place) (subs : List (List ℕ × Site)) (ms : Members) (name : List ℕ) → HasNewName subs ms name → first_failing p (new_name_checks (find (name_at ms) subs) ms) ≡ None
+new_stands : (p : Place) (subs : List (List ℕ × Site)) (ms : Members) (name : List ℕ) → HasNewName subs ms name → place_fault p (new_name_checks (find (name_at ms) subs) ms) ≡ None
 new_stands p subs ms name w =
     let is = name_is subs ms name w in
     none_fails p (new_name_checks (find (name_at ms) subs) ms) (rw is w.1, (rw (is, w.2) refl, tt))
@@ -300,8 +300,8 @@ verb_is verb ms is = (rw (is.1, is.2) refl, rw (is.1, is.2) refl, rw is.1 refl)
 
 -- a written call meets each check, and is the one that is read
 pub call_only : (p : Place) (earlier : PlanTree) (h : Header) (before : List Call) (ms : Members) (c : Call) → WritesCall earlier h before ms c
-    → (first_failing p (call_checks (find (name_at ms) (submissions_before earlier h before)) (length earlier) h (last_offset before) ms) ≡ None)
-    × (c ≡ call_of (find (name_at ms) (submissions_before earlier h before)) h ms)
+    → (place_fault p (call_checks (find (name_at ms) (submissions_before earlier h before)) (length earlier) h (last_offset before) ms) ≡ None)
+    × (c ≡ written_call (find (name_at ms) (submissions_before earlier h before)) h ms)
 unfolding verb_checks time_checks
 call_only p earlier h before ms c w =
     let subs = submissions_before earlier h before in
@@ -313,11 +313,11 @@ call_only p earlier h before ms c w =
     let t = none_fails p (time_checks (verb_at ms) h (last_offset before) ms) (
       at.1,
       (
-        rw (at.2, test_from_le c.at longest w.at.3, verb, o.short, test_from_le (last_moment h c.at) longest w.last) refl,
+        rw (at.2, test_from_le c.at longest w.at.3, verb, o.short, test_from_le (moment_in_last h c.at) longest w.last) refl,
         (rw (at.2, test_from_le (last_offset before) c.at w.order) (or_back h.times 1 c.at h.every w.within), tt),
       ),
     ) in (
       last p (verb_checks ms) (key_checks (verb_at ms) ms) (name_checks (verb_at ms) (find (name_at ms) subs) (length earlier) ms) (time_checks (verb_at ms) h (last_offset before) ms)
-          v (subst (λ (k : Verb). first_failing p (key_checks k ms) ≡ None) (sym verb) o.keys) (subst (λ (k : Verb). first_failing p (name_checks k (find (name_at ms) subs) (length earlier) ms) ≡ None) (sym verb) o.names) ∙ t,
+          v (subst (λ (k : Verb). place_fault p (key_checks k ms) ≡ None) (sym verb) o.keys) (subst (λ (k : Verb). place_fault p (name_checks k (find (name_at ms) subs) (length earlier) ms) ≡ None) (sym verb) o.names) ∙ t,
       rw (at.2, verb, ← o.is) refl,
     )

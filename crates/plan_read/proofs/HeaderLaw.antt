@@ -8,7 +8,7 @@ use Rattle.sched_time.specs.Times.{longest, delay_units}
 use Rattle.sched_time.specs.declared.unit.Unit.TheVariants.{Ns}
 use Rattle.plan_read.specs.declared.faults.Place.{Place}
 use Rattle.plan_read.specs.declared.plans.Header.{Header}
-use Rattle.plan_read.specs.Checks.{first_failing, header_checks}
+use Rattle.plan_read.specs.Checks.{place_fault, header_checks}
 use Rattle.plan_read.specs.Keys.{fits, header_keys, unit_of_word}
 use Rattle.plan_read.specs.Values.{tables_at, text_or, header_of, unit_at, times_at, is_negative}
 use Rattle.plan_read.specs.Writes.{WritesHeader, TablesAt}
@@ -40,7 +40,7 @@ unit_of_some None d h = absurd (cc)
 unit_of_some (Some x) d h = refl
 
 -- a header none of whose checks fails is the one that its table writes
-pub header_written : (p : Place) (end made : ℕ) (ms : Members) → first_failing p (header_checks end made ms) ≡ None
+pub header_written : (p : Place) (end made : ℕ) (ms : Members) → place_fault p (header_checks end made ms) ≡ None
     → WritesHeader end made (length (tables_at (codes "call") ms)) ms (header_of ms)
 unfolding header_checks header_of
 header_written p end made ms none =
@@ -78,7 +78,7 @@ header_is end made count ms h w =
 
 -- none of the checks fails on a table that writes a header
 pub header_passes : (p : Place) (end made : ℕ) (ms : Members) (tables : List Members) (h : Header) → TablesAt (codes "call") ms tables → WritesHeader end made (length tables) ms h
-    → first_failing p (header_checks end made ms) ≡ None
+    → place_fault p (header_checks end made ms) ≡ None
 unfolding header_checks
 header_passes p end made ms tables h array w =
     let is = header_is end made (length tables) ms h w in

@@ -7,7 +7,7 @@ use Rattle.sched_time.specs.Times.{longest, delay_units}
 use Rattle.sched_time.specs.declared.unit.Unit.{Unit as TimeUnit}
 use Rattle.plan_read.specs.Keys.{fits, Text, Integer, Tables, are_tables}
 use Rattle.plan_read.specs.Values.{integer_or, text_or, tables_in, tables_at, span_at, is_negative}
-use Rattle.plan_read.specs.Writes.{IntegerAt, TextAt, AreTables, TablesAt, SpanAt}
+use Rattle.plan_read.specs.Writes.{IntegerAt, TextAt, HoldTables, TablesAt, SpanAt}
 
 -- ---- integers and texts
 
@@ -67,7 +67,7 @@ span_is unit key ms n s =
 
 -- ---- tables
 
-items_fit : (ds : Items) → are_tables ds ≡ true → AreTables ds (tables_in ds)
+items_fit : (ds : Items) → are_tables ds ≡ true → HoldTables ds (tables_in ds)
 items_fit no_items h = tt
 items_fit (item (table ms) ds) h = (refl, items_fit ds h)
 items_fit (item (integer n) ds) h = absurd (cc)
@@ -77,7 +77,7 @@ items_fit (item (boolean b) ds) h = absurd (cc)
 items_fit (item (datetime t) ds) h = absurd (cc)
 items_fit (item (array es) ds) h = absurd (cc)
 
-items_are : (ds : Items) (ts : List Members) → AreTables ds ts → (are_tables ds ≡ true) × (tables_in ds ≡ ts)
+items_are : (ds : Items) (ts : List Members) → HoldTables ds ts → (are_tables ds ≡ true) × (tables_in ds ≡ ts)
 items_are no_items [] h = (refl, refl)
 items_are no_items (t ∷ ts) h = absurd h
 items_are (item (table ms) ds) (t ∷ ts) h = let r = items_are ds ts h.1 in (r.0, rw (h.0, r.1) refl)
@@ -90,7 +90,7 @@ items_are (item (datetime t) ds) ts h = absurd h
 items_are (item (array es) ds) ts h = absurd h
 
 data_fits : (o : Option Data) → fits Tables o ≡ true
-    → ((items : Items) × (o ≡ Some (array items)) × AreTables items (tables_in (unwrap_or (option_and_then as_array o) no_items))) ⊎ ((o ≡ None) × (tables_in (unwrap_or (option_and_then as_array o) no_items) ≡ []))
+    → ((items : Items) × (o ≡ Some (array items)) × HoldTables items (tables_in (unwrap_or (option_and_then as_array o) no_items))) ⊎ ((o ≡ None) × (tables_in (unwrap_or (option_and_then as_array o) no_items) ≡ []))
 data_fits None h = inr (refl, refl)
 data_fits (Some (array ds)) h = inl (ds, refl, items_fit ds h)
 data_fits (Some (integer n)) h = absurd (cc)

@@ -10,7 +10,7 @@ use Rattle.plan_read.specs.declared.plans.Op.{Op}
 use Rattle.plan_read.specs.declared.plans.Op.TheVariants as ops
 use Rattle.plan_read.specs.declared.sites.Site.{Site}
 use Rattle.plan_read.specs.Plans.{PlanTree, name_of, named, submissions_from, submissions_before, find, AreDistinct}
-use Rattle.plan_read.specs.Writes.{Writes, WritesOp, WritesCalls, WritesBlocks}
+use Rattle.plan_read.specs.Writes.{TreeWrites, WritesOp, WritesCalls, WritesBlocks}
 use Rattle.plan_read.proofs.Naming.{find-append, bytes_eq-symmetric, before-one_more, submissions_from-one_more}
 
 distinct-added : (subs : List (List ℕ × Site)) (name : List ℕ) (s : Site) → AreDistinct subs → find name subs ≡ None → AreDistinct (subs ++ (name, s) ∷ [])
@@ -50,5 +50,5 @@ distinct-blocks earlier (ms ∷ tables) (b ∷ bs) w d =
     rw (← append_assoc earlier (b ∷ []) bs) (distinct-blocks (earlier ++ b ∷ []) tables bs w.1 (rw (submissions_from-one_more 0 earlier b, e) calls))
 
 -- the law that two submissions of a plan have different names
-pub names_distinct : (ms : Members) (plan : PlanTree) → Writes ms plan → AreDistinct (submissions_from 0 plan)
+pub names_distinct : (ms : Members) (plan : PlanTree) → TreeWrites ms plan → AreDistinct (submissions_from 0 plan)
 names_distinct ms plan w = distinct-blocks [] w.tables plan w.blocks tt

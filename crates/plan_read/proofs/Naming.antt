@@ -8,16 +8,16 @@ use Rattle.std.specs.BTreeMap.{BTreeMap}
 use Rattle.toml.specs.Data.{Members}
 use Rattle.sched_time.specs.declared.unit.Unit.{Unit as TimeUnit}
 use Rattle.plan_read.specs.declared.faults.Place.{Place}
-use Rattle.plan_read.specs.declared.faults.Refusal.{Refusal}
+use Rattle.plan_read.specs.declared.faults.ReadError.{ReadError}
 use Rattle.plan_read.specs.declared.plans.Call.{Call}
 use Rattle.plan_read.specs.declared.plans.Header.{Header}
 use Rattle.plan_read.specs.declared.sites.Site.{Site}
 use Rattle.plan_read.specs.declared.verbs.Verb.{Verb}
 use Rattle.plan_read.specs.declared.verbs.Verb.TheVariants as verbs
-use Rattle.plan_read.specs.Checks.{first_failing, call_checks, verb_checks, key_checks, new_name_checks, name_checks, time_checks}
+use Rattle.plan_read.specs.Checks.{place_fault, call_checks, verb_checks, key_checks, new_name_checks, name_checks, time_checks}
 use Rattle.plan_read.specs.Plans.{BlockTree, PlanTree, name_of, is_submission, tasks_after, tasks_after_calls, named, site, submissions_of, submissions_from, submissions_before, find}
 use Rattle.plan_read.specs.Reads.{found_in, Knows, Reads}
-use Rattle.plan_read.specs.Values.{verb_at, submits, op_of, call_of, name_at}
+use Rattle.plan_read.specs.Values.{verb_at, submits, op_of, written_call, name_at}
 use Rattle.plan_read.proofs.Failing.{all_pass, parts}
 
 -- ---- finding a name
@@ -85,11 +85,11 @@ unnamed-one_more earlier h cs c q e = rw (before-one_more earlier h cs c, is_non
 
 -- ---- an accepted call that submits has a new name
 
-fresh_name : (p : Place) (found : Option Site) (ms : Members) → first_failing p (new_name_checks found ms) ≡ None → found ≡ None
+fresh_name : (p : Place) (found : Option Site) (ms : Members) → place_fault p (new_name_checks found ms) ≡ None → found ≡ None
 fresh_name p None ms h = refl
 fresh_name p (Some x) ms h = absurd (let e = (all_pass p (new_name_checks (Some x) ms) h).1.0 in cc)
 
-fresh_by_verb : (p : Place) (verb : Verb) (found : Option Site) (block : ℕ) (unit : TimeUnit) (ms : Members) → first_failing p (name_checks verb found block ms) ≡ None
+fresh_by_verb : (p : Place) (verb : Verb) (found : Option Site) (block : ℕ) (unit : TimeUnit) (ms : Members) → place_fault p (name_checks verb found block ms) ≡ None
     → is_some (name_of (op_of verb found unit ms)) ≡ true → (name_of (op_of verb found unit ms) ≡ Some (name_at ms)) × (found ≡ None)
 unfolding name_checks op_of
 fresh_by_verb p verbs.Schedule found block unit ms h s = (refl, fresh_name p found ms h)
@@ -101,8 +101,8 @@ fresh_by_verb p verbs.Shutdown found block unit ms h s = absurd (cc)
 fresh_by_verb p verbs.Ask found block unit ms h s = absurd (cc)
 
 -- an accepted call that submits has a new name
-pub fresh : (p : Place) (found : Option Site) (block : ℕ) (h : Header) (last : ℕ) (ms : Members) (c : Call) → first_failing p (call_checks found block h last ms) ≡ None
-    → c ≡ call_of found h ms → is_submission c.op ≡ true → (name_of c.op ≡ Some (name_at ms)) × (found ≡ None)
+pub fresh : (p : Place) (found : Option Site) (block : ℕ) (h : Header) (last : ℕ) (ms : Members) (c : Call) → place_fault p (call_checks found block h last ms) ≡ None
+    → c ≡ written_call found h ms → is_submission c.op ≡ true → (name_of c.op ≡ Some (name_at ms)) × (found ≡ None)
 fresh p found block h last ms c passed is s =
     let a = parts p (verb_checks ms ++ key_checks (verb_at ms) ms ++ name_checks (verb_at ms) found block ms) (time_checks (verb_at ms) h last ms) passed in
     let b = parts p (verb_checks ms ++ key_checks (verb_at ms) ms) (name_checks (verb_at ms) found block ms) a.0 in
@@ -135,10 +135,10 @@ submits-op verbs.Shutdown found unit ms = refl
 submits-op verbs.Ask found unit ms = refl
 
 -- after a call that was read, whose name was added where it submits
-pub knows-read : (names new : BTreeMap (Bor (List ℕ)) Site) (earlier : PlanTree) (h : Header) (cs : List Call) (s : Site) (found : Option Site) (p : Place) (last : ℕ) (ms : Members) (r : Result Call Refusal)
+pub knows-read : (names new : BTreeMap (Bor (List ℕ)) Site) (earlier : PlanTree) (h : Header) (cs : List Call) (s : Site) (found : Option Site) (p : Place) (last : ℕ) (ms : Members) (r : Result Call ReadError)
     → Knows names (submissions_before earlier h cs) → found ≡ find (name_at ms) (submissions_before earlier h cs) → s ≡ site (length earlier) h (tasks_after_calls 0 cs)
     → ((q : List ℕ) → found_in new q ≡ (if submits (verb_at ms) && bytes_eq (name_at ms) q then Some s else found_in names q))
-    → Reads (λ (c : Call). c) r (first_failing p (call_checks found (length earlier) h last ms)) (call_of found h ms)
+    → Reads (λ (c : Call). c) r (place_fault p (call_checks found (length earlier) h last ms)) (written_call found h ms)
     → IfOk r (λ c. Knows new (submissions_before earlier h (cs ++ c ∷ [])))
 knows-read names new earlier h cs s found p last ms (Err e) known is place added reads = tt
 knows-read names new earlier h cs s found p last ms (Ok c) known is place added reads =

@@ -11,7 +11,7 @@ use Rattle.plan_read.specs.declared.plans.Op.TheVariants as ops
 use Rattle.plan_read.specs.declared.plans.Target.{Target}
 use Rattle.plan_read.specs.declared.sites.Site.{Site}
 use Rattle.plan_read.specs.Plans.{PlanTree, submissions_before, IsPeriodInRange, IsWithinLimits, StandsBefore, IsAimed, IsCallAfter, AreCallsAfter, IsBlockAfter, AreBlocksAfter, IsOrdered}
-use Rattle.plan_read.specs.Writes.{Has, PeriodAt, HasNameOf, WritesOp, WritesCall, WritesCalls, WritesBlocks, Writes}
+use Rattle.plan_read.specs.Writes.{Has, PeriodAt, HasNameOf, WritesOp, WritesCall, WritesCalls, WritesBlocks, TreeWrites}
 use Rattle.plan_read.proofs.Found.{stands_before}
 
 -- ---- one call
@@ -100,5 +100,5 @@ blocks_ordered earlier (ms ∷ tables) (b ∷ bs) w =
     ((block, rest.0), omega (arith, rest.1))
 
 -- the law on order
-pub plan_ordered : (ms : Members) (plan : PlanTree) → Writes ms plan → IsOrdered plan
+pub plan_ordered : (ms : Members) (plan : PlanTree) → TreeWrites ms plan → IsOrdered plan
 plan_ordered ms plan w = let r = blocks_ordered [] w.tables plan w.blocks in (rw r.1 w.few, r.0)

@@ -10,14 +10,14 @@ use Rattle.plan_read.specs.Keys.{Key, is_key, has_only, are_tables}
 use Rattle.plan_read.specs.Values.{tables_in}
 
 -- to test the keys of a table one by one is to test the table
-pub has_only-keys : (known : List Key) (es : List (String Global × Value)) → list_all (λ k. is_key known (string_bytes k)) (keys_of es) ≡ has_only known (members_view es)
-has_only-keys known [] = refl
-has_only-keys known (e ∷ es) = ap (λ b. is_key known (string_bytes e.0) && b) (has_only-keys known es)
+pub has_only_keys : (known : List Key) (es : List (String Global × Value)) → list_all (λ k. is_key known (string_bytes k)) (keys_of es) ≡ has_only known (members_view es)
+has_only_keys known [] = refl
+has_only_keys known (e ∷ es) = ap (λ b. is_key known (string_bytes e.0) && b) (has_only_keys known es)
 
 -- to test the items of an array one by one is to test the array
-pub are_tables-items : (vs : List Value) → list_all (λ v. is_some (as_table (view v))) vs ≡ are_tables (items_view vs)
-are_tables-items [] = refl
-are_tables-items (v ∷ vs) = ap (λ b. is_some (as_table (view v)) && b) (are_tables-items vs)
+pub are_tables_items : (vs : List Value) → list_all (λ v. is_some (as_table (view v))) vs ≡ are_tables (items_view vs)
+are_tables_items [] = refl
+are_tables_items (v ∷ vs) = ap (λ b. is_some (as_table (view v)) && b) (are_tables_items vs)
 
 -- there are as many tables as items
 pub count_of_tables : (vs : List Value) → length (tables_in (items_view vs)) ≡ length vs

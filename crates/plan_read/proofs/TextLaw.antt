@@ -6,7 +6,7 @@ use Rattle.std.proofs.lemmas.Bool.{cases_Bool}
 use Rattle.std.proofs.lemmas.Str.{IsUtf8-from_is_utf8, is_utf8-from_IsUtf8}
 use Rattle.toml.specs.Data.{Members, no_members}
 use Rattle.toml.specs.Parse.{parse_document}
-use Rattle.plan_read.specs.Checks.{first_failing, top, fault_of}
+use Rattle.plan_read.specs.Checks.{place_fault, top, tree_fault}
 use Rattle.plan_read.specs.Plans.{PlanTree}
 use Rattle.plan_read.specs.Texts.{tree_of, tree_at, longest_text, length_checks, toml_checks, fault_of_text, plan_of_text, TextWrites}
 use Rattle.plan_read.proofs.Failing.{all_pass, none_fails}
@@ -33,8 +33,8 @@ some_tree (Some ms) h = refl
 -- a text without a fault writes the plan that is read of it
 pub text_written : (text : List ℕ) → fault_of_text text ≡ None → TextWrites text (plan_of_text text)
 text_written text none =
-    let n = none_both (first_failing top (length_checks text)) _ none in
-    let m = none_both (first_failing top (toml_checks text)) (fault_of (tree_at text)) n.1 in
+    let n = none_both (place_fault top (length_checks text)) _ none in
+    let m = none_both (place_fault top (toml_checks text)) (tree_fault (tree_at text)) n.1 in
     record {
       short = le_from_test (length text) longest_text (all_pass top (length_checks text) n.0).0;
       tree = tree_at text;

@@ -7,10 +7,10 @@ use Rattle.toml.specs.Data.{Data, string, integer, float, boolean, datetime, arr
 use Rattle.plan_read.specs.declared.faults.PlanFault.{PlanFault}
 use Rattle.plan_read.specs.declared.plans.Call.{Call}
 use Rattle.plan_read.specs.declared.plans.Header.{Header}
-use Rattle.plan_read.specs.Checks.{◌or_else◌, first_failing, top, top_checks, is_one, header_place, header_checks, call_place, call_fault, calls_fault, block_fault, blocks_fault, fault_of}
+use Rattle.plan_read.specs.Checks.{◌or_else◌, place_fault, top, top_checks, is_one, header_place, header_checks, call_place, call_fault, calls_fault, block_fault, blocks_fault, tree_fault}
 use Rattle.plan_read.specs.Plans.{BlockTree, PlanTree, end_of, made_by}
-use Rattle.plan_read.specs.Values.{tables_at, header_of, next_call, calls_after, block_of, blocks_after, plan_of}
-use Rattle.plan_read.specs.Writes.{Writes, WritesBlock, WritesBlocks, WritesCalls}
+use Rattle.plan_read.specs.Values.{tables_at, header_of, next_call, calls_through, block_of, blocks_through, plan_of}
+use Rattle.plan_read.specs.Writes.{TreeWrites, WritesBlock, WritesBlocks, WritesCalls}
 use Rattle.plan_read.proofs.Failing.{all_pass, none_fails}
 use Rattle.plan_read.proofs.Accepted.{passed, top_passed}
 use Rattle.plan_read.proofs.HeaderLaw.{header_written, header_is, header_passes, test_from_le}
@@ -25,7 +25,7 @@ none_both (Some f) y h = absurd (cc)
 -- ---- calls
 
 calls_written : (earlier : PlanTree) (h : Header) (before : List Call) (tables : List Members) → calls_fault earlier h before tables ≡ None
-    → (cs : List Call) × (calls_after earlier h before tables ≡ before ++ cs) × WritesCalls earlier h before tables cs
+    → (cs : List Call) × (calls_through earlier h before tables ≡ before ++ cs) × WritesCalls earlier h before tables cs
 calls_written earlier h before [] none = ([], sym (append-nil before), tt)
 calls_written earlier h before (ms ∷ tables) none =
     let c = next_call earlier h before ms in
@@ -34,7 +34,7 @@ calls_written earlier h before (ms ∷ tables) none =
     (c ∷ r.0, r.1 ∙ append_assoc before (c ∷ []) r.0, (call_written (call_place (length earlier) (length before)) earlier h before ms n.0, r.2))
 
 calls_only : (earlier : PlanTree) (h : Header) (before : List Call) (tables : List Members) (cs : List Call) → WritesCalls earlier h before tables cs
-    → (calls_fault earlier h before tables ≡ None) × (calls_after earlier h before tables ≡ before ++ cs)
+    → (calls_fault earlier h before tables ≡ None) × (calls_through earlier h before tables ≡ before ++ cs)
 calls_only earlier h before [] [] w = (refl, sym (append-nil before))
 calls_only earlier h before [] (c ∷ cs) w = absurd w
 calls_only earlier h before (ms ∷ tables) [] w = absurd w
@@ -47,7 +47,7 @@ calls_only earlier h before (ms ∷ tables) (c ∷ cs) w =
 
 block_written : (earlier : PlanTree) (ms : Members) → block_fault earlier ms ≡ None → WritesBlock earlier ms (block_of earlier ms)
 block_written earlier ms none =
-    let n = none_both (first_failing (header_place (length earlier)) (header_checks (end_of earlier) (made_by earlier) ms)) (calls_fault earlier (header_of ms) [] (tables_at (codes "call") ms)) none in
+    let n = none_both (place_fault (header_place (length earlier)) (header_checks (end_of earlier) (made_by earlier) ms)) (calls_fault earlier (header_of ms) [] (tables_at (codes "call") ms)) none in
     let r = calls_written earlier (header_of ms) [] (tables_at (codes "call") ms) n.1 in
     record {
       tables = tables_at (codes "call") ms;
@@ -65,7 +65,7 @@ block_only earlier ms b w =
     (rw (passes, ← is, tables.1) r.0, rw (← is, tables.1, r.1) refl)
 
 blocks_written : (earlier : PlanTree) (tables : List Members) → blocks_fault earlier tables ≡ None
-    → (bs : PlanTree) × (blocks_after earlier tables ≡ earlier ++ bs) × WritesBlocks earlier tables bs
+    → (bs : PlanTree) × (blocks_through earlier tables ≡ earlier ++ bs) × WritesBlocks earlier tables bs
 blocks_written earlier [] none = ([], sym (append-nil earlier), tt)
 blocks_written earlier (ms ∷ tables) none =
     let b = block_of earlier ms in
@@ -74,7 +74,7 @@ blocks_written earlier (ms ∷ tables) none =
     (b ∷ r.0, r.1 ∙ append_assoc earlier (b ∷ []) r.0, (block_written earlier ms n.0, r.2))
 
 blocks_only : (earlier : PlanTree) (tables : List Members) (bs : PlanTree) → WritesBlocks earlier tables bs
-    → (blocks_fault earlier tables ≡ None) × (blocks_after earlier tables ≡ earlier ++ bs)
+    → (blocks_fault earlier tables ≡ None) × (blocks_through earlier tables ≡ earlier ++ bs)
 blocks_only earlier [] [] w = (refl, sym (append-nil earlier))
 blocks_only earlier [] (b ∷ bs) w = absurd w
 blocks_only earlier (ms ∷ tables) [] w = absurd w
@@ -97,10 +97,10 @@ version_one (Some (array ds)) h = absurd (cc)
 version_one (Some (table ms)) h = absurd (cc)
 
 -- a tree without a fault writes the plan that is read of it
-pub tree_written : (ms : Members) → fault_of ms ≡ None → Writes ms (plan_of ms)
+pub tree_written : (ms : Members) → tree_fault ms ≡ None → TreeWrites ms (plan_of ms)
 unfolding top_checks
 tree_written ms none =
-    let n = none_both (first_failing top (top_checks ms)) (blocks_fault [] (tables_at (codes "block") ms)) none in
+    let n = none_both (place_fault top (top_checks ms)) (blocks_fault [] (tables_at (codes "block") ms)) none in
     let a = all_pass top (top_checks ms) n.0 in
     let t = top_passed top ms n.0 in
     let r = blocks_written [] (tables_at (codes "block") ms) n.1 in
@@ -114,7 +114,7 @@ tree_written ms none =
     }
 
 -- a tree that writes a plan has no fault, and that plan is what is read of it
-pub tree_only : (ms : Members) (plan : PlanTree) → Writes ms plan → (fault_of ms ≡ None) × (plan_of ms ≡ plan)
+pub tree_only : (ms : Members) (plan : PlanTree) → TreeWrites ms plan → (tree_fault ms ≡ None) × (plan_of ms ≡ plan)
 unfolding top_checks
 tree_only ms plan w =
     let tables = tables_are (codes "block") ms w.tables w.array in
@@ -124,14 +124,14 @@ tree_only ms plan w =
 
 -- ---- the laws on the definitions
 
-decided : (ms : Members) (o : Option PlanFault) → fault_of ms ≡ o → ((plan : PlanTree) × Writes ms plan) ⊎ IsSome o
+decided : (ms : Members) (o : Option PlanFault) → tree_fault ms ≡ o → ((plan : PlanTree) × TreeWrites ms plan) ⊎ IsSome o
 decided ms None none = inl (plan_of ms, tree_written ms none)
 decided ms (Some fault) is = inr refl
 
 -- a tree writes a plan or has a fault
-pub writes_or_fails : (ms : Members) → ((plan : PlanTree) × Writes ms plan) ⊎ IsSome (fault_of ms)
-writes_or_fails ms = decided ms (fault_of ms) refl
+pub writes_or_fails : (ms : Members) → ((plan : PlanTree) × TreeWrites ms plan) ⊎ IsSome (tree_fault ms)
+writes_or_fails ms = decided ms (tree_fault ms) refl
 
 -- a tree writes at most one plan
-pub writes_one : (ms : Members) (plan other : PlanTree) → Writes ms plan → Writes ms other → plan ≡ other
+pub writes_one : (ms : Members) (plan other : PlanTree) → TreeWrites ms plan → TreeWrites ms other → plan ≡ other
 writes_one ms plan other w v = sym (tree_only ms plan w).1 ∙ (tree_only ms other v).1

@@ -5,14 +5,14 @@ use Rattle.toml.proofs.Views.{items_view-drop}
 use Rattle.toml.specs.Data.{Data, string, integer, float, boolean, datetime, array, table, Members, as_table}
 use Rattle.toml.specs.View.{view, items_view}
 use Rattle.toml.specs.declared.value.Value.{Value}
-use Rattle.plan_read.specs.declared.faults.Refusal.{Refusal}
+use Rattle.plan_read.specs.declared.faults.ReadError.{ReadError}
 use Rattle.plan_read.specs.declared.plans.Call.{Call}
 use Rattle.plan_read.specs.declared.plans.Header.{Header}
 use Rattle.plan_read.specs.Checks.{calls_fault, call_fault, blocks_fault, block_fault}
 use Rattle.plan_read.specs.Keys.{are_tables}
 use Rattle.plan_read.specs.Plans.{BlockTree, PlanTree}
-use Rattle.plan_read.specs.Reads.{Refuses}
-use Rattle.plan_read.specs.Values.{tables_in, members_in, calls_after, next_call, blocks_after, block_of}
+use Rattle.plan_read.specs.Reads.{FailsWith}
+use Rattle.plan_read.specs.Values.{tables_in, members_in, calls_through, next_call, blocks_through, block_of}
 use Rattle.plan_read.proofs.Failing.{next_decides, first_decides}
 
 members_in-table : (d : Data) (ms : Members) → as_table d ≡ Some ms → members_in d ≡ ms
@@ -40,12 +40,12 @@ is_table (v ∷ vs) (suc i) d h all = is_table vs i d (omega arith) (and_parts (
 -- a call without a fault is added, and the fault and the calls of the whole block are those from the next table on
 pub call_turn : (earlier : PlanTree) (h : Header) (before : List Call) (tables rest : List Members) (ms : Members) (c : Call) → tables ≡ ms ∷ rest
     → call_fault earlier h before ms ≡ None → c ≡ next_call earlier h before ms
-    → (calls_fault earlier h (before ++ c ∷ []) rest ≡ calls_fault earlier h before tables) × (calls_after earlier h (before ++ c ∷ []) rest ≡ calls_after earlier h before tables)
+    → (calls_fault earlier h (before ++ c ∷ []) rest ≡ calls_fault earlier h before tables) × (calls_through earlier h (before ++ c ∷ []) rest ≡ calls_through earlier h before tables)
 call_turn earlier h before tables rest ms c e none is = rw (e, is) (sym (next_decides (call_fault earlier h before ms) _ none), refl)
 
 -- the fault of a call is that of the calls from it on
-pub call_halts : (e : Refusal) (earlier : PlanTree) (h : Header) (before : List Call) (tables rest : List Members) (ms : Members) → tables ≡ ms ∷ rest
-    → Refuses e (call_fault earlier h before ms) → Refuses e (calls_fault earlier h before tables)
+pub call_halts : (e : ReadError) (earlier : PlanTree) (h : Header) (before : List Call) (tables rest : List Members) (ms : Members) → tables ≡ ms ∷ rest
+    → FailsWith e (call_fault earlier h before ms) → FailsWith e (calls_fault earlier h before tables)
 call_halts e earlier h before tables rest ms is s = rw is (first_decides e (call_fault earlier h before ms) _ s)
 
 -- ---- the blocks of a plan
@@ -53,10 +53,10 @@ call_halts e earlier h before tables rest ms is s = rw is (first_decides e (call
 -- a block without a fault is added, and the fault and the blocks of the whole plan are those from the next table on
 pub block_turn : (earlier : PlanTree) (tables rest : List Members) (ms : Members) (b : BlockTree) → tables ≡ ms ∷ rest
     → block_fault earlier ms ≡ None → b ≡ block_of earlier ms
-    → (blocks_fault (earlier ++ b ∷ []) rest ≡ blocks_fault earlier tables) × (blocks_after (earlier ++ b ∷ []) rest ≡ blocks_after earlier tables)
+    → (blocks_fault (earlier ++ b ∷ []) rest ≡ blocks_fault earlier tables) × (blocks_through (earlier ++ b ∷ []) rest ≡ blocks_through earlier tables)
 block_turn earlier tables rest ms b e none is = rw (e, is) (sym (next_decides (block_fault earlier ms) _ none), refl)
 
 -- the fault of a block is that of the blocks from it on
-pub block_halts : (e : Refusal) (earlier : PlanTree) (tables rest : List Members) (ms : Members) → tables ≡ ms ∷ rest
-    → Refuses e (block_fault earlier ms) → Refuses e (blocks_fault earlier tables)
+pub block_halts : (e : ReadError) (earlier : PlanTree) (tables rest : List Members) (ms : Members) → tables ≡ ms ∷ rest
+    → FailsWith e (block_fault earlier ms) → FailsWith e (blocks_fault earlier tables)
 block_halts e earlier tables rest ms is s = rw is (first_decides e (block_fault earlier ms) _ s)

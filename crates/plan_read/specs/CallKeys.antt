@@ -1,4 +1,5 @@
--- The keys of a call's table, each looked up once.
+-- How a call's table is gone over once: its keys, the word of each, and the row of what stands at them.
+-- No promise to a caller names these; they say what the functions of `call_keys` and `call_tables` answer.
 -- All of it is this project's rule.
 use Rattle.std.specs.Prelude.{◌≡◌, ℕ, List, if◌then◌else◌, Option, Some, None, option_map, String, codes, bytes_eq}
 use Rattle.std.specs.Borrow.{Bor}
@@ -10,15 +11,15 @@ use Rattle.plan_read.specs.declared.call_keys.CallKey.TheVariants as keys
 use Rattle.plan_read.specs.declared.call_keys.Row.{Row}
 
 -- the word of a key
-abbrev pub word_of : CallKey → List ℕ
-word_of keys.Op = codes "op"
-word_of keys.At = codes "at"
-word_of keys.Name = codes "name"
-word_of keys.Delay = codes "delay"
-word_of keys.First = codes "first"
-word_of keys.Period = codes "period"
-word_of keys.Which = codes "which"
-word_of keys.Value = codes "value"
+abbrev pub key_word : CallKey → List ℕ
+key_word keys.Op = codes "op"
+key_word keys.At = codes "at"
+key_word keys.Name = codes "name"
+key_word keys.Delay = codes "delay"
+key_word keys.First = codes "first"
+key_word keys.Period = codes "period"
+key_word keys.Which = codes "which"
+key_word keys.Value = codes "value"
 
 -- the key that a word names
 abbrev pub call_key_of_word : List ℕ → Option CallKey
@@ -56,4 +57,4 @@ with_slot keys.Value v r = record { op = r.op; at = r.at; name = r.name; delay =
 
 -- a row has what stands at the keys of a table
 abbrev pub Holds : Row → BTreeMap (String Global) Value → Type 0
-Holds row table = (key : CallKey) → option_map (λ v. v.now) (slot key row) ≡ get_by_text table (word_of key)
+Holds row table = (key : CallKey) → option_map (λ v. v.now) (slot key row) ≡ get_by_text table (key_word key)

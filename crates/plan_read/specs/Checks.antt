@@ -1,4 +1,5 @@
--- The fault of a tree: for each place the list of its checks in order, and the first place whose list has one that fails.
+-- The fault of a tree: for each place the list of its checks in order, and the first place whose list has one that fails. The lists
+-- are the rows of the table of checks on the first page of this crate.
 -- All of it is this project's rule.
 use Rattle.std.specs.Prelude.{ℕ, ◌+◌, ◌*◌, ℤ, pos, negsuc, Bool, true, false, not, ◌&&◌, ◌||◌, nat_le, ◌==◌, if◌then◌else◌, List, [], ◌∷◌, ◌++◌, length, Option, Some, None, is_some, is_none, option_and_then, codes}
 use Rattle.toml.specs.Data.{Members, get_member, as_integer}
@@ -15,7 +16,7 @@ use Rattle.plan_read.specs.declared.verbs.Verb.{Verb}
 use Rattle.plan_read.specs.declared.verbs.Verb.TheVariants as verbs
 use Rattle.plan_read.specs.Keys.{top_keys, header_keys, call_keys, verb_of_word, unit_of_word, has_only, has_required, are_typed}
 use Rattle.plan_read.specs.Names.{is_name}
-use Rattle.plan_read.specs.Plans.{PlanTree, most_blocks, most_block_calls, most_calls, last_moment, last_offset, end_of, made_by}
+use Rattle.plan_read.specs.Plans.{PlanTree, most_blocks, most_block_calls, most_calls, moment_in_last, last_offset, end_of, made_by}
 use Rattle.plan_read.specs.Values.{text_or, tables_at, is_negative, span_at, header_of, verb_at, name_at, found_at, next_call, block_of}
 
 -- ---- lists of checks
@@ -31,9 +32,9 @@ abbrev pub ◌unless◌ : PlanFaultKind → Bool → Check
 kind unless passes = record { kind = kind; passes = passes }
 
 -- the first of a place's checks that fails
-abbrev pub first_failing : Place → List Check → Option PlanFault
-first_failing place [] = None
-first_failing place (c ∷ cs) = if c.passes then first_failing place cs else Some (record { kind = c.kind; block = place.block; call = place.call })
+abbrev pub place_fault : Place → List Check → Option PlanFault
+place_fault place [] = None
+place_fault place (c ∷ cs) = if c.passes then place_fault place cs else Some (record { kind = c.kind; block = place.block; call = place.call })
 
 infixr 7 ◌or_else◌
 -- the fault of one place, and where it has none, that of those after it
@@ -153,39 +154,41 @@ name_checks verbs.Ask found block ms = []
 unfoldable pub time_checks : Verb → Header → ℕ → Members → List Check
 time_checks verb h last ms =
     (Negative unless not (is_negative (codes "at") ms))
-    ∷ (TooLarge unless nat_le (span_at h.unit (codes "at") ms) longest && are_spans_short verb h.unit ms && nat_le (last_moment h (span_at h.unit (codes "at") ms)) longest)
+    ∷ (TooLarge unless nat_le (span_at h.unit (codes "at") ms) longest && are_spans_short verb h.unit ms && nat_le (moment_in_last h (span_at h.unit (codes "at") ms)) longest)
     ∷ (OutOfOrder unless nat_le last (span_at h.unit (codes "at") ms) && (nat_le h.times 1 || nat_le (span_at h.unit (codes "at") ms) h.every))
     ∷ []
 
--- on a call of the block `block`, where `found` is the submission of its name that stands before it, and `last` the offset of the
--- call before it
+-- the checks on a call of the block `block`, where `found` is the submission of its name that stands before it, and `last` the offset
+-- of the call before it: on its operation, on its other keys, on its name, and on its times
 abbrev pub call_checks : Option Site → ℕ → Header → ℕ → Members → List Check
 call_checks found block h last ms =
     verb_checks ms ++ key_checks (verb_at ms) ms ++ name_checks (verb_at ms) found block ms ++ time_checks (verb_at ms) h last ms
 
 -- ---- the whole tree, block by block, and in each block its header and then its calls
 
--- the fault of a call's table
+-- the fault of a call's table that stands behind the calls `before`, in the block behind the blocks `earlier`
 abbrev pub call_fault : PlanTree → Header → List Call → Members → Option PlanFault
 call_fault earlier h before ms =
-    first_failing (call_place (length earlier) (length before)) (call_checks (found_at earlier h before ms) (length earlier) h (last_offset before) ms)
+    place_fault (call_place (length earlier) (length before)) (call_checks (found_at earlier h before ms) (length earlier) h (last_offset before) ms)
 
--- the first fault of some calls' tables
+-- the first fault of some calls' tables, in the order of the text: the first table is checked as the call behind `before`; where it
+-- passes it writes a call, and the tables behind it are checked with that call among those before them
 abbrev pub calls_fault : PlanTree → Header → List Call → List Members → Option PlanFault
 calls_fault earlier h before [] = None
 calls_fault earlier h before (ms ∷ tables) = call_fault earlier h before ms or_else calls_fault earlier h (before ++ next_call earlier h before ms ∷ []) tables
 
--- the first fault of a block's table
+-- the first fault of a block's table: that of its header, and where that has none, the first of its calls
 abbrev pub block_fault : PlanTree → Members → Option PlanFault
 block_fault earlier ms =
-    first_failing (header_place (length earlier)) (header_checks (end_of earlier) (made_by earlier) ms)
+    place_fault (header_place (length earlier)) (header_checks (end_of earlier) (made_by earlier) ms)
     or_else calls_fault earlier (header_of ms) [] (tables_at (codes "call") ms)
 
--- the first fault of some blocks' tables
+-- the first fault of some blocks' tables, in the order of the text: the first is checked as the block behind `earlier`; where it
+-- passes it writes a block, and those behind it are checked with that block among those before them
 abbrev pub blocks_fault : PlanTree → List Members → Option PlanFault
 blocks_fault earlier [] = None
 blocks_fault earlier (ms ∷ tables) = block_fault earlier ms or_else blocks_fault (earlier ++ block_of earlier ms ∷ []) tables
 
--- the fault of a tree
-abbrev pub fault_of : Members → Option PlanFault
-fault_of ms = first_failing top (top_checks ms) or_else blocks_fault [] (tables_at (codes "block") ms)
+-- the fault of a tree: that of its top, and where that has none, the first of its blocks
+abbrev pub tree_fault : Members → Option PlanFault
+tree_fault ms = place_fault top (top_checks ms) or_else blocks_fault [] (tables_at (codes "block") ms)

@@ -1,4 +1,4 @@
--- The keys of a plan's tables, and tests of a table against them.
+-- The words of a plan, the keys of its tables with what the value of each has to be, and tests of a table against them.
 -- All of it is this project's rule.
 use Rattle.std.specs.Prelude.{ℕ, if◌then◌else◌, Bool, true, false, ◌&&◌, ◌||◌, not, List, [], ◌∷◌, Option, Some, None, is_some, option_and_then, codes, bytes_eq}
 use Rattle.std.specs.List.{list_any, list_all}

@@ -1,29 +1,29 @@
--- What holds of every tree and every plan.
+-- What holds of every tree and every plan. The functions of `laws` promise it.
 use Rattle.std.specs.Prelude.{◌≡◌, ◌⊎◌, ℕ, List, None, IsSome, codes}
 use Rattle.toml.specs.Data.{Members, string}
 use Rattle.plan_read.specs.declared.plans.Call.{Call}
 use Rattle.plan_read.specs.declared.plans.Header.{Header}
 use Rattle.plan_read.specs.declared.plans.Op.TheVariants as ops
 use Rattle.plan_read.specs.declared.plans.Target.{Target}
-use Rattle.plan_read.specs.Checks.{fault_of}
+use Rattle.plan_read.specs.Checks.{tree_fault}
 use Rattle.plan_read.specs.Plans.{PlanTree, submissions_from, AreDistinct, StandsBefore, IsOrdered}
-use Rattle.plan_read.specs.Writes.{Has, Writes, WritesCall}
+use Rattle.plan_read.specs.Writes.{Has, TreeWrites, WritesCall}
 
 -- a tree writes a plan or has a fault
 abbrev pub WritesOrFails : Type 0
-WritesOrFails = (ms : Members) → ((plan : PlanTree) × Writes ms plan) ⊎ IsSome (fault_of ms)
+WritesOrFails = (ms : Members) → ((plan : PlanTree) × TreeWrites ms plan) ⊎ IsSome (tree_fault ms)
 
 -- a tree that writes a plan has no fault
 abbrev pub NeverBoth : Type 0
-NeverBoth = (ms : Members) (plan : PlanTree) → Writes ms plan → fault_of ms ≡ None
+NeverBoth = (ms : Members) (plan : PlanTree) → TreeWrites ms plan → tree_fault ms ≡ None
 
 -- a tree writes at most one plan
 abbrev pub WritesOne : Type 0
-WritesOne = (ms : Members) (plan other : PlanTree) → Writes ms plan → Writes ms other → plan ≡ other
+WritesOne = (ms : Members) (plan other : PlanTree) → TreeWrites ms plan → TreeWrites ms other → plan ≡ other
 
 -- two submissions of a plan have different names
 abbrev pub NamesDiffer : Type 0
-NamesDiffer = (ms : Members) (plan : PlanTree) → Writes ms plan → AreDistinct (submissions_from 0 plan)
+NamesDiffer = (ms : Members) (plan : PlanTree) → TreeWrites ms plan → AreDistinct (submissions_from 0 plan)
 
 -- the target of a cancel is a submission that stands before it, has the name that the call gives, and is of the same iteration or of
 -- a block that is not repeated
@@ -35,4 +35,4 @@ TargetsStandBefore =
 
 -- the calls of a plan are in order and within the limits
 abbrev pub PlansAreOrdered : Type 0
-PlansAreOrdered = (ms : Members) (plan : PlanTree) → Writes ms plan → IsOrdered plan
+PlansAreOrdered = (ms : Members) (plan : PlanTree) → TreeWrites ms plan → IsOrdered plan

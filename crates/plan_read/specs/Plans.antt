@@ -1,4 +1,5 @@
--- What contracts see of a plan, what stands before a place of it, and what holds of each plan.
+-- What contracts see of a plan, its limits, what stands before a place of it (submissions with their names, moments, numbers of
+-- calls), and what holds of each plan.
 -- All of it is this project's rule.
 use Rattle.std.specs.Prelude.{◌≡◌, ◌⊎◌, ℕ, ◌+◌, ◌-◌, ◌*◌, ◌≤◌, Bool, if◌then◌else◌, nat_lt, List, [], ◌∷◌, ◌++◌, length, Option, Some, None, is_some, bytes_eq, slice_get}
 use Rattle.std.specs.Map.{lookup}
@@ -90,8 +91,8 @@ find name subs = lookup (λ n. bytes_eq name n) subs
 -- ---- moments and numbers of calls
 
 -- the moment of the call with offset `o` in the last iteration
-abbrev pub last_moment : Header → ℕ → ℕ
-last_moment h o = h.at + (h.times - 1) * h.every + o
+abbrev pub moment_in_last : Header → ℕ → ℕ
+moment_in_last h o = h.at + (h.times - 1) * h.every + o
 
 -- the offset of the last of some calls, and one that is given where there is none
 abbrev pub last_offset_from : ℕ → List Call → ℕ
@@ -105,7 +106,7 @@ last_offset calls = last_offset_from 0 calls
 -- the moment of the last call of a block, and one that is given where it has none
 abbrev pub end_of_block : ℕ → Header → List Call → ℕ
 end_of_block m h [] = m
-end_of_block m h (c ∷ cs) = last_moment h (last_offset_from c.at cs)
+end_of_block m h (c ∷ cs) = moment_in_last h (last_offset_from c.at cs)
 
 -- the moment of the last call of some blocks, and one that is given where they have none
 abbrev pub end_from : ℕ → PlanTree → ℕ
@@ -173,7 +174,7 @@ IsAimed earlier before ops.Ask = Unit {0}
 pub record IsCallAfter (earlier : PlanTree) (h : Header) (before : List Call) (c : Call) : Type 0 where
   pub order : last_offset before ≤ c.at
   pub within : (h.times ≤ 1) ⊎ (c.at ≤ h.every)
-  pub last : last_moment h c.at ≤ longest
+  pub last : moment_in_last h c.at ≤ longest
   pub limits : IsWithinLimits c.op
   pub aimed : IsAimed earlier before c.op
 

@@ -1,4 +1,4 @@
--- Which plan a text writes, and the fault of a text.
+-- Which plan a text writes, and the fault of a text: its length and its tree, and then what its tree writes or is refused for.
 -- All of it is this project's rule.
 use Rattle.std.specs.Prelude.{◌≡◌, ℕ, ◌≤◌, nat_le, if◌then◌else◌, List, [], ◌∷◌, length, Option, None, Some, is_some, unwrap_or}
 use Rattle.std.specs.Str.{is_utf8}
@@ -6,10 +6,10 @@ use Rattle.toml.specs.Data.{Members, no_members}
 use Rattle.toml.specs.Parse.{parse_document}
 use Rattle.plan_read.specs.declared.faults.PlanFault.{PlanFault}
 use Rattle.plan_read.specs.declared.faults.PlanFaultKind.TheVariants.{TooLong, Toml}
-use Rattle.plan_read.specs.Checks.{Check, ◌unless◌, ◌or_else◌, first_failing, top, fault_of}
+use Rattle.plan_read.specs.Checks.{Check, ◌unless◌, ◌or_else◌, place_fault, top, tree_fault}
 use Rattle.plan_read.specs.Plans.{PlanTree}
 use Rattle.plan_read.specs.Values.{plan_of}
-use Rattle.plan_read.specs.Writes.{Writes}
+use Rattle.plan_read.specs.Writes.{TreeWrites}
 
 -- the greatest length of a text, in bytes
 abbrev pub longest_text : ℕ
@@ -33,7 +33,7 @@ toml_checks text = (Toml unless is_some (tree_of text)) ∷ []
 
 -- the fault of a text: the places in order are the text, the top, and then block by block
 abbrev pub fault_of_text : List ℕ → Option PlanFault
-fault_of_text text = first_failing top (length_checks text) or_else first_failing top (toml_checks text) or_else fault_of (tree_at text)
+fault_of_text text = place_fault top (length_checks text) or_else place_fault top (toml_checks text) or_else tree_fault (tree_at text)
 
 -- the plan that a text writes where it has no fault
 abbrev pub plan_of_text : List ℕ → PlanTree
@@ -44,4 +44,4 @@ pub record TextWrites (text : List ℕ) (plan : PlanTree) : Type 0 where
   pub short : length text ≤ longest_text
   pub tree : Members
   pub parsed : tree_of text ≡ Some tree
-  pub writes : Writes tree plan
+  pub writes : TreeWrites tree plan

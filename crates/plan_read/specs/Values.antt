@@ -1,4 +1,5 @@
--- What stands at the keys of a plan's tables, with a default where there is none; a later check refuses what has no other value.
+-- What stands at the keys of a plan's tables, and the plan that is read of them. Each definition has a value at every table, and so a
+-- default at some that are refused: no such default is seen where a plan is written, for the reason that stands at each.
 -- All of it is this project's rule.
 use Rattle.std.specs.Prelude.{ℕ, ℤ, pos, Bool, true, false, List, [], ◌∷◌, ◌++◌, Option, Some, None, option_and_then, unwrap_or, codes, int_lt}
 use Rattle.toml.specs.Data.{Data, table, Items, no_items, item, Members, no_members, get_member, as_integer, as_bool, as_str, as_array}
@@ -20,19 +21,23 @@ use Rattle.plan_read.specs.Plans.{BlockTree, PlanTree, submissions_before, find}
 
 -- ---- at one key
 
--- the integer at a key, and a default where there is none
+-- the integer at a key, and a default where there is none: seen where a plan is written at keys alone that may be left out, since the
+-- others are there (`Missing`) and no value is of another type (`WrongType`)
 abbrev pub integer_or : ℤ → List ℕ → Members → ℤ
 integer_or z key ms = unwrap_or (option_and_then as_integer (get_member key ms)) z
 
--- the text at a key, and a default where there is none
+-- the text at a key, and a default where there is none: seen where a plan is written at keys alone that may be left out, since the
+-- others are there (`Missing`) and no value is of another type (`WrongType`)
 abbrev pub text_or : List ℕ → List ℕ → Members → List ℕ
 text_or text key ms = unwrap_or (option_and_then as_str (get_member key ms)) text
 
--- the truth value at a key, and false where there is none
+-- the truth value at a key, and false where there is none: never seen where a plan is written, since a `policy` has its `value`
+-- (`Missing`), and that is a truth value (`WrongType`)
 abbrev pub truth_at : List ℕ → Members → Bool
 truth_at key ms = unwrap_or (option_and_then as_bool (get_member key ms)) false
 
--- the members of a table
+-- the members of a table, and none of anything else: never seen where a plan is written, since each item of `block` and of `call` is
+-- a table (`WrongType`)
 abbrev pub members_in : Data → Members
 members_in (table ms) = ms
 members_in d = no_members
@@ -42,7 +47,8 @@ abbrev pub tables_in : Items → List Members
 tables_in no_items = []
 tables_in (item d ds) = members_in d ∷ tables_in ds
 
--- the tables of the array at a key, none where there is no value
+-- the tables of the array at a key, none where there is no array: where a plan is written the key is left out then, since what stands
+-- at it is an array of tables (`WrongType`)
 abbrev pub tables_at : List ℕ → Members → List Members
 tables_at key ms = tables_in (unwrap_or (option_and_then as_array (get_member key ms)) no_items)
 
@@ -50,17 +56,19 @@ tables_at key ms = tables_in (unwrap_or (option_and_then as_array (get_member ke
 abbrev pub is_negative : List ℕ → Members → Bool
 is_negative key ms = int_lt (integer_or (pos 0) key ms) (pos 0)
 
--- the nanoseconds at a key, in a unit; a negative number counts as 0
+-- the nanoseconds at a key, in a unit. A negative number counts as 0: that of an `at` or an `every` is never seen where a plan is
+-- written, since none of them is negative (`Negative`)
 abbrev pub span_at : TimeUnit → List ℕ → Members → ℕ
 span_at unit key ms = span_of (integer_or (pos 0) key ms) unit
 
--- the nanoseconds of the period, or the fixed delay, at a key, and none where it is zero or negative
+-- the nanoseconds of the period, or the fixed delay, at a key, and none where it is zero or negative. Where a plan is written the key
+-- is there (`Missing`)
 abbrev pub period_at : TimeUnit → List ℕ → Members → Option ℕ
 period_at unit key ms = period_of (integer_or (pos 0) key ms) unit
 
 -- ---- of a header
 
--- its unit
+-- its unit, and `Ns` at a text that is none: never seen where a plan is written, since the text is a unit (`BadUnit`)
 abbrev pub unit_at : Members → TimeUnit
 unit_at ms = unwrap_or (unit_of_word (text_or (codes "ns") (codes "unit") ms)) Ns
 
@@ -68,7 +76,9 @@ unit_at ms = unwrap_or (unit_of_word (text_or (codes "ns") (codes "unit") ms)) N
 abbrev pub times_at : Members → ℤ
 times_at ms = integer_or (pos 1) (codes "times") ms
 
--- the header that a table writes where it has no fault
+-- the header that a table writes: its unit, how often its calls are made, and its moment and its `every`, in nanoseconds of that unit.
+-- From `BadTimes` on the checks of a header are made on this record. What it has for a unit that is none and for a number below 0 is
+-- never seen where a plan is written, since `BadUnit`, `BadTimes` and `Negative` refuse such a table
 unfoldable pub header_of : Members → Header
 header_of ms = record {
   at = span_at (unit_at ms) (codes "at") ms;
@@ -79,7 +89,8 @@ header_of ms = record {
 
 -- ---- of a call
 
--- its operation
+-- its operation, and `Ask` at a word that is none: never seen where a plan is written, since the first two checks of a call refuse
+-- such a table (`Missing`, `WrongType`)
 unfoldable pub verb_at : Members → Verb
 verb_at ms = unwrap_or (verb_of_word (text_or [] (codes "op") ms)) verbs.Ask
 
@@ -93,15 +104,18 @@ submits verbs.Policy = false
 submits verbs.Shutdown = false
 submits verbs.Ask = false
 
--- its name
+-- its name, and an empty one where there is none: never seen where a plan is written, since an operation that has a name gives it
+-- (`Missing`, `WrongType`), and the others use nothing that is found by one
 abbrev pub name_at : Members → List ℕ
 name_at ms = text_or [] (codes "name") ms
 
--- its policy
+-- its policy, and `Continue` at a word that is none: never seen where a plan is written, since a `policy` has the word of one
+-- (`Missing`, `WrongType`)
 abbrev pub which_at : Members → Which
 which_at ms = unwrap_or (which_of_word (text_or [] (codes "which") ms)) Continue
 
--- what a cancel of the submission `found` means
+-- what a cancel of the submission `found` means, and the first of all where none is found: never seen where a plan is written, since
+-- a cancel finds one (`UnknownName`)
 abbrev pub target_of : Option Site → Target
 target_of None = record { block = 0; sub = 0 }
 target_of (Some s) = s.target
@@ -121,33 +135,33 @@ abbrev pub timed_call : Verb → Option Site → Header → Members → Call
 timed_call verb found h ms = record { at = span_at h.unit (codes "at") ms; op = op_of verb found h.unit ms }
 
 -- the call
-abbrev pub call_of : Option Site → Header → Members → Call
-call_of found h ms = timed_call (verb_at ms) found h ms
+abbrev pub written_call : Option Site → Header → Members → Call
+written_call found h ms = timed_call (verb_at ms) found h ms
 
 -- ---- of the whole tree
 
--- the submission of a table's name that stands before its call
+-- the submission of a table's name that stands before its call, if there is one
 abbrev pub found_at : PlanTree → Header → List Call → Members → Option Site
 found_at earlier h before ms = find (name_at ms) (submissions_before earlier h before)
 
 -- the call that a table writes after the calls `before`
 abbrev pub next_call : PlanTree → Header → List Call → Members → Call
-next_call earlier h before ms = call_of (found_at earlier h before ms) h ms
+next_call earlier h before ms = written_call (found_at earlier h before ms) h ms
 
 -- the calls before some tables, and theirs
-abbrev pub calls_after : PlanTree → Header → List Call → List Members → List Call
-calls_after earlier h before [] = before
-calls_after earlier h before (ms ∷ tables) = calls_after earlier h (before ++ next_call earlier h before ms ∷ []) tables
+abbrev pub calls_through : PlanTree → Header → List Call → List Members → List Call
+calls_through earlier h before [] = before
+calls_through earlier h before (ms ∷ tables) = calls_through earlier h (before ++ next_call earlier h before ms ∷ []) tables
 
 -- the block that a table writes after the blocks `earlier`
 abbrev pub block_of : PlanTree → Members → BlockTree
-block_of earlier ms = record { header = header_of ms; calls = calls_after earlier (header_of ms) [] (tables_at (codes "call") ms) }
+block_of earlier ms = record { header = header_of ms; calls = calls_through earlier (header_of ms) [] (tables_at (codes "call") ms) }
 
 -- the blocks before some tables, and theirs
-abbrev pub blocks_after : PlanTree → List Members → PlanTree
-blocks_after earlier [] = earlier
-blocks_after earlier (ms ∷ tables) = blocks_after (earlier ++ block_of earlier ms ∷ []) tables
+abbrev pub blocks_through : PlanTree → List Members → PlanTree
+blocks_through earlier [] = earlier
+blocks_through earlier (ms ∷ tables) = blocks_through (earlier ++ block_of earlier ms ∷ []) tables
 
 -- the plan that a tree writes where it has no fault
 abbrev pub plan_of : Members → PlanTree
-plan_of ms = blocks_after [] (tables_at (codes "block") ms)
+plan_of ms = blocks_through [] (tables_at (codes "block") ms)

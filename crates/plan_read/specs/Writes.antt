@@ -1,4 +1,5 @@
--- Which plan a tree writes, by cases: what stands at the keys of its tables, and what stands before each.
+-- Which plan a tree writes, as a relation by cases: what stands at the keys of its tables, and what stands before each. No case
+-- speaks of a check or of a default that a check refuses.
 -- All of it is this project's rule.
 use Rattle.std.specs.Prelude.{◌≡◌, ◌⊎◌, ◌≤◌, ℕ, ℤ, pos, ◌+◌, ◌*◌, true, false, List, [], ◌∷◌, ◌++◌, length, Option, None, Some, IsSome, codes}
 use Rattle.toml.specs.Data.{Data, string, integer, boolean, array, table, Items, no_items, item, Members, get_member}
@@ -14,7 +15,7 @@ use Rattle.plan_read.specs.declared.verbs.Verb.{Verb}
 use Rattle.plan_read.specs.declared.verbs.Verb.TheVariants as verbs
 use Rattle.plan_read.specs.Keys.{Key, top_keys, header_keys, call_keys, verb_of_word, unit_of_word, which_of_word, has_only}
 use Rattle.plan_read.specs.Names.{is_name}
-use Rattle.plan_read.specs.Plans.{BlockTree, PlanTree, most_blocks, most_block_calls, most_calls, submissions_before, find, last_moment, last_offset, end_of, made_by}
+use Rattle.plan_read.specs.Plans.{BlockTree, PlanTree, most_blocks, most_block_calls, most_calls, submissions_before, find, moment_in_last, last_offset, end_of, made_by}
 
 -- ---- what stands at a key
 
@@ -35,14 +36,14 @@ abbrev pub TextAt : List ℕ → List ℕ → Members → List ℕ → Type 0
 TextAt default key ms text = Has ms key (string text) ⊎ ((get_member key ms ≡ None) × (text ≡ default))
 
 -- the items are tables with these members
-abbrev pub AreTables : Items → List Members → Type 0
-AreTables no_items [] = Unit {0}
-AreTables (item (table ms) ds) (t ∷ ts) = (ms ≡ t) × AreTables ds ts
-AreTables _ _ = ⊥
+abbrev pub HoldTables : Items → List Members → Type 0
+HoldTables no_items [] = Unit {0}
+HoldTables (item (table ms) ds) (t ∷ ts) = (ms ≡ t) × HoldTables ds ts
+HoldTables _ _ = ⊥
 
 -- an array of tables, none where the key is left out
 abbrev pub TablesAt : List ℕ → Members → List Members → Type 0
-TablesAt key ms tables = ((items : Items) × Has ms key (array items) × AreTables items tables) ⊎ ((get_member key ms ≡ None) × (tables ≡ []))
+TablesAt key ms tables = ((items : Items) × Has ms key (array items) × HoldTables items tables) ⊎ ((get_member key ms ≡ None) × (tables ≡ []))
 
 -- a moment, an offset or a distance: not negative, at most 2^62 nanoseconds, 0 where the key is left out
 abbrev pub SpanAt : TimeUnit → List ℕ → Members → ℕ → Type 0
@@ -108,7 +109,7 @@ WritesOp block unit subs ms ops.Ask = IsCallOf verbs.Ask ms
 -- iteration is at most 2^62
 pub record WritesCall (earlier : PlanTree) (h : Header) (before : List Call) (ms : Members) (c : Call) : Type 0 where
   pub at : SpanAt h.unit (codes "at") ms c.at
-  pub last : last_moment h c.at ≤ longest
+  pub last : moment_in_last h c.at ≤ longest
   pub order : last_offset before ≤ c.at
   pub within : (h.times ≤ 1) ⊎ (c.at ≤ h.every)
   pub op : WritesOp (length earlier) h.unit (submissions_before earlier h before) ms c.op
@@ -135,7 +136,7 @@ WritesBlocks earlier (ms ∷ tables) (b ∷ bs) = WritesBlock earlier ms b × Wr
 WritesBlocks earlier _ _ = ⊥
 
 -- a plan: its version, and its blocks
-pub record Writes (ms : Members) (plan : PlanTree) : Type 0 where
+pub record TreeWrites (ms : Members) (plan : PlanTree) : Type 0 where
   pub version : Has ms (codes "version") (integer (pos 1))
   pub keys : HasOnly top_keys ms
   pub tables : List Members
@@ -145,4 +146,4 @@ pub record Writes (ms : Members) (plan : PlanTree) : Type 0 where
 
 -- some tree writes the plan
 abbrev pub IsPlan : PlanTree → Type 0
-IsPlan plan = (ms : Members) × Writes ms plan
+IsPlan plan = (ms : Members) × TreeWrites ms plan

@@ -3,7 +3,7 @@
 ghost use Rattle.std.specs.Prelude.{◌≡◌, [], option_map, is_some};
 ghost use Rattle.toml.specs.Data.{get_member};
 ghost use Rattle.toml.specs.View.{view, table_view};
-ghost use Rattle.plan_read.specs.CallKeys.{word_of, Holds};
+ghost use Rattle.plan_read.specs.CallKeys.{key_word, Holds};
 ghost use Rattle.plan_read.specs.Keys.{fits, Text, Integer, Truth, Policy};
 ghost use Rattle.plan_read.specs.Values.{integer_or, text_or, truth_at};
 
@@ -35,63 +35,63 @@ impl<'a> CallTable<'a> {
 
     /// The value at a key.
     fn get(&self, key: CallKey) -> Option<&'a Value>
-        ensures { option_map (λ v. view v.now) result ≡ get_member (word_of key) (table_view self.now.table.now) }
+        ensures { option_map (λ v. view v.now) result ≡ get_member (key_word key) (table_view self.now.table.now) }
     {
         self.row.at(key)
     }
 
     /// Whether a key is there.
     pub fn has(&self, key: CallKey) -> bool
-        ensures { result ≡ is_some (get_member (word_of key) (table_view self.now.table.now)) }
+        ensures { result ≡ is_some (get_member (key_word key) (table_view self.now.table.now)) }
     {
         self.get(key).is_some()
     }
 
     /// The integer at a key, and a default where there is none.
     pub fn integer_or(&self, default: i64, key: CallKey) -> i64
-        ensures { result ≡ integer_or default (word_of key) (table_view self.now.table.now) }
+        ensures { result ≡ integer_or default (key_word key) (table_view self.now.table.now) }
     {
         integer_of(default, self.get(key))
     }
 
     /// The text at a key, empty where there is none.
     pub fn text_or_empty(&self, key: CallKey) -> &'a str
-        ensures { result.now ≡ text_or [] (word_of key) (table_view self.now.table.now) }
+        ensures { result.now ≡ text_or [] (key_word key) (table_view self.now.table.now) }
     {
         text_of("", self.get(key))
     }
 
     /// The truth value at a key, and false where there is none.
     pub fn truth_at(&self, key: CallKey) -> bool
-        ensures { result ≡ truth_at (word_of key) (table_view self.now.table.now) }
+        ensures { result ≡ truth_at (key_word key) (table_view self.now.table.now) }
     {
         truth_of(self.get(key))
     }
 
     /// Whether there is no value at a key, or a text.
     pub fn fits_text(&self, key: CallKey) -> bool
-        ensures { result ≡ fits Text (get_member (word_of key) (table_view self.now.table.now)) }
+        ensures { result ≡ fits Text (get_member (key_word key) (table_view self.now.table.now)) }
     {
         is_text_or_none(self.get(key))
     }
 
     /// Whether there is no value at a key, or an integer.
     pub fn fits_integer(&self, key: CallKey) -> bool
-        ensures { result ≡ fits Integer (get_member (word_of key) (table_view self.now.table.now)) }
+        ensures { result ≡ fits Integer (get_member (key_word key) (table_view self.now.table.now)) }
     {
         is_integer_or_none(self.get(key))
     }
 
     /// Whether there is no value at a key, or a truth value.
     pub fn fits_truth(&self, key: CallKey) -> bool
-        ensures { result ≡ fits Truth (get_member (word_of key) (table_view self.now.table.now)) }
+        ensures { result ≡ fits Truth (get_member (key_word key) (table_view self.now.table.now)) }
     {
         is_truth_or_none(self.get(key))
     }
 
     /// Whether there is no value at a key, or the word of a policy.
     pub fn fits_policy(&self, key: CallKey) -> bool
-        ensures { result ≡ fits Policy (get_member (word_of key) (table_view self.now.table.now)) }
+        ensures { result ≡ fits Policy (get_member (key_word key) (table_view self.now.table.now)) }
     {
         is_policy_or_none(self.get(key))
     }

@@ -3,15 +3,15 @@
 ghost use Rattle.std.specs.Prelude.{◌≡◌, ◌≤◌, nat_le, None, [], ◌∷◌};
 ghost use Rattle.sched_time.specs.Times.{longest, span_of, period_of};
 ghost use Rattle.toml.specs.View.{table_view};
-ghost use Rattle.plan_read.specs.Checks.{◌unless◌, first_failing, verb_checks, key_checks, new_name_checks, known_name_checks, name_checks, time_checks, call_checks, are_spans_short};
+ghost use Rattle.plan_read.specs.Checks.{◌unless◌, place_fault, verb_checks, key_checks, new_name_checks, known_name_checks, name_checks, time_checks, call_checks, are_spans_short};
 ghost use Rattle.plan_read.specs.Reads.{Reads};
-ghost use Rattle.plan_read.specs.Values.{verb_at, submits, op_of, timed_call, call_of, which_at};
+ghost use Rattle.plan_read.specs.Values.{verb_at, submits, op_of, timed_call, written_call, which_at};
 ghost use Rattle.plan_read.specs.declared.faults.PlanFaultKind.TheVariants as kinds;
 
 use crate::call_keys::CallKey;
 use crate::call_tables::CallTable;
-use crate::faults::{Place, PlanFaultKind, Refusal};
-use crate::headers::{last_moment, read_span};
+use crate::faults::{Place, PlanFaultKind, ReadError};
+use crate::headers::{moment_in_last, read_span};
 use crate::keys::{has_only_call_keys, has_required_keys, is_typed_call};
 use crate::names::{Name, is_name};
 use crate::plans::{Call, Header, Op};
@@ -40,9 +40,9 @@ pub fn read_call(
     header: Header,
     last: u64,
     table: &CallTable,
-) -> Result<Call, Refusal>
+) -> Result<Call, ReadError>
     requires { 1 ≤ header.times }
-    ensures { Reads (λ c. c) result (first_failing place (call_checks found block header last (table_view table.now.table.now))) (call_of found header (table_view table.now.table.now)) }
+    ensures { Reads (λ c. c) result (place_fault place (call_checks found block header last (table_view table.now.table.now))) (written_call found header (table_view table.now.table.now)) }
 {
     let verb = read_verb(place, table)?;
     check_keys(place, verb, table)?;
@@ -52,8 +52,8 @@ pub fn read_call(
 
 /// The operation of a call.
 #[tactic(auto, unfolding(crate::specs::Checks::verb_checks, crate::specs::Values::verb_at))]
-fn read_verb(place: Place, table: &CallTable) -> Result<Verb, Refusal>
-    ensures { Reads (λ v. v) result (first_failing place (verb_checks (table_view table.now.table.now))) (verb_at (table_view table.now.table.now)) }
+fn read_verb(place: Place, table: &CallTable) -> Result<Verb, ReadError>
+    ensures { Reads (λ v. v) result (place_fault place (verb_checks (table_view table.now.table.now))) (verb_at (table_view table.now.table.now)) }
 {
     if !table.has(CallKey::Op) {
         return Err(place.fault(PlanFaultKind::Missing));
@@ -66,8 +66,8 @@ fn read_verb(place: Place, table: &CallTable) -> Result<Verb, Refusal>
 
 /// That the keys of a call are those of its operation.
 #[tactic(auto, unfolding(crate::specs::Checks::key_checks))]
-fn check_keys(place: Place, verb: Verb, table: &CallTable) -> Result<(), Refusal>
-    ensures { Reads (λ u. u) result (first_failing place (key_checks verb (table_view table.now.table.now))) tt }
+fn check_keys(place: Place, verb: Verb, table: &CallTable) -> Result<(), ReadError>
+    ensures { Reads (λ u. u) result (place_fault place (key_checks verb (table_view table.now.table.now))) tt }
 {
     if !has_only_call_keys(verb, table.table) {
         return Err(place.fault(PlanFaultKind::UnknownKey));
@@ -90,8 +90,8 @@ fn check_name(
     found: Option<Site>,
     block: usize,
     table: &CallTable,
-) -> Result<(), Refusal>
-    ensures { Reads (λ u. u) result (first_failing place (name_checks verb found block (table_view table.now.table.now))) tt }
+) -> Result<(), ReadError>
+    ensures { Reads (λ u. u) result (place_fault place (name_checks verb found block (table_view table.now.table.now))) tt }
 {
     match verb {
         Verb::Schedule | Verb::Rate | Verb::Fixed => check_new_name(place, found, table),
@@ -101,8 +101,8 @@ fn check_name(
 }
 
 /// That the name is one that a submission can have.
-fn check_new_name(place: Place, found: Option<Site>, table: &CallTable) -> Result<(), Refusal>
-    ensures { Reads (λ u. u) result (first_failing place (new_name_checks found (table_view table.now.table.now))) tt }
+fn check_new_name(place: Place, found: Option<Site>, table: &CallTable) -> Result<(), ReadError>
+    ensures { Reads (λ u. u) result (place_fault place (new_name_checks found (table_view table.now.table.now))) tt }
 {
     if !is_name(table.text_or_empty(CallKey::Name)) {
         return Err(place.fault(PlanFaultKind::BadName));
@@ -119,8 +119,8 @@ fn check_known_name(
     found: Option<Site>,
     block: usize,
     table: &CallTable,
-) -> Result<(), Refusal>
-    ensures { Reads (λ u. u) result (first_failing place (known_name_checks found block (table_view table.now.table.now))) tt }
+) -> Result<(), ReadError>
+    ensures { Reads (λ u. u) result (place_fault place (known_name_checks found block (table_view table.now.table.now))) tt }
 {
     if !is_name(table.text_or_empty(CallKey::Name)) {
         return Err(place.fault(PlanFaultKind::BadName));
@@ -144,10 +144,10 @@ fn read_timed(
     header: Header,
     last: u64,
     table: &CallTable,
-) -> Result<Call, Refusal>
+) -> Result<Call, ReadError>
     requires times { 1 ≤ header.times }
-    requires name { first_failing place (name_checks verb found block (table_view table.now.table.now)) ≡ None }
-    ensures { Reads (λ c. c) result (first_failing place (time_checks verb header last (table_view table.now.table.now))) (timed_call verb found header (table_view table.now.table.now)) }
+    requires name { place_fault place (name_checks verb found block (table_view table.now.table.now)) ≡ None }
+    ensures { Reads (λ c. c) result (place_fault place (time_checks verb header last (table_view table.now.table.now))) (timed_call verb found header (table_view table.now.table.now)) }
 {
     let at = table.integer_or(0, CallKey::At);
     if at < 0 {
@@ -155,7 +155,7 @@ fn read_timed(
     }
     let at = read_span(place, at, header.unit)?.nanos();
     let op = read_op(place, verb, found, block, header.unit, table)?;
-    if last_moment(header, at) > u128::from(LONGEST) {
+    if moment_in_last(header, at) > u128::from(LONGEST) {
         return Err(place.fault(PlanFaultKind::TooLarge));
     }
     if at < last || (header.times > 1 && at > header.every) {
@@ -173,9 +173,9 @@ fn read_op(
     block: usize,
     unit: Unit,
     table: &CallTable,
-) -> Result<Op, Refusal>
-    requires { first_failing place (name_checks verb found block (table_view table.now.table.now)) ≡ None }
-    ensures { Reads (λ o. o) result (first_failing place ((kinds.TooLarge unless are_spans_short verb unit (table_view table.now.table.now)) ∷ [])) (op_of verb found unit (table_view table.now.table.now)) }
+) -> Result<Op, ReadError>
+    requires { place_fault place (name_checks verb found block (table_view table.now.table.now)) ≡ None }
+    ensures { Reads (λ o. o) result (place_fault place ((kinds.TooLarge unless are_spans_short verb unit (table_view table.now.table.now)) ∷ [])) (op_of verb found unit (table_view table.now.table.now)) }
 {
     match verb {
         Verb::Schedule => {
@@ -213,8 +213,8 @@ fn read_op(
 }
 
 /// The nanoseconds of a period or a fixed delay, and none where it is zero or negative.
-fn read_period(place: Place, value: i64, unit: Unit) -> Result<Option<Span>, Refusal>
-    ensures { Reads (λ p. p) result (first_failing place ((kinds.TooLarge unless nat_le (span_of value unit) longest) ∷ [])) (period_of value unit) }
+fn read_period(place: Place, value: i64, unit: Unit) -> Result<Option<Span>, ReadError>
+    ensures { Reads (λ p. p) result (place_fault place ((kinds.TooLarge unless nat_le (span_of value unit) longest) ∷ [])) (period_of value unit) }
 {
     match period(value, unit) {
         Ok(period) => Ok(period),

@@ -1,7 +1,7 @@
 //! Why a text is no plan.
 
 ghost use Rattle.std.specs.Prelude.{◌≡◌};
-ghost use Rattle.plan_read.specs.declared.faults.Refusal.TheVariants as refusals;
+ghost use Rattle.plan_read.specs.declared.faults.ReadError.TheVariants as errors;
 
 use std::alloc::{AllocError, AllocFailed};
 use thiserror::Error;
@@ -90,10 +90,10 @@ impl Place {
     }
 
     /// A fault of this kind at this place.
-    pub fn fault(self, kind: PlanFaultKind) -> Refusal
-        ensures { result ≡ refusals.Fault (record { kind = kind; block = self.block; call = self.call }) }
+    pub fn fault(self, kind: PlanFaultKind) -> ReadError
+        ensures { result ≡ errors.Fault (record { kind = kind; block = self.block; call = self.call }) }
     {
-        Refusal::Fault(PlanFault {
+        ReadError::Fault(PlanFault {
             kind,
             block: self.block,
             call: self.call,
@@ -103,25 +103,25 @@ impl Place {
 
 /// Why the reading of a plan ends without one.
 #[derive(Clone, Copy)]
-pub enum Refusal {
+pub enum ReadError {
     /// Memory ran out.
     Memory,
     /// The text has a fault.
     Fault(PlanFault),
 }
 
-impl From<AllocError> for Refusal {
-    ghost from_gives = { λ _ e. e ≡ refusals.Memory };
+impl From<AllocError> for ReadError {
+    ghost from_gives = { λ _ e. e ≡ errors.Memory };
 
-    fn from(_error: AllocError) -> Refusal {
-        Refusal::Memory
+    fn from(_error: AllocError) -> ReadError {
+        ReadError::Memory
     }
 }
 
-impl<T: Drop> From<AllocFailed<T>> for Refusal {
-    ghost from_gives = { λ _ e. e ≡ refusals.Memory };
+impl<T: Drop> From<AllocFailed<T>> for ReadError {
+    ghost from_gives = { λ _ e. e ≡ errors.Memory };
 
-    fn from(_error: AllocFailed<T>) -> Refusal {
-        Refusal::Memory
+    fn from(_error: AllocFailed<T>) -> ReadError {
+        ReadError::Memory
     }
 }

@@ -4,14 +4,14 @@ ghost use Rattle.std.specs.Prelude.{◌≡◌, ◌≤◌, nat_le, true, length, 
 ghost use Rattle.toml.specs.View.{table_view, items_view};
 ghost use Rattle.toml.specs.Data.{get_member};
 ghost use Rattle.sched_time.specs.Times.{longest, span_of};
-ghost use Rattle.plan_read.specs.Checks.{◌unless◌, first_failing, top, top_checks, header_checks};
+ghost use Rattle.plan_read.specs.Checks.{◌unless◌, place_fault, top, top_checks, header_checks};
 ghost use Rattle.plan_read.specs.Keys.{are_tables, fits, Tables};
-ghost use Rattle.plan_read.specs.Plans.{last_moment, most_calls};
+ghost use Rattle.plan_read.specs.Plans.{moment_in_last, most_calls};
 ghost use Rattle.plan_read.specs.Reads.{Reads};
 ghost use Rattle.plan_read.specs.Values.{tables_in, tables_at, header_of};
 ghost use Rattle.plan_read.specs.declared.faults.PlanFaultKind.TheVariants as kinds;
 
-use crate::faults::{Place, PlanFaultKind, Refusal};
+use crate::faults::{Place, PlanFaultKind, ReadError};
 use crate::keys::{has_only_header_keys, has_only_top_keys, is_typed_header, is_typed_top};
 use crate::limits::{MOST_BLOCK_CALLS, MOST_BLOCKS, MOST_CALLS};
 use crate::plans::Header;
@@ -22,10 +22,10 @@ use toml::{Table, Value};
 
 /// The tables of the blocks.
 #[tactic(auto, unfolding(crate::specs::Checks::top_checks))]
-pub fn read_top(table: &Table) -> Result<&[Value], Refusal>
+pub fn read_top(table: &Table) -> Result<&[Value], ReadError>
     ensures each { IfOk result (λ vs. fits Tables (get_member (codes "block") (table_view table.now)) ≡ true → are_tables (items_view vs.now) ≡ true) }
     ensures count { IfOk result (λ vs. length vs.now ≡ length (tables_at (codes "block") (table_view table.now))) }
-    ensures top { Reads (λ vs. tables_in (items_view vs.now)) result (first_failing top (top_checks (table_view table.now))) (tables_at (codes "block") (table_view table.now)) }
+    ensures top { Reads (λ vs. tables_in (items_view vs.now)) result (place_fault top (top_checks (table_view table.now))) (tables_at (codes "block") (table_view table.now)) }
 {
     let place = Place::top();
     if !has(table, "version") || integer_or(0, "version", table) != 1 {
@@ -47,9 +47,9 @@ pub fn read_top(table: &Table) -> Result<&[Value], Refusal>
 /// A header, where the last call before the block is at the moment `end`, and `made` calls are made
 /// before it.
 #[tactic(auto, unfolding(crate::specs::Checks::header_checks, crate::specs::Values::header_of))]
-pub fn read_header(place: Place, end: u128, made: u64, table: &Table) -> Result<Header, Refusal>
+pub fn read_header(place: Place, end: u128, made: u64, table: &Table) -> Result<Header, ReadError>
     requires { made ≤ most_calls }
-    ensures { Reads (λ h. h) result (first_failing place (header_checks end made (table_view table.now))) (header_of (table_view table.now)) }
+    ensures { Reads (λ h. h) result (place_fault place (header_checks end made (table_view table.now))) (header_of (table_view table.now)) }
 {
     if !has_only_header_keys(table) {
         return Err(place.fault(PlanFaultKind::UnknownKey));
@@ -90,8 +90,8 @@ pub fn read_header(place: Place, end: u128, made: u64, table: &Table) -> Result<
 }
 
 /// The nanoseconds of a number of units; a negative number counts as 0.
-pub fn read_span(place: Place, value: i64, unit: Unit) -> Result<Span, Refusal>
-    ensures { Reads (λ s. s) result (first_failing place ((kinds.TooLarge unless nat_le (span_of value unit) longest) ∷ [])) (span_of value unit) }
+pub fn read_span(place: Place, value: i64, unit: Unit) -> Result<Span, ReadError>
+    ensures { Reads (λ s. s) result (place_fault place ((kinds.TooLarge unless nat_le (span_of value unit) longest) ∷ [])) (span_of value unit) }
 {
     match span(value, unit) {
         Ok(span) => Ok(span),
@@ -102,9 +102,9 @@ pub fn read_span(place: Place, value: i64, unit: Unit) -> Result<Span, Refusal>
 /// The moment of the call with this offset in the last iteration.
 ///
 /// It may be past the range of a moment, and of `u64`.
-pub fn last_moment(header: Header, offset: u64) -> u128
+pub fn moment_in_last(header: Header, offset: u64) -> u128
     requires { 1 ≤ header.times }
-    ensures { result ≡ last_moment header offset }
+    ensures { result ≡ moment_in_last header offset }
 {
     u128::from(header.at)
         + u128::from(header.times - 1) * u128::from(header.every)

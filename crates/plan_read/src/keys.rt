@@ -1,8 +1,6 @@
 //! Tests of a table against the keys that belong there.
 
-ghost use Rattle.std.specs.List.{list_all};
-ghost use Rattle.std.specs.BTreeMap.{keys};
-ghost use Rattle.std.specs.Prelude.{◌≡◌, string_bytes};
+ghost use Rattle.std.specs.Prelude.{◌≡◌};
 ghost use Rattle.toml.specs.View.{table_view};
 ghost use Rattle.plan_read.specs.Keys.{top_keys, header_keys, call_keys, own_keys, is_key, has_only, has_required, are_typed};
 
@@ -15,12 +13,6 @@ use toml::Table;
 /// Whether the top has no other keys than its own.
 pub fn has_only_top_keys(table: &Table) -> bool
     ensures { result ≡ has_only top_keys (table_view table.now) }
-{
-    each_is_top_key(table)
-}
-
-fn each_is_top_key(table: &Table) -> bool
-    ensures { result ≡ list_all (λ key. is_key top_keys (string_bytes key)) (keys table.now) }
 {
     table.keys().all(|key| is_top_key(key.as_str()))
 }
@@ -41,12 +33,6 @@ pub fn is_typed_top(table: &Table) -> bool
 /// Whether a header has no other keys than its own.
 pub fn has_only_header_keys(table: &Table) -> bool
     ensures { result ≡ has_only header_keys (table_view table.now) }
-{
-    each_is_header_key(table)
-}
-
-fn each_is_header_key(table: &Table) -> bool
-    ensures { result ≡ list_all (λ key. is_key header_keys (string_bytes key)) (keys table.now) }
 {
     table.keys().all(|key| is_header_key(key.as_str()))
 }
@@ -71,12 +57,6 @@ pub fn is_typed_header(table: &Table) -> bool
 /// Whether a call has no other keys than those of its operation.
 pub fn has_only_call_keys(verb: Verb, table: &Table) -> bool
     ensures { result ≡ has_only (call_keys verb) (table_view table.now) }
-{
-    each_is_call_key(verb, table)
-}
-
-fn each_is_call_key(verb: Verb, table: &Table) -> bool
-    ensures { result ≡ list_all (λ key. is_key (call_keys verb) (string_bytes key)) (keys table.now) }
 {
     table.keys().all(|key| is_call_key(verb, key.as_str()))
 }

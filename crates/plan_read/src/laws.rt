@@ -1,6 +1,6 @@
-//! Laws on the definitions, and on the comparisons of what is public.
+//! Laws on the definitions, and on what compares, in functions that do nothing.
 
-ghost use Rattle.std.specs.Prelude.{◌≡◌, true};
+ghost use Rattle.std.specs.Prelude.{◌≡◌, ◌↔◌, true};
 ghost use Rattle.plan_read.specs.Laws.{WritesOrFails, NeverBoth, WritesOne, NamesDiffer, TargetsStandBefore, PlansAreOrdered};
 
 use crate::faults::{PlanFault, PlanFaultKind};
@@ -29,9 +29,17 @@ pub fn plans_are_ordered()
     ensures { PlansAreOrdered }
 {}
 
-/// What compares as equal is equal: no field of a kind of fault, a fault or a target is left out.
-pub fn comparisons_leave_nothing_out()
-    ensures kinds { (a b : PlanFaultKind) → ⟦<PlanFaultKind as PartialEq>⟧.eq a b ≡ true → a ≡ b }
-    ensures faults { (a b : PlanFault) → ⟦<PlanFault as PartialEq>⟧.eq a b ≡ true → a ≡ b }
-    ensures targets { (a b : Target) → ⟦<Target as PartialEq>⟧.eq a b ≡ true → a ≡ b }
+/// Two kinds of fault compare as equal exactly when they are the same.
+pub fn plan_fault_kind_equality_tells()
+    ensures { (a b : PlanFaultKind) → (⟦<PlanFaultKind as PartialEq>⟧.eq a b ≡ true) ↔ (a ≡ b) }
+{}
+
+/// Two faults compare as equal exactly when they are the same.
+pub fn plan_fault_equality_tells()
+    ensures { (a b : PlanFault) → (⟦<PlanFault as PartialEq>⟧.eq a b ≡ true) ↔ (a ≡ b) }
+{}
+
+/// Two targets compare as equal exactly when they are the same.
+pub fn target_equality_tells()
+    ensures { (a b : Target) → (⟦<Target as PartialEq>⟧.eq a b ≡ true) ↔ (a ≡ b) }
 {}

@@ -86,6 +86,8 @@
 //! text is read, a map from names to submissions takes memory of that allocator too, and its TOML tree memory of
 //! the heap: the allocator is a [`Room`], which gives the heap. A text of n bytes is read in the time of n log n: each name is looked up in
 //! the map once, and each table is read once. What a call needs of those before it is handed on.
+//!
+//! The tests of this crate stand in the crate above it, in `plan_compile/src/plan_tests.rt`.
 #![tactic(auto)]
 
 mod call_keys;
@@ -107,8 +109,8 @@ mod verbs;
 
 pub use faults::{PlanFault, PlanFaultKind};
 pub use laws::{
-    comparisons_leave_nothing_out, names_differ, plans_are_ordered, targets_stand_before,
-    trees_write_or_fail,
+    names_differ, plan_fault_equality_tells, plan_fault_kind_equality_tells, plans_are_ordered,
+    target_equality_tells, targets_stand_before, trees_write_or_fail,
 };
 pub use limits::LONGEST_TEXT;
 pub use names::Name;

@@ -2,18 +2,18 @@
 
 ghost use Rattle.std.specs.Prelude.{◌≡◌, ◌≢◌, ◌⊎◌, ℕ, ◌+◌, ◌*◌, ◌≤◌, ◌<◌, true, length, [], ◌∷◌, ◌++◌, IfOk, IfErr, MatchResult, Some};
 ghost use Rattle.toml.specs.View.{table_view, items_view};
-ghost use Rattle.plan_read.specs.Checks.{first_failing, top, call_fault, calls_fault, block_fault, blocks_fault, fault_of};
+ghost use Rattle.plan_read.specs.Checks.{place_fault, top, call_fault, calls_fault, block_fault, blocks_fault, tree_fault};
 ghost use Rattle.plan_read.specs.Keys.{are_tables};
 ghost use Rattle.plan_read.specs.Plans.{PlanTree, most_blocks, most_block_calls, most_calls, tasks_after, tasks_after_calls, submissions_from, submissions_before, last_offset, end_of_block, end_of, made_by};
 ghost use Rattle.plan_read.specs.Reads.{Reads, Knows, out_of_memory};
 ghost use Rattle.plan_read.specs.Texts.{toml_checks, tree_at, fault_of_text, plan_of_text, TextWrites};
-ghost use Rattle.plan_read.specs.Values.{tables_in, next_call, calls_after, block_of, blocks_after, plan_of};
+ghost use Rattle.plan_read.specs.Values.{tables_in, next_call, calls_through, block_of, blocks_through, plan_of};
 
 use crate::call_keys::CallKey;
 use crate::call_tables::CallTable;
 use crate::calls::{read_call, submits};
-use crate::faults::{Place, PlanFault, PlanFaultKind, Refusal};
-use crate::headers::{last_moment, read_header, read_top};
+use crate::faults::{Place, PlanFault, PlanFaultKind, ReadError};
+use crate::headers::{moment_in_last, read_header, read_top};
 use crate::limits::LONGEST_TEXT;
 use crate::plans::{Block, Call, Header, Op, Plan, Target};
 use crate::room::Room;
@@ -35,8 +35,8 @@ pub fn read_plan<A: Room>(alloc: A, text: &[u8]) -> Result<Plan<A>, PlanFault>
 {
     match read_text(alloc, text) {
         Ok(plan) => Ok(plan),
-        Err(Refusal::Fault(fault)) => Err(fault),
-        Err(Refusal::Memory) => Err(PlanFault {
+        Err(ReadError::Fault(fault)) => Err(fault),
+        Err(ReadError::Memory) => Err(PlanFault {
             kind: PlanFaultKind::Memory,
             block: 0,
             call: 0,
@@ -45,7 +45,7 @@ pub fn read_plan<A: Room>(alloc: A, text: &[u8]) -> Result<Plan<A>, PlanFault>
 }
 
 /// The plan that a text writes, or its fault.
-fn read_text<A: Room>(alloc: A, text: &[u8]) -> Result<Plan<A>, Refusal>
+fn read_text<A: Room>(alloc: A, text: &[u8]) -> Result<Plan<A>, ReadError>
     ensures { Reads (λ p. p) result (fault_of_text text.now) (plan_of_text text.now) }
 {
     if text.len() > LONGEST_TEXT {
@@ -56,14 +56,14 @@ fn read_text<A: Room>(alloc: A, text: &[u8]) -> Result<Plan<A>, Refusal>
 }
 
 /// The tree of a text.
-fn parse(heap: Global, text: &[u8]) -> Result<Table, Refusal>
-    ensures { Reads (λ t. table_view t) result (first_failing top (toml_checks text.now)) (tree_at text.now) }
+fn parse(heap: Global, text: &[u8]) -> Result<Table, ReadError>
+    ensures { Reads (λ t. table_view t) result (place_fault top (toml_checks text.now)) (tree_at text.now) }
 {
     match toml::table_from_slice(heap, text) {
         Ok(table) => Ok(table),
         Err(error) => {
             if error.is_memory() {
-                return Err(Refusal::Memory);
+                return Err(ReadError::Memory);
             }
             Err(Place::top().fault(PlanFaultKind::Toml))
         }
@@ -71,8 +71,8 @@ fn parse(heap: Global, text: &[u8]) -> Result<Table, Refusal>
 }
 
 /// The plan that a tree writes, or its fault.
-fn read_tree<A: Allocator + Copy>(alloc: A, table: &Table) -> Result<Plan<A>, Refusal>
-    ensures { Reads (λ p. p) result (fault_of (table_view table.now)) (plan_of (table_view table.now)) }
+fn read_tree<A: Allocator + Copy>(alloc: A, table: &Table) -> Result<Plan<A>, ReadError>
+    ensures { Reads (λ p. p) result (tree_fault (table_view table.now)) (plan_of (table_view table.now)) }
 {
     let tables = read_top(table)?;
     let blocks = read_blocks(alloc, tables)?;
@@ -81,10 +81,13 @@ fn read_tree<A: Allocator + Copy>(alloc: A, table: &Table) -> Result<Plan<A>, Re
 
 /// The blocks that the tables of a plan write.
 #[tactic(auto, using(crate::proofs::Accepted::end_from_one_more, crate::proofs::Accepted::made_from_one_more))]
-fn read_blocks<A: Allocator + Copy>(alloc: A, tables: &[Value]) -> Result<Vec<Block<A>, A>, Refusal>
+fn read_blocks<A: Allocator + Copy>(
+    alloc: A,
+    tables: &[Value],
+) -> Result<Vec<Block<A>, A>, ReadError>
     requires tables { are_tables (items_view tables.now) ≡ true }
     requires few { length tables.now ≤ most_blocks }
-    ensures { Reads (λ v. v.items) result (blocks_fault [] (tables_in (items_view tables.now))) (blocks_after [] (tables_in (items_view tables.now))) }
+    ensures { Reads (λ v. v.items) result (blocks_fault [] (tables_in (items_view tables.now))) (blocks_through [] (tables_in (items_view tables.now))) }
 {
     let mut blocks = Vec::with_capacity(alloc, tables.len())?;
     let mut names = BTreeMap::new(alloc);
@@ -111,7 +114,7 @@ fn read_block<'a, A: Allocator + Copy>(
     made: u64,
     names: &mut BTreeMap<&'a str, Site, A>,
     table: &'a Table,
-) -> Result<Block<A>, Refusal>
+) -> Result<Block<A>, ReadError>
     requires blocks { length earlier.now < most_blocks }
     requires end { end ≡ end_of earlier.now }
     requires made { made ≡ made_by earlier.now }
@@ -139,7 +142,7 @@ fn end_of_block<A: Allocator>(end: u128, block: &Block<A>) -> u128
 {
     match block.calls() {
         [] => end,
-        calls => last_moment(block.header(), last_offset(calls)),
+        calls => moment_in_last(block.header(), last_offset(calls)),
     }
 }
 
@@ -150,13 +153,13 @@ fn read_calls<'a, A: Allocator + Copy>(
     header: Header,
     tables: &'a [Value],
     names: &mut BTreeMap<&'a str, Site, A>,
-) -> Result<Vec<Call, A>, Refusal>
+) -> Result<Vec<Call, A>, ReadError>
     requires times { 1 ≤ header.times }
     requires blocks { length earlier.now < most_blocks }
     requires tables { are_tables (items_view tables.now) ≡ true }
     requires few { length tables.now ≤ most_block_calls }
     requires names { Knows names.old (submissions_from 0 earlier.now) }
-    ensures calls { Reads (λ v. v.items) result (calls_fault earlier.now header [] (tables_in (items_view tables.now))) (calls_after earlier.now header [] (tables_in (items_view tables.now))) }
+    ensures calls { Reads (λ v. v.items) result (calls_fault earlier.now header [] (tables_in (items_view tables.now))) (calls_through earlier.now header [] (tables_in (items_view tables.now))) }
     ensures names { IfOk result (λ v. Knows names.new (submissions_before earlier.now header v.items)) }
     ensures count { IfOk result (λ v. length v.items ≡ length tables.now) }
 {
@@ -184,7 +187,7 @@ fn read_next<'a, A: Allocator + Copy>(
     sub: usize,
     names: &mut BTreeMap<&'a str, Site, A>,
     table: &'a Table,
-) -> Result<Call, Refusal>
+) -> Result<Call, ReadError>
     requires times { 1 ≤ header.times }
     requires blocks { length earlier.now < most_blocks }
     requires few { length before.now < most_block_calls }

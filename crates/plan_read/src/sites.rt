@@ -1,10 +1,10 @@
 //! Submissions by their names.
 
 ghost use Rattle.std.specs.Prelude.{◌≡◌, ℕ, List, IfErr, IfOk, OnOk, Some, ◌&&◌, if◌then◌else◌, bytes_eq};
-ghost use Rattle.plan_read.specs.declared.faults.Refusal.TheVariants as refusals;
+ghost use Rattle.plan_read.specs.declared.faults.ReadError.TheVariants as errors;
 ghost use Rattle.plan_read.specs.Reads.{found_in};
 
-use crate::faults::Refusal;
+use crate::faults::ReadError;
 use crate::plans::Target;
 use std::alloc::Allocator;
 use std::collections::BTreeMap;
@@ -24,10 +24,10 @@ pub fn find_or_add<'a, A: Allocator + Copy>(
     name: &'a str,
     submits: bool,
     site: Site,
-) -> Result<Option<Site>, Refusal>
+) -> Result<Option<Site>, ReadError>
     ensures found { IfOk result (λ found. found ≡ found_in names.old name.now) }
     ensures added { OnOk result ((q : List ℕ) → found_in names.new q ≡ if submits && bytes_eq name.now q then Some site else found_in names.old q) }
-    ensures memory { IfErr result (λ e. e ≡ refusals.Memory) }
+    ensures memory { IfErr result (λ e. e ≡ errors.Memory) }
 {
     if submits {
         return Ok(names.insert(name, site)?);

@@ -1,8 +1,7 @@
 //! What a TOML table holds at its keys.
 
-ghost use Rattle.std.specs.List.{list_all};
 ghost use Rattle.std.specs.Prelude.{◌≡◌, true, false, length, option_map, option_and_then, unwrap_or, is_some};
-ghost use Rattle.toml.specs.Data.{get_member, as_bool, as_integer, as_str, as_table};
+ghost use Rattle.toml.specs.Data.{get_member, as_bool, as_integer, as_str};
 ghost use Rattle.toml.specs.View.{view, table_view, items_view};
 ghost use Rattle.plan_read.specs.Keys.{fits, Text, Integer, Truth, Policy, Tables, are_tables};
 ghost use Rattle.plan_read.specs.Values.{integer_or, text_or, tables_in, tables_at};
@@ -166,12 +165,6 @@ pub fn fits_tables(key: &str, table: &Table) -> bool
 /// Whether each value is a table.
 fn are_tables(values: &[Value]) -> bool
     ensures { result ≡ are_tables (items_view values.now) }
-{
-    each_is_table(values)
-}
-
-fn each_is_table(values: &[Value]) -> bool
-    ensures { result ≡ list_all (λ value. is_some (as_table (view value))) values.now }
 {
     values.iter().all(|value| value.is_table())
 }

@@ -1,7 +1,7 @@
 use Rattle.std.proofs.Common.{◌≡◌, ◌∙◌, ◌∷◌, ◌++◌, [], refl, sym, ap, subst, append_assoc, string_bytes, None, Some}
 use Rattle.plan_read.specs.declared.call_keys.CallKey.{CallKey}
 use Rattle.plan_read.specs.declared.call_keys.Row.{Row}
-use Rattle.plan_read.specs.CallKeys.{call_key_of_word, slot, word_of}
+use Rattle.plan_read.specs.CallKeys.{call_key_of_word, slot, key_word}
 use Rattle.plan_read.proofs.CallKeysLaw.{Entry, Sees, kept, passed_over}
 use Rattle.plan_read.proofs.call_keys.row_of.Goals as goal
 
@@ -15,7 +15,7 @@ loop-key-preserved-in-Some-of_word c =
     let all : entries ≡ done ++ e ∷ left = l.invariant.1 ∙ ap (λ es. done ++ es) c.in-Some.ensures.steps in
     let named : call_key_of_word (string_bytes e.0) ≡ Some c.in-Some-of_word.key = sym (c.of_word.ensures ∙ ap call_key_of_word c.as_str.ensures.value) ∙ c.in-Some-of_word.is in
     let more = kept entries done e left l.row c.in-Some-of_word.key c.in-Some.value all c.into_iter-key-iterator.ensures.into_iter_gives.5 named refl l.invariant.2 in
-    (done ++ e ∷ [], all ∙ sym (append_assoc done (e ∷ []) left), subst (λ (r : Row). (k : CallKey) → Sees entries (done ++ e ∷ []) (slot k r) (word_of k)) (sym c.with-row.ensures) more)
+    (done ++ e ∷ [], all ∙ sym (append_assoc done (e ∷ []) left), subst (λ (r : Row). (k : CallKey) → Sees entries (done ++ e ∷ []) (slot k r) (key_word k)) (sym c.with-row.ensures) more)
 
 pub loop-key-preserved : goal.loop-key-preserved
 loop-key-preserved c =

@@ -3,7 +3,7 @@ use Rattle.toml.specs.View.{items_view}
 use Rattle.plan_read.specs.Checks.{blocks_fault}
 use Rattle.plan_read.specs.Plans.{submissions_from, end_of, made_by}
 use Rattle.plan_read.specs.Reads.{Knows}
-use Rattle.plan_read.specs.Values.{tables_in, blocks_after}
+use Rattle.plan_read.specs.Values.{tables_in, blocks_through}
 use Rattle.plan_read.proofs.reading.read_blocks.Given as goal
 
 abbrev pub invariant-loop-value : goal.invariant-loop-value
@@ -14,5 +14,5 @@ invariant-loop-value g l = record {
   few : l.made ≤ 65536;
   names : Knows l.names (submissions_from 0 l.blocks.items);
   fault : blocks_fault l.blocks.items (tables_in (items_view (drop l.value-index l.tables))) ≡ blocks_fault [] (tables_in (items_view l.tables));
-  blocks : blocks_after l.blocks.items (tables_in (items_view (drop l.value-index l.tables))) ≡ blocks_after [] (tables_in (items_view l.tables));
+  blocks : blocks_through l.blocks.items (tables_in (items_view (drop l.value-index l.tables))) ≡ blocks_through [] (tables_in (items_view l.tables));
 }

@@ -3,7 +3,7 @@ use Rattle.toml.specs.View.{items_view}
 use Rattle.plan_read.specs.Checks.{calls_fault}
 use Rattle.plan_read.specs.Plans.{tasks_after_calls, submissions_before}
 use Rattle.plan_read.specs.Reads.{Knows}
-use Rattle.plan_read.specs.Values.{tables_in, calls_after}
+use Rattle.plan_read.specs.Values.{tables_in, calls_through}
 use Rattle.plan_read.proofs.reading.read_calls.Given as goal
 
 abbrev pub invariant-loop-value : goal.invariant-loop-value
@@ -13,5 +13,5 @@ invariant-loop-value g l = record {
   sub : l.sub ≡ tasks_after_calls 0 l.calls.items;
   names : Knows l.names (submissions_before l.earlier l.header l.calls.items);
   fault : calls_fault l.earlier l.header l.calls.items (tables_in (items_view (drop l.value-index l.tables))) ≡ calls_fault l.earlier l.header [] (tables_in (items_view l.tables));
-  calls : calls_after l.earlier l.header l.calls.items (tables_in (items_view (drop l.value-index l.tables))) ≡ calls_after l.earlier l.header [] (tables_in (items_view l.tables));
+  calls : calls_through l.earlier l.header l.calls.items (tables_in (items_view (drop l.value-index l.tables))) ≡ calls_through l.earlier l.header [] (tables_in (items_view l.tables));
 }

@@ -1,9 +1,9 @@
 use Rattle.toml.specs.View.{table_view}
 use Rattle.std.proofs.Common.{◌≡◌, None, sym, subst}
-use Rattle.plan_read.specs.Checks.{top, fault_of}
+use Rattle.plan_read.specs.Checks.{top, tree_fault}
 use Rattle.plan_read.specs.Plans.{PlanTree}
 use Rattle.plan_read.specs.Values.{plan_of}
-use Rattle.plan_read.specs.Writes.{Writes}
+use Rattle.plan_read.specs.Writes.{TreeWrites}
 use Rattle.plan_read.proofs.TreeLaw.{tree_written}
 use Rattle.plan_read.proofs.Accepted.{top_passed}
 use Rattle.plan_read.proofs.reading.read_tree.Goals as goal
@@ -18,6 +18,6 @@ pub new-requires : goal.new-requires
 new-requires g c =
     let ms = table_view c.args.table.now in
     let tables = c.in_ok-tables.ensures.top.1 in
-    let none : fault_of ms ≡ None = rw c.in_ok-tables.ensures.top.0 (rw tables at c.in_ok-blocks.ensures.0) in
+    let none : tree_fault ms ≡ None = rw c.in_ok-tables.ensures.top.0 (rw tables at c.in_ok-blocks.ensures.0) in
     let is : plan_of ms ≡ c.in_ok-blocks.blocks.items = rw (← tables) (sym c.in_ok-blocks.ensures.1) in
-    (ms, subst (λ (bs : PlanTree). Writes ms bs) is (tree_written ms none))
+    (ms, subst (λ (bs : PlanTree). TreeWrites ms bs) is (tree_written ms none))

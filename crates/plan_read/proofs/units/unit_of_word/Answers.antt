@@ -1,5 +1,4 @@
 use Rattle.std.proofs.Common.{refl}
-use Rattle.std.specs.Prelude.{codes}
 use Rattle.plan_read.proofs.Words.{differs}
 use Rattle.plan_read.proofs.units.unit_of_word.Goals as goal
 
@@ -19,4 +18,4 @@ pub returns-in_default : goal.returns-in_default
 returns-in_default c =
     let w = c.args.word.now in
     let not = c.in_default in
-    rw (differs w (codes "ns") not.not-ns, differs w (codes "us") not.not-us, differs w (codes "ms") not.not-ms, differs w (codes "s") not.not-s) refl
+    rw (differs w _ not.not-ns, differs w _ not.not-us, differs w _ not.not-ms, differs w _ not.not-s) refl

@@ -1,5 +1,4 @@
 use Rattle.std.proofs.Common.{refl}
-use Rattle.std.specs.Prelude.{codes}
 use Rattle.plan_read.proofs.Words.{differs}
 use Rattle.plan_read.proofs.units.which_of_word.Goals as goal
 
@@ -16,4 +15,4 @@ pub returns-in_default : goal.returns-in_default
 returns-in_default c =
     let w = c.args.word.now in
     let not = c.in_default in
-    rw (differs w (codes "continue") not.not-continue, differs w (codes "execute") not.not-execute, differs w (codes "remove") not.not-remove) refl
+    rw (differs w _ not.not-continue, differs w _ not.not-execute, differs w _ not.not-remove) refl

@@ -1,5 +1,5 @@
 use Rattle.plan_read.specs.declared.call_keys.CallKey.TheVariants as keys
-use Rattle.plan_read.specs.CallKeys.{word_of}
+use Rattle.plan_read.specs.CallKeys.{key_word}
 use Rattle.std.proofs.Common.{◌≢◌}
 use Rattle.plan_read.proofs.CallKeysLaw.{names_key, names_none}
 use Rattle.plan_read.proofs.call_keys.CallKey.of_word.Goals as goal
@@ -31,4 +31,4 @@ returns-in-value c = names_key c.args.word.now keys.Value c.in-value.is
 pub returns-in_default : goal.returns-in_default
 returns-in_default c =
     let w = c.args.word.now in
-    names_none w (λ k. elim k as (λ k. w ≢ word_of k) [ keys.Op ↦ c.in_default.not-op | keys.At ↦ c.in_default.not-at | keys.Name ↦ c.in_default.not-name | keys.Delay ↦ c.in_default.not-delay | keys.First ↦ c.in_default.not-first | keys.Period ↦ c.in_default.not-period | keys.Which ↦ c.in_default.not-which | keys.Value ↦ c.in_default.not-value ])
+    names_none w (λ k. elim k as (λ k. w ≢ key_word k) [ keys.Op ↦ c.in_default.not-op | keys.At ↦ c.in_default.not-at | keys.Name ↦ c.in_default.not-name | keys.Delay ↦ c.in_default.not-delay | keys.First ↦ c.in_default.not-first | keys.Period ↦ c.in_default.not-period | keys.Which ↦ c.in_default.not-which | keys.Value ↦ c.in_default.not-value ])

@@ -1,5 +1,4 @@
 use Rattle.std.proofs.Common.{refl}
-use Rattle.std.specs.Prelude.{codes}
 use Rattle.plan_read.proofs.Words.{differs}
 use Rattle.plan_read.proofs.verbs.Verb.of_word.Goals as goal
 
@@ -28,4 +27,4 @@ pub returns-in_default : goal.returns-in_default
 returns-in_default c =
     let w = c.args.word.now in
     let not = c.in_default in
-    rw (differs w (codes "schedule") not.not-schedule, differs w (codes "rate") not.not-rate, differs w (codes "fixed") not.not-fixed, differs w (codes "cancel") not.not-cancel, differs w (codes "policy") not.not-policy, differs w (codes "shutdown") not.not-shutdown, differs w (codes "ask") not.not-ask) refl
+    rw (differs w _ not.not-schedule, differs w _ not.not-rate, differs w _ not.not-fixed, differs w _ not.not-cancel, differs w _ not.not-policy, differs w _ not.not-shutdown, differs w _ not.not-ask) refl
