@@ -7,3 +7,4 @@ pub mod Places
 pub mod Tables
 pub mod Counts
 pub mod Calls
+pub mod Touched

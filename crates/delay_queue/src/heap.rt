@@ -5,6 +5,7 @@
 ghost use Rattle.std.specs.Prelude.{◌≡◌, ◌≢◌, ℕ, ◌+◌, ◌-◌, ◌*◌, ◌^◌, ◌<◌, ◌≤◌, ◌==◌, if◌then◌else◌, length, slice_index_or, slice_set, vec_capacity, None, IfSome, IfNone};
 ghost use Rattle.delay_queue.specs.Queues.{comes_before, binary_digits, most_touches};
 ghost use Rattle.delay_queue.specs.Heaps.{entry_at, parent, IsHeap, IsHeapAround, IsAboveChildren, IsPlaced, IsPlacedWith, MovesHole, due_of, due_with};
+ghost use Rattle.delay_queue.specs.Touches.{moving, sunk_from, risen, replace_touches, take_touches};
 ghost use Rattle.delay_queue.specs.declared.entry.Entry.{Entry as entry_value};
 
 use crate::entry::Entry;
@@ -61,6 +62,7 @@ pub(crate) fn rise(heap: &mut [Entry], places: &mut [u32], mut hole: usize, entr
     ensures dues { (task : ℕ) → due_of heap.new places.new task ≡ due_with heap.old places.old hole entry task }
     ensures heap_length { length heap.new ≡ length heap.old }
     ensures places_length { length places.new ≡ length places.old }
+    ensures exact { let end = risen hole entry (moving heap.old hole 0) in (heap.new ≡ slice_set end.heap end.hole entry) × (result ≡ end.touches) }
     ensures touches { let place = slice_index_or places.new entry.task 0 in result + 2 * binary_digits (place + 1) ≡ 2 * binary_digits (hole + 1) + (if place == 0 then 0 else 1) }
 {
     let mut touches = 0;
@@ -88,6 +90,7 @@ fn sink(heap: &mut [Entry], places: &mut [u32], mut hole: usize) -> (usize, u64)
     requires placed { (e : entry_value) × IsPlacedWith heap.old places.old hole e }
     ensures moves { MovesHole heap.old places.old hole heap.new places.new result.0 }
     ensures around { IsHeapAround heap.new result.0 }
+    ensures exact { moving heap.new result.0 result.1 ≡ sunk_from heap.old hole }
     ensures lowest { length heap.new ≤ 2 * result.0 + 1 }
     ensures few { result.1 + 2 * binary_digits (hole + 1) ≤ 2 * binary_digits (result.0 + 1) }
     ensures many { 2 * binary_digits (result.0 + 1) ≤ result.1 + 2 * binary_digits (hole + 1) + 1 }
@@ -123,6 +126,7 @@ fn replace(heap: &mut [Entry], places: &mut [u32], place: usize, entry: Entry) -
     ensures dues { (task : ℕ) → due_of heap.new places.new task ≡ due_with heap.old places.old place entry task }
     ensures heap_length { length heap.new ≡ length heap.old }
     ensures places_length { length places.new ≡ length places.old }
+    ensures exact { result ≡ replace_touches heap.old place entry }
     ensures few { result ≤ 4 * binary_digits (length heap.old) }
     ensures many { 0 < result }
 {
@@ -147,6 +151,7 @@ pub(crate) fn take_out<A: Allocator>(
     ensures others { (task : ℕ) → task ≢ (entry_at heap.old.items place).task → due_of heap.new.items places.new task ≡ due_of heap.old.items places.old task }
     ensures room { vec_capacity heap.new ≡ vec_capacity heap.old }
     ensures places_length { length places.new ≡ length places.old }
+    ensures exact { result ≡ take_touches heap.old.items place }
     ensures few { result ≤ most_touches (length heap.old.items) }
     ensures many { place + 1 < length heap.old.items → 0 < result }
 {

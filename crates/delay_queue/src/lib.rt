@@ -37,7 +37,7 @@
 //! # Order and ties
 //!
 //! Entries leave by moment, and at one moment by task number, whatever the order in which they came. The comparisons of
-//! [`Entry`] are this order.
+//! [`Entry`] are this order ([`laws`]).
 //!
 //! # Errors
 //!
@@ -48,14 +48,19 @@
 //!
 //! A queue takes 20 bytes for each task: 16 for an entry, and 4 for the place of the task's entry in a binary heap. With n
 //! entries, `insert`, `poll` and `remove` compare two entries or move one at most `4 d + 2` times, where d is the number
-//! of binary digits of n; [`touched`](DelayQueue::touched) counts them, and the contracts of these calls state the bound.
-//! All other calls take constant time, but for `new`, which goes over the places.
+//! of binary digits of n; [`touched`](DelayQueue::touched) counts them. The contracts of these calls state the bound, and
+//! that the count grows by as many as the call makes of some heap of these entries (`specs/Touches.antt`). All other calls
+//! take constant time, but for `new`, which goes over the places.
+//!
+//! # Tests
+//!
+//! They stand in `src/tests.rt`.
 #![tactic(auto)]
 
 mod entry;
 mod error;
 mod heap;
-mod laws;
+pub mod laws;
 #[cfg(test)]
 mod plain;
 mod queue;

@@ -1,6 +1,7 @@
 //! The queue: a binary heap of entries, with the place of each task's entry beside it.
-ghost use Rattle.std.specs.Prelude.{◌≡◌, ℕ, ◌+◌, ◌-◌, ◌<◌, ◌≤◌, ◌==◌, false, min, Some, None, length, replicate, slice_set, is_some, IfOk, IsOk, IfSome, IfNone};
+ghost use Rattle.std.specs.Prelude.{◌≡◌, ℕ, ◌+◌, ◌-◌, ◌<◌, ◌≤◌, ◌==◌, true, false, min, Some, None, length, replicate, slice_set, is_some, IfOk, IsOk, IfSome, IfNone};
 ghost use Rattle.delay_queue.specs.Queues.{due_in, entry_count, most_touches, greatest_count, IsLeast, IsEmpty, NoneIsDue, Touches};
+ghost use Rattle.delay_queue.specs.Touches.{insert_touches, take_touches, Counts, RemovalMakes};
 
 use crate::entry::Entry;
 use crate::error::QueueError;
@@ -72,6 +73,7 @@ impl<A: Allocator> DelayQueue<A> {
         requires absent { due_in self.old.entries entry.task ≡ None }
         ensures inserted { self.new.entries ≡ slice_set self.old.entries entry.task (Some entry.due) }
         ensures touched { Touches self.old.touched self.new.touched (min 1 (entry_count self.old.entries)) (most_touches (entry_count self.old.entries)) }
+        ensures counted { Counts self.old self.new.touched (λ heap times. times ≡ insert_touches heap entry) }
     {
         let place = self.heap.len();
         self.heap.push_reserved(entry);
@@ -97,6 +99,7 @@ impl<A: Allocator> DelayQueue<A> {
         ensures none_due { IfNone result (NoneIsDue self.old.entries now) }
         ensures unchanged { IfNone result (self.new.entries ≡ self.old.entries) }
         ensures touched { IfSome result (λ _. Touches self.old.touched self.new.touched (min 1 (entry_count self.old.entries - 1)) (most_touches (entry_count self.old.entries))) }
+        ensures counted { IfSome result (λ _. Counts self.old self.new.touched (λ heap times. times ≡ take_touches heap 0)) }
         ensures untouched { IfNone result (self.new.touched ≡ self.old.touched) }
     {
         let least = *self.heap.first()?;
@@ -115,6 +118,7 @@ impl<A: Allocator> DelayQueue<A> {
         ensures unchanged { result ≡ false → self.new.entries ≡ self.old.entries }
         ensures touched { Touches self.old.touched self.new.touched 0 (most_touches (entry_count self.old.entries)) }
         ensures least { (due : ℕ) → IsLeast self.old.entries due task → Touches self.old.touched self.new.touched (min 1 (entry_count self.old.entries - 1)) (most_touches (entry_count self.old.entries)) }
+        ensures counted { result ≡ true → Counts self.old self.new.touched (RemovalMakes task) }
         ensures untouched { result ≡ false → self.new.touched ≡ self.old.touched }
     {
         let Some(place) = place_of(&self.heap, &self.places, task) else {

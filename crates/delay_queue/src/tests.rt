@@ -1,8 +1,9 @@
 //! Tests of the queue.
 ghost use Rattle.std.specs.Prelude.{◌≡◌, ◌+◌, ◌*◌, ◌<◌, ◌≤◌, None, length, replicate};
 
-use crate::plain::PlainQueue;
+use crate::plain::{CountingHeap, PlainQueue};
 use crate::{DelayQueue, Entry, QueueError};
+use linked_list_allocator::LocalHeap;
 use std::alloc::{Allocator, Global};
 use std::process::Abort;
 use std::test::Fail;
@@ -162,6 +163,7 @@ fn most_touches(count: usize) -> u64 {
 fn no_call_touches_too_often(rt: HostRuntime) -> Result<(), Fail> {
     let tasks = 1024;
     let mut queue = DelayQueue::new(rt.alloc(), tasks)?;
+    let mut heap = CountingHeap::new(rt.alloc());
     for task in 0..tasks {
         let before = queue.touched();
         let most = most_touches(queue.len());
@@ -169,10 +171,16 @@ fn no_call_touches_too_often(rt: HostRuntime) -> Result<(), Fail> {
         if !queue.contains(task) {
             queue.insert(Entry { due, task });
         }
+        heap.insert(Entry { due, task })?;
         assert!(rt; queue.touched() - before <= most);
+        assert_eq!(rt; queue.touched(), heap.touched());
     }
     assert_eq!(rt; most_touches(1023), 42);
-    assert!(rt; queue.touched() >= 1023);
+    // Each entry comes before all that are there, and so rises to the first place: from the place k that is as many as
+    // there are places above it, the whole part of the binary logarithm of k + 1, and each is a comparison and a move.
+    // Twice the sum of these for k + 1 from 1 to 1,024: d for each of the 2^d numbers from 2^d on, which for d from 0 to 9
+    // gives 8 * 1,024 + 2, and 10 for 1,024.
+    assert_eq!(rt; queue.touched(), 2 * (8 * 1_024 + 2 + 10));
     for number in 0..tasks {
         let before = queue.touched();
         let most = most_touches(queue.len());
@@ -184,19 +192,25 @@ fn no_call_touches_too_often(rt: HostRuntime) -> Result<(), Fail> {
                 task
             })
         );
+        heap.poll(1023);
         assert!(rt; queue.touched() - before <= most);
+        assert_eq!(rt; queue.touched(), heap.touched());
     }
+    let before = queue.touched();
     assert_eq!(rt; queue.poll(1023), None);
+    assert_eq!(rt; queue.touched(), before);
     Ok(())
 }
 
-/// Makes the same calls of a queue and of a plain one, and compares what they answer.
+/// Makes the same calls of a queue, of a plain one and of a heap that counts, and compares what they answer and how often
+/// they touched an entry.
 fn compare(rt: &impl Abort, alloc: Global, tasks: u32, moments: u64) -> Result<(), Fail>
     requires tasks { 0 < tasks }
     requires moments { 0 < moments }
 {
     let mut queue = DelayQueue::new(alloc, tasks)?;
     let mut plain = PlainQueue::new(alloc);
+    let mut heap = CountingHeap::new(alloc);
     let mut random = 88_172_645_463_325_252;
     for _ in 0..20_000 {
         random = next(random);
@@ -205,12 +219,16 @@ fn compare(rt: &impl Abort, alloc: Global, tasks: u32, moments: u64) -> Result<(
         let action = (random >> 24) % 4;
         if action == 0 {
             assert_eq!(rt; queue.poll(due), plain.poll(due));
+            heap.poll(due);
         } else if action == 1 {
             assert_eq!(rt; queue.remove(task), plain.remove(task));
+            heap.remove(task);
         } else if !queue.contains(task) {
             queue.insert(Entry { due, task });
             plain.insert(Entry { due, task })?;
+            heap.insert(Entry { due, task })?;
         }
+        assert_eq!(rt; queue.touched(), heap.touched());
         assert_eq!(rt; queue.due_of(task), plain.due_of(task));
         assert_eq!(rt; queue.peek(), plain.peek());
         assert_eq!(rt; queue.len(), plain.len());
@@ -234,6 +252,44 @@ fn memory_for_each_count_of_tasks(rt: HostRuntime) -> Result<(), Fail> {
     }
     for tasks in [65_537, 1_000_000] {
         assert_eq!(rt; DelayQueue::new(rt.alloc(), tasks)?.len(), 0);
+    }
+    Ok(())
+}
+
+#[test]
+fn single_calls_touch_by_hand(rt: HostRuntime) -> Result<(), Fail> {
+    let mut queue = DelayQueue::new(rt.alloc(), 3)?;
+    queue.insert(Entry { due: 5, task: 0 });
+    assert_eq!(rt; queue.touched(), 0);
+    // It is compared with the other one, which moves down.
+    queue.insert(Entry { due: 3, task: 1 });
+    assert_eq!(rt; queue.touched(), 2);
+    // It is compared with the first one, and stays.
+    queue.insert(Entry { due: 4, task: 2 });
+    assert_eq!(rt; queue.touched(), 3);
+    assert_eq!(rt; queue.poll(2), None);
+    assert_eq!(rt; queue.touched(), 3);
+    // Of the two that are left the one due at 5 moves up, and down again after a comparison; the other one moves.
+    assert_eq!(rt; queue.poll(9), Some(Entry { due: 3, task: 1 }));
+    assert_eq!(rt; queue.touched(), 7);
+    // The last one leaves, and then there is none.
+    let removed = [queue.remove(0), queue.remove(0)];
+    assert_eq!(rt; (removed, queue.touched()), ([true, false], 7));
+    Ok(())
+}
+
+#[test]
+fn a_refused_queue_gives_its_memory_back(rt: HostRuntime) -> Result<(), Fail> {
+    for tasks in [1, 2, 10] {
+        let mut refused = true;
+        for size in 0..1_024 {
+            let heap = LocalHeap::new(rt.alloc(), size)?;
+            if refused {
+                refused = DelayQueue::new(&heap, tasks).is_err();
+            }
+            assert_eq!(rt; heap.used(), 0, "{tasks} tasks, {size} bytes");
+        }
+        assert!(rt; !refused, "{tasks} tasks");
     }
     Ok(())
 }

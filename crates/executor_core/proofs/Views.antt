@@ -4,7 +4,8 @@ use Rattle.std.specs.Prelude.{if◌then◌else◌, slice_get}
 use Rattle.sched_time.specs.declared.timing.Timing.{Timing}
 use Rattle.sched_time.specs.declared.timing.Timing.TheVariants as t
 use Rattle.executor_core.specs.declared.types.Happening.{Happening}
-use Rattle.queue_code.specs.Calls.{Planned, Terms, terms_of, due_at, after_finish}
+use Rattle.sched_time.specs.Dues.{after_finish}
+use Rattle.queue_code.specs.Calls.{Planned, Terms, terms_of, due_at}
 use Rattle.executor_core.specs.View.{Fate, View}
 use Rattle.executor_core.specs.Answers.{Reply, moment_after}
 use Rattle.executor_core.specs.Histories.{HistoryEntry, entry_of, happenings, is_call, is_submit, cancels, kept_after, is_start, is_finish, is_finish_with, is_done, is_failed, work_after, policies_after, is_shutdown, view_of_history, starts, last_finish, now_of}

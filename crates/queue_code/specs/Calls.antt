@@ -1,9 +1,10 @@
 -- The calls of a plan, what they say of each task, and when its runs are due.
 -- Where a definition names a class, its source is the Java SE 17 documentation of that class.
 -- Where it names no source, it is this project's rule.
-use Rattle.std.specs.Prelude.{◌≡◌, ℕ, ◌+◌, ◌*◌, ◌<◌, ◌≤◌, ◌==◌, Bool, true, false, if◌then◌else◌, List, [], ◌∷◌, length, Option, Some, None}
+use Rattle.std.specs.Prelude.{◌≡◌, ℕ, ◌+◌, ◌<◌, ◌≤◌, ◌==◌, Bool, true, false, if◌then◌else◌, List, [], ◌∷◌, length, Option}
 use Rattle.std.specs.List.{range_with_len}
 use Rattle.sched_time.specs.Times.{longest}
+use Rattle.sched_time.specs.Dues.{due_of_run}
 use Rattle.sched_time.specs.declared.timing.Timing.{Timing}
 use Rattle.sched_time.specs.declared.timing.Timing.TheVariants as t
 use Rattle.queue_code.specs.declared.call.CodeCall.{CodeCall}
@@ -99,18 +100,6 @@ abbrev pub terms_of : List Planned → ℕ → Terms
 terms_of [] k = record { timing = t.Once; first = 0 }
 terms_of (p ∷ calls) k = terms_in k p.0 p.1 (terms_of calls k)
 
--- the due moment of a run with a fixed delay: the first one's before any finish, and else the delay after
--- the last finish
--- (ScheduledExecutorService.scheduleWithFixedDelay: "a periodic action that becomes enabled first after the
--- given initial delay, and subsequently with the given delay between the termination of one execution and
--- the commencement of the next.")
-abbrev pub after_finish : ℕ → ℕ → Option ℕ → ℕ
-after_finish first delay None = first
-after_finish first delay (Some moment) = moment + delay
-
 -- the due moment of the run after n starts, where the last finish was at some moment
--- (ScheduledExecutorService.schedule: "Submits a value-returning one-shot task that becomes enabled after
--- the given delay."; scheduleAtFixedRate: "executions will commence after initialDelay, then
--- initialDelay + period, then initialDelay + 2 * period, and so on")
 abbrev pub due_at : Terms → ℕ → Option ℕ → ℕ
-due_at terms n last = elim (terms.timing) [ t.Once ↦ terms.first | t.Rate period ↦ terms.first + n * period | t.Fixed delay ↦ after_finish terms.first delay last ]
+due_at terms n last = due_of_run terms.timing terms.first n last

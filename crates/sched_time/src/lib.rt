@@ -35,6 +35,10 @@
 //! # Memory and cost
 //!
 //! No call takes memory, each takes constant time, and all values are `Copy`.
+//!
+//! # Tests
+//!
+//! They stand in `src/tests.rt`.
 #![tactic(auto)]
 
 mod conversions;

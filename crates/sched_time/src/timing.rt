@@ -5,17 +5,18 @@ ghost use Rattle.sched_time.specs.Dues as dues;
 use crate::spans::Span;
 
 /// How often a task runs, and when it is due again.
+///
+/// A period and a delay are 0 to 2^62 nanoseconds, as each [`Span`] is. The type does not keep them from being 0, and
+/// [`next_due`] adds 0 as any other number. What [`period`](crate::period) gives is at least 1 nanosecond.
 #[derive(Clone, Copy, Debug, PartialEq, Eq)]
 pub enum Timing {
     /// One run, as `ScheduledExecutorService.schedule` makes it.
     Once,
     /// Runs at a fixed rate, as `ScheduledExecutorService.scheduleAtFixedRate` makes them: each is
-    /// due this period after the due moment of the one before. What [`period`](crate::period) gives
-    /// is at least 1 nanosecond.
+    /// due this period after the due moment of the one before.
     Rate(Span),
     /// Runs with a fixed delay, as `ScheduledExecutorService.scheduleWithFixedDelay` makes them:
-    /// each is due this delay after the end of the one before. What [`period`](crate::period) gives
-    /// is at least 1 nanosecond.
+    /// each is due this delay after the end of the one before.
     Fixed(Span),
 }
 

@@ -1,8 +1,9 @@
 -- What sinking and rising touch together.
-use Rattle.std.proofs.Common.{◌≡◌, ℕ, ◌+◌, ◌*◌, ◌<◌, ◌≤◌, length, cond, eqb, Bool, true, false, arith}
+use Rattle.std.proofs.Common.{◌≡◌, ℕ, ◌+◌, ◌*◌, ◌<◌, ◌≤◌, length, cond, eqb, Bool, true, false, ap, ◌∙◌, arith}
 use Rattle.std.specs.Prelude.{slice_index_or}
 use Rattle.delay_queue.specs.Queues.{binary_digits}
 use Rattle.delay_queue.proofs.Digits.{digits_within, digits_more, digits_some}
+use Rattle.delay_queue.specs.Touches.{Moving, moving, risen}
 use Rattle.delay_queue.proofs.heap.replace.Goals as goal
 
 -- at most one comparison more than two touches for each place
@@ -22,3 +23,8 @@ overflow_add-result c = omega (arith, returns-clause-few c, digits_within (lengt
 
 pub overflow_add-result-2 : goal.overflow_add-result-2
 overflow_add-result-2 c = omega (arith, returns-clause-few c, digits_within (length c.args.heap.now) 32 c.requires.few)
+
+pub returns-clause-exact : goal.returns-clause-exact
+returns-clause-exact c =
+    ap (λ (n : ℕ). c.sink-hole.result.1 + n + 1) c.rise-risen.ensures.exact.1
+    ∙ ap (λ (m : Moving). m.touches + (risen m.hole c.args.entry (moving m.heap m.hole 0)).touches + 1) c.sink-hole.ensures.exact

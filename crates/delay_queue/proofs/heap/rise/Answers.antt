@@ -1,5 +1,5 @@
 -- The hole rises by one place, and the end of the loop.
-use Rattle.std.proofs.Common.{◌≡◌, ℕ, ◌+◌, ◌-◌, ◌*◌, ◌/◌, ◌<◌, ◌≢◌, Bool, List, cond, eqb, length, arith, ap, subst, sym, ◌∙◌, refl, eq-eqb, ne_eqb, get_or-set_same}
+use Rattle.std.proofs.Common.{◌≡◌, ℕ, ◌+◌, ◌-◌, ◌*◌, ◌/◌, ◌<◌, ◌≢◌, Bool, List, cond, eqb, length, set, arith, ap, subst, subst₂, sym, ◌∙◌, refl, eq-eqb, ne_eqb, get_or-set_same}
 use Rattle.std.specs.Prelude.{slice_index_or}
 use Rattle.delay_queue.specs.Queues.{binary_digits}
 use Rattle.delay_queue.specs.Heaps.{entry_at, parent, IsOrdered, IsHeap, IsHeapAround, IsAboveChildren}
@@ -8,6 +8,8 @@ use Rattle.delay_queue.proofs.Digits.{digits_within, digits_below}
 use Rattle.delay_queue.proofs.Order.{ordered_from_before}
 use Rattle.delay_queue.proofs.Holes.{around_up, above_up, heap_filled}
 use Rattle.delay_queue.proofs.Places.{beside, moves_on}
+use Rattle.delay_queue.specs.Touches.{Moving, moving, risen}
+use Rattle.delay_queue.proofs.Touched.{Rises, rises_on, rises_top, rises_end}
 use Rattle.delay_queue.proofs.heap.rise.Goals as goal
 use Rattle.delay_queue.proofs.heap.rise.Goals.{else-loop-hole-test, then-loop-hole-test+then-is_before}
 
@@ -31,6 +33,8 @@ loop-hole-preserved c =
       moves = moves_on c.args.heap.now c.args.places.now c.args.hole h c.loop-hole.places i up c.put.new.heap c.put.new.places c.loop-hole.invariant.moves
           c.requires.inside (omega arith) (λ same. omega arith) after c.put.ensures.places;
       count = omega (arith, c.loop-hole.invariant.count, digits_below i up below refl);
+      exact = subst₂ (λ (l : List Entry) (n : ℕ). Rises c.args.entry c.args.hole (moving c.args.heap.now c.args.hole 0) (moving l up n)) (sym after) (omega arith)
+          (rises_on c.args.entry c.args.hole (moving c.args.heap.now c.args.hole 0) (moving h i c.loop-hole.touches) c.loop-hole.invariant.exact below order);
     }
 
 pub put-requires-2-clause-known : goal.put-requires-2-clause-known
@@ -63,3 +67,18 @@ returns-clause-touches c =
     ]
     in
     subst (λ (n : ℕ). c.loop-hole-test.touches + 2 * binary_digits (n + 1) ≡ 2 * binary_digits (start + 1) + cond (eqb n 0) 0 1) (sym place) total
+
+pub returns-clause-exact : goal.returns-clause-exact
+returns-clause-exact c =
+    let h = c.loop-hole.heap in
+    let i = c.loop-hole.hole in
+    let first : Moving = moving c.args.heap.now c.args.hole 0 in
+    let now : Moving = moving h i c.loop-hole.touches in
+    let end : moving h i c.loop-hole-test.touches ≡ risen c.args.hole c.args.entry first =
+    elim c.loop-hole-test.branch [
+      | else-loop-hole-test w ↦ ap (λ (n : ℕ). moving h i n) w.touches-is ∙ rises_top c.args.entry c.args.hole first now c.loop-hole.invariant.exact (omega arith)
+      | then-loop-hole-test+then-is_before w ↦ ap (λ (n : ℕ). moving h i n) w.touches-is
+          ∙ rises_end c.args.entry c.args.hole first now c.loop-hole.invariant.exact (omega arith) (sym w.is_before.ensures ∙ w.if-is_before.true)
+    ]
+    in
+    (c.put-2.ensures.heap ∙ ap (λ (m : Moving). set m.heap m.hole c.args.entry) end, ap (λ (m : Moving). m.touches) end)

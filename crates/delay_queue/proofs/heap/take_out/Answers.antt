@@ -5,6 +5,8 @@ use Rattle.delay_queue.specs.Heaps.{no_entry, entry_at, IsPlaced, IsPlacedWith, 
 use Rattle.delay_queue.specs.declared.entry.Entry.{Entry}
 use Rattle.delay_queue.proofs.Digits.{digits_more}
 use Rattle.delay_queue.proofs.Places.{beside_cut, placed_from_beside, due_of_cut, due_of_kept}
+use Rattle.delay_queue.specs.Touches.{replace_touches}
+use Rattle.delay_queue.proofs.Touched.{take_last_touches, take_other_touches}
 use Rattle.delay_queue.proofs.heap.take_out.Goals as goal
 
 -- the place is not the last one
@@ -64,3 +66,10 @@ returns-clause-few g c =
       digits_more (length c.deref_mut.result.now) (length c.args.heap.now.items)
           (omega (arith, ap length c.deref_mut.ensures.value, ap length c.take_last-last.ensures.items, length-append v.items (c.take_last-last.result ∷ []))),
     )
+
+pub returns-clause-exact : goal.returns-clause-exact
+returns-clause-exact g c =
+    let v = c.take_last-last.new.self in
+    let last = c.take_last-last.result in
+    c.replace.ensures.exact ∙ ap (λ (l : List Entry). replace_touches l c.args.place last) c.deref_mut.ensures.value
+    ∙ take_other_touches c.args.heap.now.items v.items last c.args.place c.take_last-last.ensures.items (λ same. c.if-place-len.false (same ∙ sym v.ok.0 ∙ sym c.len.ensures))

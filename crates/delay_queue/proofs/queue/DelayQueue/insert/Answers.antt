@@ -10,6 +10,7 @@ use Rattle.delay_queue.proofs.Tables.{length-table}
 use Rattle.delay_queue.proofs.Counts.{count_placed, room_left}
 use Rattle.delay_queue.proofs.Calls.{entries_of, beside_pushed, inserted_lent}
 use Rattle.delay_queue.proofs.Places.{placed_from_beside}
+use Rattle.delay_queue.specs.Touches.{moving, risen}
 use Rattle.delay_queue.proofs.queue.DelayQueue.insert.Goals as goal
 
 pub push_reserved-requires : goal.push_reserved-requires
@@ -83,5 +84,19 @@ returns-clause-touched g c =
       times = c.rise-touches.result;
       many = both.0;
       few = both.1;
+      counted = c.count.ensures ∙ ap (λ (v : Queue). min (v.touched + c.rise-touches.result) greatest_count) c.self.view_is;
+    }
+
+pub returns-clause-counted : goal.returns-clause-counted
+returns-clause-counted g c =
+    let q = c.self.inside in
+    let e = c.args.entry in
+    let place : c.len-place.result ≡ length q.heap.items = omega (arith, c.len-place.ensures, q.heap.ok.0) in
+    record {
+      heap = q.heap.items;
+      is = record { places = q.places.items; ordered = c.self.invariant.heap; placed = c.self.invariant.placed; holds = ap entries_of c.self.view_is };
+      times = c.rise-touches.result;
+      makes = c.rise-touches.ensures.exact.1 ∙ ap (λ (n : ℕ). (risen n e (moving c.deref_mut.result.now n 0)).touches) place
+          ∙ ap (λ (l : List Entry). (risen (length q.heap.items) e (moving l (length q.heap.items) 0)).touches) (c.deref_mut.ensures.value ∙ c.push_reserved.ensures.items);
       counted = c.count.ensures ∙ ap (λ (v : Queue). min (v.touched + c.rise-touches.result) greatest_count) c.self.view_is;
     }

@@ -54,3 +54,14 @@ returns-clause-touched g c =
       few = subst (λ (n : ℕ). c.take_out-touches.result ≤ most_touches n) size c.take_out-touches.ensures.few;
       counted = c.count.ensures ∙ ap (λ (v : Queue). min (v.touched + c.take_out-touches.result) greatest_count) c.self.view_is;
     }
+
+pub returns-clause-counted : goal.returns-clause-counted
+returns-clause-counted g c =
+    let q = c.self.inside in
+    record {
+      heap = q.heap.items;
+      is = record { places = q.places.items; ordered = c.self.invariant.heap; placed = c.self.invariant.placed; holds = ap entries_of c.self.view_is };
+      times = c.take_out-touches.result;
+      makes = c.take_out-touches.ensures.exact;
+      counted = c.count.ensures ∙ ap (λ (v : Queue). min (v.touched + c.take_out-touches.result) greatest_count) c.self.view_is;
+    }

@@ -77,3 +77,16 @@ returns-clause-least g c due h =
       few = subst (λ (n : ℕ). t.result ≤ most_touches n) size t.ensures.few;
       counted = c.count.ensures ∙ ap (λ (v : Queue). min (v.touched + t.result) greatest_count) c.self.view_is;
     }
+
+pub returns-clause-counted : goal.returns-clause-counted
+returns-clause-counted g c there =
+    let q = c.self.inside in
+    let f = place_found q.heap.items c.deref.result.now q.places.items c.args.self.now.entries c.args.task c.in-Some.place (ap entries_of c.self.view_is) c.self.invariant.placed
+    c.deref.ensures.value c.in-Some.ensures.found in
+    record {
+      heap = q.heap.items;
+      is = record { places = q.places.items; ordered = c.self.invariant.heap; placed = c.self.invariant.placed; holds = ap entries_of c.self.view_is };
+      times = c.take_out-touches.result;
+      makes = record { place = c.in-Some.place; inside = f.0; own = f.1; makes = c.take_out-touches.ensures.exact };
+      counted = c.count.ensures ∙ ap (λ (v : Queue). min (v.touched + c.take_out-touches.result) greatest_count) c.self.view_is;
+    }
