@@ -2,6 +2,7 @@
 -- Numbers are decimals with no leading zero, and one space stands between two words.
 use Rattle.std.specs.Prelude.{ℕ, ◌+◌, Bool, true, false, List, [], ◌∷◌, ◌++◌, codes}
 use Rattle.std.specs.Fmt.{decimal}
+use Rattle.sched_time.specs.Policies.{policy_text, truth_text}
 use Rattle.sched_time.specs.declared.policies.Which.{Which}
 use Rattle.sched_time.specs.declared.policies.Which.TheVariants as which
 use Rattle.sched_time.specs.declared.timing.Timing.{Timing}
@@ -14,17 +15,6 @@ abbrev pub timing_text : Timing → ℕ → List ℕ
 timing_text timing.Once delay = codes "schedule " ++ decimal delay
 timing_text (timing.Rate period) first = codes "rate " ++ decimal first ++ codes " " ++ decimal period
 timing_text (timing.Fixed delay) first = codes "fixed " ++ decimal first ++ codes " " ++ decimal delay
-
--- a policy
-abbrev pub policy_text : Which → List ℕ
-policy_text which.Continue = codes "continue"
-policy_text which.Execute = codes "execute"
-policy_text which.Remove = codes "remove"
-
--- a truth value
-abbrev pub truth_text : Bool → List ℕ
-truth_text true = codes "true"
-truth_text false = codes "false"
 
 -- an instruction
 abbrev pub instr_text : Instr → List ℕ

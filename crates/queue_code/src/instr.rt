@@ -1,7 +1,7 @@
 ghost use Rattle.std.specs.Prelude.{◌≡◌};
 ghost use Rattle.queue_code.specs.Codes.{tasks_by};
 ghost use Rattle.queue_code.specs.Checks.{offset_of, makes_call};
-ghost use Rattle.queue_code.specs.Listings.{policy_text};
+ghost use Rattle.sched_time.specs.Policies.{policy_text};
 
 use sched_time::{Timing, Which};
 use std::fmt;

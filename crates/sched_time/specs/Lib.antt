@@ -1,2 +1,3 @@
 pub mod Times
 pub mod Dues
+pub mod Policies

@@ -20,7 +20,8 @@ use Rattle.executor_core.specs.declared.Outcome.TheVariants as outcome
 use Rattle.executor_core.specs.declared.Message.{Message}
 use Rattle.executor_core.specs.declared.Message.TheVariants.{Answer, End}
 use Rattle.executor_core.specs.declared.Line.{Line}
-use Rattle.trace_text.specs.Spelling.{IsLine, EndsNumber, message_text, error_text, outcome_text, kind_text, refusal_text, effect_text, policy_text, truth_text, whether_text, cancel_text, FitsCancel, line_text, FitsMessage, FitsLine, FitsOutcome}
+use Rattle.trace_text.specs.Spelling.{IsLine, EndsNumber, message_text, error_text, outcome_text, kind_text, refusal_text, effect_text, whether_text, cancel_text, FitsCancel, line_text, FitsMessage, FitsLine, FitsOutcome}
+use Rattle.sched_time.specs.Policies.{policy_text, truth_text}
 use Rattle.trace_text.specs.Reading.{IsUnread, Below, Any, text_then, LinesAreOne, LinesEndOnce}
 use Rattle.trace_text.proofs.Digits.{one_number}
 use Rattle.trace_text.proofs.Clashes.{clashes}

@@ -4,6 +4,7 @@
 use Rattle.std.specs.Prelude.{◌≡◌, ◌≢◌, ℕ, ◌^◌, ◌<◌, Bool, true, false, List, ◌++◌, All, Option, Some, None, codes, flat_map, slice_index}
 use Rattle.std.specs.Fmt.{decimal}
 use Rattle.std.specs.Int.{IsInRange}
+use Rattle.sched_time.specs.Policies.{policy_text, truth_text}
 use Rattle.sched_time.specs.declared.timing.Ending.{Ending}
 use Rattle.sched_time.specs.declared.timing.Ending.TheVariants as ending
 use Rattle.sched_time.specs.declared.policies.Which.{Which}
@@ -88,17 +89,6 @@ effect_text effect.Absent = codes "none"
 -- a task and what a cancel did to it, and the newline
 abbrev pub cancel_text : ℕ × CancelEffect → List ℕ
 cancel_text v = decimal v.0 ++ (codes " " ++ (effect_text v.1 ++ codes "\n"))
-
--- the word of a policy
-abbrev pub policy_text : Which → List ℕ
-policy_text which.Continue = codes "continue"
-policy_text which.Execute = codes "execute"
-policy_text which.Remove = codes "remove"
-
--- what a policy is set to, in a word
-abbrev pub truth_text : Bool → List ℕ
-truth_text true = codes "true"
-truth_text false = codes "false"
 
 -- whether something is so, in a word
 abbrev pub whether_text : Bool → List ℕ

@@ -3,7 +3,8 @@
 
 ghost use Rattle.std.specs.Prelude.{◌≡◌, ℕ, ◌+◌, ◌≤◌, ◌<◌, ◌++◌, length, take, codes};
 ghost use Rattle.std.specs.Fmt.{decimal};
-ghost use Rattle.trace_text.specs.Spelling.{kind_text, refusal_text, error_text, effect_text, policy_text, truth_text, whether_text, outcome_text, cancel_text, answer_text};
+ghost use Rattle.trace_text.specs.Spelling.{kind_text, refusal_text, error_text, effect_text, whether_text, outcome_text, cancel_text, answer_text};
+ghost use Rattle.sched_time.specs.Policies.{policy_text, truth_text};
 ghost use Rattle.trace_text.specs.Writing.{Puts};
 ghost use Rattle.executor_core.specs.declared.Answer.TheVariants as a;
 

@@ -1,6 +1,7 @@
 //! Words that lines of a trace end with, or that stand between two numbers of them, with what is fixed behind them.
 ghost use Rattle.std.specs.Prelude.{MatchOption, ◌++◌, codes};
-ghost use Rattle.trace_text.specs.Spelling.{message_text, FitsMessage, outcome_text, FitsOutcome, kind_text, refusal_text, effect_text, policy_text, truth_text, whether_text};
+ghost use Rattle.trace_text.specs.Spelling.{message_text, FitsMessage, outcome_text, FitsOutcome, kind_text, refusal_text, effect_text, whether_text};
+ghost use Rattle.sched_time.specs.Policies.{policy_text, truth_text};
 ghost use Rattle.trace_text.specs.Reading.{IsRead, IsUnread, Any, text_then};
 
 use crate::scan::{code_before, number_before, strip, strip_word};

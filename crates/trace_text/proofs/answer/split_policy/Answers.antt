@@ -1,5 +1,5 @@
 use Rattle.std.proofs.Common.{codes}
-use Rattle.trace_text.specs.Spelling.{policy_text, truth_text}
+use Rattle.sched_time.specs.Policies.{policy_text, truth_text}
 use Rattle.trace_text.specs.Reading.{Any, text_then}
 use Rattle.trace_text.proofs.Parts.{first_part}
 use Rattle.trace_text.proofs.LineTexts.{unread_policy}
