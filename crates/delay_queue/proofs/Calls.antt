@@ -5,7 +5,8 @@ use Rattle.std.proofs.lemmas.Bool.{false≢true, cases_eq, cases_lt}
 use Rattle.std.proofs.lemmas.List.{get_or_append_left, set-get_or}
 use Rattle.std.proofs.lemmas.Option.{same_Some, none-some, slice_get_within, get_or_from_slice_get}
 use Rattle.delay_queue.specs.Queues.{Queue, comes_before, due_in, IsLeast, IsEmpty, NoneIsDue}
-use Rattle.delay_queue.specs.Heaps.{no_entry, entry_at, IsHeap, IsPlaced, due_of, due_with, table}
+use Rattle.delay_queue.specs.Heaps.{no_entry, entry_at, IsHeap, IsPlaced, due_of, table}
+use Rattle.delay_queue.specs.own.Heaps.{due_with}
 use Rattle.delay_queue.specs.declared.entry.Entry.{Entry}
 use Rattle.delay_queue.proofs.Order.{before_from_ordered, due_from_ordered}
 use Rattle.delay_queue.proofs.Holes.{first_is_least}

@@ -1,7 +1,8 @@
 -- How the order of a heap stands while entries move into its hole.
 use Rattle.std.proofs.Common.{◌≡◌, ◌≢◌, ℕ, zero, suc, ◌+◌, ◌*◌, ◌<◌, ◌≤◌, ◌⊎◌, ⊎_elim, List, set, length, sym, ◌∙◌, ap, subst, subst₂, arith, length-set}
 use Rattle.std.proofs.lemmas.Bool.{cases_eq}
-use Rattle.delay_queue.specs.Heaps.{entry_at, parent, IsOrdered, IsHeap, IsHeapAround, IsAboveChildren}
+use Rattle.delay_queue.specs.Heaps.{entry_at, parent, IsOrdered, IsHeap}
+use Rattle.delay_queue.specs.own.Heaps.{IsHeapAround, IsAboveChildren}
 use Rattle.delay_queue.specs.declared.entry.Entry.{Entry}
 use Rattle.delay_queue.proofs.Order.{ordered_through, ordered_self}
 use Rattle.delay_queue.proofs.Lookups.{at_same, at_other}

@@ -2,7 +2,8 @@
 use Rattle.std.proofs.Common.{◌≡◌, ◌≢◌, ⊎_elim, ℕ, ◌+◌, ◌<◌, ◌≤◌, List, [], ◌∷◌, ◌++◌, Some, None, set, length, get_or, refl, sym, ap, subst, subst₂, ◌∙◌, arith, length-set, length-append, get_or-set_same, get_or-set_other}
 use Rattle.std.proofs.lemmas.Bool.{cases_eq, cases_lt}
 use Rattle.std.proofs.lemmas.List.{get_or_append_left, get_or_push}
-use Rattle.delay_queue.specs.Heaps.{no_entry, entry_at, IsPlaced, IsPlacedWith, MovesHole, due_of, due_with}
+use Rattle.delay_queue.specs.Heaps.{no_entry, entry_at, IsPlaced, due_of}
+use Rattle.delay_queue.specs.own.Heaps.{IsPlacedWith, MovesHole, due_with}
 use Rattle.delay_queue.specs.declared.entry.Entry.{Entry}
 use Rattle.delay_queue.proofs.Lookups.{at_same, at_other}
 use Rattle.delay_queue.proofs.Dues.{due_here, due_apart, due_past, due_alike}

@@ -1,3 +1,4 @@
 pub mod Heaps
 pub mod Queues
 pub mod Touches
+pub mod own

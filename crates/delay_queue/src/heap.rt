@@ -4,7 +4,8 @@
 //! does not count, so that each of them is written once.
 ghost use Rattle.std.specs.Prelude.{◌≡◌, ◌≢◌, ℕ, ◌+◌, ◌-◌, ◌*◌, ◌^◌, ◌<◌, ◌≤◌, ◌==◌, if◌then◌else◌, length, slice_index_or, slice_set, vec_capacity, None, IfSome, IfNone};
 ghost use Rattle.delay_queue.specs.Queues.{comes_before, binary_digits, most_touches};
-ghost use Rattle.delay_queue.specs.Heaps.{entry_at, parent, IsHeap, IsHeapAround, IsAboveChildren, IsPlaced, IsPlacedWith, MovesHole, due_of, due_with};
+ghost use Rattle.delay_queue.specs.Heaps.{entry_at, parent, IsHeap, IsPlaced, due_of};
+ghost use Rattle.delay_queue.specs.own.Heaps.{IsHeapAround, IsAboveChildren, IsPlacedWith, MovesHole, due_with};
 ghost use Rattle.delay_queue.specs.Touches.{moving, sunk_from, risen, replace_touches, take_touches};
 ghost use Rattle.delay_queue.specs.declared.entry.Entry.{Entry as entry_value};
 

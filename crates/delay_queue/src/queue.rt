@@ -24,7 +24,8 @@ pub struct DelayQueue<A: Allocator> {
 impl<A: Allocator> Model for DelayQueue<A> {
     ghost use Rattle.std.specs.Prelude.{vec_capacity};
     ghost use Rattle.delay_queue.specs.Queues.{Queue};
-    ghost use Rattle.delay_queue.specs.Heaps.{table, IsWellFormed};
+    ghost use Rattle.delay_queue.specs.Heaps.{table};
+    ghost use Rattle.delay_queue.specs.own.Heaps.{IsWellFormed};
 
     ghost Value = { Queue };
 

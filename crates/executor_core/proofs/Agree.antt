@@ -25,11 +25,11 @@ use Rattle.executor_core.specs.Answers.{reply, plain, called, kind_of, swept, st
 use Rattle.executor_core.specs.Histories.{HistoryEntry, entry_of, happenings, IsHistoryOf, view_of_history, answer, cancels, is_shutdown}
 use Rattle.executor_core.specs.State.{State, view_of_state, next, after, opening, reply_of, move_task, submit_phase, finish_task, task_after}
 use Rattle.executor_core.specs.Machine.{Machine, workers_of, state_of}
-use Rattle.executor_core.specs.Invariants.{IsSound, IsDue, TimingsAgree, NoneDelayed, IsWellFormedCore}
-use Rattle.executor_core.specs.Sought.{Sought, OnlyThese}
+use Rattle.executor_core.specs.own.Invariants.{IsSound, IsDue, TimingsAgree, NoneDelayed, IsWellFormedCore}
+use Rattle.executor_core.specs.own.Sought.{Sought, OnlyThese}
 use Rattle.executor_core.proofs.Views.{seen_moves, look_moves, view_after, due_next_state}
 use Rattle.executor_core.proofs.Sound.{Finds, IsPeriodicAgain, reply_finds, fits_all, sound_stays, later}
-use Rattle.executor_core.specs.Tables.{goes_on, is_live_phase, is_periodic}
+use Rattle.executor_core.specs.own.Tables.{goes_on, is_live_phase, is_periodic}
 use Rattle.executor_core.proofs.Tables.{goes_parts, goes_from}
 
 -- a state shows what a history shows by counting, and is sound

@@ -16,11 +16,11 @@ use Rattle.queue_code.specs.Calls.{Planned, Terms, terms_of, how_many, is_submis
 use Rattle.executor_core.specs.View.{is_running, is_waiting}
 use Rattle.executor_core.specs.Answers.{is_queued, queue_size, running_count, plain, is_terminated}
 use Rattle.executor_core.specs.State.{vacant, seen_task, seen_phase, view_of_state}
-use Rattle.executor_core.specs.Tables.{one, is_running_phase, is_waiting_phase, waits_with, running_in}
+use Rattle.executor_core.specs.own.Tables.{one, is_running_phase, is_waiting_phase, waits_with, running_in}
 use Rattle.executor_core.specs.Machine.{Machine, state_of}
-use Rattle.executor_core.specs.Invariants.{queued, queued_phase, held, IsWellFormedCore}
-use Rattle.executor_core.specs.OwnSteps.{Takes}
-use Rattle.executor_core.specs.Sought.{Sought}
+use Rattle.executor_core.specs.own.Invariants.{queued, queued_phase, held, IsWellFormedCore}
+use Rattle.executor_core.specs.own.OwnSteps.{Takes}
+use Rattle.executor_core.specs.own.Sought.{Sought}
 use Rattle.executor_core.proofs.Flowing.{how_many-le}
 use Rattle.executor_core.proofs.Keeping.{kept_stays}
 use Rattle.executor_core.proofs.Calling.{called_state, passed, passed_steps}

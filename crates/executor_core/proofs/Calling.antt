@@ -13,9 +13,9 @@ use Rattle.executor_core.specs.View.{View}
 use Rattle.executor_core.specs.Answers.{Reply, plain, called}
 use Rattle.executor_core.specs.State.{State, view_of_state, next, reply_of, state_after}
 use Rattle.executor_core.specs.Machine.{Machine, workers_of, state_of}
-use Rattle.executor_core.specs.Invariants.{IsWellFormedCore}
-use Rattle.executor_core.specs.OwnSteps.{Takes}
-use Rattle.executor_core.specs.Sought.{Sought}
+use Rattle.executor_core.specs.own.Invariants.{IsWellFormedCore}
+use Rattle.executor_core.specs.own.OwnSteps.{Takes}
+use Rattle.executor_core.specs.own.Sought.{Sought}
 use Rattle.executor_core.proofs.Tables.{call_moment, count_grows}
 
 -- what a call made at some moment looks at

@@ -22,11 +22,11 @@ use Rattle.executor_core.specs.Answers.{plain, effect_on}
 use Rattle.executor_core.specs.Histories.{is_yes}
 use Rattle.executor_core.specs.State.{State, vacant, view_of_state, seen_task, seen_phase, reply_of, state_after}
 use Rattle.executor_core.specs.Tasks.{uncancelled_in}
-use Rattle.executor_core.specs.Tables.{cancelled_task, is_waiting_phase}
+use Rattle.executor_core.specs.own.Tables.{cancelled_task, is_waiting_phase}
 use Rattle.executor_core.specs.Machine.{Machine, workers_of, state_of}
-use Rattle.executor_core.specs.Invariants.{IsWellFormedCore, IsSound, queued, held}
-use Rattle.executor_core.specs.OwnSteps.{Takes}
-use Rattle.executor_core.specs.Sought.{Sought}
+use Rattle.executor_core.specs.own.Invariants.{IsWellFormedCore, IsSound, queued, held}
+use Rattle.executor_core.specs.own.OwnSteps.{Takes}
+use Rattle.executor_core.specs.own.Sought.{Sought}
 use Rattle.executor_core.proofs.Agree.{still_true}
 use Rattle.executor_core.proofs.Sound.{is_seen_waiting}
 use Rattle.executor_core.proofs.Asking.{next_eqb, same_eqb, seen_waits}

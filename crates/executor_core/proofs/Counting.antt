@@ -12,7 +12,7 @@ use Rattle.executor_core.specs.declared.types.Outcome.{Outcome}
 use Rattle.executor_core.specs.declared.types.Outcome.TheVariants as o
 use Rattle.executor_core.specs.State.{vacant, end_task}
 use Rattle.executor_core.specs.Tasks.{uncancelled_in}
-use Rattle.executor_core.specs.Tables.{tasks_of, running_in, periodic_in, is_running_phase, waits_again, one, Count, IsRecount, AreTallies, AreTables}
+use Rattle.executor_core.specs.own.Tables.{tasks_of, running_in, periodic_in, is_running_phase, waits_again, one, Count, IsRecount, AreTallies, AreTables}
 use Rattle.executor_core.proofs.Pairs.{length_of}
 
 -- the first task counts for itself

@@ -17,7 +17,7 @@ use Rattle.executor_core.specs.declared.types.Answer.TheVariants as a
 use Rattle.executor_core.specs.declared.types.Refusal.TheVariants as refusal
 use Rattle.queue_code.specs.Calls.{Planned, terms_of, due_at}
 use Rattle.executor_core.specs.View.{View}
-use Rattle.executor_core.specs.OwnSteps.{Takes}
+use Rattle.executor_core.specs.own.OwnSteps.{Takes}
 use Rattle.executor_core.specs.Answers.{Reply, plain, called, kind_of, swept, is_accepted, moment_after}
 use Rattle.executor_core.specs.Histories.{is_call, cancels, kept_after, policies_after, is_shutdown, work_after}
 use Rattle.executor_core.specs.State.{State, vacant, view_of_state, move_task, state_after, reply_of, next, after_from}

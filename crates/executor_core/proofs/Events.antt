@@ -8,7 +8,7 @@ use Rattle.queue_code.specs.Calls.{IsOrderly}
 use Rattle.executor_core.specs.Histories.{HistoryEntry, IsHistoryOf}
 use Rattle.executor_core.specs.Flows.{part_of, answer_line, lines_at}
 use Rattle.executor_core.specs.Machine.{Machine, workers_of, Counts, Steps, Stands, Continues}
-use Rattle.executor_core.specs.OwnSteps.{Takes}
+use Rattle.executor_core.specs.own.OwnSteps.{Takes}
 use Rattle.executor_core.proofs.Flowing.{core_continues}
 
 -- one step with its line

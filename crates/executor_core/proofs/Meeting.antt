@@ -14,11 +14,11 @@ use Rattle.executor_core.specs.declared.task.Phase.TheVariants as ph
 use Rattle.executor_core.specs.declared.task.Task.{Task}
 use Rattle.executor_core.specs.State.{State, vacant, view_of_state, seen_task}
 use Rattle.executor_core.specs.Machine.{Machine, state_of}
-use Rattle.executor_core.specs.Invariants.{IsWellFormedCore, IsSound, IsDue, held, queued}
-use Rattle.executor_core.specs.OwnSteps.{LeavesMet, is_met}
-use Rattle.executor_core.specs.Sought.{Sought}
+use Rattle.executor_core.specs.own.Invariants.{IsWellFormedCore, IsSound, IsDue, held, queued}
+use Rattle.executor_core.specs.own.OwnSteps.{LeavesMet, is_met}
+use Rattle.executor_core.specs.own.Sought.{Sought}
 use Rattle.executor_core.proofs.Tables.{at_set, noted_at}
-use Rattle.executor_core.specs.Tables.{goes_on}
+use Rattle.executor_core.specs.own.Tables.{goes_on}
 
 -- the queue of kept tasks
 

@@ -27,11 +27,11 @@ use Rattle.executor_core.specs.Answers.{plain, called, effect_on, setting_sweeps
 use Rattle.executor_core.specs.Histories.{is_end}
 use Rattle.executor_core.specs.State.{vacant, seen_task, seen_phase, due_seen, due_past, view_of_state}
 use Rattle.executor_core.specs.Histories.{AreMade}
-use Rattle.executor_core.specs.Tables.{waits_with}
+use Rattle.executor_core.specs.own.Tables.{waits_with}
 use Rattle.executor_core.specs.Needs.{need_of, need_of_answer, need_of_cancel, need_of_finish, IsRipe}
 use Rattle.executor_core.specs.Machine.{Machine, workers_of, state_of}
-use Rattle.executor_core.specs.Invariants.{IsWellFormedCore, queued_phase, held}
-use Rattle.executor_core.specs.Sought.{Sought}
+use Rattle.executor_core.specs.own.Invariants.{IsWellFormedCore, queued_phase, held}
+use Rattle.executor_core.specs.own.Sought.{Sought}
 use Rattle.executor_core.proofs.Calling.{view_at}
 use Rattle.executor_core.proofs.Opens.{tells_none}
 use Rattle.executor_core.proofs.Flowing.{all_reached}

@@ -17,11 +17,11 @@ use Rattle.sched_time.specs.declared.timing.Timing.TheVariants as how
 use Rattle.executor_core.specs.Answers.{is_ended_by}
 use Rattle.executor_core.specs.Histories.{is_end}
 use Rattle.executor_core.specs.State.{vacant}
-use Rattle.executor_core.specs.Tables.{goes_on, is_live_phase, is_periodic, is_waiting_phase, waits_again, waits_with}
+use Rattle.executor_core.specs.own.Tables.{goes_on, is_live_phase, is_periodic, is_waiting_phase, waits_again, waits_with}
 use Rattle.executor_core.specs.Machine.{Machine, workers_of}
-use Rattle.executor_core.specs.Sought.{Sought}
-use Rattle.executor_core.specs.Invariants.{IsWellFormedCore}
-use Rattle.executor_core.specs.OwnSteps.{Ends}
+use Rattle.executor_core.specs.own.Sought.{Sought}
+use Rattle.executor_core.specs.own.Invariants.{IsWellFormedCore}
+use Rattle.executor_core.specs.own.OwnSteps.{Ends}
 use Rattle.executor_core.proofs.Tables.{goes_parts, goes_from}
 use Rattle.executor_core.proofs.Sweeping.{filter_next, sweeps_at, swept_is, ends_are, ends_not, waits_phase, waits_uncancelled, and_left, and_right}
 

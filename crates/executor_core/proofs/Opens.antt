@@ -13,8 +13,8 @@ use Rattle.executor_core.specs.Flows.{reached, ReachesNext}
 use Rattle.executor_core.specs.Answers.{default_policies}
 use Rattle.executor_core.specs.State.{opening, vacant, view_of_state}
 use Rattle.executor_core.specs.Machine.{Machine, state_of, IsOpening}
-use Rattle.executor_core.specs.Invariants.{IsWellFormedCore, IsSound, IsDue, queued, held}
-use Rattle.executor_core.specs.Sought.{Sought}
+use Rattle.executor_core.specs.own.Invariants.{IsWellFormedCore, IsSound, IsDue, queued, held}
+use Rattle.executor_core.specs.own.Sought.{Sought}
 use Rattle.executor_core.proofs.Agree.{opening_sound}
 use Rattle.executor_core.proofs.Tables.{at_replicate}
 use Rattle.executor_core.specs.Histories.{is_end}

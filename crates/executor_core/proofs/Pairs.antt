@@ -15,7 +15,7 @@ use Rattle.executor_core.specs.declared.types.Outcome.{Outcome}
 use Rattle.executor_core.specs.declared.types.Outcome.TheVariants as o
 use Rattle.executor_core.specs.State.{vacant, submit_task, end_task}
 use Rattle.executor_core.specs.Tasks.{word_phase, word_of}
-use Rattle.executor_core.specs.Tables.{phase_in, task_of, tasks_of}
+use Rattle.executor_core.specs.own.Tables.{phase_in, task_of, tasks_of}
 
 -- the tables have one length, and so have the tasks
 pub length_of : (ws : List Parts) (ds : List Detail) → length ws ≡ length ds → length (tasks_of ws ds) ≡ length ws

@@ -26,14 +26,14 @@ use Rattle.executor_core.specs.declared.types.Need.TheVariants as n
 use Rattle.executor_core.specs.Needs.{need_of, need_of_answer}
 use Rattle.executor_core.specs.State.{vacant, view_of_state, reply_of, state_after, end_task, due_past}
 use Rattle.executor_core.specs.Machine.{Machine, workers_of, state_of}
-use Rattle.executor_core.specs.Invariants.{IsWellFormedCore, IsSound, IsDue, queued, queued_phase, held}
-use Rattle.executor_core.specs.OwnSteps.{Takes, LeavesMet, queued_again, finished_task}
-use Rattle.executor_core.specs.Sought.{Sought}
+use Rattle.executor_core.specs.own.Invariants.{IsWellFormedCore, IsSound, IsDue, queued, queued_phase, held}
+use Rattle.executor_core.specs.own.OwnSteps.{Takes, LeavesMet, queued_again, finished_task}
+use Rattle.executor_core.specs.own.Sought.{Sought}
 use Rattle.executor_core.proofs.Agree.{next_sound, next_due_is, still_true}
 use Rattle.executor_core.proofs.Tables.{at_set, runs_set, noted_at}
 use Rattle.executor_core.proofs.Meeting.{sound_apart, due_apart}
 use Rattle.executor_core.proofs.WorkerSteps.{queued_at, by_reply, in_queue, entry_within, idle_starts, task_starts, none_is_first, running, idle_state, started_task, started_apart, start_state, end_keeps, task_finishes, finish_state}
-use Rattle.executor_core.specs.Tables.{goes_on, is_live_phase, is_periodic}
+use Rattle.executor_core.specs.own.Tables.{goes_on, is_live_phase, is_periodic}
 
 -- a step from what is seen of a core is one from the core
 pub of_view : (m old new : Machine) (happening : Happening) (answer : Answer) → m ≡ old → Takes m new happening answer → Takes old new happening answer

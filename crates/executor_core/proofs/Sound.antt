@@ -27,7 +27,7 @@ use Rattle.executor_core.specs.View.{View, is_enabled, is_running, is_waiting, f
 use Rattle.executor_core.specs.Answers.{Reply, plain, called, kind_of, swept, started, finished, effect_on, outcome_in, stops_periodic, due_next, is_accepted, moment_after}
 use Rattle.executor_core.specs.Histories.{is_cancel, is_end, is_finish_with, is_ended, is_sweep, meets, kept_after, cancels, work_after}
 use Rattle.executor_core.specs.State.{State, view_of_state, seen_phase, was_submitted, due_seen, reply_of, state_after, move_task, submit_phase, finish_task}
-use Rattle.executor_core.specs.Invariants.{IsSound}
+use Rattle.executor_core.specs.own.Invariants.{IsSound}
 use Rattle.executor_core.proofs.Moves.{Fits}
 
 -- only a periodic task waits for a further run

@@ -22,9 +22,9 @@ use Rattle.executor_core.specs.Answers.{plain, called, kind_of}
 use Rattle.executor_core.specs.State.{vacant, view_of_state, submit_phase, submit_task}
 use Rattle.executor_core.specs.Tasks.{uncancelled_in}
 use Rattle.executor_core.specs.Machine.{Machine, workers_of, state_of}
-use Rattle.executor_core.specs.Invariants.{IsWellFormedCore, queued, held}
-use Rattle.executor_core.specs.OwnSteps.{Takes}
-use Rattle.executor_core.specs.Sought.{Sought}
+use Rattle.executor_core.specs.own.Invariants.{IsWellFormedCore, queued, held}
+use Rattle.executor_core.specs.own.OwnSteps.{Takes}
+use Rattle.executor_core.specs.own.Sought.{Sought}
 use Rattle.executor_core.proofs.Keeping.{kept_stays}
 use Rattle.executor_core.proofs.Agree.{still_true}
 use Rattle.executor_core.proofs.Tables.{at_set, submission, runs_set, uncancelled_set, noted_at}

@@ -21,7 +21,7 @@ use Rattle.executor_core.specs.State.{view_of_state, move_task, state_after, rep
 use Rattle.executor_core.specs.Flows.{end_line, answer_line, lines_at}
 use Rattle.executor_core.specs.Tasks.{uncancelled_in}
 use Rattle.executor_core.specs.Machine.{Machine, state_of, Steps, room_of, workers_of}
-use Rattle.executor_core.specs.OwnSteps.{Sweeps, Takes}
+use Rattle.executor_core.specs.own.OwnSteps.{Sweeps, Takes}
 use Rattle.executor_core.proofs.Keeping.{kept_stays, kept_swept}
 use Rattle.executor_core.proofs.Calling.{view_at, called_state, call_state, call_reply, passed, passed_steps}
 use Rattle.executor_core.proofs.Events.{one_step}

@@ -22,11 +22,11 @@ use Rattle.executor_core.specs.Histories.{is_end}
 use Rattle.executor_core.specs.State.{vacant, seen_task, seen_phase, due_seen, view_of_state}
 use Rattle.executor_core.specs.Flows.{end_line}
 use Rattle.executor_core.specs.Tasks.{uncancelled_in}
-use Rattle.executor_core.specs.Tables.{waits_with, waits_again, is_waiting_phase, is_periodic, periodic_in, goes_on, is_live_phase}
+use Rattle.executor_core.specs.own.Tables.{waits_with, waits_again, is_waiting_phase, is_periodic, periodic_in, goes_on, is_live_phase}
 use Rattle.executor_core.specs.Machine.{Machine, state_of}
-use Rattle.executor_core.specs.Invariants.{IsWellFormedCore, NoneDelayed, queued, held}
-use Rattle.executor_core.specs.OwnSteps.{Ends, Drops, Sweeps}
-use Rattle.executor_core.specs.Sought.{Sought}
+use Rattle.executor_core.specs.own.Invariants.{IsWellFormedCore, NoneDelayed, queued, held}
+use Rattle.executor_core.specs.own.OwnSteps.{Ends, Drops, Sweeps}
+use Rattle.executor_core.specs.own.Sought.{Sought}
 use Rattle.executor_core.proofs.Tables.{at_set, queued_at, held_at, noted_at, goes_parts, goes_from}
 
 and_none : (b : Bool) → (b && false) ≡ false

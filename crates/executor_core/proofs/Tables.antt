@@ -12,11 +12,11 @@ use Rattle.executor_core.specs.declared.task.Phase.TheVariants as ph
 use Rattle.executor_core.specs.declared.task.Task.{Task}
 use Rattle.executor_core.specs.State.{vacant}
 use Rattle.executor_core.specs.Tasks.{uncancelled_in}
-use Rattle.executor_core.specs.Invariants.{RunsBelow, queued, held}
-use Rattle.executor_core.specs.Sought.{Sought, AreNoted}
+use Rattle.executor_core.specs.own.Invariants.{RunsBelow, queued, held}
+use Rattle.executor_core.specs.own.Sought.{Sought, AreNoted}
 use Rattle.queue_code.specs.Calls.{Planned, IsOrderlyFrom, IsOrderlyCall, count_after, is_submission, task_count, terms_of}
 use Rattle.executor_core.specs.declared.task.Phase.{Phase}
-use Rattle.executor_core.specs.Tables.{is_live_phase, is_periodic}
+use Rattle.executor_core.specs.own.Tables.{is_live_phase, is_periodic}
 
 -- a table after a write
 pub at_set : {X : Type 0} (xs : List X) (k j : ℕ) (x d : X) → k < length xs → slice_index_or (set xs k x) j d ≡ cond (k == j) x (slice_index_or xs j d)

@@ -10,7 +10,7 @@ use Rattle.executor_core.specs.View.{Fate, View}
 use Rattle.executor_core.specs.Answers.{Reply, moment_after}
 use Rattle.executor_core.specs.Histories.{HistoryEntry, entry_of, happenings, is_call, is_submit, cancels, kept_after, is_start, is_finish, is_finish_with, is_done, is_failed, work_after, policies_after, is_shutdown, view_of_history, starts, last_finish, now_of}
 use Rattle.executor_core.specs.State.{State, view_of_state, state_after}
-use Rattle.executor_core.specs.Invariants.{IsDue}
+use Rattle.executor_core.specs.own.Invariants.{IsDue}
 use Rattle.executor_core.proofs.Moves.{moved_fate, due_after, Fits, task_moves}
 
 -- what is known of a task after a reply

@@ -17,7 +17,8 @@ use Rattle.executor_core.specs.Answers.{reply, moment_after, is_accepted}
 use Rattle.executor_core.specs.Histories.{HistoryEntry, IsHistoryOf, view_of_history, happenings, made, now_of, is_start, is_finish, starts, last_finish, due_of}
 use Rattle.executor_core.specs.State.{due_ahead}
 use Rattle.executor_core.specs.Flows.{history_from}
-use Rattle.executor_core.specs.Within.{IsAnswered, IsWithin}
+use Rattle.executor_core.specs.Within.{IsAnswered}
+use Rattle.executor_core.specs.own.Within.{IsWithin}
 use Rattle.executor_core.proofs.Tables.{call_moment}
 use Rattle.executor_core.proofs.Moves.{due_landed, due_after}
 use Rattle.executor_core.proofs.Views.{due_moves}

@@ -28,8 +28,8 @@ use Rattle.executor_core.specs.Answers.{plain, started, finished, outcome_in, du
 use Rattle.executor_core.specs.Histories.{is_ended, kept_after, meets}
 use Rattle.executor_core.specs.State.{State, view_of_state, seen_phase, due_seen, due_ahead, due_past, next, reply_of, state_after, task_after, vacant, finish_task, end_task}
 use Rattle.executor_core.specs.Machine.{Machine, state_of, workers_of}
-use Rattle.executor_core.specs.Invariants.{queued, queued_phase, IsDue, IsSound}
-use Rattle.executor_core.specs.OwnSteps.{finished_task, is_met, LeavesMet}
+use Rattle.executor_core.specs.own.Invariants.{queued, queued_phase, IsDue, IsSound}
+use Rattle.executor_core.specs.own.OwnSteps.{finished_task, is_met, LeavesMet}
 use Rattle.executor_core.proofs.Moves.{due_landed, past_is_landed}
 use Rattle.executor_core.proofs.Sound.{waits_in, is_seen_waiting}
 use Rattle.executor_core.proofs.First.{first_is, first_is_none, in_range}

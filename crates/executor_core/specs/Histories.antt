@@ -223,10 +223,6 @@ abbrev pub is_kept : List Planned → List HistoryEntry → ℕ → Bool
 is_kept calls [] k = false
 is_kept calls (e ∷ past) k = kept_after (view_with calls past (λ j. is_kept calls past j)) k e.answer
 
--- what a history tells of task k
-abbrev pub fate_of : List Planned → List HistoryEntry → ℕ → Fate
-fate_of calls past k = fate_with calls past k (is_kept calls past k)
-
 -- what the answer after a history looks at
 abbrev pub view_of_history : List Planned → List HistoryEntry → View
 view_of_history calls past = view_with calls past (λ k. is_kept calls past k)

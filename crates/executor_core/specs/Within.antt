@@ -1,9 +1,9 @@
 -- Histories that are answered by the table, whatever may come in them, and their due moments.
 -- All of it is this project's rule.
-use Rattle.std.specs.Prelude.{◌≡◌, ℕ, ◌+◌, ◌≤◌, List, [], ◌∷◌}
+use Rattle.std.specs.Prelude.{◌≡◌, ℕ, ◌+◌, List, [], ◌∷◌}
 use Rattle.sched_time.specs.Times.{longest}
 use Rattle.queue_code.specs.Calls.{Planned}
-use Rattle.executor_core.specs.Histories.{HistoryEntry, answer, due_of}
+use Rattle.executor_core.specs.Histories.{HistoryEntry, answer}
 
 -- each answer of a history is the table's for what stands before it, whatever may come there
 abbrev pub IsAnswered : List Planned → ℕ → List HistoryEntry → Type 0
@@ -13,7 +13,3 @@ IsAnswered calls workers (e ∷ past) = IsAnswered calls workers past × (e.answ
 -- the latest due moment: the latest moment and the longest span
 abbrev pub latest_due : ℕ
 latest_due = longest + longest
-
--- no due moment that a history shows is later than the latest one
-abbrev pub IsWithin : List Planned → List HistoryEntry → Type 0
-IsWithin calls past = (k : ℕ) → due_of calls past k ≤ latest_due

@@ -20,7 +20,7 @@ pub(crate) struct Agenda<A: Allocator> {
 }
 
 impl<A: Allocator> Model for Agenda<A> {
-    ghost use Rattle.executor_core.specs.Agendas.{Course, course_of, IsAhead};
+    ghost use Rattle.executor_core.specs.own.Agendas.{Course, course_of, IsAhead};
 
     ghost Value = { Course };
 

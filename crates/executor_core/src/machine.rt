@@ -50,7 +50,7 @@ pub struct Core<A: Allocator> {
 
 impl<A: Allocator> Model for Core<A> {
     ghost use Rattle.executor_core.specs.Machine.{Machine};
-    ghost use Rattle.executor_core.specs.Invariants.{IsWellFormedCore};
+    ghost use Rattle.executor_core.specs.own.Invariants.{IsWellFormedCore};
 
     ghost Value = { Machine };
 

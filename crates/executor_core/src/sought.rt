@@ -4,7 +4,7 @@ ghost use Rattle.std.specs.List.{filter, range_with_len};
 ghost use Rattle.std.specs.List.Sorted.{IsNonDecreasingBy};
 ghost use Rattle.executor_core.specs.Histories.{is_end};
 ghost use Rattle.executor_core.specs.State.{vacant};
-ghost use Rattle.executor_core.specs.Tables.{goes_on, is_live_phase};
+ghost use Rattle.executor_core.specs.own.Tables.{goes_on, is_live_phase};
 
 use crate::tallies::is_periodic;
 use crate::task::{Phase, Task};
@@ -25,7 +25,7 @@ pub(crate) struct Sought<A: Allocator> {
 
 impl<A: Allocator> Model for Sought<A> {
     ghost use Rattle.std.specs.Prelude.{vec_capacity};
-    ghost use Rattle.executor_core.specs.Sought.{Sought};
+    ghost use Rattle.executor_core.specs.own.Sought.{Sought};
 
     ghost Value = { Sought };
 

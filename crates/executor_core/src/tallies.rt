@@ -1,6 +1,6 @@
 //! How many tasks are of some sorts. The numbers are kept beside the tasks, so that no call has to count.
 ghost use Rattle.std.specs.Prelude.{◌≡◌};
-ghost use Rattle.executor_core.specs.Tables.{Count, IsRecount, is_periodic, is_running_phase, one, waits_again};
+ghost use Rattle.executor_core.specs.own.Tables.{Count, IsRecount, is_periodic, is_running_phase, one, waits_again};
 
 use crate::task::{Phase, Task};
 use sched_time::Timing;

@@ -4,7 +4,7 @@ ghost use Rattle.executor_core.specs.declared.task.Phase.TheVariants as ph;
 ghost use Rattle.executor_core.specs.declared.types.Outcome.TheVariants as o;
 ghost use Rattle.executor_core.specs.State.{vacant, submit_task, end_task};
 ghost use Rattle.executor_core.specs.Tasks.{word_of, uncancelled_in};
-ghost use Rattle.executor_core.specs.Tables.{phase_in, running_in, periodic_in};
+ghost use Rattle.executor_core.specs.own.Tables.{phase_in, running_in, periodic_in};
 
 use crate::tallies::Tallies;
 use crate::task::{Phase, Task};
@@ -38,7 +38,7 @@ pub(crate) struct Tasks<A: Allocator> {
 impl<A: Allocator> Model for Tasks<A> {
     ghost use Rattle.std.specs.Prelude.{List};
     ghost use Rattle.executor_core.specs.declared.task.Task.{Task};
-    ghost use Rattle.executor_core.specs.Tables.{tasks_of, AreTables};
+    ghost use Rattle.executor_core.specs.own.Tables.{tasks_of, AreTables};
 
     ghost Value = { List Task };
 

@@ -28,7 +28,7 @@ use Rattle.executor_core.specs.Answers.{plain, called, kind_of, swept, started, 
 use Rattle.executor_core.specs.Histories.{HistoryEntry, IsHistoryOf, view_of_history, happenings, is_yes, is_cancel, is_end, is_finish_with, is_ended, cancels, kept_after, was_accepted, was_done, was_failed}
 use Rattle.executor_core.specs.State.{State, view_of_state, seen_phase, seen_task, was_submitted, is_done_phase, is_failed_phase, starts_of, reply_of, after, move_task, submit_phase, end_task, finish_task, due_past}
 use Rattle.executor_core.specs.Tasks.{word_phase, word_of}
-use Rattle.executor_core.specs.Invariants.{IsSound}
+use Rattle.executor_core.specs.own.Invariants.{IsSound}
 use Rattle.executor_core.proofs.Moves.{moved_task}
 use Rattle.executor_core.proofs.Sound.{Finds, reply_finds, is_seen_waiting, waits_in}
 use Rattle.executor_core.proofs.Agree.{after_agrees}

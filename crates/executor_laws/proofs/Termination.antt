@@ -18,7 +18,7 @@ use Rattle.executor_core.specs.View.{Fate, View, is_running, is_waiting, first_e
 use Rattle.executor_core.specs.Answers.{Reply, plain, reply, called, kind_of, swept, started, finished, is_queued, queue_size, running_count, is_terminated, effect_on}
 use Rattle.executor_core.specs.Histories.{HistoryEntry, IsHistoryOf, view_of_history, happenings, is_submit, is_shutdown, cancels, was_accepted}
 use Rattle.executor_core.specs.State.{State, view_of_state, was_submitted, reply_of, next, after, move_task}
-use Rattle.executor_core.specs.Invariants.{IsSound}
+use Rattle.executor_core.specs.own.Invariants.{IsSound}
 use Rattle.executor_laws.specs.Policies.{QueuedAndRunningAreTasks, NothingStartsOnceTerminated}
 use Rattle.executor_core.proofs.First.{is_in, in_range}
 use Rattle.executor_core.proofs.Sound.{Finds, reply_finds, waits_in}

@@ -4,4 +4,4 @@ pub use Rattle.executor_core.specs.Answers
 pub use Rattle.executor_core.specs.Histories
 pub use Rattle.executor_core.specs.Flows
 pub use Rattle.executor_core.specs.Within
-pub mod Plain
+pub mod own

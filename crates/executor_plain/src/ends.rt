@@ -3,7 +3,7 @@ ghost use Rattle.queue_code.specs.Calls.{IsOrderly};
 ghost use Rattle.executor_core.specs.Answers as answers;
 ghost use Rattle.executor_core.specs.Histories as histories;
 ghost use Rattle.executor_core.specs.Within.{IsAnswered};
-ghost use Rattle.executor_plain.specs.Plain.{IsAnsweredBySome};
+ghost use Rattle.executor_plain.specs.own.Plain.{IsAnsweredBySome};
 
 use crate::history::{Past, call_at, made, now_of, policies_of, was_shut};
 use crate::policies::{is_ended_by, set_policy, setting_sweeps};

@@ -1,7 +1,7 @@
 ghost use Rattle.std.specs.Prelude.{◌≡◌};
 ghost use Rattle.queue_code.specs.Calls.{IsOrderly};
 ghost use Rattle.executor_core.specs.Histories as histories;
-ghost use Rattle.executor_plain.specs.Plain.{IsAnsweredBySome};
+ghost use Rattle.executor_plain.specs.own.Plain.{IsAnsweredBySome};
 
 use crate::history::{Past, policies_of, was_shut};
 use crate::policies::is_sweep;

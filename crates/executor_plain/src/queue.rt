@@ -5,7 +5,7 @@ ghost use Rattle.queue_code.specs.Calls.{IsOrderly, how_many, most_calls};
 ghost use Rattle.executor_core.specs.View as views;
 ghost use Rattle.executor_core.specs.Answers as answers;
 ghost use Rattle.executor_core.specs.Histories as histories;
-ghost use Rattle.executor_plain.specs.Plain.{IsAnsweredBySome};
+ghost use Rattle.executor_plain.specs.own.Plain.{IsAnsweredBySome};
 
 use crate::history::{Past, was_shut};
 use crate::kept::is_kept;

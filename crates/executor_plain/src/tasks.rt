@@ -5,7 +5,7 @@ ghost use Rattle.executor_core.specs.View as views;
 ghost use Rattle.executor_core.specs.Answers as answers;
 ghost use Rattle.executor_core.specs.Histories as histories;
 ghost use Rattle.executor_core.specs.Within.{latest_due};
-ghost use Rattle.executor_plain.specs.Plain.{IsAnsweredBySome, IsOrderlyPart};
+ghost use Rattle.executor_plain.specs.own.Plain.{IsAnsweredBySome, IsOrderlyPart};
 
 use crate::history::{
     Past, finishes, last_finish, now_of, starts, was_accepted, was_cancelled, was_done, was_failed,

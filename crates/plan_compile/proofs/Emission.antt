@@ -10,7 +10,8 @@ use Rattle.plan_read.specs.declared.plans.Op.TheVariants as ops
 use Rattle.plan_read.specs.Plans.{BlockTree, PlanTree, tasks_after, tasks_after_calls, made_by, AreCallsAfter, AreBlocksAfter, IsOrdered}
 use Rattle.plan_read.proofs.Accepted.{made_from_one_more}
 use Rattle.plan_compile.specs.PlanCalls.{block_tasks}
-use Rattle.plan_compile.specs.PlanCode.{instr_of, instrs_at, block_instrs, instrs_from, instrs_of, IsBelow, AreInRange}
+use Rattle.plan_compile.specs.PlanCode.{instr_of, instrs_at, block_instrs, instrs_from, instrs_of}
+use Rattle.plan_compile.specs.own.PlanCode.{IsBelow, AreInRange}
 use Rattle.plan_compile.proofs.Counting.{tasks_after-le, tasks_of-le}
 use Rattle.plan_compile.proofs.Ordering.{AreFirsts, firsts_start, firsts_next, op_below, count_next}
 

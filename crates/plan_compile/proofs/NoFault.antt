@@ -6,7 +6,7 @@ use Rattle.queue_code.specs.declared.fault.CodeFault.{CodeFault}
 use Rattle.queue_code.specs.declared.instr.Instr.{Instr}
 use Rattle.queue_code.specs.declared.instr.Instr.TheVariants as instr
 use Rattle.queue_code.specs.Checks.{first_failed, or_else, code_fault}
-use Rattle.queue_code.specs.Walks.{last_shift, loop_after, walk_calls_after, walk_after, walk_lacks_task, walk_checks, first_fault}
+use Rattle.queue_code.specs.own.Walks.{last_shift, loop_after, walk_calls_after, walk_after, walk_lacks_task, walk_checks, first_fault}
 use Rattle.queue_code.proofs.Accepting.{Met, none_fails, met_out, met_in, loop_begins, loop_ends, leb_not}
 use Rattle.queue_code.proofs.Passing.{Passes}
 use Rattle.queue_code.proofs.Faults.{fault_is}
@@ -17,7 +17,8 @@ use Rattle.plan_read.specs.declared.plans.Op.TheVariants as ops
 use Rattle.plan_read.specs.Plans.{PlanTree, tasks_after, tasks_after_calls, last_offset, last_offset_from, end_of, end_of_block, made_by, IsWithinLimits, AreCallsAfter, IsBlockAfter, AreBlocksAfter, IsOrdered}
 use Rattle.plan_read.proofs.Accepted.{end_from_one_more, made_from_one_more}
 use Rattle.plan_compile.specs.PlanCalls.{block_tasks}
-use Rattle.plan_compile.specs.PlanCode.{instr_of, instrs_at, block_instrs, instrs_from, instrs_of, IsBelow}
+use Rattle.plan_compile.specs.PlanCode.{instr_of, instrs_at, block_instrs, instrs_from, instrs_of}
+use Rattle.plan_compile.specs.own.PlanCode.{IsBelow}
 use Rattle.plan_compile.proofs.Counting.{tasks_after_calls-from}
 use Rattle.plan_compile.proofs.Ordering.{AreFirsts, firsts_start, firsts_next, op_below, last_offset-one_more, count_next, offset_within}
 

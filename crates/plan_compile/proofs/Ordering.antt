@@ -14,7 +14,7 @@ use Rattle.plan_read.specs.Plans.{BlockTree, PlanTree, is_submission, names_of, 
 use Rattle.plan_read.proofs.Accepted.{end_from_one_more, made_from_one_more}
 use Rattle.plan_read.proofs.Naming.{tasks_after-one_more}
 use Rattle.plan_compile.specs.PlanCalls.{number_of, code_call, calls_at, block_tasks, block_iteration, block_iterations, calls_of_blocks, calls_of}
-use Rattle.plan_compile.specs.PlanCode.{IsBelow}
+use Rattle.plan_compile.specs.own.PlanCode.{IsBelow}
 use Rattle.plan_compile.proofs.Counting.{tasks_after_calls-from, length-names_of, length-calls_from, times-suc}
 use Rattle.plan_compile.proofs.Runs.{Runs, runs_orderly, runs_earlier, runs_later, runs_append}
 

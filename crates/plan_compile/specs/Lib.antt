@@ -3,3 +3,4 @@ pub use Rattle.queue_code.specs.Codes
 pub use Rattle.plan_read.specs.Plans
 pub mod PlanCalls
 pub mod PlanCode
+pub mod own

@@ -1,12 +1,10 @@
 -- The instructions of a plan's code, in which a repeated block stands once, as a loop.
 -- All of it is this project's rule.
-use Rattle.std.specs.Prelude.{ℕ, ◌+◌, ◌*◌, ◌≤◌, ◌<◌, nat_lt, Bool, true, false, ◌&&◌, if◌then◌else◌, List, [], ◌∷◌, ◌++◌, Some, None, is_none, slice_get}
+use Rattle.std.specs.Prelude.{ℕ, ◌+◌, ◌*◌, ◌≤◌, nat_lt, Bool, true, false, ◌&&◌, if◌then◌else◌, List, [], ◌∷◌, ◌++◌, Some, None, is_none, slice_get}
 use Rattle.sched_time.specs.declared.timing.Timing.{Timing}
 use Rattle.sched_time.specs.declared.timing.Timing.TheVariants as t
-use Rattle.sched_time.specs.Times.{longest}
 use Rattle.queue_code.specs.declared.instr.Instr.{Instr}
 use Rattle.queue_code.specs.declared.instr.Instr.TheVariants as instr
-use Rattle.queue_code.specs.Calls.{most_calls}
 use Rattle.plan_read.specs.declared.plans.Call.{Call}
 use Rattle.plan_read.specs.declared.plans.Header.{Header}
 use Rattle.plan_read.specs.declared.plans.Op.{Op}
@@ -60,21 +58,6 @@ instrs_from firsts first (b ∷ bs) =
 -- the instructions of a plan
 abbrev pub instrs_of : PlanTree → List Instr
 instrs_of blocks = instrs_from [] 0 blocks
-
--- a cancel's target has a number below `limit`, where `firsts` has the first numbers of the blocks before its own, which begins with `first`
-abbrev pub IsBelow : List ℕ → ℕ → ℕ → Op → Type 0
-IsBelow firsts first limit (ops.Schedule name delay) = Unit {0}
-IsBelow firsts first limit (ops.Rate name delay period) = Unit {0}
-IsBelow firsts first limit (ops.Fixed name delay gap) = Unit {0}
-IsBelow firsts first limit (ops.Cancel target) = number_of firsts first target < limit
-IsBelow firsts first limit (ops.Policy which value) = Unit {0}
-IsBelow firsts first limit ops.Shutdown = Unit {0}
-IsBelow firsts first limit ops.Ask = Unit {0}
-
--- the numbers of some calls' instructions are in range: their offsets, and those of the targets of cancels
-abbrev pub AreInRange : List ℕ → ℕ → ℕ → List Call → Type 0
-AreInRange firsts first at [] = Unit {0}
-AreInRange firsts first at (c ∷ cs) = (at + c.at ≤ longest) × IsBelow firsts first most_calls c.op × AreInRange firsts first at cs
 
 -- a period, or a fixed delay, is 1 nanosecond at least: a task that runs again waits between its runs
 abbrev pub IsPositive : Timing → Type 0

@@ -4,7 +4,8 @@ ghost use Rattle.std.specs.Prelude.{◌≡◌, ℕ, ◌+◌, ◌*◌, ◌≤◌,
 ghost use Rattle.queue_code.specs.Calls.{most_calls};
 ghost use Rattle.plan_read.specs.Plans.{tasks_after_calls, IsOrdered};
 ghost use Rattle.plan_compile.specs.PlanCalls.{block_tasks};
-ghost use Rattle.plan_compile.specs.PlanCode.{instrs_at, block_instrs, instrs_of, AreInRange};
+ghost use Rattle.plan_compile.specs.PlanCode.{instrs_at, block_instrs, instrs_of};
+ghost use Rattle.plan_compile.specs.own.PlanCode.{AreInRange};
 
 use crate::instrs::instr_of;
 use crate::numbers::tasks_after;

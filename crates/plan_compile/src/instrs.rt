@@ -4,7 +4,8 @@ ghost use Rattle.std.specs.Prelude.{◌≡◌, ◌≤◌};
 ghost use Rattle.sched_time.specs.Times.{longest};
 ghost use Rattle.queue_code.specs.Calls.{most_calls};
 ghost use Rattle.plan_compile.specs.PlanCalls.{number_of};
-ghost use Rattle.plan_compile.specs.PlanCode.{cancel_instr, instr_of, IsBelow};
+ghost use Rattle.plan_compile.specs.PlanCode.{cancel_instr, instr_of};
+ghost use Rattle.plan_compile.specs.own.PlanCode.{IsBelow};
 
 use crate::numbers::number_of;
 use plan_read::{Op, Target};

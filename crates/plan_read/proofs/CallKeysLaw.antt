@@ -18,7 +18,7 @@ use Rattle.plan_read.specs.declared.call_keys.CallKey.{CallKey}
 use Rattle.plan_read.specs.declared.call_keys.CallKey.TheVariants as keys
 use Rattle.plan_read.specs.declared.call_keys.Row.{Row}
 use Rattle.plan_read.proofs.Words.{differs}
-use Rattle.plan_read.specs.CallKeys.{key_word, call_key_of_word, slot, with_slot}
+use Rattle.plan_read.specs.own.CallKeys.{key_word, call_key_of_word, slot, with_slot}
 
 abbrev pub Entry : Type 0
 Entry = String Global × Value

@@ -7,7 +7,7 @@ use Rattle.plan_read.specs.declared.faults.PlanFault.{PlanFault}
 use Rattle.plan_read.specs.declared.faults.ReadError.{ReadError}
 use Rattle.plan_read.specs.declared.faults.ReadError.TheVariants as errors
 use Rattle.plan_read.specs.Checks.{Check, place_fault, ◌or_else◌}
-use Rattle.plan_read.specs.Reads.{FailsWith}
+use Rattle.plan_read.specs.own.Reads.{FailsWith}
 
 -- the first failing check of two lists is that of the first list, and where it has none that of the second
 pub place_fault-append : (p : Place) (xs ys : List Check) → place_fault p (xs ++ ys) ≡ (place_fault p xs or_else place_fault p ys)

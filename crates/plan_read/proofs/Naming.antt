@@ -16,8 +16,9 @@ use Rattle.plan_read.specs.declared.verbs.Verb.{Verb}
 use Rattle.plan_read.specs.declared.verbs.Verb.TheVariants as verbs
 use Rattle.plan_read.specs.Checks.{place_fault, call_checks, verb_checks, key_checks, new_name_checks, name_checks, time_checks}
 use Rattle.plan_read.specs.Plans.{BlockTree, PlanTree, name_of, is_submission, tasks_after, tasks_after_calls, named, site, submissions_of, submissions_from, submissions_before, find}
-use Rattle.plan_read.specs.Reads.{found_in, Knows, Reads}
-use Rattle.plan_read.specs.Values.{verb_at, submits, op_of, written_call, name_at}
+use Rattle.plan_read.specs.own.Reads.{found_in, Knows, Reads}
+use Rattle.plan_read.specs.Values.{verb_at, op_of, written_call, name_at}
+use Rattle.plan_read.specs.own.Values.{submits}
 use Rattle.plan_read.proofs.Failing.{all_pass, parts}
 
 -- ---- finding a name

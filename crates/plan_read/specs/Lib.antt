@@ -8,4 +8,4 @@ pub mod Writes
 pub mod Texts
 pub mod Reads
 pub mod Laws
-pub mod CallKeys
+pub mod own

@@ -1,7 +1,7 @@
 -- What stands at the keys of a plan's tables, and the plan that is read of them. Each definition has a value at every table, and so a
 -- default at some that are refused: no such default is seen where a plan is written, for the reason that stands at each.
 -- All of it is this project's rule.
-use Rattle.std.specs.Prelude.{ℕ, ℤ, pos, Bool, true, false, List, [], ◌∷◌, ◌++◌, Option, Some, None, option_and_then, unwrap_or, codes, int_lt}
+use Rattle.std.specs.Prelude.{ℕ, ℤ, pos, Bool, false, List, [], ◌∷◌, ◌++◌, Option, Some, None, option_and_then, unwrap_or, codes, int_lt}
 use Rattle.toml.specs.Data.{Data, table, Items, no_items, item, Members, no_members, get_member, as_integer, as_bool, as_str, as_array}
 use Rattle.sched_time.specs.Times.{span_of, period_of, delay_units}
 use Rattle.sched_time.specs.declared.policies.Which.{Which}
@@ -93,16 +93,6 @@ header_of ms = record {
 -- such a table (`Missing`, `WrongType`)
 unfoldable pub verb_at : Members → Verb
 verb_at ms = unwrap_or (verb_of_word (text_or [] (codes "op") ms)) verbs.Ask
-
--- an operation submits a task, also an illegal one
-abbrev pub submits : Verb → Bool
-submits verbs.Schedule = true
-submits verbs.Rate = true
-submits verbs.Fixed = true
-submits verbs.Cancel = false
-submits verbs.Policy = false
-submits verbs.Shutdown = false
-submits verbs.Ask = false
 
 -- its name, and an empty one where there is none: never seen where a plan is written, since an operation that has a name gives it
 -- (`Missing`, `WrongType`), and the others use nothing that is found by one

@@ -1,7 +1,7 @@
 //! The keys of a call, and what stands at them.
 
 ghost use Rattle.std.specs.Prelude.{◌≡◌};
-ghost use Rattle.plan_read.specs.CallKeys.{call_key_of_word, slot, with_slot, Holds};
+ghost use Rattle.plan_read.specs.own.CallKeys.{call_key_of_word, slot, with_slot, Holds};
 
 use toml::{Table, Value};
 

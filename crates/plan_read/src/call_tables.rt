@@ -3,7 +3,7 @@
 ghost use Rattle.std.specs.Prelude.{◌≡◌, [], option_map, is_some};
 ghost use Rattle.toml.specs.Data.{get_member};
 ghost use Rattle.toml.specs.View.{view, table_view};
-ghost use Rattle.plan_read.specs.CallKeys.{key_word, Holds};
+ghost use Rattle.plan_read.specs.own.CallKeys.{key_word, Holds};
 ghost use Rattle.plan_read.specs.Keys.{fits, Text, Integer, Truth, Policy};
 ghost use Rattle.plan_read.specs.Values.{integer_or, text_or, truth_at};
 

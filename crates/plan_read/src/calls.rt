@@ -4,8 +4,9 @@ ghost use Rattle.std.specs.Prelude.{◌≡◌, ◌≤◌, nat_le, None, [], ◌�
 ghost use Rattle.sched_time.specs.Times.{longest, span_of, period_of};
 ghost use Rattle.toml.specs.View.{table_view};
 ghost use Rattle.plan_read.specs.Checks.{◌unless◌, place_fault, verb_checks, key_checks, new_name_checks, known_name_checks, name_checks, time_checks, call_checks, are_spans_short};
-ghost use Rattle.plan_read.specs.Reads.{Reads};
-ghost use Rattle.plan_read.specs.Values.{verb_at, submits, op_of, timed_call, written_call, which_at};
+ghost use Rattle.plan_read.specs.own.Reads.{Reads};
+ghost use Rattle.plan_read.specs.Values.{verb_at, op_of, timed_call, written_call, which_at};
+ghost use Rattle.plan_read.specs.own.Values.{submits};
 ghost use Rattle.plan_read.specs.declared.faults.PlanFaultKind.TheVariants as kinds;
 
 use crate::call_keys::CallKey;

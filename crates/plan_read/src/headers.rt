@@ -7,7 +7,7 @@ ghost use Rattle.sched_time.specs.Times.{longest, span_of};
 ghost use Rattle.plan_read.specs.Checks.{◌unless◌, place_fault, top, top_checks, header_checks};
 ghost use Rattle.plan_read.specs.Keys.{are_tables, fits, Tables};
 ghost use Rattle.plan_read.specs.Plans.{moment_in_last, most_calls};
-ghost use Rattle.plan_read.specs.Reads.{Reads};
+ghost use Rattle.plan_read.specs.own.Reads.{Reads};
 ghost use Rattle.plan_read.specs.Values.{tables_in, tables_at, header_of};
 ghost use Rattle.plan_read.specs.declared.faults.PlanFaultKind.TheVariants as kinds;
 

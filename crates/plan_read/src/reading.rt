@@ -5,7 +5,8 @@ ghost use Rattle.toml.specs.View.{table_view, items_view};
 ghost use Rattle.plan_read.specs.Checks.{place_fault, top, call_fault, calls_fault, block_fault, blocks_fault, tree_fault};
 ghost use Rattle.plan_read.specs.Keys.{are_tables};
 ghost use Rattle.plan_read.specs.Plans.{PlanTree, most_blocks, most_block_calls, most_calls, tasks_after, tasks_after_calls, submissions_from, submissions_before, last_offset, end_of_block, end_of, made_by};
-ghost use Rattle.plan_read.specs.Reads.{Reads, Knows, out_of_memory};
+ghost use Rattle.plan_read.specs.Reads.{out_of_memory};
+ghost use Rattle.plan_read.specs.own.Reads.{Reads, Knows};
 ghost use Rattle.plan_read.specs.Texts.{toml_checks, tree_at, fault_of_text, plan_of_text, TextWrites};
 ghost use Rattle.plan_read.specs.Values.{tables_in, next_call, calls_through, block_of, blocks_through, plan_of};
 

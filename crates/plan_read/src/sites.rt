@@ -2,7 +2,7 @@
 
 ghost use Rattle.std.specs.Prelude.{◌≡◌, ℕ, List, IfErr, IfOk, OnOk, Some, ◌&&◌, if◌then◌else◌, bytes_eq};
 ghost use Rattle.plan_read.specs.declared.faults.ReadError.TheVariants as errors;
-ghost use Rattle.plan_read.specs.Reads.{found_in};
+ghost use Rattle.plan_read.specs.own.Reads.{found_in};
 
 use crate::faults::ReadError;
 use crate::plans::Target;

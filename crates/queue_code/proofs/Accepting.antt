@@ -7,7 +7,7 @@ use Rattle.queue_code.specs.declared.fault.CodeFault.{CodeFault}
 use Rattle.queue_code.specs.declared.instr.Instr.{Instr}
 use Rattle.queue_code.specs.declared.instr.Instr.TheVariants.{Loop, EndLoop}
 use Rattle.queue_code.specs.Checks.{first_failed, or_else}
-use Rattle.queue_code.specs.Walks.{walk_checks, after_loop, first_fault}
+use Rattle.queue_code.specs.own.Walks.{walk_checks, after_loop, first_fault}
 use Rattle.queue_code.proofs.Passing.{Passes}
 
 -- what a check has met, for the crates above

@@ -8,8 +8,8 @@ use Rattle.queue_code.specs.declared.progress.Progress.{Progress}
 use Rattle.queue_code.specs.Calls.{Planned, task_count}
 use Rattle.queue_code.specs.Codes.{tasks_by, tasks_in, iterations, body_of, calls_from, calls_of}
 use Rattle.queue_code.specs.Checks.{offset_of, code_fault, AreTimed}
-use Rattle.queue_code.specs.Walks.{walk_opening, first_fault, walked}
-use Rattle.queue_code.specs.Cursors.{IsCode}
+use Rattle.queue_code.specs.own.Walks.{walk_opening, first_fault, walked}
+use Rattle.queue_code.specs.own.Cursors.{IsCode}
 use Rattle.queue_code.proofs.Passing.{passes_all, passes_first, length_call}
 use Rattle.queue_code.proofs.Totals.{AreCalls, tasks_call, tasks_turns, length_turns}
 use Rattle.queue_code.proofs.Faults.{fault_is}

@@ -7,7 +7,8 @@ use Rattle.std.proofs.lemmas.Option.{slice_get_within, get_or_from_slice_get}
 use Rattle.queue_code.specs.declared.instr.Instr.{Instr}
 use Rattle.queue_code.specs.declared.instr.Instr.TheVariants.{Loop, EndLoop, Halt}
 use Rattle.queue_code.specs.Codes.{body_of, calls_from}
-use Rattle.queue_code.specs.Cursors.{Enclosing, loop_behind, loop_from, loop_around, IsCodeForm}
+use Rattle.queue_code.specs.Cursors.{Enclosing, loop_behind, loop_from, loop_around}
+use Rattle.queue_code.specs.own.Cursors.{IsCodeForm}
 
 -- the instructions from an index on begin with the one that stands there
 pub drop_at : (code : List Instr) (n : ℕ) (i : Instr) → slice_get code n ≡ Some i → drop n code ≡ i ∷ drop (n + 1) code

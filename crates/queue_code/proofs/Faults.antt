@@ -12,7 +12,7 @@ use Rattle.queue_code.specs.declared.progress.Progress.{Progress}
 use Rattle.queue_code.specs.Calls.{Planned, task_count}
 use Rattle.queue_code.specs.Codes.{call_by, in_front, tasks_by, tasks_in, pass, iterations, body_of, calls_from, calls_of}
 use Rattle.queue_code.specs.Checks.{Begun, has_end, open_loop, calls_inside, first_call_moment, last_from, last_call_moment, offset_of, makes_call, is_early_halt, is_nested, is_unclosed, is_empty_loop, is_bad_task, is_too_large, is_out_of_order, is_too_many, checks_with, checks, first_failed, has_halt, fault_between, fault_at, or_else, fault_among, code_fault}
-use Rattle.queue_code.specs.Walks as walks
+use Rattle.queue_code.specs.own.Walks as walks
 use Rattle.queue_code.proofs.Passing.{passes_all, length_call, in_front_append, last_halt}
 use Rattle.queue_code.proofs.Totals.{AreCalls, tasks_call, tasks_pass, tasks_turns, length_pass, length_turns, tasks_append, tasks_more, calls_more, pass_append, last_append, last_call, first_call, last_turns, if_zero, if_more}
 

@@ -8,7 +8,8 @@ use Rattle.queue_code.specs.declared.instr.Instr.TheVariants.{Submit, Illegal, L
 use Rattle.queue_code.specs.declared.cursor.Cursor.{Cursor}
 use Rattle.queue_code.specs.Calls.{Planned, IsOrderlyFrom, IsOrderlyCall, count_after}
 use Rattle.queue_code.specs.Codes.{call_by, in_front, tasks_by, calls_from}
-use Rattle.queue_code.specs.Cursors.{Enclosing, loop_behind, loop_around, IsCodeForm, left_within, calls_left, FitsLoop, IsPlain, IsCursorAt, IsCode}
+use Rattle.queue_code.specs.Cursors.{Enclosing, loop_behind, loop_around, left_within, calls_left, FitsLoop, IsCursorAt}
+use Rattle.queue_code.specs.own.Cursors.{IsCodeForm, IsPlain, IsCode}
 use Rattle.queue_code.proofs.Enclosing.{drop_at, loop_next}
 use Rattle.queue_code.proofs.Moves.{left_is, fits_is, fits_so, form_is, head_at}
 

@@ -8,7 +8,8 @@ use Rattle.queue_code.specs.declared.instr.Instr.TheVariants.{Loop, EndLoop, Hal
 use Rattle.queue_code.specs.declared.cursor.Cursor.{Cursor}
 use Rattle.queue_code.specs.Calls.{Planned, IsOrderlyFrom}
 use Rattle.queue_code.specs.Codes.{tasks_in, pass, iterations, body_of, calls_from}
-use Rattle.queue_code.specs.Cursors.{Enclosing, loop_around, BeginsWithCall, IsCodeForm, left_within, calls_left, FitsLoop, EndsNoLoop, IsPlain, IsCursorAt, IsCode}
+use Rattle.queue_code.specs.Cursors.{Enclosing, loop_around, BeginsWithCall, left_within, calls_left, FitsLoop, IsCursorAt}
+use Rattle.queue_code.specs.own.Cursors.{IsCodeForm, EndsNoLoop, IsPlain, IsCode}
 use Rattle.queue_code.proofs.Enclosing.{drop_at, loop_next, form_at, encloses}
 
 -- a cursor moved, and the same calls are left

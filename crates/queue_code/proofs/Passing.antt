@@ -9,7 +9,7 @@ use Rattle.queue_code.specs.declared.progress.Progress.{Progress}
 use Rattle.queue_code.specs.Calls.{Planned, IsOrderlyCall, count_after}
 use Rattle.queue_code.specs.Codes.{call_by, in_front, tasks_by}
 use Rattle.queue_code.specs.Checks.{offset_of, makes_call, is_early_halt, first_failed, or_else, IsTimedInstr}
-use Rattle.queue_code.specs.Walks.{last_shift, walk_after, walk_nested, walk_unclosed, walk_empty_loop, walk_lacks_task, walk_bad_task, walk_too_large, walk_out_of_order, walk_too_many, walk_checks, first_fault}
+use Rattle.queue_code.specs.own.Walks.{last_shift, walk_after, walk_nested, walk_unclosed, walk_empty_loop, walk_lacks_task, walk_bad_task, walk_too_large, walk_out_of_order, walk_too_many, walk_checks, first_fault}
 
 -- no check fails
 pub record Passes (p : Progress) (i : Instr) (rest : List Instr) : Type 0 where

@@ -11,7 +11,7 @@ use Rattle.queue_code.specs.declared.progress.Progress.{Progress}
 use Rattle.queue_code.specs.Calls.{Planned, task_count, IsOrderlyFrom}
 use Rattle.queue_code.specs.Codes.{call_by, in_front, tasks_by, tasks_in, pass, iterations, body_of, calls_from}
 use Rattle.queue_code.specs.Checks.{first_call_moment, last_from, offset_of, makes_call, first_failed, or_else}
-use Rattle.queue_code.specs.Walks.{last_shift, walk_calls_after, walk_bad_task, walk_after, walk_checks, first_fault}
+use Rattle.queue_code.specs.own.Walks.{last_shift, walk_calls_after, walk_bad_task, walk_after, walk_checks, first_fault}
 use Rattle.queue_code.specs.Cursors.{BeginsWithCall}
 use Rattle.queue_code.specs.CodeLaws.{IsShaped, AcceptedExactly}
 use Rattle.queue_code.proofs.Passing.{Passes, passes_all, passes_first, in_front_append, length_call, last_halt}

@@ -10,8 +10,8 @@ use Rattle.queue_code.specs.declared.progress.OpenLoop.{OpenLoop}
 use Rattle.queue_code.specs.declared.progress.Progress.{Progress}
 use Rattle.queue_code.specs.Codes.{tasks_by}
 use Rattle.queue_code.specs.Checks.{offset_of, makes_call, first_failed, IsTimedInstr, AreTimed}
-use Rattle.queue_code.specs.Walks.{walk_after, walk_checks, first_fault, walked}
-use Rattle.queue_code.specs.Sizes.{IsBounded, IsLoopBounded}
+use Rattle.queue_code.specs.own.Walks.{walk_after, walk_checks, first_fault, walked}
+use Rattle.queue_code.specs.own.Sizes.{IsBounded, IsLoopBounded}
 use Rattle.queue_code.proofs.Passing.{Passes, passes_all, moment_low}
 use Rattle.queue_code.proofs.Making.{one_task}
 

@@ -10,8 +10,9 @@ use Rattle.queue_code.specs.declared.progress.Progress.{Progress}
 use Rattle.queue_code.specs.Calls.{Planned, IsOrderlyFrom}
 use Rattle.queue_code.specs.Codes.{call_by, in_front, tasks_by, tasks_in, pass, iterations, body_of, calls_from}
 use Rattle.queue_code.specs.Checks.{offset_of, makes_call, code_fault, IsTimedInstr, AreTimed}
-use Rattle.queue_code.specs.Walks.{last_shift, walk_overlaps, first_fault}
-use Rattle.queue_code.specs.Cursors.{BeginsWithCall, IsCodeForm, IsCode}
+use Rattle.queue_code.specs.own.Walks.{last_shift, walk_overlaps, first_fault}
+use Rattle.queue_code.specs.Cursors.{BeginsWithCall}
+use Rattle.queue_code.specs.own.Cursors.{IsCodeForm, IsCode}
 use Rattle.queue_code.proofs.Passing.{Passes, passes_all, passes_first, Called, called, moment_low, not_before, length_call, in_front_append, last_halt}
 use Rattle.queue_code.proofs.Totals.{if_zero, if_more}
 use Rattle.queue_code.proofs.Faults.{fault_is}

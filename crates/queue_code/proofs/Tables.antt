@@ -5,7 +5,8 @@ use Rattle.std.proofs.lemmas.Option.{slice_get_within, get_or_from_slice_get, sl
 use Rattle.std.proofs.lemmas.Bool.{cases_lt}
 use Rattle.queue_code.specs.declared.instr.Instr.{Instr}
 use Rattle.queue_code.specs.declared.instr.Instr.TheVariants.{Loop, EndLoop}
-use Rattle.queue_code.specs.Cursors.{Enclosing, loop_behind, loop_around, IsLoopTable}
+use Rattle.queue_code.specs.Cursors.{Enclosing, loop_behind, loop_around}
+use Rattle.queue_code.specs.own.Cursors.{IsLoopTable}
 use Rattle.queue_code.proofs.Enclosing.{loop_next, encloses}
 
 -- what the table reads is the place of the loop, and the loop begins there

@@ -1,10 +1,10 @@
 -- Where a cursor stands in a code, and the calls that are left to it. All of it is this project's rule.
-use Rattle.std.specs.Prelude.{◌≡◌, ℕ, zero, suc, ◌+◌, ◌*◌, ◌-◌, ◌<◌, ◌≤◌, Bool, true, false, List, [], ◌∷◌, ◌++◌, Option, Some, None, length, drop, slice_get}
+use Rattle.std.specs.Prelude.{◌≡◌, ℕ, zero, suc, ◌+◌, ◌*◌, ◌-◌, ◌<◌, ◌≤◌, true, false, List, [], ◌∷◌, ◌++◌, Option, Some, None, length, drop, slice_get}
 use Rattle.queue_code.specs.declared.instr.Instr.{Instr}
 use Rattle.queue_code.specs.declared.instr.Instr.TheVariants.{Loop, EndLoop, Halt}
 use Rattle.queue_code.specs.declared.cursor.Cursor.{Cursor}
-use Rattle.queue_code.specs.Calls.{Planned, most_calls, IsOrderlyFrom, IsOrderly}
-use Rattle.queue_code.specs.Codes.{tasks_in, pass, iterations, body_of, calls_from, calls_of}
+use Rattle.queue_code.specs.Calls.{Planned, most_calls, IsOrderlyFrom}
+use Rattle.queue_code.specs.Codes.{tasks_in, pass, iterations, body_of, calls_from}
 
 -- the loop around an instruction: the index at which it begins, how often it is made, its step and its instructions
 pub record Enclosing : Type 0 where
@@ -37,29 +37,6 @@ BeginsWithCall (EndLoop ∷ is) = ⊥
 BeginsWithCall (Halt ∷ is) = ⊥
 BeginsWithCall (i ∷ is) = Unit {0}
 
--- in a loop or in none: loops are closed and not nested, are made once at least and begin with a call; a halt is
--- the last instruction
-abbrev pub IsCodeForm : Bool → List Instr → Type 0
-IsCodeForm false [] = Unit {0}
-IsCodeForm true [] = ⊥
-IsCodeForm false (Loop times every ∷ is) = (1 ≤ times) × BeginsWithCall is × IsCodeForm true is
-IsCodeForm true (Loop times every ∷ is) = ⊥
-IsCodeForm true (EndLoop ∷ is) = IsCodeForm false is
-IsCodeForm false (EndLoop ∷ is) = ⊥
-IsCodeForm false (Halt ∷ is) = is ≡ []
-IsCodeForm true (Halt ∷ is) = ⊥
-IsCodeForm inside (i ∷ is) = IsCodeForm inside is
-
--- a list of instructions is a code: it is well formed, and its calls are in order
-pub record IsCode (code : List Instr) : Type 0 where
-  pub form : IsCodeForm false code
-  pub order : IsOrderly (calls_of code)
-
--- the table has, at each index within a loop, the index at which the loop begins
-abbrev pub IsLoopTable : List Instr → List ℕ → Type 0
-IsLoopTable code table =
-    (index : ℕ) (around : Enclosing) → index < length code → loop_around code index ≡ Some around → slice_get table index ≡ Some around.place
-
 -- the calls that are left at some instructions. In a loop: those of the rest of the iteration, of the iterations
 -- after it, and those behind the loop
 abbrev pub left_within : Option Enclosing → List Instr → Cursor → List Planned
@@ -80,17 +57,6 @@ FitsLoop None is c = (c.base ≡ 0) × (c.start ≡ 0)
 FitsLoop (Some around) is c =
     (c.base ≡ c.iteration * around.every) × (c.iteration < around.times) ×
     (c.tasks + tasks_in (body_of is) ≡ c.start + tasks_in around.body)
-
--- no loop ends at this instruction
-abbrev pub EndsNoLoop : Option Instr → Type 0
-EndsNoLoop (Some EndLoop) = ⊥
-EndsNoLoop _ = Unit {0}
-
--- no loop begins or ends at this instruction
-abbrev pub IsPlain : Option Instr → Type 0
-IsPlain (Some (Loop times every)) = ⊥
-IsPlain (Some EndLoop) = ⊥
-IsPlain _ = Unit {0}
 
 -- a cursor stands in a code: its registers fit, and the calls that are left are in order and few enough
 pub record IsCursorAt (code : List Instr) (c : Cursor) : Type 0 where

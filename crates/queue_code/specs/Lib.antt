@@ -3,8 +3,7 @@ pub use Rattle.sched_time.specs.Dues
 pub mod Calls
 pub mod Codes
 pub mod Checks
-pub mod Walks
-pub mod Sizes
 pub mod Cursors
 pub mod Listings
 pub mod CodeLaws
+pub mod own

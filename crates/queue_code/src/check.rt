@@ -1,8 +1,8 @@
 //! The checks of a list of instructions.
 ghost use Rattle.std.specs.Prelude.{◌≡◌, ℕ, ◌^◌, ◌<◌, IfOk, IfErr, None, Some};
 ghost use Rattle.queue_code.specs.Checks.{is_early_halt, first_failed, code_fault, IsTimedInstr, AreTimed};
-ghost use Rattle.queue_code.specs.Walks.{walk_opening, walk_nested, walk_unclosed, walk_empty_loop, walk_bad_task, walk_ends_late, walk_too_large, walk_out_of_order, walk_too_many, walk_checks, walked};
-ghost use Rattle.queue_code.specs.Sizes.{IsBounded};
+ghost use Rattle.queue_code.specs.own.Walks.{walk_opening, walk_nested, walk_unclosed, walk_empty_loop, walk_bad_task, walk_ends_late, walk_too_large, walk_out_of_order, walk_too_many, walk_checks, walked};
+ghost use Rattle.queue_code.specs.own.Sizes.{IsBounded};
 
 use crate::fault::CodeFault;
 use crate::instr::Instr;

@@ -2,7 +2,8 @@ ghost use Rattle.std.specs.Prelude.{◌≡◌, ℕ, ◌^◌, ◌<◌, ◌⊎◌,
 ghost use Rattle.queue_code.specs.Calls.{IsOrderly, task_count};
 ghost use Rattle.queue_code.specs.Codes.{calls_of};
 ghost use Rattle.queue_code.specs.Checks.{code_fault};
-ghost use Rattle.queue_code.specs.Cursors.{IsCode, Enclosing, loop_around, IsLoopTable};
+ghost use Rattle.queue_code.specs.Cursors.{Enclosing, loop_around};
+ghost use Rattle.queue_code.specs.own.Cursors.{IsCode, IsLoopTable};
 
 use crate::check::walk;
 use crate::fault::CodeFault;
@@ -27,7 +28,7 @@ impl<A: Allocator> Model for Code<A> {
     ghost use Rattle.queue_code.specs.declared.instr.Instr.{Instr};
     ghost use Rattle.queue_code.specs.Calls.{task_count};
     ghost use Rattle.queue_code.specs.Codes.{calls_of};
-    ghost use Rattle.queue_code.specs.Cursors.{IsCode, IsLoopTable};
+    ghost use Rattle.queue_code.specs.own.Cursors.{IsCode, IsLoopTable};
 
     ghost Value = { List Instr };
 

@@ -2,7 +2,8 @@ ghost use Rattle.std.specs.Prelude.{◌≡◌, ◌≢◌, ℕ, ◌+◌, ◌^◌,
 ghost use Rattle.sched_time.specs.Times.{longest};
 ghost use Rattle.queue_code.specs.Calls.{IsOrderlyCall, most_calls};
 ghost use Rattle.queue_code.specs.Codes.{calls_of, call_by};
-ghost use Rattle.queue_code.specs.Cursors.{IsCursorOf, IsCursorAt, IsOver, calls_left, steps_of, EndsNoLoop, IsPlain};
+ghost use Rattle.queue_code.specs.Cursors.{IsCursorOf, IsCursorAt, IsOver, calls_left, steps_of};
+ghost use Rattle.queue_code.specs.own.Cursors.{EndsNoLoop, IsPlain};
 
 use crate::call::CodeCall;
 use crate::code::Code;

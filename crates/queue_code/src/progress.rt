@@ -33,8 +33,8 @@ pub(crate) struct Progress {
 
 impl Progress {
     ghost use Rattle.std.specs.Prelude.{◌≡◌, ℕ, ◌^◌, ◌<◌, IfSome};
-    ghost use Rattle.queue_code.specs.Walks.{walk_opening, last_shift, loop_after, walk_calls_after, after_loop, walk_after};
-    ghost use Rattle.queue_code.specs.Sizes.{IsBounded};
+    ghost use Rattle.queue_code.specs.own.Walks.{walk_opening, last_shift, loop_after, walk_calls_after, after_loop, walk_after};
+    ghost use Rattle.queue_code.specs.own.Sizes.{IsBounded};
 
     /// Before the first instruction.
     pub(crate) fn new() -> Progress

@@ -31,7 +31,7 @@ use Rattle.executor_core.proofs.First.{first_is_in, range_below}
 use Rattle.executor_core.proofs.Flowing.{how_many-le, made_past}
 use Rattle.executor_core.proofs.Sweeping.{few_tasks}
 use Rattle.executor_core.proofs.Within.{now_within, dues_within, next_within, none_within}
-use Rattle.trace_text.specs.Reading.{Below}
+use Rattle.trace_text.specs.own.Reading.{Below}
 use Rattle.trace_text.specs.Spelling.{FitsEvent, FitsEnding, FitsOutcome, FitsAnswer, FitsLine}
 use Rattle.sched_engine.specs.Inputs.{AreEvents}
 use Rattle.sched_engine.proofs.Inputs.{length-happenings, flow_are}

@@ -3,8 +3,8 @@ use Rattle.std.proofs.Common.{◌≡◌, ℕ, ◌<◌, ◌≤◌, List, ◌⊎�
 use Rattle.std.proofs.lemmas.Bool.{cases_lt}
 use Rattle.executor_core.specs.Machine.{Machine, room_of}
 use Rattle.sched_engine.specs.Inputs.{BeginsWithEvent}
-use Rattle.sched_engine.specs.Pieces.{Output}
-use Rattle.sched_engine.specs.Turns.{IsAnswered, WantsRoom}
+use Rattle.sched_engine.specs.own.Pieces.{Output}
+use Rattle.sched_engine.specs.own.Turns.{IsAnswered, WantsRoom}
 
 -- the capacity stays, or an event wanted more of it
 pub still_kept : (old mid : Machine) (held : List ℕ) (before after : Output) (taken count first capacity capacity' : ℕ) → IsAnswered old mid held taken before after count → BeginsWithEvent (drop taken held) → mid.taken < mid.limit

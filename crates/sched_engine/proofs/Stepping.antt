@@ -12,8 +12,8 @@ use Rattle.executor_core.specs.Machine.{Machine, Counts, Steps, state_of, worker
 use Rattle.executor_core.proofs.Events.{counted_once, uncounted}
 use Rattle.executor_core.proofs.Flowing.{core_continues, lines_from-append, no_steps, steps_then}
 use Rattle.trace_text.specs.Spelling.{lines_text}
-use Rattle.sched_engine.specs.Pieces.{Gives, Output}
-use Rattle.sched_engine.specs.Turns.{CutsSteps, GivesSteps, TakesEvent, answers_to}
+use Rattle.sched_engine.specs.own.Pieces.{Gives, Output}
+use Rattle.sched_engine.specs.own.Turns.{CutsSteps, GivesSteps, TakesEvent, answers_to}
 use Rattle.sched_engine.proofs.Giving.{gives_both, gives_front, gives_none, gives_put, lines_text-append}
 
 -- ---- steps

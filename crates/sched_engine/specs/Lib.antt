@@ -14,6 +14,5 @@ pub use Rattle.trace_text.specs.Reading
 pub mod CodeTexts
 pub mod Ends
 pub mod Inputs
-pub mod Pieces
 pub mod Running
-pub mod Turns
+pub mod own

@@ -3,7 +3,7 @@ ghost use Rattle.std.specs.Prelude.{◌≡◌, ◌≤◌, [], IfErr, IfOk, IsTru
 ghost use Rattle.executor_core.specs.Machine.{Machine};
 ghost use Rattle.sched_engine.specs.Inputs.{IsRefused};
 ghost use Rattle.sched_engine.specs.Running.{CountsWriter};
-ghost use Rattle.sched_engine.specs.Turns.{IsAnswered, IsCut, IsPieceEnd, IsStanding, WantsRoom};
+ghost use Rattle.sched_engine.specs.own.Turns.{IsAnswered, IsCut, IsPieceEnd, IsStanding, WantsRoom};
 
 use crate::draft::Draft;
 use crate::ends::Sink;

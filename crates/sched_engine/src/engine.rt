@@ -1,8 +1,9 @@
 //! The engine: it reads a piece, answers it and writes the answers, turn by turn.
 ghost use Rattle.std.specs.Prelude.{◌≡◌, ℕ, ◌+◌, ◌^◌, ◌<◌, ◌≤◌, List, [], Option, IfOk, IfErr, MatchResult, OnOk, length};
 ghost use Rattle.sched_engine.specs.Running.{Refuses, Ran, CountsReader, CountsWriter};
-ghost use Rattle.sched_engine.specs.CodeTexts.{IsCodeOfText, RefusesText};
-ghost use Rattle.sched_engine.specs.Turns.{Done, IsBetweenTurns, IsCut, IsPieceEnd, IsStanding, Opens, Progress, Setting, Turns};
+ghost use Rattle.sched_engine.specs.CodeTexts.{RefusesText};
+ghost use Rattle.sched_engine.specs.own.CodeTexts.{IsCodeOfText};
+ghost use Rattle.sched_engine.specs.own.Turns.{Done, IsBetweenTurns, IsCut, IsPieceEnd, IsStanding, Opens, Progress, Setting, Turns};
 ghost use Rattle.sched_engine.specs.declared.engine.Turn.TheVariants as t;
 
 use crate::answering::{PieceEnd, answer_events};

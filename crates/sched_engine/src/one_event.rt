@@ -6,7 +6,7 @@ ghost use Rattle.executor_core.specs.Flows.{part_of};
 ghost use Rattle.executor_core.specs.Histories.{MayFrom, is_call};
 ghost use Rattle.executor_core.specs.Machine.{IsCounted, Steps, room_of};
 ghost use Rattle.sched_engine.specs.Ends.{CountsTry};
-ghost use Rattle.sched_engine.specs.Turns.{CutsSteps, GivesSteps, TakesEvent, answers_to};
+ghost use Rattle.sched_engine.specs.own.Turns.{CutsSteps, GivesSteps, TakesEvent, answers_to};
 
 use crate::draft::Draft;
 use crate::ends::Sink;

@@ -6,8 +6,10 @@ use mathlib.Core.Option.{some, some-injective, some-ne-none}
 use lib.ListN.{get_elem?}
 use Rattle.atomic_table.specs.Table.{Final, Seen}
 use Rattle.task_word.specs.Words.{IsWord}
-use Rattle.task_word.specs.Views.{entry, core_of}
-use Rattle.task_word.specs.Rule.{word_of_value, Matches, EntriesFit, task_words}
+use Rattle.task_word.specs.Views.{entry}
+use Rattle.task_word.specs.own.Views.{core_of}
+use Rattle.task_word.specs.Rule.{word_of_value, Matches, EntriesFit}
+use Rattle.task_word.specs.own.Rule.{task_words}
 use Rattle.task_word.specs.Steps.{CoreTells}
 use Rattle.task_word.specs.Answers.{Closes}
 use Rattle.task_word.specs.declared.views.View.{View}

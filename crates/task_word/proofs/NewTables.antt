@@ -4,8 +4,10 @@ use mathlib.Core.Option.{some, some-injective, some-ne-none}
 use lib.ListN.{get_elem?}
 use Rattle.std.proofs.lemmas.List.{length-replicate, get_or-replicate}
 use Rattle.task_word.specs.Words.{Parts, IsWord, vacant_word, is_cancelled, rank}
-use Rattle.task_word.specs.Views.{new_core, first_view}
-use Rattle.task_word.specs.Rule.{word_at, HasMet, IsWellFormedTable, task_words}
+use Rattle.task_word.specs.Views.{new_core}
+use Rattle.task_word.specs.own.Views.{first_view}
+use Rattle.task_word.specs.Rule.{word_at, HasMet, IsWellFormedTable}
+use Rattle.task_word.specs.own.Rule.{task_words}
 use Rattle.task_word.specs.declared.views.CoreView.{CoreView}
 use Rattle.task_word.specs.declared.views.View.{View}
 use Rattle.task_word.specs.declared.views.View.TheVariants.{Core}

@@ -6,9 +6,10 @@ use Rattle.task_word.specs.Answers.{HandleKeeps, shown_state_in, shown_state, ca
 use Rattle.task_word.specs.declared.phases.Phase.{Phase}
 use Rattle.task_word.specs.declared.phases.Phase.TheVariants.{Vacant, New, Running, Done, Failed}
 use Rattle.task_word.specs.declared.answers.TaskState.TheVariants as state
-use Rattle.task_word.specs.Views.{most_handles, with_entry, core_of, handle_of, wins}
+use Rattle.task_word.specs.Views.{most_handles, with_entry, wins}
+use Rattle.task_word.specs.own.Views.{core_of, handle_of}
 use Rattle.task_word.specs.Rule.{word_of_value}
-use Rattle.task_word.specs.Steps.{Holder, Exchanged}
+use Rattle.task_word.specs.own.Steps.{Holder, Exchanged}
 use Rattle.task_word.specs.declared.views.CoreView.{CoreView}
 use Rattle.task_word.specs.declared.views.HandleView.{HandleView}
 use Rattle.task_word.specs.declared.views.View.TheVariants.{Core, Handle}

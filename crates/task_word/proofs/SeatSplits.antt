@@ -6,8 +6,10 @@ use lib.ListN.{get_elem?}
 use Rattle.atomic_table.specs.Table.{Splits, Joins}
 use Rattle.atomic_table.proofs.Lists.{at_set, set_here, set_else, at_longer, at_snoc}
 use Rattle.task_word.specs.Words.{rank}
-use Rattle.task_word.specs.Views.{most_handles, times, core_of, handle_of, new_handle, one_out, joined_with, greater, lender, lent, together, spent}
-use Rattle.task_word.specs.Rule.{word_at, taken_by, is_handle, HasMet, IsWellFormedTable, task_words}
+use Rattle.task_word.specs.Views.{most_handles, times, new_handle, one_out, joined_with, greater}
+use Rattle.task_word.specs.own.Views.{core_of, handle_of, lender, lent, together, spent}
+use Rattle.task_word.specs.Rule.{word_at, taken_by, is_handle, HasMet, IsWellFormedTable}
+use Rattle.task_word.specs.own.Rule.{task_words}
 use Rattle.task_word.specs.declared.views.CoreView.{CoreView}
 use Rattle.task_word.specs.declared.views.HandleView.{HandleView}
 use Rattle.task_word.specs.declared.views.View.{View}

@@ -3,8 +3,9 @@ use Rattle.std.proofs.Common.{◌≡◌, ℕ, ◌+◌, suc, List, [], ◌∷◌,
 use lib.ListN.{get_elem?}
 use mathlib.Core.Option.{some}
 use Rattle.atomic_table.specs.Table.{State, keeps, Allows}
-use Rattle.task_word.specs.Rule.{IsWellFormedTable, task_words}
-use Rattle.task_word.specs.Steps.{Holder}
+use Rattle.task_word.specs.Rule.{IsWellFormedTable}
+use Rattle.task_word.specs.own.Rule.{task_words}
+use Rattle.task_word.specs.own.Steps.{Holder}
 use Rattle.task_word.specs.declared.views.View.{View}
 
 -- the rule of n tasks, given to a table

@@ -1,7 +1,8 @@
 -- What each write of a word does to it.
 use Rattle.std.proofs.Common.{◌≡◌, ℕ, ◌+◌, ◌<◌, ◌≤◌, Bool, true, false, ◌&&◌, refl, sym, ap, ◌∙◌, arith}
 use Rattle.task_word.specs.Words.{Parts, marked, is_live, is_ended_phase, is_cancelled, rank, rank_in, started, rearmed, ended_well, ended_badly}
-use Rattle.task_word.specs.Writes.{Kind, submit, start, done, fail, rearm, core_cancel, handle_cancel, plain, Writes, is_cancel, Exchanges}
+use Rattle.task_word.specs.Writes.{Kind, submit, start, done, fail, rearm, core_cancel, handle_cancel, plain, Writes, is_cancel}
+use Rattle.task_word.specs.own.Writes.{Exchanges}
 use Rattle.task_word.specs.declared.phases.Phase.{Phase}
 use Rattle.task_word.specs.declared.phases.Phase.TheVariants.{Vacant, New, Running, Done, Failed}
 

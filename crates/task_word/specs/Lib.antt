@@ -6,3 +6,4 @@ pub mod Steps
 pub mod Answers
 pub mod Laws
 pub use Rattle.atomic_table.specs.Seated
+pub mod own

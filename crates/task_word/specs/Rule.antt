@@ -1,6 +1,6 @@
 -- The rule of the words of tasks, which is so between any two steps. The word of task k is word k.
 -- This project's rule.
-use Rattle.std.specs.Prelude.{◌≡◌, ℕ, ◌/◌, ◌%◌, ◌<◌, ◌≤◌, Bool, true, false, List, ◌++◌, [], ◌∷◌, length, slice_index, slice_index_or, ◌⊎◌, nat_le, ◌==◌, if◌then◌else◌}
+use Rattle.std.specs.Prelude.{◌≡◌, ℕ, ◌/◌, ◌%◌, ◌<◌, ◌≤◌, Bool, true, false, List, ◌++◌, [], length, slice_index, slice_index_or, ◌⊎◌, nat_le, ◌==◌, if◌then◌else◌}
 use Rattle.std.specs.List.{sum_by}
 use mathlib.Core.Option.{some}
 use lib.ListN.{get_elem?}
@@ -19,11 +19,6 @@ phase_of n = if n == 0 then Vacant else if n == 1 then New else if n == 2 then R
 -- what a number says as a word
 abbrev pub word_of_value : ℕ → Parts
 word_of_value n = record { phase = phase_of (n % 8); run = n % bit / 8; marked = nat_le bit n }
-
--- the words of the tasks among those of a table, whose first word belongs to no task
-abbrev pub task_words : List ℕ → List ℕ
-task_words [] = []
-task_words (spare ∷ words) = words
 
 -- the word of task k
 abbrev pub word_at : List ℕ → ℕ → Parts

@@ -1,12 +1,10 @@
 -- What the seats of a table of words know, and how each step changes it. Tasks are numbered from 0.
 -- This project's rule.
-use Rattle.std.specs.Prelude.{◌≡◌, ℕ, ◌+◌, ◌-◌, ◌<◌, ◌≤◌, ◌==◌, ◌&&◌, max, Bool, true, false, not, List, [], ◌∷◌, ◌++◌, length, slice_index, slice_index_or, slice_set, replicate, ◌⊎◌}
+use Rattle.std.specs.Prelude.{◌≡◌, ℕ, ◌+◌, ◌-◌, ◌<◌, ◌≤◌, ◌==◌, ◌&&◌, max, Bool, true, false, not, List, [], ◌∷◌, ◌++◌, slice_index, slice_index_or, slice_set, replicate, ◌⊎◌}
 use Rattle.std.specs.List.{count_by}
 use Rattle.task_word.specs.Words.{Parts, IsWord, vacant_word, marked, is_live, is_ended_phase, is_cancelled, rank}
 use Rattle.task_word.specs.declared.views.CoreView.{CoreView}
 use Rattle.task_word.specs.declared.views.HandleView.{HandleView}
-use Rattle.task_word.specs.declared.views.View.{View}
-use Rattle.task_word.specs.declared.views.View.TheVariants.{Core, Handle, Spent}
 
 -- the core's word of a task
 abbrev pub entry : CoreView → ℕ → Parts
@@ -85,35 +83,3 @@ pub record MeetsHandle (h : HandleView) (k : ℕ) (w : Parts) : Type 0 where
   pub won : 0 < times k h.won → is_cancelled w ≡ true
   pub still : (seen_at h k ≡ true) ⊎ (0 < times k h.won) → slice_index h.ranks k ≡ rank w
   pub ended : h.last.0 ≡ k → is_ended_phase h.last.1.phase ≡ true → (w.phase ≡ h.last.1.phase) × (w.run ≡ h.last.1.run)
-
--- what the core's seat knows
-abbrev pub core_of : View → CoreView
-core_of (Core v) = v
-core_of (Handle h) = new_core 0
-core_of Spent = new_core 0
-
--- what a handle's seat knows
-abbrev pub handle_of : View → HandleView
-handle_of (Core v) = new_handle 0
-handle_of (Handle h) = h
-handle_of Spent = new_handle 0
-
--- the first seat is the core's
-abbrev pub first_view : ℕ → View
-first_view n = Core (new_core n)
-
--- the core's view once a handle is cut off, and the handle's
-abbrev pub lender : View → View
-lender v = Core (one_out (core_of v))
-
--- the view of the handle that is cut off
-abbrev pub lent : View → View
-lent v = Handle (new_handle (length (core_of v).entries))
-
--- the core's view once the handle is back, and what is left of the handle's
-abbrev pub together : View → View → View
-together v w = Core (joined_with (core_of v) (handle_of w))
-
--- what is left of the view of a handle that is back
-abbrev pub spent : View
-spent = Spent

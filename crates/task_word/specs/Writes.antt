@@ -34,16 +34,6 @@ Writes rearm w u = (n : ℕ) × (w ≡ plain Running n) × (u ≡ plain New (n +
 Writes core_cancel w u = u ≡ marked w
 Writes handle_cancel w u = u ≡ marked w
 
--- the write is an exchange, which expects the word that it takes on
-abbrev pub is_exchange : Kind → Bool
-is_exchange submit = false
-is_exchange start = true
-is_exchange done = true
-is_exchange fail = true
-is_exchange rearm = true
-is_exchange core_cancel = false
-is_exchange handle_cancel = false
-
 -- the write is a cancel, which sets the bit and nothing else
 abbrev pub is_cancel : Kind → Bool
 is_cancel submit = false
@@ -53,7 +43,3 @@ is_cancel fail = false
 is_cancel rearm = false
 is_cancel core_cancel = true
 is_cancel handle_cancel = true
-
--- some exchange takes the word w to the word u
-abbrev pub Exchanges : Parts → Parts → Type 0
-Exchanges w u = (kind : Kind) × (is_exchange kind ≡ true) × Writes kind w u

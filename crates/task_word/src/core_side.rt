@@ -6,6 +6,7 @@ ghost use Rattle.task_word.specs.declared.fault.WordError.TheVariants.{Seats};
 ghost use Rattle.task_word.specs.Steps.{CoreTells};
 ghost use Rattle.task_word.specs.Answers.{after_move, after_cancel, is_won, MoveMeets, MoveWrites, CoreCancels};
 ghost use Rattle.task_word.specs.Writes as write;
+ghost use Rattle.task_word.specs.own.Writes as own_write;
 
 use crate::answers::{CoreCancel, Moved};
 use crate::fault::WordError;
@@ -36,7 +37,8 @@ pub struct CoreSeat<A: Allocator> {
 impl<A: Allocator> Model for CoreSeat<A> {
     ghost use Rattle.std.specs.Prelude.{◌≡◌, ◌+◌, ◌≤◌, length};
     ghost use Rattle.task_word.specs.declared.views.View.TheVariants.{Core};
-    ghost use Rattle.task_word.specs.Views.{core_of, most_handles};
+    ghost use Rattle.task_word.specs.Views.{most_handles};
+    ghost use Rattle.task_word.specs.own.Views.{core_of};
     ghost use Rattle.task_word.specs.Answers.{CoreKnows};
 
     ghost Value = { CoreKnows };
@@ -238,7 +240,7 @@ impl<A: Allocator> CoreSeat<A> {
     fn advance(&mut self, words: &TaskWords<A>, k: u32, next: Word) -> Moved
         requires table { self.old.table ≡ words.now.table }
         requires task { k < words.now.tasks }
-        requires exchange { write.Exchanges (entry self.old.view k) next }
+        requires exchange { own_write.Exchanges (entry self.old.view k) next }
         ensures table { self.new.table ≡ self.old.table }
         ensures view { self.new.view ≡ after_move self.old.view k result next }
         ensures met { MoveMeets self.old.view k result }

@@ -26,7 +26,7 @@ pub struct HandleSeat {
 impl Model for HandleSeat {
     ghost use Rattle.std.specs.Prelude.{◌≡◌, ◌+◌, [], length};
     ghost use Rattle.task_word.specs.declared.views.View.TheVariants.{Handle};
-    ghost use Rattle.task_word.specs.Views.{handle_of};
+    ghost use Rattle.task_word.specs.own.Views.{handle_of};
     ghost use Rattle.task_word.specs.Answers.{HandleKnows};
 
     ghost Value = { HandleKnows };

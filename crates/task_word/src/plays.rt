@@ -20,37 +20,37 @@ pub struct HandleCancels;
 pub struct HandleLooks;
 
 impl Play<(), View> for Submits {
-    ghost use Rattle.task_word.specs.Steps.{Submitted};
+    ghost use Rattle.task_word.specs.own.Steps.{Submitted};
 
     ghost then = { λ s me found next. Submitted s.word me next };
 }
 
 impl Play<(), View> for Moves {
-    ghost use Rattle.task_word.specs.Steps.{Exchanged};
+    ghost use Rattle.task_word.specs.own.Steps.{Exchanged};
 
     ghost then = { λ s me found next. Exchanged s.word s.first s.second me found next };
 }
 
 impl Play<(), View> for CoreCancels {
-    ghost use Rattle.task_word.specs.Steps.{CoreCancelled};
+    ghost use Rattle.task_word.specs.own.Steps.{CoreCancelled};
 
     ghost then = { λ s me found next. CoreCancelled s.word me found next };
 }
 
 impl Play<(), View> for CoreLooks {
-    ghost use Rattle.task_word.specs.Steps.{CoreLooked};
+    ghost use Rattle.task_word.specs.own.Steps.{CoreLooked};
 
     ghost then = { λ s me found next. CoreLooked s.word me found next };
 }
 
 impl Play<(), View> for HandleCancels {
-    ghost use Rattle.task_word.specs.Steps.{HandleCancelled};
+    ghost use Rattle.task_word.specs.own.Steps.{HandleCancelled};
 
     ghost then = { λ s me found next. HandleCancelled s.word me found next };
 }
 
 impl Play<(), View> for HandleLooks {
-    ghost use Rattle.task_word.specs.Steps.{HandleLooked};
+    ghost use Rattle.task_word.specs.own.Steps.{HandleLooked};
 
     ghost then = { λ s me found next. HandleLooked s.word me found next };
 }

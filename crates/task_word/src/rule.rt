@@ -7,8 +7,9 @@ use atomic_table::{Join, Split, TableRule};
 pub struct WordRule;
 
 impl TableRule<(), View, u32> for WordRule {
-    ghost use Rattle.task_word.specs.Rule.{IsWellFormedTable, task_words};
-    ghost use Rattle.task_word.specs.Views.{first_view};
+    ghost use Rattle.task_word.specs.Rule.{IsWellFormedTable};
+    ghost use Rattle.task_word.specs.own.Rule.{task_words};
+    ghost use Rattle.task_word.specs.own.Views.{first_view};
 
     ghost holds = { λ n s. IsWellFormedTable n (task_words s.words) s.views };
 
@@ -19,7 +20,7 @@ impl TableRule<(), View, u32> for WordRule {
 pub struct Handing;
 
 impl Split<View> for Handing {
-    ghost use Rattle.task_word.specs.Views.{lender, lent};
+    ghost use Rattle.task_word.specs.own.Views.{lender, lent};
 
     ghost left = { lender };
 
@@ -27,7 +28,7 @@ impl Split<View> for Handing {
 }
 
 impl Join<View> for Handing {
-    ghost use Rattle.task_word.specs.Views.{together, spent};
+    ghost use Rattle.task_word.specs.own.Views.{together, spent};
 
     ghost both = { together };
 

@@ -18,7 +18,7 @@ use Rattle.executor_core.specs.Machine.{Machine, workers_of, state_of, Counts, S
 use Rattle.executor_core.proofs.Agree.{after_agrees}
 use Rattle.trace_check.specs.Plain.{busy_by, plain_answer}
 use Rattle.trace_check.specs.Going.{Goes, IsNextAnswer, StandsNext}
-use Rattle.trace_check.specs.Standing.{IsAt, IsStanding, TellBusy, most_named}
+use Rattle.trace_check.specs.own.Standing.{IsAt, IsStanding, TellBusy, most_named}
 use Rattle.trace_check.proofs.Splits.{ends_at, mains, owed_ends, same_said, goes_owed, goes_answered, goes_line_by_line}
 
 -- the state of a check shows what the history shows

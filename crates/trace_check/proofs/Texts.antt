@@ -12,7 +12,7 @@ use Rattle.trace_text.specs.Spelling.{line_text, lines_text, FitsLine}
 use Rattle.trace_text.specs.Reading.{LinesAreOne, LinesEndOnce}
 use Rattle.trace_check.specs.Going.{Goes, AreWhole}
 use Rattle.trace_check.specs.Findings.{BeginsWith, Conforms, Breaks}
-use Rattle.trace_check.specs.Standing.{IsAt}
+use Rattle.trace_check.specs.own.Standing.{IsAt}
 use Rattle.trace_check.proofs.Splits.{turned, fronts_go, goes_only_one_way}
 
 -- ---- texts by recursion

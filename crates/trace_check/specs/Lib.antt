@@ -3,3 +3,4 @@ pub mod Going
 pub mod Laws
 pub mod Standing
 pub mod Findings
+pub mod own

@@ -1,41 +1,6 @@
 -- Where a check stands after some lines that go. Lines stand the newest first. All of it is this project's rule.
-use Rattle.std.specs.Prelude.{◌≡◌, ℕ, ◌<◌, ◌≤◌, Bool, false, List, slice_index_or}
-use Rattle.queue_code.specs.Calls.{Planned}
-use Rattle.executor_core.specs.declared.types.Line.{Line}
-use Rattle.executor_core.specs.Histories.{happenings}
-use Rattle.executor_core.specs.State.{State, after}
-use Rattle.executor_core.specs.Machine.{Machine, workers_of, state_of, room_of}
-use Rattle.trace_check.specs.Plain.{is_busy}
-use Rattle.trace_check.specs.Going.{Goes}
+use Rattle.std.specs.Prelude.{ℕ}
 
 -- the greatest number of bytes of a text (this project's limit)
 abbrev pub most_bytes : ℕ
 most_bytes = 67108864
-
--- how many happenings the core of a check takes
-abbrev pub most_events : ℕ
-most_events = 4294967295
-
--- how many workers a line can name
-abbrev pub most_named : ℕ
-most_named = 256
-
--- flags by worker number tell which workers are busy by the lines
-abbrev pub TellBusy : List Bool → List Line → Type 0
-TellBusy flags lines = (w : ℕ) → w < most_named → slice_index_or flags w false ≡ is_busy lines w
-
--- the state is that of the plain happenings, `due` is what is owed, and the flags tell which workers are busy
-pub record IsAt (calls : List Planned) (workers : ℕ) (state : State) (due : List Line) (flags : List Bool) (lines : List Line) : Type 0 where
-  pub goes : Goes calls workers lines
-  pub stands : state ≡ after calls workers (happenings goes.past)
-  pub owed : goes.owed ≡ due
-  pub busy : TellBusy flags lines
-
--- the same of a core
-abbrev pub IsStanding : Machine → List Line → List Bool → List Line → Type 0
-IsStanding m due flags lines = IsAt m.calls (workers_of m) (state_of m) due flags lines
-
--- a check can go on: it has flags of its core's workers, and room for the lines of each answer
-pub record IsReady (m : Machine) (workers capacity : ℕ) : Type 0 where
-  pub count : workers ≡ workers_of m
-  pub room : room_of m ≤ capacity

@@ -2,7 +2,7 @@
 ghost use Rattle.std.specs.Prelude.{◌≡◌, ℕ, ◌<◌, Bool, true, false, not, if◌then◌else◌, slice_index_or, List};
 ghost use Rattle.std.specs.List.{range_with_len, find};
 ghost use Rattle.trace_check.specs.Plain.{busy_by, plain_answer, plain_error, plain_ending};
-ghost use Rattle.trace_check.specs.Standing.{TellBusy, most_named};
+ghost use Rattle.trace_check.specs.own.Standing.{TellBusy, most_named};
 ghost use Rattle.executor_core.specs.declared.types.Line.{Line as Said};
 
 use executor_core::{Answer, EventError, Happening, Outcome};

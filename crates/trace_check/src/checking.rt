@@ -7,7 +7,8 @@ ghost use Rattle.executor_core.specs.Flows.{answer_line};
 ghost use Rattle.executor_core.specs.declared.types.Line.{Line as Said};
 ghost use Rattle.trace_check.specs.Going.{Goes};
 ghost use Rattle.trace_check.specs.Findings.{Finds};
-ghost use Rattle.trace_check.specs.Standing.{TellBusy, IsStanding, IsReady, most_bytes, most_events};
+ghost use Rattle.trace_check.specs.Standing.{most_bytes};
+ghost use Rattle.trace_check.specs.own.Standing.{TellBusy, IsStanding, IsReady, most_events};
 
 use crate::busy::Busy;
 use crate::error::CheckError;

@@ -20,9 +20,11 @@ use Rattle.executor_core.specs.declared.Outcome.TheVariants as outcome
 use Rattle.executor_core.specs.declared.Message.{Message}
 use Rattle.executor_core.specs.declared.Message.TheVariants.{Answer, End}
 use Rattle.executor_core.specs.declared.Line.{Line}
-use Rattle.trace_text.specs.Spelling.{IsLine, EndsNumber, message_text, error_text, outcome_text, kind_text, refusal_text, effect_text, whether_text, cancel_text, FitsCancel, line_text, FitsMessage, FitsLine, FitsOutcome}
+use Rattle.trace_text.specs.Spelling.{IsLine, message_text, error_text, outcome_text, kind_text, refusal_text, effect_text, whether_text, cancel_text, line_text, FitsMessage, FitsLine, FitsOutcome}
+use Rattle.trace_text.specs.own.Spelling.{EndsNumber, FitsCancel}
 use Rattle.sched_time.specs.Policies.{policy_text, truth_text}
-use Rattle.trace_text.specs.Reading.{IsUnread, Below, Any, text_then, LinesAreOne, LinesEndOnce}
+use Rattle.trace_text.specs.Reading.{IsUnread, LinesAreOne, LinesEndOnce}
+use Rattle.trace_text.specs.own.Reading.{Below, Any, text_then}
 use Rattle.trace_text.proofs.Digits.{one_number}
 use Rattle.trace_text.proofs.Clashes.{clashes}
 use Rattle.trace_text.proofs.EventTexts.{IsEnded, ended_number, ended_behind, number_is_line}

@@ -2,3 +2,4 @@ pub use Rattle.executor_core.specs.Histories
 pub mod Spelling
 pub mod Reading
 pub mod Writing
+pub mod own

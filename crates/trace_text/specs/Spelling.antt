@@ -1,14 +1,11 @@
 -- Spelling: the text of events and of the lines of a trace (this project's rule).
 -- Numbers are decimals with no leading zero, one space stands between two words, each line ends with a newline (byte 10),
 -- and a text is grouped to the right.
-use Rattle.std.specs.Prelude.{◌≡◌, ◌≢◌, ℕ, ◌^◌, ◌<◌, Bool, true, false, List, ◌++◌, All, Option, Some, None, codes, flat_map, slice_index}
+use Rattle.std.specs.Prelude.{◌≡◌, ◌≢◌, ℕ, ◌^◌, ◌<◌, Bool, true, false, List, ◌++◌, All, Option, Some, None, codes, flat_map}
 use Rattle.std.specs.Fmt.{decimal}
-use Rattle.std.specs.Int.{IsInRange}
 use Rattle.sched_time.specs.Policies.{policy_text, truth_text}
 use Rattle.sched_time.specs.declared.timing.Ending.{Ending}
 use Rattle.sched_time.specs.declared.timing.Ending.TheVariants as ending
-use Rattle.sched_time.specs.declared.policies.Which.{Which}
-use Rattle.sched_time.specs.declared.policies.Which.TheVariants as which
 use Rattle.executor_core.specs.declared.Event.{Event}
 use Rattle.executor_core.specs.declared.Event.TheVariants as event
 use Rattle.executor_core.specs.declared.Kind.{Kind}
@@ -30,10 +27,6 @@ use Rattle.executor_core.specs.declared.Line.{Line}
 -- no newline stands among some bytes
 abbrev pub IsLine : List ℕ → Type 0
 IsLine line = All (λ b. b ≢ 10) line
-
--- no digit stands in front, so that a number before these bytes ends there: past the last byte stands 0, which is no digit
-abbrev pub EndsNumber : List ℕ → Type 0
-EndsNumber rest = IsInRange 48 57 (slice_index rest 0) → ⊥
 
 -- how a run ended, and the newline: ` ok V` with a value, ` fail C` with a code
 abbrev pub ending_line : Ending → List ℕ
@@ -145,10 +138,6 @@ FitsOutcome (outcome.Failed c) = c < 2 ^ 32
 FitsOutcome (outcome.Again d) = d < 2 ^ 64
 FitsOutcome outcome.Dropped = Unit {0}
 FitsOutcome outcome.Ended = Unit {0}
-
--- a task below 2^32
-abbrev pub FitsCancel : ℕ × CancelEffect → Type 0
-FitsCancel v = v.0 < 2 ^ 32
 
 -- a due moment and the number of a run below 2^64, a task and a number of tasks below 2^32, a worker below 256
 abbrev pub FitsAnswer : Answer → Type 0

@@ -1,7 +1,8 @@
 //! Answers that lines of a trace tell, read behind their first word. Each function here answers what a line says that begins
 //! with that word, of which the bytes are what follows, and what follows its newline; `None` exactly when there is no such line.
 ghost use Rattle.std.specs.Prelude.{MatchOption, ◌++◌, codes};
-ghost use Rattle.trace_text.specs.Spelling.{message_text, FitsMessage, cancel_text, FitsCancel};
+ghost use Rattle.trace_text.specs.Spelling.{message_text, FitsMessage, cancel_text};
+ghost use Rattle.trace_text.specs.own.Spelling.{FitsCancel};
 ghost use Rattle.trace_text.specs.Reading.{IsRead, IsUnread};
 
 use crate::scan::{code_before, number_before, strip, strip_word, worker_before};

@@ -16,7 +16,7 @@ use std::alloc::Allocator;
 
 impl<A: Allocator> Core<A> {
     ghost use Rattle.executor_core.specs.Machine.{Steps, ContinuesAny, Leaves, GivesRoom, IsCounted, room_of};
-    ghost use Rattle.executor_core.specs.OwnSteps.{Takes};
+    ghost use Rattle.executor_core.specs.own.OwnSteps.{Takes};
 
     /// The next call with its moment, and none after the last one.
     pub(super) fn next_call(&self) -> Option<(u64, CodeCall)>

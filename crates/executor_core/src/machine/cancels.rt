@@ -8,7 +8,7 @@ ghost use Rattle.queue_code.specs.Calls.{Terms, terms_of};
 ghost use Rattle.executor_core.specs.State.{vacant, seen_task, reply_of};
 ghost use Rattle.executor_core.specs.Answers.{effect_on};
 ghost use Rattle.executor_core.specs.Tasks.{uncancelled_in};
-ghost use Rattle.executor_core.specs.Tables.{cancelled_task};
+ghost use Rattle.executor_core.specs.own.Tables.{cancelled_task};
 
 use super::Core;
 use crate::task::{Phase, Task};
@@ -18,7 +18,7 @@ use std::alloc::Allocator;
 
 impl<A: Allocator> Core<A> {
     ghost use Rattle.executor_core.specs.Machine.{Steps, ContinuesAny, Leaves, GivesRoom, IsCounted, room_of, workers_of, state_of};
-    ghost use Rattle.executor_core.specs.OwnSteps.{Takes};
+    ghost use Rattle.executor_core.specs.own.OwnSteps.{Takes};
 
     /// A task is cancelled from outside the plan. The line is added, for which `out` has room.
     #[inline(always)]

@@ -15,7 +15,7 @@ use std::alloc::Allocator;
 
 impl<A: Allocator> Core<A> {
     ghost use Rattle.executor_core.specs.Machine.{Steps, ContinuesAny, Leaves, room_of, workers_of, state_of};
-    ghost use Rattle.executor_core.specs.OwnSteps.{Takes};
+    ghost use Rattle.executor_core.specs.own.OwnSteps.{Takes};
 
     /// The clock shows a moment, in nanoseconds: it is moved there, unless it would go back or pass 2^62. Its line is
     /// added, for which `out` has room.

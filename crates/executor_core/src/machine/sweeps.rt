@@ -8,7 +8,7 @@ ghost use Rattle.executor_core.specs.Histories.{is_end};
 ghost use Rattle.executor_core.specs.Flows.{end_line};
 ghost use Rattle.executor_core.specs.State.{vacant, view_of_state};
 ghost use Rattle.executor_core.specs.Tasks.{uncancelled_in};
-ghost use Rattle.executor_core.specs.Tables.{waits_with};
+ghost use Rattle.executor_core.specs.own.Tables.{waits_with};
 
 use super::Core;
 use crate::policies::Policies;
@@ -19,7 +19,7 @@ use std::alloc::Allocator;
 
 impl<A: Allocator> Core<A> {
     ghost use Rattle.executor_core.specs.Machine.{Steps, room_of, state_of};
-    ghost use Rattle.executor_core.specs.OwnSteps.{Sweeps, Ends, Drops};
+    ghost use Rattle.executor_core.specs.own.OwnSteps.{Sweeps, Ends, Drops};
 
     /// The next call sets a policy.
     #[cold]

@@ -6,7 +6,7 @@ ghost use Rattle.executor_core.specs.declared.types.Happening.TheVariants as hap
 ghost use Rattle.sched_time.specs.Dues.{next_due};
 ghost use Rattle.executor_core.specs.Needs.{need_of};
 ghost use Rattle.executor_core.specs.State.{due_past, vacant};
-ghost use Rattle.executor_core.specs.OwnSteps.{finished_task, queued_again, is_met};
+ghost use Rattle.executor_core.specs.own.OwnSteps.{finished_task, queued_again, is_met};
 ghost use Rattle.sched_time.specs.declared.timing.Timing.{Timing};
 ghost use Rattle.executor_core.specs.Answers.{outcome_in};
 
@@ -19,7 +19,7 @@ use std::alloc::Allocator;
 
 impl<A: Allocator> Core<A> {
     ghost use Rattle.executor_core.specs.Machine.{Steps, ContinuesAny, Leaves, room_of, workers_of, state_of};
-    ghost use Rattle.executor_core.specs.OwnSteps.{Takes, LeavesMet};
+    ghost use Rattle.executor_core.specs.own.OwnSteps.{Takes, LeavesMet};
     ghost use Rattle.executor_core.specs.Needs.{RunsBelowTaken};
 
     /// A worker asks for work: it gets the first task that is due, or none. The line is added, for which `out` has room.

@@ -2,7 +2,8 @@
 use Rattle.std.proofs.Common.{◌≡◌, ℕ, ◌+◌, ◌-◌, ◌*◌, ◌/◌, ◌<◌, ◌≢◌, Bool, List, cond, eqb, length, set, arith, ap, subst, subst₂, sym, ◌∙◌, refl, eq-eqb, ne_eqb, get_or-set_same}
 use Rattle.std.specs.Prelude.{slice_index_or}
 use Rattle.delay_queue.specs.Queues.{binary_digits}
-use Rattle.delay_queue.specs.Heaps.{entry_at, parent, IsOrdered, IsHeap, IsHeapAround, IsAboveChildren}
+use Rattle.delay_queue.specs.Heaps.{entry_at, parent, IsOrdered, IsHeap}
+use Rattle.delay_queue.specs.own.Heaps.{IsHeapAround, IsAboveChildren}
 use Rattle.delay_queue.specs.declared.entry.Entry.{Entry}
 use Rattle.delay_queue.proofs.Digits.{digits_within, digits_below}
 use Rattle.delay_queue.proofs.Order.{ordered_from_before}

@@ -1,7 +1,7 @@
 -- The hole rises: the entry that is put into it would stand above those below it.
 use Rattle.std.proofs.Common.{◌≡◌, ◌+◌, ◌*◌, ◌<◌, length}
 use Rattle.delay_queue.specs.Queues.{binary_digits}
-use Rattle.delay_queue.specs.Heaps.{IsHeapAround, IsAboveChildren, MovesHole}
+use Rattle.delay_queue.specs.own.Heaps.{IsHeapAround, IsAboveChildren, MovesHole}
 use Rattle.delay_queue.specs.Touches.{moving}
 use Rattle.delay_queue.proofs.Touched.{Rises}
 use Rattle.delay_queue.proofs.heap.rise.Given as goal

@@ -2,7 +2,8 @@
 use Rattle.std.proofs.Common.{◌≡◌, ℕ, ◌+◌, ◌*◌, ◌<◌, ◌≤◌, ◌⊎◌, ⊎_elim, inl, inr, true, false, Bool, List, length, set, arith, subst, sym, ap, ◌∙◌, rules}
 use mir.Val.{bool_byte}
 use Rattle.delay_queue.specs.Queues.{comes_before}
-use Rattle.delay_queue.specs.Heaps.{entry_at, parent, IsOrdered, IsHeapAround}
+use Rattle.delay_queue.specs.Heaps.{entry_at, parent, IsOrdered}
+use Rattle.delay_queue.specs.own.Heaps.{IsHeapAround}
 use Rattle.delay_queue.specs.declared.entry.Entry.{Entry}
 use Rattle.delay_queue.proofs.Digits.{digits_within, digits_below}
 use Rattle.delay_queue.proofs.Order.{ordered_from_before, ordered_self}

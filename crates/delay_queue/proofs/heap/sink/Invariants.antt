@@ -1,7 +1,7 @@
 -- The hole sinks.
 use Rattle.std.proofs.Common.{◌≡◌, ◌+◌, ◌-◌, ◌*◌, ◌<◌, length}
 use Rattle.delay_queue.specs.Queues.{binary_digits}
-use Rattle.delay_queue.specs.Heaps.{IsHeapAround, MovesHole}
+use Rattle.delay_queue.specs.own.Heaps.{IsHeapAround, MovesHole}
 use Rattle.delay_queue.specs.Touches.{moving}
 use Rattle.delay_queue.proofs.Touched.{Sinks}
 use Rattle.delay_queue.proofs.heap.sink.Given as goal

@@ -1,7 +1,8 @@
 -- The last entry comes into the place of the one that is taken out.
 use Rattle.std.proofs.Common.{◌≡◌, ◌≢◌, ℕ, ◌<◌, length, arith, List, [], ◌∷◌, ◌++◌, take, drop, sym, ap, subst, ◌∙◌, take_at, length-append}
 use Rattle.std.proofs.lemmas.List.{get_or_append_left}
-use Rattle.delay_queue.specs.Heaps.{no_entry, entry_at, IsPlaced, IsPlacedWith, due_of, due_with}
+use Rattle.delay_queue.specs.Heaps.{no_entry, entry_at, IsPlaced, due_of}
+use Rattle.delay_queue.specs.own.Heaps.{IsPlacedWith, due_with}
 use Rattle.delay_queue.specs.declared.entry.Entry.{Entry}
 use Rattle.delay_queue.proofs.Digits.{digits_more}
 use Rattle.delay_queue.proofs.Places.{beside_cut, placed_from_beside, due_of_cut, due_of_kept}

@@ -1,7 +1,7 @@
 use Rattle.std.proofs.Common.{◌≡◌, ◌∙◌, ◌∷◌, ◌++◌, [], refl, sym, ap, subst, append_assoc, string_bytes, None, Some}
 use Rattle.plan_read.specs.declared.call_keys.CallKey.{CallKey}
 use Rattle.plan_read.specs.declared.call_keys.Row.{Row}
-use Rattle.plan_read.specs.CallKeys.{call_key_of_word, slot, key_word}
+use Rattle.plan_read.specs.own.CallKeys.{call_key_of_word, slot, key_word}
 use Rattle.plan_read.proofs.CallKeysLaw.{Entry, Sees, kept, passed_over}
 use Rattle.plan_read.proofs.call_keys.row_of.Goals as goal
 

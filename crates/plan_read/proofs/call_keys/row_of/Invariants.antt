@@ -1,6 +1,6 @@
 use Rattle.std.proofs.Common.{◌≡◌, List, ◌++◌}
 use Rattle.plan_read.specs.declared.call_keys.CallKey.{CallKey}
-use Rattle.plan_read.specs.CallKeys.{slot, key_word}
+use Rattle.plan_read.specs.own.CallKeys.{slot, key_word}
 use Rattle.plan_read.proofs.CallKeysLaw.{Entry, Sees}
 use Rattle.plan_read.proofs.call_keys.row_of.Given as goal
 

@@ -2,7 +2,7 @@ use Rattle.std.proofs.Common.{◌≡◌, ◌≤◌, [], drop, length}
 use Rattle.toml.specs.View.{items_view}
 use Rattle.plan_read.specs.Checks.{calls_fault}
 use Rattle.plan_read.specs.Plans.{tasks_after_calls, submissions_before}
-use Rattle.plan_read.specs.Reads.{Knows}
+use Rattle.plan_read.specs.own.Reads.{Knows}
 use Rattle.plan_read.specs.Values.{tables_in, calls_through}
 use Rattle.plan_read.proofs.reading.read_calls.Given as goal
 

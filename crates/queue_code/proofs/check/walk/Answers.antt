@@ -2,7 +2,7 @@ use Rattle.std.proofs.Common.{◌≡◌, ◌+◌, List, drop, ap, sym, ◌∙◌
 use Rattle.std.proofs.lemmas.List.{take_rest}
 use Rattle.queue_code.specs.declared.instr.Instr.{Instr}
 use Rattle.queue_code.specs.Checks.{first_failed}
-use Rattle.queue_code.specs.Walks.{walk_checks}
+use Rattle.queue_code.specs.own.Walks.{walk_checks}
 use Rattle.queue_code.proofs.Faults.{fault_is}
 use Rattle.queue_code.proofs.Sizes.{bounded_more, fault_more, walked_more, timed_more}
 use Rattle.queue_code.proofs.check.walk.Goals as goal

@@ -1,7 +1,7 @@
 use Rattle.std.proofs.Common.{◌≡◌, drop}
 use Rattle.queue_code.specs.Checks.{code_fault, AreTimed}
-use Rattle.queue_code.specs.Walks.{walk_opening, first_fault, walked}
-use Rattle.queue_code.specs.Sizes.{IsBounded}
+use Rattle.queue_code.specs.own.Walks.{walk_opening, first_fault, walked}
+use Rattle.queue_code.specs.own.Sizes.{IsBounded}
 use Rattle.queue_code.proofs.check.walk.Given as goal
 
 -- the rest has the fault of the whole, and meets in the end what the whole does

@@ -3,11 +3,11 @@ use Rattle.std.specs.Prelude.{vec_capacity}
 use Rattle.std.proofs.lemmas.Bool.{false≢true}
 use Rattle.trace_text.specs.Spelling.{event_line}
 use Rattle.sched_engine.specs.Inputs.{BeginsWithEvent}
-use Rattle.sched_engine.specs.Pieces.{Output}
+use Rattle.sched_engine.specs.own.Pieces.{Output}
 use Rattle.executor_core.specs.Machine.{Machine}
 use Rattle.sched_engine.specs.declared.answering.PieceEnd.{PieceEnd}
 use Rattle.sched_engine.specs.declared.answering.PieceEnd.TheVariants as e
-use Rattle.sched_engine.specs.Turns.{IsAnswered, IsPieceEnd}
+use Rattle.sched_engine.specs.own.Turns.{IsAnswered, IsPieceEnd}
 use Rattle.sched_engine.proofs.Inputs.{answered_none, answered_on, count_fits, fewer_left, left_more}
 use Rattle.sched_engine.proofs.Rooms.{still_kept, wanted}
 use Rattle.sched_engine.proofs.answering.answer_events.Goals as goal

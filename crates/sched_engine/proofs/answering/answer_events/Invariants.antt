@@ -1,7 +1,7 @@
 use Rattle.std.proofs.Common.{◌≡◌, ◌-◌, ◌≤◌, ◌⊎◌, drop, length}
 use Rattle.std.specs.Prelude.{vec_capacity}
 use Rattle.sched_engine.specs.Ends.{NoneMore}
-use Rattle.sched_engine.specs.Turns.{IsAnswered, WantsRoom}
+use Rattle.sched_engine.specs.own.Turns.{IsAnswered, WantsRoom}
 use Rattle.sched_engine.proofs.answering.answer_events.Given as goal
 
 -- the events in front of `rest` were answered, there is no less room for lines than there was, and no fault was counted

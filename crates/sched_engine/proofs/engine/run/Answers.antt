@@ -3,7 +3,7 @@ use Rattle.sched_engine.specs.Running.{Ran}
 use Rattle.sched_engine.specs.declared.engine.Turn.{Turn}
 use Rattle.sched_engine.specs.declared.report.Report.{Report}
 use Rattle.sched_engine.specs.declared.report.RunError.{RunError}
-use Rattle.sched_engine.specs.Turns.{Progress, Setting, Turns}
+use Rattle.sched_engine.specs.own.Turns.{Progress, Setting, Turns}
 use Rattle.sched_engine.proofs.Turns.{first, ran_to_a_fault}
 use Rattle.sched_engine.proofs.engine.run.Goals as goal
 

@@ -1,5 +1,5 @@
 use Rattle.sched_engine.specs.Ends.{NoneMore}
-use Rattle.sched_engine.specs.Turns.{IsBetweenTurns, Progress, Setting, still_to_come}
+use Rattle.sched_engine.specs.own.Turns.{IsBetweenTurns, Progress, Setting, still_to_come}
 use Rattle.sched_engine.proofs.engine.run.Given as goal
 
 -- between two turns nothing waits for an answer, no answer waits to be written, and neither end was at fault

@@ -4,7 +4,7 @@ use Rattle.executor_core.specs.declared.Happening.{Happening}
 use Rattle.executor_core.specs.Machine.{IsCounted, room_of}
 use Rattle.executor_core.proofs.Parts.{part_from}
 use Rattle.sched_engine.specs.Ends.{NoneMore}
-use Rattle.sched_engine.specs.Turns.{GivesSteps}
+use Rattle.sched_engine.specs.own.Turns.{GivesSteps}
 use Rattle.sched_engine.proofs.one_event.answer_event.Given as goal
 
 -- the lines of the calls so far were given out, the rest of the event's part is left, and no fault was counted

@@ -2,7 +2,7 @@ use Rattle.std.proofs.Common.{drop}
 use Rattle.executor_core.specs.Machine.{workers_of}
 use Rattle.plan_compile.specs.PlanCalls.{calls_of}
 use Rattle.trace_check.specs.Findings.{Finds}
-use Rattle.trace_check.specs.Standing.{most_events}
+use Rattle.trace_check.specs.own.Standing.{most_events}
 use Rattle.trace_check.proofs.Texts.{moved}
 use Rattle.trace_check.proofs.Taking.{opens}
 use Rattle.trace_check.proofs.checking.check.Goals as goal

@@ -3,7 +3,8 @@ use Rattle.std.proofs.Common.{◌≡◌, ◌≢◌, ⊎_elim, ℕ, min, Bool, tr
 use Rattle.std.specs.Prelude.{slice_index_or}
 use Rattle.std.proofs.lemmas.Bool.{cases_eq}
 use Rattle.delay_queue.specs.Queues.{Queue, due_in, entry_count, most_touches, greatest_count, binary_digits}
-use Rattle.delay_queue.specs.Heaps.{IsPlacedWith, table}
+use Rattle.delay_queue.specs.Heaps.{table}
+use Rattle.delay_queue.specs.own.Heaps.{IsPlacedWith}
 use Rattle.delay_queue.specs.declared.entry.Entry.{Entry}
 use Rattle.delay_queue.proofs.Digits.{digits_one, digits_two, digits_some, digits_next}
 use Rattle.delay_queue.proofs.Tables.{length-table}

@@ -1,6 +1,6 @@
 use Rattle.std.proofs.Common.{◌<◌, length, sym, subst}
 use Rattle.queue_code.specs.Codes.{calls_of}
-use Rattle.executor_core.specs.Agendas.{Course, made_of}
+use Rattle.executor_core.specs.own.Agendas.{Course, made_of}
 use Rattle.executor_core.proofs.Agendas.{next_ahead}
 use Rattle.executor_core.proofs.agenda.Agenda.pass.Goals as goal
 

@@ -4,10 +4,10 @@ use Rattle.executor_core.specs.declared.types.CancelEffect.TheVariants as f
 use Rattle.queue_code.specs.Calls.{task_count, terms_of}
 use Rattle.executor_core.specs.State.{vacant}
 use Rattle.executor_core.specs.Tasks.{uncancelled_in}
-use Rattle.executor_core.specs.Tables.{cancelled_task}
+use Rattle.executor_core.specs.own.Tables.{cancelled_task}
 use Rattle.executor_core.proofs.Counting.{cancelled_once}
 use Rattle.executor_core.specs.Machine.{Machine, state_of}
-use Rattle.executor_core.specs.Invariants.{IsSound}
+use Rattle.executor_core.specs.own.Invariants.{IsSound}
 use Rattle.executor_core.proofs.Cancels.{cancelled_size, live_is_uncancelled, outside_steps, is_cancelled_so}
 use Rattle.executor_core.proofs.machine.Core.answer_cancel.Goals as goal
 

@@ -1,7 +1,7 @@
 use Rattle.std.proofs.Common.{◌≡◌, ◌<◌, length, None, Some, ap, ◌∙◌, sym, arith, rules}
 use Rattle.std.specs.Prelude.{slice_index_or}
 use Rattle.std.proofs.lemmas.List.{length-map}
-use Rattle.executor_core.specs.Invariants.{queued}
+use Rattle.executor_core.specs.own.Invariants.{queued}
 use Rattle.executor_core.specs.Answers.{outcome_in, stops_periodic}
 use Rattle.executor_core.specs.State.{due_past}
 use Rattle.executor_core.proofs.Tables.{read_at}

@@ -2,8 +2,8 @@ use Rattle.std.proofs.Common.{◌≡◌, true, false, ap, ◌∙◌, sym, subst,
 use Rattle.std.specs.Prelude.{slice_index_or, slice_set}
 use Rattle.executor_core.specs.State.{vacant}
 use Rattle.executor_core.specs.Machine.{Machine}
-use Rattle.executor_core.specs.Invariants.{IsWellFormedCore}
-use Rattle.executor_core.specs.OwnSteps.{LeavesMet, is_met}
+use Rattle.executor_core.specs.own.Invariants.{IsWellFormedCore}
+use Rattle.executor_core.specs.own.OwnSteps.{LeavesMet, is_met}
 use Rattle.executor_core.proofs.Meeting.{Meeting, fewer_keeps, meet_one, none_left, rest_unmet}
 use Rattle.executor_core.proofs.machine.Core.drop_met.Goals as goal
 

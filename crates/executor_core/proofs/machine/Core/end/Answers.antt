@@ -1,7 +1,7 @@
 use Rattle.std.proofs.Common.{◌≡◌, ◌<◌, length, true, arith, sym, subst}
 use Rattle.std.specs.Prelude.{slice_index_or}
 use Rattle.executor_core.specs.State.{vacant}
-use Rattle.executor_core.specs.Tables.{waits_with}
+use Rattle.executor_core.specs.own.Tables.{waits_with}
 use Rattle.executor_core.specs.Machine.{Machine}
 use Rattle.executor_core.proofs.Sweeping.{few_tasks, end_kept}
 use Rattle.executor_core.proofs.machine.Core.end.Goals as goal

@@ -3,7 +3,7 @@ use Rattle.std.specs.Prelude.{slice_index_or, slice_set, vec_len, vec_capacity}
 use Rattle.executor_core.specs.State.{vacant}
 use Rattle.executor_core.specs.Tasks.{uncancelled_in}
 use Rattle.executor_core.specs.Machine.{Machine}
-use Rattle.executor_core.specs.OwnSteps.{Ends}
+use Rattle.executor_core.specs.own.OwnSteps.{Ends}
 use Rattle.executor_core.proofs.Sweeping.{sweeps_at, swept_waits_in, waits_uncancelled, uncancelled_less, ends_none, ends_more, ends_not}
 use Rattle.executor_core.proofs.Noting.{ends_passed}
 use Rattle.executor_core.proofs.machine.Core.end_tasks.Goals as goal

@@ -4,7 +4,7 @@ use Rattle.std.proofs.lemmas.List.{get_or_past}
 use Rattle.executor_core.specs.declared.task.Task.{Task}
 use Rattle.executor_core.specs.Answers.{is_ended_by}
 use Rattle.executor_core.specs.State.{vacant}
-use Rattle.executor_core.specs.Tables.{waits_with}
+use Rattle.executor_core.specs.own.Tables.{waits_with}
 use Rattle.executor_core.proofs.Needing.{ends_so}
 use Rattle.executor_core.proofs.machine.Core.ends_under.Goals as goal
 

@@ -3,7 +3,7 @@ use Rattle.executor_core.specs.declared.types.Happening.TheVariants as happening
 use Rattle.executor_core.specs.declared.types.Answer.{Answer}
 use Rattle.executor_core.specs.Flows.{answer_line}
 use Rattle.executor_core.specs.Machine.{Machine}
-use Rattle.executor_core.specs.OwnSteps.{Takes}
+use Rattle.executor_core.specs.own.OwnSteps.{Takes}
 use Rattle.executor_core.proofs.Events.{one_step}
 use Rattle.executor_core.proofs.Flowing.{step_continues}
 use Rattle.executor_core.proofs.RunNumbers.{call_counted}

@@ -1,6 +1,6 @@
 use Rattle.std.proofs.Common.{◌≡◌, ℕ, nat_lt, ◌⊎◌, inl, inr, true, false, sym, ◌∙◌, arith, subst}
 use Rattle.std.proofs.lemmas.Bool.Decides.{nat_tests}
-use Rattle.executor_core.specs.Tables.{periodic_in}
+use Rattle.executor_core.specs.own.Tables.{periodic_in}
 use Rattle.executor_core.specs.Machine.{Machine}
 use Rattle.executor_core.proofs.Sweeping.{sweeps_at, none_swept, not_false}
 use Rattle.executor_core.proofs.machine.Core.may_end.Goals as goal

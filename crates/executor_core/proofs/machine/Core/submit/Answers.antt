@@ -3,7 +3,7 @@ use Rattle.std.specs.Prelude.{slice_get, slice_index_or}
 use Rattle.std.proofs.lemmas.List.{length-map}
 use Rattle.queue_code.specs.declared.call.CodeCall.TheVariants as call
 use Rattle.executor_core.specs.Machine.{Machine}
-use Rattle.executor_core.specs.Invariants.{queued}
+use Rattle.executor_core.specs.own.Invariants.{queued}
 use Rattle.executor_core.proofs.Tables.{submission, queued_at}
 use Rattle.executor_core.proofs.Calling.{passed_kept}
 use Rattle.executor_core.specs.declared.types.Refusal.TheVariants as refusal

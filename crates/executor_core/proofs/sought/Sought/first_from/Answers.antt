@@ -3,7 +3,7 @@ use Rattle.std.specs.Prelude.{slice_index_or, IfNone}
 use Rattle.std.specs.List.Sorted.{IsNonDecreasingBy, IsPartitionPoint}
 use Rattle.std.proofs.lemmas.List.Sorted.{IsPartitionPoint-from_clause, IsPartitionedBy-ltb}
 use Rattle.executor_core.specs.Histories.{is_end}
-use Rattle.executor_core.specs.Sought.{Sought}
+use Rattle.executor_core.specs.own.Sought.{Sought}
 use Rattle.executor_core.proofs.Noting.{first_found, first_none}
 use Rattle.executor_core.proofs.sought.Sought.first_from.Goals as goal
 

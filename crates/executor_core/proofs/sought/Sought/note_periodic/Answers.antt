@@ -1,7 +1,7 @@
 use Rattle.std.proofs.Common.{◌≡◌, ◌<◌, ◌++◌, ◌∷◌, [], length, true, false, ap, sym, ◌∙◌, arith}
 use Rattle.std.specs.Prelude.{vec_capacity}
-use Rattle.executor_core.specs.Sought.{Sought}
-use Rattle.executor_core.specs.Tables.{goes_on}
+use Rattle.executor_core.specs.own.Sought.{Sought}
+use Rattle.executor_core.specs.own.Tables.{goes_on}
 use Rattle.executor_core.proofs.Noting.{going_in, room_for, going_more, going_not}
 use Rattle.executor_core.proofs.sought.Sought.note_periodic.Goals as goal
 use Rattle.executor_core.proofs.sought.Sought.note_periodic.Goals.{then-goes_on, else-goes_on}

@@ -1,5 +1,5 @@
 use Rattle.std.proofs.Common.{ap, arith, sym, ◌∙◌}
-use Rattle.executor_core.specs.Tables.{phase_in, task_of}
+use Rattle.executor_core.specs.own.Tables.{phase_in, task_of}
 use Rattle.executor_core.proofs.Pairs.{is_in, task_read}
 use Rattle.executor_core.proofs.tasks.Tasks.get.Goals as goal
 

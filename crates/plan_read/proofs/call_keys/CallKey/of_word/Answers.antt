@@ -1,5 +1,5 @@
 use Rattle.plan_read.specs.declared.call_keys.CallKey.TheVariants as keys
-use Rattle.plan_read.specs.CallKeys.{key_word}
+use Rattle.plan_read.specs.own.CallKeys.{key_word}
 use Rattle.std.proofs.Common.{◌≢◌}
 use Rattle.plan_read.proofs.CallKeysLaw.{names_key, names_none}
 use Rattle.plan_read.proofs.call_keys.CallKey.of_word.Goals as goal

@@ -1,6 +1,6 @@
 use Rattle.std.proofs.Common.{◌∙◌, ap, option_map}
 use Rattle.toml.proofs.Views.{table_get}
-use Rattle.plan_read.specs.CallKeys.{key_word}
+use Rattle.plan_read.specs.own.CallKeys.{key_word}
 use Rattle.plan_read.proofs.call_tables.CallTable.get.Goals as goal
 
 pub returns : goal.returns

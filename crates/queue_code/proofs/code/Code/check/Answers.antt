@@ -1,6 +1,6 @@
 use Rattle.std.proofs.Common.{List, subst, arith}
 use Rattle.queue_code.specs.declared.instr.Instr.{Instr}
-use Rattle.queue_code.specs.Cursors.{IsLoopTable}
+use Rattle.queue_code.specs.own.Cursors.{IsLoopTable}
 use Rattle.queue_code.proofs.Counting.{Known, known}
 use Rattle.queue_code.proofs.code.Code.check.Goals as goal
 

@@ -3,7 +3,7 @@ use Rattle.std.specs.List.{slice_get}
 use Rattle.std.proofs.lemmas.Option.{slice_get_within}
 use Rattle.queue_code.specs.declared.instr.Instr.{Instr}
 use Rattle.queue_code.specs.Codes.{call_by}
-use Rattle.queue_code.specs.Cursors.{IsPlain}
+use Rattle.queue_code.specs.own.Cursors.{IsPlain}
 use Rattle.queue_code.proofs.Making.{makes, in_range, none_left, made_first, others_left, none_made, over_behind}
 use Rattle.queue_code.proofs.cursor.Cursor.make.Goals as goal
 

@@ -5,7 +5,7 @@ use Rattle.sched_engine.specs.declared.report.RunError.{RunError}
 use Rattle.sched_engine.specs.declared.report.RunError.TheVariants.{Write}
 use Rattle.sched_engine.specs.declared.engine.Turn.{Turn}
 use Rattle.sched_engine.specs.Running.{Runs, piece}
-use Rattle.sched_engine.specs.Turns.{IsPieceEnd, Progress, Turns}
+use Rattle.sched_engine.specs.own.Turns.{IsPieceEnd, Progress, Turns}
 use Rattle.sched_engine.proofs.Turns.{at_the_end, cut_short, faulted, few_lines, filled, full, out_of_memory, refused, smaller, unwritten, wrote}
 use Rattle.sched_engine.proofs.engine.Engine.turn.Goals as goal
 

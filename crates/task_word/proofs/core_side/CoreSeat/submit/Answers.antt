@@ -1,9 +1,10 @@
 use Rattle.std.proofs.Common.{◌≡◌, ◌+◌, ◌<◌, length, sym, ap, ◌∙◌, refl, arith, subst, set, ℕ}
 use Rattle.atomic_table.specs.Table.{Allows}
 use Rattle.task_word.specs.Words.{value, new_in}
-use Rattle.task_word.specs.Views.{entry, with_entry, core_of}
+use Rattle.task_word.specs.Views.{entry, with_entry}
+use Rattle.task_word.specs.own.Views.{core_of}
 use Rattle.task_word.proofs.SeatFields.{core_sits}
-use Rattle.task_word.specs.Steps.{Submitted}
+use Rattle.task_word.specs.own.Steps.{Submitted}
 use Rattle.task_word.specs.declared.phases.Phase.TheVariants.{Vacant}
 use Rattle.task_word.proofs.TaskPlaces.{Rule}
 use Rattle.task_word.proofs.CoreSteps.{submits}

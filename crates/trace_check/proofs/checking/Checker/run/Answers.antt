@@ -3,7 +3,7 @@ use Rattle.std.proofs.lemmas.List.{length-drop}
 use Rattle.executor_core.specs.Machine.{workers_of, state_of}
 use Rattle.trace_text.proofs.LineTexts.{first_line, line_ended}
 use Rattle.trace_check.specs.Findings.{Conforms, Breaks}
-use Rattle.trace_check.specs.Standing.{IsAt}
+use Rattle.trace_check.specs.own.Standing.{IsAt}
 use Rattle.trace_check.proofs.Texts.{HasCome, stops_unread, stops_refused, stops_owing, ends_whole, comes_on, shorter, moved, some_left, none_left}
 use Rattle.trace_check.proofs.Taking.{owed_none}
 use Rattle.trace_check.proofs.checking.Checker.run.Goals as goal

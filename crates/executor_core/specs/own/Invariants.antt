@@ -10,7 +10,7 @@ use Rattle.queue_code.specs.Calls.{Planned, IsOrderly, task_count, terms_of, due
 use Rattle.executor_core.specs.Counts.{most_workers}
 use Rattle.executor_core.specs.View.{View}
 use Rattle.executor_core.specs.State.{State, view_of_state, vacant}
-use Rattle.executor_core.specs.Sought.{Sought, AreNoted, OnlyThese}
+use Rattle.executor_core.specs.own.Sought.{Sought, AreNoted, OnlyThese}
 use Rattle.executor_core.specs.Machine.{Machine, workers_of, state_of}
 
 -- the due moment of a task that waits for a run

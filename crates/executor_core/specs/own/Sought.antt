@@ -4,7 +4,7 @@ use Rattle.std.specs.Prelude.{◌≡◌, ℕ, ◌<◌, ◌≤◌, Bool, true, fa
 use Rattle.std.specs.List.Sorted.{IsNonDecreasingBy}
 use Rattle.executor_core.specs.Histories.{is_end}
 use Rattle.executor_core.specs.State.{State}
-use Rattle.executor_core.specs.Tables.{goes_on}
+use Rattle.executor_core.specs.own.Tables.{goes_on}
 
 -- whether a sweep has ended the delayed tasks, and one the periodic tasks that waited; then the numbers of the periodic
 -- tasks that ran, and how many of them there is memory for
