@@ -48,7 +48,8 @@ impl ResultCell {
     /// # Errors
     ///
     /// The box comes back with what it held, where the cell was set before. The cell is unchanged, and the note
-    /// knows the verdict that stands in it.
+    /// knows the verdict that stands in it. That the first `put` on a cell is not refused, and that no `put` takes memory,
+    /// is in no clause: a contract does not see what a cell holds.
     pub fn put(&self, note: &mut Note<Verdict>, verdict: Box<Verdict>) -> Result<(), Box<Verdict>>
         requires cell { note.old.cell ≡ self.now }
         ensures cell { note.new.cell ≡ note.old.cell }

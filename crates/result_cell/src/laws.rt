@@ -4,7 +4,7 @@ ghost use Rattle.result_cell.specs.declared.verdict.Verdict.{Verdict};
 
 use crate::verdict::Verdict;
 
-/// Two verdicts compare as equal exactly when task and ending are the same.
-pub fn equal_verdicts_are_one()
+/// Two verdicts compare as equal exactly when they are the same.
+pub fn verdict_equality_tells()
     ensures { (a b : Verdict) → (⟦<Verdict as PartialEq>⟧.eq a b ≡ true) ↔ (a ≡ b) }
 {}

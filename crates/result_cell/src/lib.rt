@@ -46,6 +46,10 @@
 //! No call takes memory: the caller makes the box, which the cell keeps until it is dropped. A cell is one pointer, and
 //! a note takes no bytes. `put` is one atomic exchange and `read` one atomic load, and neither waits. `same` does
 //! nothing when it runs.
+//!
+//! # Tests
+//!
+//! They stand in `src/tests.rt`.
 #![tactic(auto)]
 
 mod cell;

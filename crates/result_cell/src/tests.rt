@@ -35,6 +35,47 @@ fn the_first_verdict_stands(rt: HostRuntime) -> Result<(), Fail> {
     Ok(())
 }
 
+// Puts a verdict into a new cell, and then another one twice. Whether the first was accepted and stands, and the others
+// came back as they were, by notes that knew the first one and by a note that knew nothing.
+fn only_the_first_is_accepted(
+    alloc: Global,
+    first: Verdict,
+    other: Verdict,
+) -> Result<bool, AllocError> {
+    let cell = ResultCell::new(alloc);
+    let (mut one, mut two) = (cell.note(), cell.note());
+    let accepted = cell.put(&mut one, Box::new(alloc, first)?).is_ok();
+    let back = cell.put(&mut two, Box::new(alloc, other)?);
+    let again = cell.put(&mut one, Box::new(alloc, other)?);
+    Ok(
+        accepted
+            && back.err().map(Box::into_inner) == Some(other)
+            && again.err().map(Box::into_inner) == Some(other)
+            && cell.read(&mut one) == Some(first)
+            && cell.read(&mut two) == Some(first)
+            && cell.read(&mut cell.note()) == Some(first),
+    )
+}
+
+#[test]
+fn the_first_verdict_of_any_task_stands(rt: HostRuntime) -> Result<(), Fail> {
+    let alloc = rt.alloc();
+    for task in [0, 1, 2, 3, 5, 70, 65_535, 65_536, u32::MAX] {
+        for ending in [
+            Ending::Value(0),
+            Ending::Value(u64::MAX),
+            Ending::Fault(0),
+            Ending::Fault(u32::MAX),
+        ] {
+            let verdict = Verdict { task, ending };
+            assert!(rt; only_the_first_is_accepted(alloc, verdict, FIRST)?);
+            assert!(rt; only_the_first_is_accepted(alloc, verdict, verdict)?);
+            assert!(rt; only_the_first_is_accepted(alloc, SECOND, verdict)?);
+        }
+    }
+    Ok(())
+}
+
 #[test]
 fn a_new_note_reads_the_first_verdict(rt: HostRuntime) -> Result<(), Fail> {
     let alloc = rt.alloc();
