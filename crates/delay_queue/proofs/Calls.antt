@@ -5,7 +5,7 @@ use Rattle.std.proofs.lemmas.Bool.{false≢true, cases_eq, cases_lt}
 use Rattle.std.proofs.lemmas.List.{get_or_append_left, set-get_or}
 use Rattle.std.proofs.lemmas.Option.{same_Some, none-some, slice_get_within, get_or_from_slice_get}
 use Rattle.delay_queue.specs.Queues.{Queue, comes_before, due_in, IsLeast, IsEmpty, NoneIsDue}
-use Rattle.delay_queue.specs.Heaps.{no_entry, entry_at, IsHeap, IsPlaced, due_of, table}
+use Rattle.delay_queue.specs.Heaps.{no_entry, entry_at, IsHeap, IsPlaced, due_in_heap, table}
 use Rattle.delay_queue.specs.own.Heaps.{due_with}
 use Rattle.delay_queue.specs.declared.entry.Entry.{Entry}
 use Rattle.delay_queue.proofs.Order.{before_from_ordered, due_from_ordered}
@@ -83,8 +83,8 @@ nothing_there queue task h = sym (ap (λ (o : Option ℕ). set queue task o) (sy
 
 -- an entry that was taken out
 pub removed : (heap heap' : List Entry) (places places' : List ℕ) (queue : List (Option ℕ)) (k : ℕ) → table heap places ≡ queue → IsPlaced heap places → k < length heap
-    → length places' ≡ length places → due_of heap' places' (entry_at heap k).task ≡ None
-    → ((task : ℕ) → task ≢ (entry_at heap k).task → due_of heap' places' task ≡ due_of heap places task) → table heap' places' ≡ set queue (entry_at heap k).task None
+    → length places' ≡ length places → due_in_heap heap' places' (entry_at heap k).task ≡ None
+    → ((task : ℕ) → task ≢ (entry_at heap k).task → due_in_heap heap' places' task ≡ due_in_heap heap places task) → table heap' places' ≡ set queue (entry_at heap k).task None
 removed heap heap' places places' queue k view p inside size taken others = table_set heap heap' places places' queue (entry_at heap k).task None view size (p.known k inside) taken others
 
 -- a new entry at the end of the heap, beside the others
@@ -104,7 +104,7 @@ beside_pushed heap places queue x view p known absent =
     }
 
 -- when the other tasks are due after a push
-due_pushed : (heap : List Entry) (places : List ℕ) (x : Entry) (task : ℕ) → task ≢ x.task → due_with (heap ++ x ∷ []) places (length heap) x task ≡ due_of heap places task
+due_pushed : (heap : List Entry) (places : List ℕ) (x : Entry) (task : ℕ) → task ≢ x.task → due_with (heap ++ x ∷ []) places (length heap) x task ≡ due_in_heap heap places task
 due_pushed heap places x task other =
     let after : List Entry = heap ++ x ∷ [] in
     let len : length after ≡ length heap + 1 = length-append heap (x ∷ []) in
@@ -121,11 +121,11 @@ due_pushed heap places x task other =
 -- an entry that was put in
 pub inserted : (heap pushed heap' : List Entry) (places places' : List ℕ) (queue : List (Option ℕ)) (x : Entry) (n : ℕ) → table heap places ≡ queue → IsPlaced heap places
     → x.task < length places → pushed ≡ heap ++ x ∷ [] → n ≡ length heap → length places' ≡ length places
-    → ((task : ℕ) → due_of heap' places' task ≡ due_with pushed places n x task) → table heap' places' ≡ set queue x.task (Some x.due)
+    → ((task : ℕ) → due_in_heap heap' places' task ≡ due_with pushed places n x task) → table heap' places' ≡ set queue x.task (Some x.due)
 inserted heap pushed heap' places places' queue x n view p known is size same dues =
     let after : List Entry = heap ++ x ∷ [] in
     let len : length after ≡ length heap + 1 = length-append heap (x ∷ []) in
-    let all : (task : ℕ) → due_of heap' places' task ≡ due_with after places (length heap) x task = λ task.
+    let all : (task : ℕ) → due_in_heap heap' places' task ≡ due_with after places (length heap) x task = λ task.
     dues task ∙ ap (λ (l : List Entry). due_with l places n x task) is ∙ ap (λ (k : ℕ). due_with after places k x task) size in
     table_set heap heap' places places' queue x.task (Some x.due) view same known (all x.task ∙ due_in_hole after places (length heap) x (omega arith) known)
     (λ task other. all task ∙ due_pushed heap places x task other)
@@ -133,7 +133,7 @@ inserted heap pushed heap' places places' queue x n view p known is size same du
 -- the same by the lists that were lent
 pub inserted_lent : (heap pushed lent heap' : List Entry) (places lent' places' : List ℕ) (queue : List (Option ℕ)) (x : Entry) (n size count : ℕ) → table heap places ≡ queue
     → IsPlaced heap places → x.task < length queue → pushed ≡ heap ++ x ∷ [] → lent ≡ pushed → lent' ≡ places → n ≡ length heap → size ≡ length pushed → count ≡ length places
-    → length heap' ≡ length lent → length places' ≡ length lent' → ((task : ℕ) → due_of heap' places' task ≡ due_with lent lent' n x task)
+    → length heap' ≡ length lent → length places' ≡ length lent' → ((task : ℕ) → due_in_heap heap' places' task ≡ due_with lent lent' n x task)
     → table (take size (heap' ++ drop (length heap') pushed)) (take count (places' ++ drop (length places') places)) ≡ set queue x.task (Some x.due)
 inserted_lent heap pushed lent heap' places lent' places' queue x n size count view p known is whole all here long many short few dues =
     let back : take size (heap' ++ drop (length heap') pushed) ≡ heap' = take_at heap' (drop (length heap') pushed) size (short ∙ ap length whole ∙ sym long) in
@@ -162,22 +162,22 @@ place_found heap lent places queue task k view p same h =
 
 -- a task whose place was not found is not due
 pub place_missing : (heap lent : List Entry) (places lent' : List ℕ) (queue : List (Option ℕ)) (task : ℕ) → table heap places ≡ queue → lent ≡ heap → lent' ≡ places
-    → (task < length lent' → due_of lent lent' task ≡ None) → due_in queue task ≡ None
+    → (task < length lent' → due_in_heap lent lent' task ≡ None) → due_in queue task ≡ None
 place_missing heap lent places lent' queue task view same same' h =
-    let none : task < length places → due_of heap places task ≡ None =
-    subst₂ (λ (l : List Entry) (n : List ℕ). task < length n → due_of l n task ≡ None) same same' h in
+    let none : task < length places → due_in_heap heap places task ≡ None =
+    subst₂ (λ (l : List Entry) (n : List ℕ). task < length n → due_in_heap l n task ≡ None) same same' h in
     ap (λ (l : List (Option ℕ)). due_in l task) (sym view)
     ∙ ⊎_elim (λ (known : task < length places). due_in-table heap places task known ∙ none known) (λ (past : length places ≤ task). due_in-past heap places task past) (cases_lt task (length places))
 
 -- an entry that was taken out, by the lists that were lent
 pub removed_lent : (heap heap' : List Entry) (places lent' places' : List ℕ) (queue : List (Option ℕ)) (k count : ℕ) → table heap places ≡ queue → IsPlaced heap places → k < length heap
-    → lent' ≡ places → count ≡ length places → length places' ≡ length lent' → due_of heap' places' (entry_at heap k).task ≡ None
-    → ((task : ℕ) → task ≢ (entry_at heap k).task → due_of heap' places' task ≡ due_of heap lent' task)
+    → lent' ≡ places → count ≡ length places → length places' ≡ length lent' → due_in_heap heap' places' (entry_at heap k).task ≡ None
+    → ((task : ℕ) → task ≢ (entry_at heap k).task → due_in_heap heap' places' task ≡ due_in_heap heap lent' task)
     → table heap' (take count (places' ++ drop (length places') places)) ≡ set queue (entry_at heap k).task None
 removed_lent heap heap' places lent' places' queue k count view p inside all many few taken others =
     let back : take count (places' ++ drop (length places') places) ≡ places' = take_at places' (drop (length places') places) count (few ∙ ap length all ∙ sym many) in
     subst (λ (l : List ℕ). table heap' l ≡ set queue (entry_at heap k).task None) (sym back)
-    (removed heap heap' places places' queue k view p inside (few ∙ ap length all) taken (λ task other. others task other ∙ ap (λ (l : List ℕ). due_of heap l task) all))
+    (removed heap heap' places places' queue k view p inside (few ∙ ap length all) taken (λ task other. others task other ∙ ap (λ (l : List ℕ). due_in_heap heap l task) all))
 
 -- what was read first
 pub first_read : (heap lent : List Entry) (e : Entry) → lent ≡ heap → Some e ≡ slice_get lent 0 → (0 < length heap) × (entry_at heap 0 ≡ e)

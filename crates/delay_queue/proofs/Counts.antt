@@ -5,7 +5,7 @@ use Rattle.std.proofs.lemmas.Bool.{cases_lt}
 use Rattle.std.proofs.lemmas.List.{take_more, take_all, get_or_push}
 use Rattle.std.proofs.lemmas.List.Sums.{sum_by-set, count_by-le-length}
 use Rattle.delay_queue.specs.Queues.{due_in, entry_count}
-use Rattle.delay_queue.specs.Heaps.{no_entry, entry_at, IsPlaced, due_of, table}
+use Rattle.delay_queue.specs.Heaps.{no_entry, entry_at, IsPlaced, due_in_heap, table}
 use Rattle.delay_queue.specs.declared.entry.Entry.{Entry}
 use Rattle.delay_queue.proofs.Dues.{due_here}
 use Rattle.delay_queue.proofs.Places.{placed_front, noted_last, due_of_last, due_of_front}
@@ -32,7 +32,7 @@ count_push front places last p =
     let at_end : entry_at heap (length front) ≡ last = get_or_push front last no_entry (length front) refl in
     let size : length front < length heap = omega (arith, length-append front (last ∷ [])) in
     let known : last.task < length places = subst (λ (e : Entry). e.task < length places) at_end (p.known (length front) size) in
-    let here : due_of heap places last.task ≡ Some last.due = due_here heap places last.task (length front) last (noted_last front places last p) size at_end refl in
+    let here : due_in_heap heap places last.task ≡ Some last.due = due_here heap places last.task (length front) last (noted_last front places last p) size at_end refl in
     let put : table heap places ≡ set (table front places) last.task (Some last.due) =
     table_set front heap places places (table front places) last.task (Some last.due) refl refl known here (λ k other. sym (due_of_front front places last k p other)) in
     let none : due_in (table front places) last.task ≡ None = due_in-table front places last.task known ∙ due_of_last front places last p in

@@ -2,7 +2,7 @@
 use Rattle.std.proofs.Common.{◌≡◌, ◌≢◌, ⊎_elim, ℕ, ◌+◌, ◌<◌, ◌≤◌, List, [], ◌∷◌, ◌++◌, Some, None, set, length, get_or, refl, sym, ap, subst, subst₂, ◌∙◌, arith, length-set, length-append, get_or-set_same, get_or-set_other}
 use Rattle.std.proofs.lemmas.Bool.{cases_eq, cases_lt}
 use Rattle.std.proofs.lemmas.List.{get_or_append_left, get_or_push}
-use Rattle.delay_queue.specs.Heaps.{no_entry, entry_at, IsPlaced, due_of}
+use Rattle.delay_queue.specs.Heaps.{no_entry, entry_at, IsPlaced, due_in_heap}
 use Rattle.delay_queue.specs.own.Heaps.{IsPlacedWith, MovesHole, due_with}
 use Rattle.delay_queue.specs.declared.entry.Entry.{Entry}
 use Rattle.delay_queue.proofs.Lookups.{at_same, at_other}
@@ -104,7 +104,7 @@ due_not_in_hole heap places hole x task inside apart noted =
     due_apart (set heap hole x) (set places x.task hole) task hole x (get_or-set_other places x.task task hole 0 apart ∙ noted) (omega arith) (at_same heap hole x inside) (λ same. apart (sym same))
 
 -- a task for which another place is noted
-pub due_away : (heap : List Entry) (places : List ℕ) (hole : ℕ) (x : Entry) (task : ℕ) → task ≢ x.task → get_or places task 0 ≢ hole → due_with heap places hole x task ≡ due_of heap places task
+pub due_away : (heap : List Entry) (places : List ℕ) (hole : ℕ) (x : Entry) (task : ℕ) → task ≢ x.task → get_or places task 0 ≢ hole → due_with heap places hole x task ≡ due_in_heap heap places task
 due_away heap places hole x task apart away =
     let k : ℕ = get_or places task 0 in
     let len : length (set heap hole x) ≡ length heap = length-set heap hole x in
@@ -209,12 +209,12 @@ noted_last front places last p =
     ap (λ (e : Entry). get_or places e.task 0) (sym (get_or_push front last no_entry (length front) refl)) ∙ p.noted (length front) (omega arith)
 
 -- without the last entry its task is not due
-pub due_of_last : (front : List Entry) (places : List ℕ) (last : Entry) → IsPlaced (front ++ last ∷ []) places → due_of front places last.task ≡ None
+pub due_of_last : (front : List Entry) (places : List ℕ) (last : Entry) → IsPlaced (front ++ last ∷ []) places → due_in_heap front places last.task ≡ None
 due_of_last front places last p = due_past front places last.task (length front) (noted_last front places last p) (omega arith)
 
 -- without the last entry the others are due as before
 pub due_of_front : (front : List Entry) (places : List ℕ) (last : Entry) (task : ℕ) → IsPlaced (front ++ last ∷ []) places → task ≢ last.task
-    → due_of front places task ≡ due_of (front ++ last ∷ []) places task
+    → due_in_heap front places task ≡ due_in_heap (front ++ last ∷ []) places task
 due_of_front front places last task p other =
     let heap : List Entry = front ++ last ∷ [] in
     let k : ℕ = get_or places task 0 in
@@ -239,7 +239,7 @@ due_of_cut front places place last inside p =
 
 -- and the others are due as before
 pub due_of_kept : (front : List Entry) (places : List ℕ) (place : ℕ) (last : Entry) (task : ℕ) → place < length front → IsPlaced (front ++ last ∷ []) places
-    → task ≢ (entry_at front place).task → due_with front places place last task ≡ due_of (front ++ last ∷ []) places task
+    → task ≢ (entry_at front place).task → due_with front places place last task ≡ due_in_heap (front ++ last ∷ []) places task
 due_of_kept front places place last task inside p other =
     let heap : List Entry = front ++ last ∷ [] in
     let b = beside_cut front places place last inside p in

@@ -18,12 +18,12 @@ abbrev pub parent : ℕ → ℕ
 parent place = (place - 1) / 2
 
 -- the second entry does not come before the first
-abbrev pub IsOrdered : Entry → Entry → Type 0
-IsOrdered e f = comes_before f.due f.task e.due e.task ≡ false
+abbrev pub IsInHeapOrder : Entry → Entry → Type 0
+IsInHeapOrder e f = comes_before f.due f.task e.due e.task ≡ false
 
 -- no entry comes before the one above it
 pub record IsHeap (heap : List Entry) : Type 0 where
-  pub ordered : (k : ℕ) → 0 < k → k < length heap → IsOrdered (entry_at heap (parent k)) (entry_at heap k)
+  pub ordered : (k : ℕ) → 0 < k → k < length heap → IsInHeapOrder (entry_at heap (parent k)) (entry_at heap k)
 
 -- the place of each entry is the one that is noted for its task
 pub record IsPlaced (heap : List Entry) (places : List ℕ) : Type 0 where
@@ -36,9 +36,9 @@ due_if_of None task = None
 due_if_of (Some e) task = if e.task == task then Some e.due else None
 
 -- when a task is due: at the place that is noted for it stands its entry, or it has none
-abbrev pub due_of : List Entry → List ℕ → ℕ → Option ℕ
-due_of heap places task = due_if_of (slice_get heap (slice_index_or places task 0)) task
+abbrev pub due_in_heap : List Entry → List ℕ → ℕ → Option ℕ
+due_in_heap heap places task = due_if_of (slice_get heap (slice_index_or places task 0)) task
 
 -- when each task is due
 abbrev pub table : List Entry → List ℕ → List (Option ℕ)
-table heap places = map (due_of heap places) (range_with_len 0 (length places))
+table heap places = map (due_in_heap heap places) (range_with_len 0 (length places))

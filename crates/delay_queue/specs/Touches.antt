@@ -73,7 +73,7 @@ pub record IsHeapOf (heap : List Entry) (entries : List (Option ℕ)) : Type 0 w
 
 -- A call counted as many touches as it makes of a heap of the queue's entries, up to the greatest count. Which heap of these
 -- it is depends on the calls before.
-pub record Counts (before : Queue) (after : ℕ) (Makes : List Entry → ℕ → Type 0) : Type 0 where
+pub record CountsTouches (before : Queue) (after : ℕ) (Makes : List Entry → ℕ → Type 0) : Type 0 where
   pub heap : List Entry
   pub is : IsHeapOf heap before.entries
   pub times : ℕ

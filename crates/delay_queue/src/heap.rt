@@ -4,7 +4,7 @@
 //! does not count, so that each of them is written once.
 ghost use Rattle.std.specs.Prelude.{◌≡◌, ◌≢◌, ℕ, ◌+◌, ◌-◌, ◌*◌, ◌^◌, ◌<◌, ◌≤◌, ◌==◌, if◌then◌else◌, length, slice_index_or, slice_set, vec_capacity, None, IfSome, IfNone};
 ghost use Rattle.delay_queue.specs.Queues.{comes_before, binary_digits, most_touches};
-ghost use Rattle.delay_queue.specs.Heaps.{entry_at, parent, IsHeap, IsPlaced, due_of};
+ghost use Rattle.delay_queue.specs.Heaps.{entry_at, parent, IsHeap, IsPlaced, due_in_heap};
 ghost use Rattle.delay_queue.specs.own.Heaps.{IsHeapAround, IsAboveChildren, IsPlacedWith, MovesHole, due_with};
 ghost use Rattle.delay_queue.specs.Touches.{moving, sunk_from, risen, replace_touches, take_touches};
 ghost use Rattle.delay_queue.specs.declared.entry.Entry.{Entry as entry_value};
@@ -15,7 +15,7 @@ use std::alloc::Allocator;
 /// Where the entry of a task stands, or `None` where it has none.
 pub(crate) fn place_of(heap: &[Entry], places: &[u32], task: u32) -> Option<usize>
     ensures found { IfSome result (λ place. (place < length heap.now) × ((entry_at heap.now place).task ≡ task)) }
-    ensures missing { IfNone result (task < length places.now → due_of heap.now places.now task ≡ None) }
+    ensures missing { IfNone result (task < length places.now → due_in_heap heap.now places.now task ≡ None) }
 {
     let place = *places.get(task as usize)? as usize;
     match heap.get(place) {
@@ -60,7 +60,7 @@ pub(crate) fn rise(heap: &mut [Entry], places: &mut [u32], mut hole: usize, entr
     requires placed { IsPlacedWith heap.old places.old hole entry }
     ensures heap { IsHeap heap.new }
     ensures placed { IsPlaced heap.new places.new }
-    ensures dues { (task : ℕ) → due_of heap.new places.new task ≡ due_with heap.old places.old hole entry task }
+    ensures dues { (task : ℕ) → due_in_heap heap.new places.new task ≡ due_with heap.old places.old hole entry task }
     ensures heap_length { length heap.new ≡ length heap.old }
     ensures places_length { length places.new ≡ length places.old }
     ensures exact { let end = risen hole entry (moving heap.old hole 0) in (heap.new ≡ slice_set end.heap end.hole entry) × (result ≡ end.touches) }
@@ -124,7 +124,7 @@ fn replace(heap: &mut [Entry], places: &mut [u32], place: usize, entry: Entry) -
     requires placed { IsPlacedWith heap.old places.old place entry }
     ensures heap { IsHeap heap.new }
     ensures placed { IsPlaced heap.new places.new }
-    ensures dues { (task : ℕ) → due_of heap.new places.new task ≡ due_with heap.old places.old place entry task }
+    ensures dues { (task : ℕ) → due_in_heap heap.new places.new task ≡ due_with heap.old places.old place entry task }
     ensures heap_length { length heap.new ≡ length heap.old }
     ensures places_length { length places.new ≡ length places.old }
     ensures exact { result ≡ replace_touches heap.old place entry }
@@ -148,8 +148,8 @@ pub(crate) fn take_out<A: Allocator>(
     requires placed { IsPlaced heap.old.items places.old }
     ensures heap { IsHeap heap.new.items }
     ensures placed { IsPlaced heap.new.items places.new }
-    ensures taken { due_of heap.new.items places.new (entry_at heap.old.items place).task ≡ None }
-    ensures others { (task : ℕ) → task ≢ (entry_at heap.old.items place).task → due_of heap.new.items places.new task ≡ due_of heap.old.items places.old task }
+    ensures taken { due_in_heap heap.new.items places.new (entry_at heap.old.items place).task ≡ None }
+    ensures others { (task : ℕ) → task ≢ (entry_at heap.old.items place).task → due_in_heap heap.new.items places.new task ≡ due_in_heap heap.old.items places.old task }
     ensures room { vec_capacity heap.new ≡ vec_capacity heap.old }
     ensures places_length { length places.new ≡ length places.old }
     ensures exact { result ≡ take_touches heap.old.items place }

@@ -1,7 +1,7 @@
 //! The queue: a binary heap of entries, with the place of each task's entry beside it.
 ghost use Rattle.std.specs.Prelude.{◌≡◌, ℕ, ◌+◌, ◌-◌, ◌<◌, ◌≤◌, ◌==◌, true, false, min, Some, None, length, replicate, slice_set, is_some, IfOk, IsOk, IfSome, IfNone};
 ghost use Rattle.delay_queue.specs.Queues.{due_in, entry_count, most_touches, greatest_count, IsLeast, IsEmpty, NoneIsDue, Touches};
-ghost use Rattle.delay_queue.specs.Touches.{insert_touches, take_touches, Counts, RemovalMakes};
+ghost use Rattle.delay_queue.specs.Touches.{insert_touches, take_touches, CountsTouches, RemovalMakes};
 
 use crate::entry::Entry;
 use crate::error::QueueError;
@@ -25,13 +25,13 @@ impl<A: Allocator> Model for DelayQueue<A> {
     ghost use Rattle.std.specs.Prelude.{vec_capacity};
     ghost use Rattle.delay_queue.specs.Queues.{Queue};
     ghost use Rattle.delay_queue.specs.Heaps.{table};
-    ghost use Rattle.delay_queue.specs.own.Heaps.{IsWellFormed};
+    ghost use Rattle.delay_queue.specs.own.Heaps.{IsWellFormedQueue};
 
     ghost Value = { Queue };
 
     ghost view = { λ q. record { entries = table q.heap.items q.places.items; touched = q.touched } };
 
-    ghost invariant = { λ q. IsWellFormed q.heap.items q.places.items (vec_capacity q.heap) };
+    ghost invariant = { λ q. IsWellFormedQueue q.heap.items q.places.items (vec_capacity q.heap) };
 }
 
 impl<A: Allocator> DelayQueue<A> {
@@ -74,7 +74,7 @@ impl<A: Allocator> DelayQueue<A> {
         requires absent { due_in self.old.entries entry.task ≡ None }
         ensures inserted { self.new.entries ≡ slice_set self.old.entries entry.task (Some entry.due) }
         ensures touched { Touches self.old.touched self.new.touched (min 1 (entry_count self.old.entries)) (most_touches (entry_count self.old.entries)) }
-        ensures counted { Counts self.old self.new.touched (λ heap times. times ≡ insert_touches heap entry) }
+        ensures counted { CountsTouches self.old self.new.touched (λ heap times. times ≡ insert_touches heap entry) }
     {
         let place = self.heap.len();
         self.heap.push_reserved(entry);
@@ -100,7 +100,7 @@ impl<A: Allocator> DelayQueue<A> {
         ensures none_due { IfNone result (NoneIsDue self.old.entries now) }
         ensures unchanged { IfNone result (self.new.entries ≡ self.old.entries) }
         ensures touched { IfSome result (λ _. Touches self.old.touched self.new.touched (min 1 (entry_count self.old.entries - 1)) (most_touches (entry_count self.old.entries))) }
-        ensures counted { IfSome result (λ _. Counts self.old self.new.touched (λ heap times. times ≡ take_touches heap 0)) }
+        ensures counted { IfSome result (λ _. CountsTouches self.old self.new.touched (λ heap times. times ≡ take_touches heap 0)) }
         ensures untouched { IfNone result (self.new.touched ≡ self.old.touched) }
     {
         let least = *self.heap.first()?;
@@ -119,7 +119,7 @@ impl<A: Allocator> DelayQueue<A> {
         ensures unchanged { result ≡ false → self.new.entries ≡ self.old.entries }
         ensures touched { Touches self.old.touched self.new.touched 0 (most_touches (entry_count self.old.entries)) }
         ensures least { (due : ℕ) → IsLeast self.old.entries due task → Touches self.old.touched self.new.touched (min 1 (entry_count self.old.entries - 1)) (most_touches (entry_count self.old.entries)) }
-        ensures counted { result ≡ true → Counts self.old self.new.touched (RemovalMakes task) }
+        ensures counted { result ≡ true → CountsTouches self.old self.new.touched (RemovalMakes task) }
         ensures untouched { result ≡ false → self.new.touched ≡ self.old.touched }
     {
         let Some(place) = place_of(&self.heap, &self.places, task) else {

@@ -16,15 +16,15 @@ use Rattle.executor_core.specs.declared.types.Outcome.{Outcome}
 use Rattle.executor_core.specs.declared.types.Outcome.TheVariants as o
 use Rattle.executor_core.specs.declared.types.Answer.{Answer}
 use Rattle.executor_core.specs.declared.types.Answer.TheVariants as a
-use Rattle.executor_core.specs.declared.task.Phase.{Phase}
-use Rattle.executor_core.specs.declared.task.Phase.TheVariants as ph
+use Rattle.executor_core.specs.declared.task.Stage.{Stage}
+use Rattle.executor_core.specs.declared.task.Stage.TheVariants as ph
 use Rattle.executor_core.specs.declared.task.Task.{Task}
 use Rattle.queue_code.specs.Calls.{Planned, terms_of, due_at, numbers, task_count}
 use Rattle.executor_core.specs.View.{first_enabled}
-use Rattle.executor_core.specs.Answers.{reply, plain, called, kind_of, swept, started, finished, effect_on, Reply}
+use Rattle.executor_core.specs.Answers.{reply, bare, called, kind_of, swept, start_answer, finish_answer, effect_on, Reply}
 use Rattle.executor_core.specs.Histories.{HistoryEntry, entry_of, happenings, IsHistoryOf, view_of_history, answer, cancels, is_shutdown}
 use Rattle.executor_core.specs.State.{State, view_of_state, next, after, opening, reply_of, move_task, submit_phase, finish_task, task_after}
-use Rattle.executor_core.specs.Machine.{Machine, workers_of, state_of}
+use Rattle.executor_core.specs.CoreView.{CoreView, workers_of, state_of}
 use Rattle.executor_core.specs.own.Invariants.{IsSound, IsDue, TimingsAgree, NoneDelayed, IsWellFormedCore}
 use Rattle.executor_core.specs.own.Sought.{Sought, OnlyThese}
 use Rattle.executor_core.proofs.Views.{seen_moves, look_moves, view_after, due_next_state}
@@ -95,7 +95,7 @@ finish_timing timing now (o.Again due) task = refl
 timing_after : (calls : List Planned) (s : State) (answer : Answer) → IsSound s → Finds calls s answer → TimingsAgree calls s → (k : ℕ) → (task_by calls s answer k).phase ≢ ph.Vacant → (task_by calls s answer k).timing ≡ (terms_of calls k).timing
 timing_after calls s (a.Submit j kind due) sound f agree k = by (j == k)
   where
-    from : (p : Phase) (task : Task) → (task.phase ≢ ph.Vacant → task.timing ≡ (terms_of calls k).timing) → task.phase ≡ p → (submit_phase (terms_of calls k).timing due p task).timing ≡ (terms_of calls k).timing
+    from : (p : Stage) (task : Task) → (task.phase ≢ ph.Vacant → task.timing ≡ (terms_of calls k).timing) → task.phase ≡ p → (submit_phase (terms_of calls k).timing due p task).timing ≡ (terms_of calls k).timing
     from ph.Vacant task old is = refl
     from ph.Waiting task old is = old (λ q. let clash : ph.Waiting ≡ ph.Vacant = sym is ∙ q in cc)
     from ph.Running task old is = old (λ q. let clash : ph.Running ≡ ph.Vacant = sym is ∙ q in cc)
@@ -166,14 +166,14 @@ shut_call calls s moment (c.Cancel task) shut = tt
 shut_call calls s moment (c.SetPolicy which value) shut = tt
 shut_call calls s moment c.Shutdown shut =
     let v = record (view_of_state calls s) { moment = moment } in
-    let pick : (b : Bool) → SubmitsNone (cond b (plain a.ShutdownAgain) (record { answer = a.Shutdown; ends = swept calls v s.policies })).answer = elim [ true ↦ tt | false ↦ tt ] in
+    let pick : (b : Bool) → SubmitsNone (cond b (bare a.ShutdownAgain) (record { answer = a.Shutdown; ends = swept calls v s.policies })).answer = elim [ true ↦ tt | false ↦ tt ] in
     pick s.shut
 shut_call calls s moment c.Ask shut = tt
 
 -- nothing that happens submits a task where the executor is shut
 shut_submits_none : (calls : List Planned) (workers : ℕ) (s : State) (happening : Happening) → s.shut ≡ true → SubmitsNone (reply_of calls workers s happening).answer
 shut_submits_none calls workers s h.Call shut =
-    let pick : (q : Option Planned) → SubmitsNone (option_map_or (λ p. called calls (record (view_of_state calls s) { moment = max s.moment p.0 }) p.1) q (plain a.Clock)).answer =
+    let pick : (q : Option Planned) → SubmitsNone (option_map_or (λ p. called calls (record (view_of_state calls s) { moment = max s.moment p.0 }) p.1) q (bare a.Clock)).answer =
     elim [ None ↦ tt | Some p ↦ shut_call calls s (max s.moment p.0) p.1 shut ]
     in
     pick (slice_get calls s.made)
@@ -182,14 +182,14 @@ shut_submits_none calls workers s (h.Clock t) shut =
     pick _ _
 shut_submits_none calls workers s (h.Start w) shut =
     let v = view_of_state calls s in
-    let first : (q : Option ℕ) → SubmitsNone (started v w q) = elim [ None ↦ tt | Some k ↦ tt ] in
-    let pick : (b : Bool) (work : Option ℕ) → SubmitsNone (cond b (option_map_or (λ _. a.Error x.Busy) work (started v w (first_enabled v (numbers calls)))) (a.Error x.NoWorker)) =
+    let first : (q : Option ℕ) → SubmitsNone (start_answer v w q) = elim [ None ↦ tt | Some k ↦ tt ] in
+    let pick : (b : Bool) (work : Option ℕ) → SubmitsNone (cond b (option_map_or (λ _. a.Error x.Busy) work (start_answer v w (first_enabled v (numbers calls)))) (a.Error x.NoWorker)) =
     elim [ true ↦ elim [ None ↦ first (first_enabled v (numbers calls)) | Some k ↦ tt ] | false ↦ λ work. tt ]
     in
     pick (nat_lt w workers) (s.workers w)
 shut_submits_none calls workers s (h.Finish w ending) shut =
     let v = view_of_state calls s in
-    let pick : (b : Bool) (work : Option ℕ) → SubmitsNone (cond b (finished calls v w ending work) (a.Error x.NoWorker)) =
+    let pick : (b : Bool) (work : Option ℕ) → SubmitsNone (cond b (finish_answer calls v w ending work) (a.Error x.NoWorker)) =
     elim [ true ↦ elim [ None ↦ tt | Some k ↦ tt ] | false ↦ λ work. tt ]
     in
     pick (nat_lt w workers) (s.workers w)
@@ -200,7 +200,7 @@ shut_submits_none calls workers s (h.Cancel k) shut =
 -- what a step leaves true
 
 -- what stays true of a core whatever happens, but for its tables
-pub record StillTrue (n : Machine) (sought : Sought) : Type 0 where
+pub record StillTrue (n : CoreView) (sought : Sought) : Type 0 where
   pub sound : IsSound (state_of n)
   pub due : IsDue n.calls (view_of_state n.calls (state_of n))
   pub timing : TimingsAgree n.calls (state_of n)
@@ -228,22 +228,22 @@ goes_on_after calls s r sound f none k q =
     let before = by r.answer f none parts.0 parts.2 in
     goes_from (s.tasks k).phase (s.tasks k).cancelled (s.tasks k).timing before.0 (no_or (cancels k r.answer r.ends) (s.tasks k).cancelled parts.1) before.1
   where
-    started : (b : Bool) (j : ℕ) → (j == k) ≡ b → (s.tasks j).phase ≡ ph.Waiting → (let x : Task = cond b (record (s.tasks k) { phase = ph.Running }) (s.tasks k) in
+    start_answer : (b : Bool) (j : ℕ) → (j == k) ≡ b → (s.tasks j).phase ≡ ph.Waiting → (let x : Task = cond b (record (s.tasks k) { phase = ph.Running }) (s.tasks k) in
         is_live_phase x.phase ≡ true → is_periodic x.timing ≡ true → (is_live_phase (s.tasks k).phase ≡ true) × (is_periodic (s.tasks k).timing ≡ true))
-    started true j same waits live more = (ap is_live_phase (subst (λ i. (s.tasks i).phase ≡ ph.Waiting) (eqb-true j k same) waits), more)
-    started false j apart waits live more = (live, more)
+    start_answer true j same waits live more = (ap is_live_phase (subst (λ i. (s.tasks i).phase ≡ ph.Waiting) (eqb-true j k same) waits), more)
+    start_answer false j apart waits live more = (live, more)
 
-    finished : (outcome : Outcome) (b : Bool) (j : ℕ) → (j == k) ≡ b → (s.tasks j).phase ≡ ph.Running → (let x : Task = cond b (finish_task (terms_of calls k).timing s.moment outcome (s.tasks k)) (s.tasks k) in
+    finish_answer : (outcome : Outcome) (b : Bool) (j : ℕ) → (j == k) ≡ b → (s.tasks j).phase ≡ ph.Running → (let x : Task = cond b (finish_task (terms_of calls k).timing s.moment outcome (s.tasks k)) (s.tasks k) in
         is_live_phase x.phase ≡ true → is_periodic x.timing ≡ true → (is_live_phase (s.tasks k).phase ≡ true) × (is_periodic (s.tasks k).timing ≡ true))
-    finished outcome true j same runs live more =
+    finish_answer outcome true j same runs live more =
         (ap is_live_phase (subst (λ i. (s.tasks i).phase ≡ ph.Running) (eqb-true j k same) runs), ap is_periodic (sym (finish_timing (terms_of calls k).timing s.moment outcome (s.tasks k))) ∙ more)
-    finished outcome false j apart runs live more = (live, more)
+    finish_answer outcome false j apart runs live more = (live, more)
 
     by : (answer : Answer) → Finds calls s answer → SubmitsNone answer → is_live_phase (task_by calls s answer k).phase ≡ true → is_periodic (task_by calls s answer k).timing ≡ true →
         (is_live_phase (s.tasks k).phase ≡ true) × (is_periodic (s.tasks k).timing ≡ true)
     by (a.Submit j kind due) f none live more = absurd none
-    by (a.Start w j n due) f none live more = started (j == k) j refl f.1 live more
-    by (a.Finish w j n outcome) f none live more = finished outcome (j == k) j refl (sound.at_work w j f.0) live more
+    by (a.Start w j n due) f none live more = start_answer (j == k) j refl f.1 live more
+    by (a.Finish w j n outcome) f none live more = finish_answer outcome (j == k) j refl (sound.at_work w j f.0) live more
     by _ f none live more = (live, more)
 
 -- where only some periodic tasks go on, a step keeps it so
@@ -253,7 +253,7 @@ next_only_these calls workers s happening going sound shut old k q =
     old k (goes_on_after calls s r sound (reply_finds calls workers s happening sound) (shut_submits_none calls workers s happening shut) k q)
 
 -- what is true of a core is so after a step
-pub still_true : (m n : Machine) (entries keeps : List (Option ℕ)) (sought : Sought) (happening : Happening) → IsWellFormedCore m entries keeps sought → n.calls ≡ m.calls →
+pub still_true : (m n : CoreView) (entries keeps : List (Option ℕ)) (sought : Sought) (happening : Happening) → IsWellFormedCore m entries keeps sought → n.calls ≡ m.calls →
     state_of n ≡ next m.calls (workers_of m) (state_of m) happening → StillTrue n sought
 still_true m n entries keeps sought happening kept same step =
     let s = state_of m in

@@ -9,15 +9,15 @@ use Rattle.delay_queue.specs.Queues as queues
 use Rattle.queue_code.specs.declared.call.CodeCall.TheVariants as c
 use Rattle.executor_core.specs.declared.types.Happening.TheVariants as h
 use Rattle.executor_core.specs.declared.types.Answer.TheVariants as a
-use Rattle.executor_core.specs.declared.task.Phase.{Phase}
-use Rattle.executor_core.specs.declared.task.Phase.TheVariants as ph
+use Rattle.executor_core.specs.declared.task.Stage.{Stage}
+use Rattle.executor_core.specs.declared.task.Stage.TheVariants as ph
 use Rattle.executor_core.specs.declared.task.Task.{Task}
-use Rattle.queue_code.specs.Calls.{Planned, Terms, terms_of, how_many, is_submission}
+use Rattle.queue_code.specs.Calls.{Planned, Terms, terms_of, how_many, submits_task}
 use Rattle.executor_core.specs.View.{is_running, is_waiting}
-use Rattle.executor_core.specs.Answers.{is_queued, queue_size, running_count, plain, is_terminated}
+use Rattle.executor_core.specs.Answers.{is_queued, queue_size, running_count, bare, is_terminated}
 use Rattle.executor_core.specs.State.{vacant, seen_task, seen_phase, view_of_state}
 use Rattle.executor_core.specs.own.Tables.{one, is_running_phase, is_waiting_phase, waits_with, running_in}
-use Rattle.executor_core.specs.Machine.{Machine, state_of}
+use Rattle.executor_core.specs.CoreView.{CoreView, state_of}
 use Rattle.executor_core.specs.own.Invariants.{queued, queued_phase, held, IsWellFormedCore}
 use Rattle.executor_core.specs.own.OwnSteps.{Takes}
 use Rattle.executor_core.specs.own.Sought.{Sought}
@@ -39,7 +39,7 @@ same_eqb n = eq-eqb n n refl
 pub seen_runs : (terms : Terms) (t : Task) → is_running (seen_task terms t) ≡ is_running_phase t.phase
 seen_runs terms t = by t.phase
   where
-    by : (p : Phase) → is_running (seen_phase terms p t.run t.due t.cancelled t.kept) ≡ is_running_phase p
+    by : (p : Stage) → is_running (seen_phase terms p t.run t.due t.cancelled t.kept) ≡ is_running_phase p
     by ph.Vacant = refl
     by ph.Waiting = ap not (same_eqb t.run)
     by ph.Running = ap not (next_eqb t.run)
@@ -51,7 +51,7 @@ seen_runs terms t = by t.phase
 pub seen_waits : (terms : Terms) (t : Task) → (t.phase ≡ ph.Dropped → t.cancelled ≡ true) → is_waiting (seen_task terms t) ≡ waits_with t
 seen_waits terms t over = by t.phase t.cancelled over
   where
-    by : (p : Phase) (b : Bool) → (p ≡ ph.Dropped → b ≡ true) → is_waiting (seen_phase terms p t.run t.due b t.kept) ≡ (is_waiting_phase p && not b)
+    by : (p : Stage) (b : Bool) → (p ≡ ph.Dropped → b ≡ true) → is_waiting (seen_phase terms p t.run t.due b t.kept) ≡ (is_waiting_phase p && not b)
     by ph.Vacant b over = refl
     by ph.Waiting true over = ap (λ x. not (not x) && false) (same_eqb t.run)
     by ph.Waiting false over = ap (λ x. not (not x) && true) (same_eqb t.run)
@@ -109,7 +109,7 @@ count_entries f tasks = sym (is_count_by (how_many is_some) is_some refl (λ x x
 stands_once : (t : Task) → (t.kept ≡ true → t.cancelled ≡ true) → one (is_some (queued t)) + one (is_some (held t)) ≡ one (waits_with t || t.kept)
 stands_once t gone = by t.phase t.cancelled t.kept gone
   where
-    by : (p : Phase) (b kept : Bool) → (kept ≡ true → b ≡ true) →
+    by : (p : Stage) (b kept : Bool) → (kept ≡ true → b ≡ true) →
         one (is_some (cond b None (queued_phase p t.due))) + one (is_some (cond kept (Some t.due) None)) ≡ one ((is_waiting_phase p && not b) || kept)
     by p false true gone = absurd (false≢true (gone refl))
     by ph.Vacant true true gone = refl
@@ -148,7 +148,7 @@ two_queues (t ∷ tasks) gone =
 -- what an ask counts, and its step
 
 -- the entries of both queues are as many as the tasks that stand in the queue
-pub queue_counts : (m : Machine) (entries keeps : List (Option ℕ)) (sought : Sought) → IsWellFormedCore m entries keeps sought →
+pub queue_counts : (m : CoreView) (entries keeps : List (Option ℕ)) (sought : Sought) → IsWellFormedCore m entries keeps sought →
     queues.entry_count entries + queues.entry_count keeps ≡ queue_size m.calls (view_of_state m.calls (state_of m))
 queue_counts m entries keeps sought kept =
     let v = view_of_state m.calls (state_of m) in
@@ -160,7 +160,7 @@ queue_counts m entries keeps sought kept =
     ∙ (sym seen ∙ ap (λ n. how_many (λ k. is_queued (v.fate k)) (range_with_len 0 n)) kept.count)))
 
 -- the tasks whose run is under way are as many as those that are seen to be run
-pub run_counts : (m : Machine) (entries keeps : List (Option ℕ)) (sought : Sought) → IsWellFormedCore m entries keeps sought →
+pub run_counts : (m : CoreView) (entries keeps : List (Option ℕ)) (sought : Sought) → IsWellFormedCore m entries keeps sought →
     running_in m.tasks ≡ running_count m.calls (view_of_state m.calls (state_of m))
 run_counts m entries keeps sought kept =
     let v = view_of_state m.calls (state_of m) in
@@ -168,7 +168,7 @@ run_counts m entries keeps sought kept =
     sym seen ∙ ap (λ n. how_many (λ k. is_running (v.fate k)) (range_with_len 0 n)) kept.count
 
 -- the state after a question
-asked_state : (m : Machine) (at queue running : ℕ) (shut terminated : Bool) → state_of (passed m (max m.moment at)) ≡ called_state m.calls (state_of m) at (a.Ask queue running shut terminated)
+asked_state : (m : CoreView) (at queue running : ℕ) (shut terminated : Bool) → state_of (passed m (max m.moment at)) ≡ called_state m.calls (state_of m) at (a.Ask queue running shut terminated)
 asked_state m at queue running shut terminated =
     let one : m.made + 1 ≡ 1 + m.made = omega arith in
     λ i. record (state_of m) {
@@ -178,19 +178,19 @@ asked_state m at queue running shut terminated =
     }
 
 -- a core takes the step of a question, with the counts as the core has them
-pub ask_steps : (m old : Machine) (entries keeps : List (Option ℕ)) (sought : Sought) (moment at queue running : ℕ) (terminated : Bool) → IsWellFormedCore m entries keeps sought →
+pub ask_steps : (m old : CoreView) (entries keeps : List (Option ℕ)) (sought : Sought) (moment at queue running : ℕ) (terminated : Bool) → IsWellFormedCore m entries keeps sought →
     slice_get m.calls m.made ≡ Some (at, c.Ask) → queue ≡ queues.entry_count entries + queues.entry_count keeps → running ≡ running_in m.tasks → terminated ≡ is_terminated m.shut queue running →
     moment ≡ max m.moment at → m ≡ old → Takes old (passed m moment) h.Call (a.Ask queue running m.shut terminated)
 ask_steps m old entries keeps sought moment at queue running terminated kept is stand run ends greatest same =
     let queued_so = stand ∙ queue_counts m entries keeps sought kept in
     let run_so = run ∙ run_counts m entries keeps sought kept in
     passed_steps m old moment at c.Ask (a.Ask queue running m.shut terminated) is
-    (sym (ap (λ b. plain (a.Ask queue running m.shut b)) ends ∙ (λ i. plain (a.Ask (queued_so i) (run_so i) m.shut (is_terminated m.shut (queued_so i) (run_so i))))))
+    (sym (ap (λ b. bare (a.Ask queue running m.shut b)) ends ∙ (λ i. bare (a.Ask (queued_so i) (run_so i) m.shut (is_terminated m.shut (queued_so i) (run_so i))))))
     (asked_state m at queue running m.shut terminated) greatest same
 
 -- the counts are small enough
-pub counts_within : (m : Machine) (entries keeps : List (Option ℕ)) (sought : Sought) → IsWellFormedCore m entries keeps sought → (queues.entry_count entries + queues.entry_count keeps ≤ 65536) × (running_in m.tasks ≤ 65536)
+pub counts_within : (m : CoreView) (entries keeps : List (Option ℕ)) (sought : Sought) → IsWellFormedCore m entries keeps sought → (queues.entry_count entries + queues.entry_count keeps ≤ 65536) × (running_in m.tasks ≤ 65536)
 counts_within m entries keeps sought kept =
-    let few : length m.tasks ≤ 65536 = omega (arith, kept.count, how_many-le (λ (p : Planned). is_submission p.1) m.calls, kept.orderly.0) in
+    let few : length m.tasks ≤ 65536 = omega (arith, kept.count, how_many-le (λ (p : Planned). submits_task p.1) m.calls, kept.orderly.0) in
     let all = (λ i. queues.entry_count (kept.queue i) + queues.entry_count (kept.keeping i)) ∙ ((λ i. count_entries queued m.tasks i + count_entries held m.tasks i) ∙ two_queues m.tasks (λ k held. (kept.sound.kept k held).1)) in
     (omega (arith, few, all, how_many-le (λ (t : Task). waits_with t || t.kept) m.tasks), omega (arith, few, how_many-le (λ (t : Task). is_running_phase t.phase) m.tasks))

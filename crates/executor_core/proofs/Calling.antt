@@ -10,9 +10,9 @@ use Rattle.executor_core.specs.declared.types.Answer.{Answer}
 use Rattle.executor_core.specs.declared.types.Answer.TheVariants as a
 use Rattle.queue_code.specs.Calls.{Planned, task_count}
 use Rattle.executor_core.specs.View.{View}
-use Rattle.executor_core.specs.Answers.{Reply, plain, called}
+use Rattle.executor_core.specs.Answers.{Reply, bare, called}
 use Rattle.executor_core.specs.State.{State, view_of_state, next, reply_of, state_after}
-use Rattle.executor_core.specs.Machine.{Machine, workers_of, state_of}
+use Rattle.executor_core.specs.CoreView.{CoreView, workers_of, state_of}
 use Rattle.executor_core.specs.own.Invariants.{IsWellFormedCore}
 use Rattle.executor_core.specs.own.OwnSteps.{Takes}
 use Rattle.executor_core.specs.own.Sought.{Sought}
@@ -24,23 +24,23 @@ view_at calls s at = record (view_of_state calls s) { moment = max s.moment at }
 
 -- the state after a call made at some moment that has such an answer
 abbrev pub called_state : List Planned → State → ℕ → Answer → State
-called_state calls s at answer = record (state_after calls s h.Call (plain answer)) { moment = max s.moment at }
+called_state calls s at answer = record (state_after calls s h.Call (bare answer)) { moment = max s.moment at }
 
 -- the reply to a call, given the call
 abbrev reply_to : List Planned → State → Option Planned → Reply
-reply_to calls s call = option_map_or (λ p. called calls (view_at calls s p.0) p.1) call (plain a.Clock)
+reply_to calls s call = option_map_or (λ p. called calls (view_at calls s p.0) p.1) call (bare a.Clock)
 
 -- the state after it
 abbrev state_to : List Planned → State → Option Planned → State
 state_to calls s call = record (state_after calls s h.Call (reply_to calls s call)) { moment = option_map_or (λ p. max s.moment p.0) call s.moment }
 
 -- the reply to the next call
-pub call_reply : (calls : List Planned) (workers at : ℕ) (s : State) (call : CodeCall) (answer : Answer) → slice_get calls s.made ≡ Some (at, call) → called calls (view_at calls s at) call ≡ plain answer →
-    reply_of calls workers s h.Call ≡ plain answer
+pub call_reply : (calls : List Planned) (workers at : ℕ) (s : State) (call : CodeCall) (answer : Answer) → slice_get calls s.made ≡ Some (at, call) → called calls (view_at calls s at) call ≡ bare answer →
+    reply_of calls workers s h.Call ≡ bare answer
 call_reply calls workers at s call answer is said = ap (reply_to calls s) is ∙ said
 
 -- the state after the next call
-pub call_state : (calls : List Planned) (workers at : ℕ) (s new : State) (call : CodeCall) (answer : Answer) → slice_get calls s.made ≡ Some (at, call) → called calls (view_at calls s at) call ≡ plain answer →
+pub call_state : (calls : List Planned) (workers at : ℕ) (s new : State) (call : CodeCall) (answer : Answer) → slice_get calls s.made ≡ Some (at, call) → called calls (view_at calls s at) call ≡ bare answer →
     new ≡ called_state calls s at answer → new ≡ next calls workers s h.Call
 call_state calls workers at s new call answer is said there =
     there ∙ (ap (λ r. record (state_after calls s h.Call r) { moment = max s.moment at }) (sym said) ∙ ap (state_to calls s) (sym is))
@@ -51,7 +51,7 @@ kept_so true = refl
 kept_so false = refl
 
 -- a core that made a call, at a moment that is not before it, stays well formed
-pub made_kept : (m : Machine) (entries keeps : List (Option ℕ)) (sought : Sought) (moment at : ℕ) (call : CodeCall) (policies : Policies) (shut : Bool) → IsWellFormedCore m entries keeps sought →
+pub made_kept : (m : CoreView) (entries keeps : List (Option ℕ)) (sought : Sought) (moment at : ℕ) (call : CodeCall) (policies : Policies) (shut : Bool) → IsWellFormedCore m entries keeps sought →
     slice_get m.calls m.made ≡ Some (at, call) → moment ≡ max m.moment at → (m.shut ≡ true → shut ≡ true) →
     IsWellFormedCore (record m { made = m.made + 1; moment = moment; policies = policies; shut = shut }) entries keeps sought
 made_kept m entries keeps sought moment at call policies shut kept is greatest shuts =
@@ -80,16 +80,16 @@ made_kept m entries keeps sought moment at call policies shut kept is greatest s
     }
 
 -- a core that made a call which changes no task
-abbrev pub passed : Machine → ℕ → Machine
+abbrev pub passed : CoreView → ℕ → CoreView
 passed m moment = record m { made = m.made + 1; moment = moment }
 
 -- a core stays well formed where its next call changes no task
-pub passed_kept : (m : Machine) (entries keeps : List (Option ℕ)) (sought : Sought) (moment at : ℕ) (call : CodeCall) → IsWellFormedCore m entries keeps sought →
+pub passed_kept : (m : CoreView) (entries keeps : List (Option ℕ)) (sought : Sought) (moment at : ℕ) (call : CodeCall) → IsWellFormedCore m entries keeps sought →
     slice_get m.calls m.made ≡ Some (at, call) → moment ≡ max m.moment at → IsWellFormedCore (passed m moment) entries keeps sought
 passed_kept m entries keeps sought moment at call kept is greatest = made_kept m entries keeps sought moment at call m.policies m.shut kept is greatest (λ q. q)
 
 -- the step of a call that changes no task
-passed_takes : (m : Machine) (at : ℕ) (call : CodeCall) (answer : Answer) → slice_get m.calls m.made ≡ Some (at, call) → called m.calls (view_at m.calls (state_of m) at) call ≡ plain answer →
+passed_takes : (m : CoreView) (at : ℕ) (call : CodeCall) (answer : Answer) → slice_get m.calls m.made ≡ Some (at, call) → called m.calls (view_at m.calls (state_of m) at) call ≡ bare answer →
     state_of (passed m (max m.moment at)) ≡ called_state m.calls (state_of m) at answer → Takes m (passed m (max m.moment at)) h.Call answer
 passed_takes m at call answer is said there = record {
   calls = refl;
@@ -101,7 +101,7 @@ passed_takes m at call answer is said there = record {
 }
 
 -- a core takes the step of a call that changes no task, with the moment as the call gives it, and the core as it was
-pub passed_steps : (m old : Machine) (moment at : ℕ) (call : CodeCall) (answer : Answer) → slice_get m.calls m.made ≡ Some (at, call) → called m.calls (view_at m.calls (state_of m) at) call ≡ plain answer →
+pub passed_steps : (m old : CoreView) (moment at : ℕ) (call : CodeCall) (answer : Answer) → slice_get m.calls m.made ≡ Some (at, call) → called m.calls (view_at m.calls (state_of m) at) call ≡ bare answer →
     state_of (passed m (max m.moment at)) ≡ called_state m.calls (state_of m) at answer → moment ≡ max m.moment at → m ≡ old → Takes old (passed m moment) h.Call answer
 passed_steps m old moment at call answer is said there greatest same =
     subst (λ x. Takes x (passed m moment) h.Call answer) same (subst (λ n. Takes m (passed m n) h.Call answer) (sym greatest) (passed_takes m at call answer is said there))

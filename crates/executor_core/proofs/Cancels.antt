@@ -13,17 +13,17 @@ use Rattle.executor_core.specs.declared.types.CancelEffect.TheVariants as f
 use Rattle.executor_core.specs.declared.types.EventError.TheVariants as x
 use Rattle.executor_core.specs.declared.types.Happening.TheVariants as h
 use Rattle.executor_core.specs.declared.types.Answer.TheVariants as a
-use Rattle.executor_core.specs.declared.task.Phase.{Phase}
-use Rattle.executor_core.specs.declared.task.Phase.TheVariants as ph
+use Rattle.executor_core.specs.declared.task.Stage.{Stage}
+use Rattle.executor_core.specs.declared.task.Stage.TheVariants as ph
 use Rattle.executor_core.specs.declared.task.Task.{Task}
-use Rattle.queue_code.specs.Calls.{Planned, Terms, terms_of, task_count, count_after, is_submission, IsOrderlyCall, IsOrderlyFrom}
-use Rattle.executor_core.specs.View.{is_live, is_running, is_waiting}
-use Rattle.executor_core.specs.Answers.{plain, effect_on}
-use Rattle.executor_core.specs.Histories.{is_yes}
+use Rattle.queue_code.specs.Calls.{Planned, Terms, terms_of, task_count, count_after, submits_task, IsOrderlyCall, IsOrderlyFrom}
+use Rattle.executor_core.specs.View.{is_cancellable, is_running, is_waiting}
+use Rattle.executor_core.specs.Answers.{bare, effect_on}
+use Rattle.executor_core.specs.Histories.{had_effect}
 use Rattle.executor_core.specs.State.{State, vacant, view_of_state, seen_task, seen_phase, reply_of, state_after}
 use Rattle.executor_core.specs.Tasks.{uncancelled_in}
 use Rattle.executor_core.specs.own.Tables.{cancelled_task, is_waiting_phase}
-use Rattle.executor_core.specs.Machine.{Machine, workers_of, state_of}
+use Rattle.executor_core.specs.CoreView.{CoreView, workers_of, state_of}
 use Rattle.executor_core.specs.own.Invariants.{IsWellFormedCore, IsSound, queued, held}
 use Rattle.executor_core.specs.own.OwnSteps.{Takes}
 use Rattle.executor_core.specs.own.Sought.{Sought}
@@ -45,14 +45,14 @@ of_vacant terms t q = ap (λ p. effect_on (seen_phase terms p t.run t.due t.canc
 -- what a cancel does to a task that waits
 pub of_waiting : (terms : Terms) (t : Task) → t.phase ≡ ph.Waiting → t.cancelled ≡ false → f.Yes ≡ effect_on (seen_task terms t)
 of_waiting terms t q live =
-    let here : is_live (seen_phase terms ph.Waiting t.run t.due false t.kept) ≡ true = ap (λ b. b || (is_running (seen_phase terms ph.Waiting t.run t.due false t.kept) && true)) (is_seen_waiting terms t.run t.due t.kept) in
+    let here : is_cancellable (seen_phase terms ph.Waiting t.run t.due false t.kept) ≡ true = ap (λ b. b || (is_running (seen_phase terms ph.Waiting t.run t.due false t.kept) && true)) (is_seen_waiting terms t.run t.due t.kept) in
     sym (ap (effect_of true) here) ∙ (λ i. effect_on (seen_phase terms (sym q i) t.run t.due (sym live i) t.kept))
 
 -- what a cancel does to a task whose run is under way
 pub of_running : (terms : Terms) (t : Task) → t.phase ≡ ph.Running → t.cancelled ≡ false → f.Yes ≡ effect_on (seen_task terms t)
 of_running terms t q live =
     let apart = next_eqb t.run in
-    let here : is_live (seen_phase terms ph.Running t.run t.due false t.kept) ≡ true = ap (λ b. (not (not b) && true) || (not b && true)) apart in
+    let here : is_cancellable (seen_phase terms ph.Running t.run t.due false t.kept) ≡ true = ap (λ b. (not (not b) && true) || (not b && true)) apart in
     sym (ap (effect_of true) here) ∙ (λ i. effect_on (seen_phase terms (sym q i) t.run t.due (sym live i) t.kept))
 
 -- a cancelled task is not live
@@ -62,14 +62,14 @@ not_live true false = refl
 not_live false true = refl
 not_live false false = refl
 
-abbrev running_of : Terms → Phase → ℕ → ℕ → Bool → Bool
+abbrev running_of : Terms → Stage → ℕ → ℕ → Bool → Bool
 running_of terms p run due kept = is_running (seen_phase terms p run due true kept)
 
 -- what a cancel does to a cancelled task
 pub of_cancelled : (terms : Terms) (t : Task) → t.phase ≢ ph.Vacant → t.cancelled ≡ true → f.No ≡ effect_on (seen_task terms t)
 of_cancelled terms t used is = sym (by t.phase refl) ∙ ap (λ b. effect_on (seen_phase terms t.phase t.run t.due b t.kept)) (sym is)
   where
-    by : (p : Phase) → t.phase ≡ p → effect_on (seen_phase terms p t.run t.due true t.kept) ≡ f.No
+    by : (p : Stage) → t.phase ≡ p → effect_on (seen_phase terms p t.run t.due true t.kept) ≡ f.No
     by ph.Vacant q = absurd (used q)
     by ph.Waiting q = ap (effect_of true) (not_live true (running_of terms ph.Waiting t.run t.due t.kept))
     by ph.Running q = ap (effect_of true) (not_live true (running_of terms ph.Running t.run t.due t.kept))
@@ -109,7 +109,7 @@ live_is_uncancelled terms t live =
 -- ---- the tasks after a cancel
 
 -- a core with other tasks
-abbrev pub with_tasks : Machine → List Task → Machine
+abbrev pub with_tasks : CoreView → List Task → CoreView
 with_tasks m tasks = record m { tasks = tasks }
 
 -- the tables after a cancel with an effect, or with none
@@ -121,8 +121,8 @@ cancelled_tasks removes tasks k f.Absent = tasks
 -- a task after a cancel, of it or not, where it is seen to wait or not
 abbrev after_cancel : Bool → Bool → Bool → CancelEffect → Task → Task
 after_cancel removes hit waits effect t = record t {
-  cancelled = ((hit && is_yes effect) || false) || t.cancelled;
-  kept = (t.kept && true) || ((hit && is_yes effect) && (waits && not removes));
+  cancelled = ((hit && had_effect effect) || false) || t.cancelled;
+  kept = (t.kept && true) || ((hit && had_effect effect) && (waits && not removes));
 }
 
 and_true : (b : Bool) → b ≡ (b && true)
@@ -135,7 +135,7 @@ no_effect removes true waits t = λ i. record t { kept = kept_so t.kept i }
 no_effect removes false waits t = λ i. record t { kept = kept_so t.kept i }
 
 -- each task after a cancel
-cancelled_at : (m : Machine) (k j : ℕ) (effect : CancelEffect) → IsSound (state_of m) → k < length m.tasks → effect ≡ effect_on (seen_task (terms_of m.calls k) (slice_index_or m.tasks k vacant)) →
+cancelled_at : (m : CoreView) (k j : ℕ) (effect : CancelEffect) → IsSound (state_of m) → k < length m.tasks → effect ≡ effect_on (seen_task (terms_of m.calls k) (slice_index_or m.tasks k vacant)) →
     slice_index_or (cancelled_tasks m.policies.removes m.tasks k effect) j vacant
     ≡ after_cancel m.policies.removes (k == j) (is_waiting (seen_task (terms_of m.calls j) (slice_index_or m.tasks j vacant))) effect (slice_index_or m.tasks j vacant)
 cancelled_at m k j f.Yes sound low how = at_set m.tasks k j (cancelled_task m.policies.removes (slice_index_or m.tasks k vacant)) vacant low ∙ moved (k == j) refl
@@ -171,22 +171,22 @@ cancelled_size removes tasks k f.Absent = refl
 
 -- a cancel from outside
 
-outside_state : (m : Machine) (k : ℕ) (effect : CancelEffect) → IsSound (state_of m) → k < length m.tasks → effect ≡ effect_on (seen_task (terms_of m.calls k) (slice_index_or m.tasks k vacant)) →
-    state_of (with_tasks m (cancelled_tasks m.policies.removes m.tasks k effect)) ≡ state_after m.calls (state_of m) (h.Cancel k) (plain (a.Outside k effect))
+outside_state : (m : CoreView) (k : ℕ) (effect : CancelEffect) → IsSound (state_of m) → k < length m.tasks → effect ≡ effect_on (seen_task (terms_of m.calls k) (slice_index_or m.tasks k vacant)) →
+    state_of (with_tasks m (cancelled_tasks m.policies.removes m.tasks k effect)) ≡ state_after m.calls (state_of m) (h.Cancel k) (bare (a.Outside k effect))
 outside_state m k effect sound low how = λ i. record (state_of m) { tasks = λ j. cancelled_at m k j effect sound low how i }
 
-outside_reply : (calls : List Planned) (workers k : ℕ) (s : State) → k < task_count calls → reply_of calls workers s (h.Cancel k) ≡ plain (a.Outside k (effect_on ((view_of_state calls s).fate k)))
-outside_reply calls workers k s l = ap (λ b. plain (cond b (a.Outside k (effect_on ((view_of_state calls s).fate k))) (a.Error x.NoTask))) (lt-ltb k (task_count calls) l)
+outside_reply : (calls : List Planned) (workers k : ℕ) (s : State) → k < task_count calls → reply_of calls workers s (h.Cancel k) ≡ bare (a.Outside k (effect_on ((view_of_state calls s).fate k)))
+outside_reply calls workers k s l = ap (λ b. bare (cond b (a.Outside k (effect_on ((view_of_state calls s).fate k))) (a.Error x.NoTask))) (lt-ltb k (task_count calls) l)
 
 -- the reply to a cancel from outside of a task that the plan does not have
-pub no_task_reply : (calls : List Planned) (workers k : ℕ) (s : State) → task_count calls ≤ k → reply_of calls workers s (h.Cancel k) ≡ plain (a.Error x.NoTask)
-no_task_reply calls workers k s l = ap (λ b. plain (cond b (a.Outside k (effect_on ((view_of_state calls s).fate k))) (a.Error x.NoTask))) (le-ltb k (task_count calls) l)
+pub no_task_reply : (calls : List Planned) (workers k : ℕ) (s : State) → task_count calls ≤ k → reply_of calls workers s (h.Cancel k) ≡ bare (a.Error x.NoTask)
+no_task_reply calls workers k s l = ap (λ b. bare (cond b (a.Outside k (effect_on ((view_of_state calls s).fate k))) (a.Error x.NoTask))) (le-ltb k (task_count calls) l)
 
 -- the step of a cancel from outside
-pub outside_takes : (m : Machine) (k : ℕ) (effect : CancelEffect) → IsSound (state_of m) → k < length m.tasks → length m.tasks ≡ task_count m.calls →
+pub outside_takes : (m : CoreView) (k : ℕ) (effect : CancelEffect) → IsSound (state_of m) → k < length m.tasks → length m.tasks ≡ task_count m.calls →
     effect ≡ effect_on (seen_task (terms_of m.calls k) (slice_index_or m.tasks k vacant)) → Takes m (with_tasks m (cancelled_tasks m.policies.removes m.tasks k effect)) (h.Cancel k) (a.Outside k effect)
 outside_takes m k effect sound low count how =
-    let said = outside_reply m.calls (workers_of m) k (state_of m) (omega (arith, low, count)) ∙ ap (λ x. plain (a.Outside k x)) (sym how) in
+    let said = outside_reply m.calls (workers_of m) k (state_of m) (omega (arith, low, count)) ∙ ap (λ x. bare (a.Outside k x)) (sym how) in
     record {
       calls = refl;
       limit = refl;
@@ -197,7 +197,7 @@ outside_takes m k effect sound low count how =
     }
 
 -- what stays true after a cancel with an effect
-pub cancel_kept : (m : Machine) (entries left keeps held_so : List (Option ℕ)) (sought : Sought) (k : ℕ) → IsWellFormedCore m entries keeps sought → k < length m.tasks →
+pub cancel_kept : (m : CoreView) (entries left keeps held_so : List (Option ℕ)) (sought : Sought) (k : ℕ) → IsWellFormedCore m entries keeps sought → k < length m.tasks →
     f.Yes ≡ effect_on (seen_task (terms_of m.calls k) (slice_index_or m.tasks k vacant)) → left ≡ set entries k None →
     held_so ≡ map held (set m.tasks k (cancelled_task m.policies.removes (slice_index_or m.tasks k vacant))) →
     IsWellFormedCore (with_tasks m (set m.tasks k (cancelled_task m.policies.removes (slice_index_or m.tasks k vacant)))) left held_so sought
@@ -240,7 +240,7 @@ or_one false = refl
 pub leaving_is : (removes : Bool) (t : Task) → (t.phase ≡ ph.Waiting → removes ≡ true) → record t { cancelled = true } ≡ cancelled_task removes t
 leaving_is removes t leaves = λ i. record t { cancelled = true; kept = by t.phase refl i }
   where
-    by : (p : Phase) → t.phase ≡ p → t.kept ≡ (t.kept || (is_waiting_phase p && not removes))
+    by : (p : Stage) → t.phase ≡ p → t.kept ≡ (t.kept || (is_waiting_phase p && not removes))
     by ph.Vacant q = or_none t.kept
     by ph.Waiting q = or_none t.kept ∙ ap (λ b. t.kept || not b) (sym (leaves q))
     by ph.Running q = or_none t.kept
@@ -263,7 +263,7 @@ staying_in removes tasks one two k low waits stays first then_so =
     ∙ (set-set tasks k gone (record gone { kept = true }) ∙ ap (set tasks k) (staying_is removes t waits stays))))
 
 -- a core whose table the code has written at a cancel, where the task is not kept, stays well formed
-pub leaving_kept : (m : Machine) (entries left keeps : List (Option ℕ)) (sought : Sought) (k : ℕ) (tasks : List Task) → IsWellFormedCore m entries keeps sought → k < length m.tasks →
+pub leaving_kept : (m : CoreView) (entries left keeps : List (Option ℕ)) (sought : Sought) (k : ℕ) (tasks : List Task) → IsWellFormedCore m entries keeps sought → k < length m.tasks →
     f.Yes ≡ effect_on (seen_task (terms_of m.calls k) (slice_index_or m.tasks k vacant)) → left ≡ set entries k None → ((slice_index_or m.tasks k vacant).phase ≡ ph.Waiting → m.policies.removes ≡ true) →
     tasks ≡ set m.tasks k (record (slice_index_or m.tasks k vacant) { cancelled = true }) → IsWellFormedCore (with_tasks m tasks) left keeps sought
 leaving_kept m entries left keeps sought k tasks kept low live gone leaves written =
@@ -273,7 +273,7 @@ leaving_kept m entries left keeps sought k tasks kept low live gone leaves writt
     subst (λ l. IsWellFormedCore (with_tasks m l) left keeps sought) (sym (written ∙ ap (set m.tasks k) same)) (cancel_kept m entries left keeps keeps sought k kept low live gone stand)
 
 -- and where the task is kept
-pub staying_kept : (m : Machine) (entries left keeps held_so : List (Option ℕ)) (sought : Sought) (k due : ℕ) (one tasks : List Task) → IsWellFormedCore m entries keeps sought → k < length m.tasks →
+pub staying_kept : (m : CoreView) (entries left keeps held_so : List (Option ℕ)) (sought : Sought) (k due : ℕ) (one tasks : List Task) → IsWellFormedCore m entries keeps sought → k < length m.tasks →
     f.Yes ≡ effect_on (seen_task (terms_of m.calls k) (slice_index_or m.tasks k vacant)) → left ≡ set entries k None → (slice_index_or m.tasks k vacant).phase ≡ ph.Waiting → m.policies.removes ≡ false →
     due ≡ (slice_index_or m.tasks k vacant).due → held_so ≡ set keeps k (Some due) →
     one ≡ set m.tasks k (record (slice_index_or m.tasks k vacant) { cancelled = true }) → tasks ≡ set one k (record (slice_index_or one k vacant) { kept = true }) → IsWellFormedCore (with_tasks m tasks) left held_so sought
@@ -284,31 +284,31 @@ staying_kept m entries left keeps held_so sought k due one tasks kept low live g
     subst (λ l. IsWellFormedCore (with_tasks m l) left held_so sought) (sym (staying_in m.policies.removes m.tasks one tasks k low waits stays first then_so)) (cancel_kept m entries left keeps held_so sought k kept low live gone stand)
 
 -- a task that is not cancelled has no entry among the kept ones
-pub unheld : (m : Machine) (entries keeps : List (Option ℕ)) (sought : Sought) (k : ℕ) → IsWellFormedCore m entries keeps sought → (slice_index_or m.tasks k vacant).cancelled ≡ false → slice_index_or keeps k None ≡ None
+pub unheld : (m : CoreView) (entries keeps : List (Option ℕ)) (sought : Sought) (k : ℕ) → IsWellFormedCore m entries keeps sought → (slice_index_or m.tasks k vacant).cancelled ≡ false → slice_index_or keeps k None ≡ None
 unheld m entries keeps sought k kept live =
     let t = slice_index_or m.tasks k vacant in
     let loose : t.kept ≡ false = false_from_ne_true t.kept (λ q. absurd (false≢true (sym live ∙ (kept.sound.kept k q).1))) in
     ap (λ l. slice_index_or l k None) kept.keeping ∙ (held_at m.tasks k ∙ ap (λ b. cond b (Some t.due) None) loose)
 
 -- the core after a cancel with an effect, where the core is given another way
-pub yes_is : (m old : Machine) (k : ℕ) (tasks : List Task) → m ≡ old → tasks ≡ set m.tasks k (cancelled_task m.policies.removes (slice_index_or m.tasks k vacant)) →
+pub yes_is : (m old : CoreView) (k : ℕ) (tasks : List Task) → m ≡ old → tasks ≡ set m.tasks k (cancelled_task m.policies.removes (slice_index_or m.tasks k vacant)) →
     with_tasks m tasks ≡ with_tasks old (set old.tasks k (cancelled_task old.policies.removes (slice_index_or old.tasks k vacant)))
-yes_is m old k tasks same written = ap (with_tasks m) written ∙ ap (λ (x : Machine). with_tasks x (set x.tasks k (cancelled_task x.policies.removes (slice_index_or x.tasks k vacant)))) same
+yes_is m old k tasks same written = ap (with_tasks m) written ∙ ap (λ (x : CoreView). with_tasks x (set x.tasks k (cancelled_task x.policies.removes (slice_index_or x.tasks k vacant)))) same
 
 -- a cancel of the plan
 
-plan_state : (m : Machine) (at k : ℕ) (effect : CancelEffect) → IsSound (state_of m) → k < length m.tasks → effect ≡ effect_on (seen_task (terms_of m.calls k) (slice_index_or m.tasks k vacant)) →
+plan_state : (m : CoreView) (at k : ℕ) (effect : CancelEffect) → IsSound (state_of m) → k < length m.tasks → effect ≡ effect_on (seen_task (terms_of m.calls k) (slice_index_or m.tasks k vacant)) →
     state_of (passed (with_tasks m (cancelled_tasks m.policies.removes m.tasks k effect)) (max m.moment at)) ≡ called_state m.calls (state_of m) at (a.Cancel k effect)
 plan_state m at k effect sound low how =
     let one : m.made + 1 ≡ 1 + m.made = omega arith in
     λ i. record (state_of m) { made = one i; moment = max m.moment at; tasks = λ j. cancelled_at m k j effect sound low how i }
 
 -- a core takes the step of its next call, which is a cancel
-pub plan_takes : (m : Machine) (at k : ℕ) (effect : CancelEffect) → IsSound (state_of m) → slice_get m.calls m.made ≡ Some (at, c.Cancel k) → k < length m.tasks →
+pub plan_takes : (m : CoreView) (at k : ℕ) (effect : CancelEffect) → IsSound (state_of m) → slice_get m.calls m.made ≡ Some (at, c.Cancel k) → k < length m.tasks →
     effect ≡ effect_on (seen_task (terms_of m.calls k) (slice_index_or m.tasks k vacant)) →
     Takes m (passed (with_tasks m (cancelled_tasks m.policies.removes m.tasks k effect)) (max m.moment at)) h.Call (a.Cancel k effect)
 plan_takes m at k effect sound is low how =
-    let said = ap (λ x. plain (a.Cancel k x)) (sym how) in
+    let said = ap (λ x. bare (a.Cancel k x)) (sym how) in
     record {
       calls = refl;
       limit = refl;
@@ -326,7 +326,7 @@ names_a_task (p ∷ calls) count moment zero at k o is =
     omega (arith, named)
 names_a_task (p ∷ calls) count moment (suc n) at k o is = counted p.1 (names_a_task calls (count_after count p.1) p.0 n at k o.3 is)
   where
-    counted : (call : CodeCall) → k < count_after count call + task_count calls → k < count + cond (is_submission call) (1 + task_count calls) (task_count calls)
+    counted : (call : CodeCall) → k < count_after count call + task_count calls → k < count + cond (submits_task call) (1 + task_count calls) (task_count calls)
     counted (c.Submit task timing delay) l = omega (arith, l)
     counted (c.Illegal task) l = omega (arith, l)
     counted (c.Cancel task) l = l
@@ -335,14 +335,14 @@ names_a_task (p ∷ calls) count moment (suc n) at k o is = counted p.1 (names_a
     counted c.Ask l = l
 
 -- the core after a cancel, by what it did
-pub is_cancelled_so : (m new : Machine) (k : ℕ) (effect : CancelEffect) → (effect ≡ f.Yes → new ≡ with_tasks m (set m.tasks k (cancelled_task m.policies.removes (slice_index_or m.tasks k vacant)))) → (effect ≢ f.Yes → new ≡ m) →
+pub is_cancelled_so : (m new : CoreView) (k : ℕ) (effect : CancelEffect) → (effect ≡ f.Yes → new ≡ with_tasks m (set m.tasks k (cancelled_task m.policies.removes (slice_index_or m.tasks k vacant)))) → (effect ≢ f.Yes → new ≡ m) →
     new ≡ with_tasks m (cancelled_tasks m.policies.removes m.tasks k effect)
 is_cancelled_so m new k f.Yes live other = live refl
 is_cancelled_so m new k f.No live other = other (λ q. cc)
 is_cancelled_so m new k f.Absent live other = other (λ q. cc)
 
 -- the step of a call that cancels, by what the cancel left
-pub plan_steps : (m old new : Machine) (moment at k : ℕ) (effect : CancelEffect) → IsSound (state_of m) → slice_get m.calls m.made ≡ Some (at, c.Cancel k) → moment ≡ max m.moment at → k < length m.tasks →
+pub plan_steps : (m old new : CoreView) (moment at k : ℕ) (effect : CancelEffect) → IsSound (state_of m) → slice_get m.calls m.made ≡ Some (at, c.Cancel k) → moment ≡ max m.moment at → k < length m.tasks →
     effect ≡ effect_on (seen_task (terms_of m.calls k) (slice_index_or m.tasks k vacant)) → new ≡ with_tasks m (cancelled_tasks m.policies.removes m.tasks k effect) → m ≡ old →
     Takes old (passed new moment) h.Call (a.Cancel k effect)
 plan_steps m old new moment at k effect sound is greatest low how left same =
@@ -351,6 +351,6 @@ plan_steps m old new moment at k effect sound is greatest low how left same =
     (subst (λ x. Takes m (passed x (max m.moment at)) h.Call (a.Cancel k effect)) (sym left) (plan_takes m at k effect sound is low how)))
 
 -- the step of a cancel from outside, by what the cancel left
-pub outside_steps : (m new : Machine) (k : ℕ) (effect : CancelEffect) → IsSound (state_of m) → k < length m.tasks → length m.tasks ≡ task_count m.calls →
+pub outside_steps : (m new : CoreView) (k : ℕ) (effect : CancelEffect) → IsSound (state_of m) → k < length m.tasks → length m.tasks ≡ task_count m.calls →
     effect ≡ effect_on (seen_task (terms_of m.calls k) (slice_index_or m.tasks k vacant)) → new ≡ with_tasks m (cancelled_tasks m.policies.removes m.tasks k effect) → Takes m new (h.Cancel k) (a.Outside k effect)
 outside_steps m new k effect sound low count how left = subst (λ x. Takes m x (h.Cancel k) (a.Outside k effect)) (sym left) (outside_takes m k effect sound low count how)

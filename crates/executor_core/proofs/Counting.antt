@@ -12,7 +12,7 @@ use Rattle.executor_core.specs.declared.types.Outcome.{Outcome}
 use Rattle.executor_core.specs.declared.types.Outcome.TheVariants as o
 use Rattle.executor_core.specs.State.{vacant, end_task}
 use Rattle.executor_core.specs.Tasks.{uncancelled_in}
-use Rattle.executor_core.specs.own.Tables.{tasks_of, running_in, periodic_in, is_running_phase, waits_again, one, Count, IsRecount, AreTallies, AreTables}
+use Rattle.executor_core.specs.own.Tables.{tasks_in_tables, running_in, periodic_in, is_running_phase, waits_again, one, Count, IsRecount, AreTallies, TablesAgree}
 use Rattle.executor_core.proofs.Pairs.{length_of}
 
 -- the first task counts for itself
@@ -62,15 +62,15 @@ vacant_tallies (suc n) =
     (omega (arith, uncancelled), running, periodic)
 
 -- the tables of vacant tasks are as they have to be
-pub vacant_counted : (n : ℕ) (ws : List Parts) (ds : List Detail) (tallies : Tallies) → length ws ≡ length ds → n ≤ 2 ^ 32 → tasks_of ws ds ≡ replicate n vacant → tallies ≡ record { uncancelled = n; running = 0; periodic = 0 } → AreTables ws ds tallies
+pub vacant_counted : (n : ℕ) (ws : List Parts) (ds : List Detail) (tallies : Tallies) → length ws ≡ length ds → n ≤ 2 ^ 32 → tasks_in_tables ws ds ≡ replicate n vacant → tallies ≡ record { uncancelled = n; running = 0; periodic = 0 } → TablesAgree ws ds tallies
 vacant_counted n ws ds tallies paired few is are = record {
   paired = paired;
   few = omega (arith, few, length_of ws ds paired, ap length is, length-replicate n vacant);
-  counted = subst (λ (q : Tallies). AreTallies q (tasks_of ws ds)) (sym are) (subst (AreTallies (record { uncancelled = n; running = 0; periodic = 0 })) (sym is) (vacant_tallies n));
+  counted = subst (λ (q : Tallies). AreTallies q (tasks_in_tables ws ds)) (sym are) (subst (AreTallies (record { uncancelled = n; running = 0; periodic = 0 })) (sym is) (vacant_tallies n));
 }
 
 -- the numbers of some tables count the task at a place
-pub tables_count : (ws : List Parts) (ds : List Detail) (tasks : List Task) (tallies : Tallies) (k : ℕ) (t : Task) → AreTables ws ds tallies → tasks_of ws ds ≡ tasks → k < length tasks → t ≡ slice_index_or tasks k vacant → Count tallies t
+pub tables_count : (ws : List Parts) (ds : List Detail) (tasks : List Task) (tallies : Tallies) (k : ℕ) (t : Task) → TablesAgree ws ds tallies → tasks_in_tables ws ds ≡ tasks → k < length tasks → t ≡ slice_index_or tasks k vacant → Count tallies t
 tables_count ws ds tasks tallies k t are view low is =
     let (uncancelled, running, periodic) = are.counted in
     let room : length tasks < 2 ^ 63 = omega (arith, are.few, length_of ws ds are.paired, ap length view) in
@@ -84,8 +84,8 @@ tables_count ws ds tasks tallies k t are view low is =
     )
 
 -- the tables stay as they have to be where one task stands for another, and the numbers are recounted
-pub tables_recounted : (ws vs : List Parts) (ds es : List Detail) (tasks : List Task) (old new : Tallies) (k : ℕ) (before after : Task) → AreTables ws ds old → tasks_of ws ds ≡ tasks → length vs ≡ length ws → length es ≡ length ds →
-    tasks_of vs es ≡ set tasks k after → k < length tasks → before ≡ slice_index_or tasks k vacant → IsRecount old new before after → AreTables vs es new
+pub tables_recounted : (ws vs : List Parts) (ds es : List Detail) (tasks : List Task) (old new : Tallies) (k : ℕ) (before after : Task) → TablesAgree ws ds old → tasks_in_tables ws ds ≡ tasks → length vs ≡ length ws → length es ≡ length ds →
+    tasks_in_tables vs es ≡ set tasks k after → k < length tasks → before ≡ slice_index_or tasks k vacant → IsRecount old new before after → TablesAgree vs es new
 tables_recounted ws vs ds es tasks old new k before after are view long wide is low at recount =
     let (uncancelled, running, periodic) = are.counted in
     let (uncancelled_more, running_more, periodic_more) = subst (λ b. IsRecount old new b after) at recount in

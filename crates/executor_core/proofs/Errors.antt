@@ -18,18 +18,18 @@ use Rattle.executor_core.specs.declared.types.Refusal.TheVariants as refusal
 use Rattle.queue_code.specs.Calls.{Planned, terms_of, due_at}
 use Rattle.executor_core.specs.View.{View}
 use Rattle.executor_core.specs.own.OwnSteps.{Takes}
-use Rattle.executor_core.specs.Answers.{Reply, plain, called, kind_of, swept, is_accepted, moment_after}
+use Rattle.executor_core.specs.Answers.{Reply, bare, called, kind_of, swept, is_accepted, moment_after}
 use Rattle.executor_core.specs.Histories.{is_call, cancels, kept_after, policies_after, is_shutdown, work_after}
 use Rattle.executor_core.specs.State.{State, vacant, view_of_state, move_task, state_after, reply_of, next, after_from}
 use Rattle.executor_core.specs.Flows.{happening_of, reached, calls_before, part_of, lines_at, lines_from}
-use Rattle.executor_core.specs.Machine.{Machine, workers_of, state_of, Steps, ErrorOnlyCounts}
+use Rattle.executor_core.specs.CoreView.{CoreView, workers_of, state_of, Steps, ErrorOnlyCounts}
 use Rattle.executor_core.proofs.Keeping.{kept_stays}
 
 -- a state after an error that is no call and does not move the clock
 unmoved : (calls : List Planned) (s : State) (x : Happening) (answer : Answer) (error : EventError) → answer ≡ a.Error error → is_call x ≡ false → moment_after s.moment (slice_get calls s.made) x ≡ s.moment →
-    state_after calls s x (plain answer) ≡ s
+    state_after calls s x (bare answer) ≡ s
 unmoved calls s x answer error q event still =
-    let answered : state_after calls s x (plain answer) ≡ record s { tasks = λ k. record (s.tasks k) { kept = kept_after (view_of_state calls s) k (a.Error error) } } = λ i. record {
+    let answered : state_after calls s x (bare answer) ≡ record s { tasks = λ k. record (s.tasks k) { kept = kept_after (view_of_state calls s) k (a.Error error) } } = λ i. record {
       made = cond (event i) (1 + s.made) s.made;
       moment = still i;
       tasks = λ k. record (move_task (terms_of calls k).timing s.moment k (q i) (s.tasks k)) { cancelled = cancels k (q i) [] || (s.tasks k).cancelled; kept = kept_after (view_of_state calls s) k (q i) };
@@ -49,7 +49,7 @@ no_error calls v (c.Illegal task) error q = cc
 no_error calls v (c.Cancel task) error q = cc
 no_error calls v (c.SetPolicy which value) error q = cc
 no_error calls v c.Shutdown error q =
-    let pick : (b : Bool) → (cond b (plain a.ShutdownAgain) (record { answer = a.Shutdown; ends = swept calls v v.policies })).answer ≡ a.Error error → ⊥ = elim [ true ↦ λ q. cc | false ↦ λ q. cc ] in
+    let pick : (b : Bool) → (cond b (bare a.ShutdownAgain) (record { answer = a.Shutdown; ends = swept calls v v.policies })).answer ≡ a.Error error → ⊥ = elim [ true ↦ λ q. cc | false ↦ λ q. cc ] in
     pick v.shut q
 no_error calls v c.Ask error q = cc
 
@@ -74,7 +74,7 @@ refused_clock now t error q =
 -- the state after a happening that is answered by an error
 pub errors_change_nothing : (calls : List Planned) (workers : ℕ) (s : State) (happening : Happening) (error : EventError) → (reply_of calls workers s happening).answer ≡ a.Error error → next calls workers s happening ≡ s
 errors_change_nothing calls workers s h.Call error q =
-    let pick : (p : Option Planned) → (option_map_or (λ p. called calls (record (view_of_state calls s) { moment = max s.moment p.0 }) p.1) p (plain a.Clock)).answer ≡ a.Error error → ⊥ =
+    let pick : (p : Option Planned) → (option_map_or (λ p. called calls (record (view_of_state calls s) { moment = max s.moment p.0 }) p.1) p (bare a.Clock)).answer ≡ a.Error error → ⊥ =
     elim [ None ↦ λ q. cc | Some p ↦ no_error calls (record (view_of_state calls s) { moment = max s.moment p.0 }) p.1 error ]
     in
     absurd (pick (slice_get calls s.made) q)
@@ -85,7 +85,7 @@ errors_change_nothing calls workers s (h.Finish w ending) error q = unmoved call
 errors_change_nothing calls workers s (h.Cancel k) error q = unmoved calls s (h.Cancel k) (reply_of calls workers s (h.Cancel k)).answer error q refl refl
 
 -- a core that answers by an error takes the step of what it answered
-pub error_takes : (m : Machine) (happening : Happening) (error : EventError) → reply_of m.calls (workers_of m) (state_of m) happening ≡ plain (a.Error error) → Takes m m happening (a.Error error)
+pub error_takes : (m : CoreView) (happening : Happening) (error : EventError) → reply_of m.calls (workers_of m) (state_of m) happening ≡ bare (a.Error error) → Takes m m happening (a.Error error)
 error_takes m happening error said = record {
   calls = refl;
   limit = refl;
@@ -117,7 +117,7 @@ same_table d (x ∷ xs) [] e same = absurd (omega (arith, e))
 same_table d (x ∷ xs) (y ∷ ys) e same = λ i. same 0 i ∷ same_table d xs ys (omega (arith, e)) (λ k. same (suc k)) i
 
 -- an event that is answered by an error changes nothing in a core but the number of events taken
-pub error_only_counts : (old new : Machine) (before lines : List Line) (event : Event) → Steps old new before lines (part_of old.calls old.made old.moment event) → new.taken ≡ old.taken + 1 → length new.tasks ≡ length old.tasks →
+pub error_only_counts : (old new : CoreView) (before lines : List Line) (event : Event) → Steps old new before lines (part_of old.calls old.made old.moment event) → new.taken ≡ old.taken + 1 → length new.tasks ≡ length old.tasks →
     ErrorOnlyCounts old new before lines event
 error_only_counts old new before lines event steps taken count error q =
     let calls = old.calls in

@@ -14,7 +14,7 @@ use Rattle.executor_core.specs.Answers.{reply, is_accepted, moment_after}
 use Rattle.executor_core.specs.Histories.{HistoryEntry, entry_of, happenings, made, now_of, is_call, answer, IsHistoryOf, MayCome}
 use Rattle.executor_core.specs.State.{State, next, reply_of, after, after_from}
 use Rattle.executor_core.specs.Flows.{reached, part_of, flow, history_from, history_of, lines_at, lines_of, lines_from, reply_in}
-use Rattle.executor_core.specs.Machine.{Machine, workers_of, state_of, Stands, Steps, Continues, ContinuesWith, ContinuesAny}
+use Rattle.executor_core.specs.CoreView.{CoreView, workers_of, state_of, Stands, Steps, Continues, ContinuesWith, ContinuesAny}
 use Rattle.executor_core.proofs.Agree.{Agrees, after_agrees, next_agrees}
 
 -- ---- one list of happenings after another
@@ -220,11 +220,11 @@ lines_follow calls workers s past (x ∷ hs) a =
 -- ---- what the core's steps are, given a history in which it stands
 
 -- a core agrees with the history in which it stands
-pub stands_agrees : (m : Machine) (past : List HistoryEntry) → IsHistoryOf m.calls (workers_of m) past → Stands m past → Agrees m.calls (state_of m) past
+pub stands_agrees : (m : CoreView) (past : List HistoryEntry) → IsHistoryOf m.calls (workers_of m) past → Stands m past → Agrees m.calls (state_of m) past
 stands_agrees m past means stands = subst (λ s. Agrees m.calls s past) (sym stands) (after_agrees m.calls (workers_of m) past means)
 
 -- steps of a core, for a history in which it stood and after which they may come
-pub steps_continue : (old new : Machine) (before lines : List Line) (hs : List Happening) → Steps old new before lines hs →
+pub steps_continue : (old new : CoreView) (before lines : List Line) (hs : List Happening) → Steps old new before lines hs →
     (past : List HistoryEntry) → IsHistoryOf old.calls (workers_of old) past → Stands old past → IsHistoryOf old.calls (workers_of old) (history_from old.calls (workers_of old) past hs) → ContinuesWith old new before lines hs past
 steps_continue old new before lines hs steps past means stands longer_means =
     let calls = old.calls in
@@ -243,7 +243,7 @@ steps_continue old new before lines hs steps past means stands longer_means =
     }
 
 -- the steps of an event, for each history in which the core stood
-pub core_continues : (old new : Machine) (before lines : List Line) (event : Event) → IsOrderly old.calls → Steps old new before lines (part_of old.calls old.made old.moment event) →
+pub core_continues : (old new : CoreView) (before lines : List Line) (event : Event) → IsOrderly old.calls → Steps old new before lines (part_of old.calls old.made old.moment event) →
     (past : List HistoryEntry) → IsHistoryOf old.calls (workers_of old) past → Stands old past → Continues old new before lines event past
 core_continues old new before lines event o steps past means stands =
     let calls = old.calls in
@@ -254,11 +254,11 @@ core_continues old new before lines event o steps past means stands =
     (subst (λ hs. IsHistoryOf calls workers (history_from calls workers past hs)) same (part_means calls workers past event o means))
 
 -- one step, for each history in which the core stood and after which it may come
-pub step_continues : (old new : Machine) (before lines : List Line) (happening : Happening) → Steps old new before lines (happening ∷ []) → ContinuesAny old new before lines happening
+pub step_continues : (old new : CoreView) (before lines : List Line) (happening : Happening) → Steps old new before lines (happening ∷ []) → ContinuesAny old new before lines happening
 step_continues old new before lines happening steps past means stands may = steps_continue old new before lines (happening ∷ []) steps past means stands (means, may, refl, refl)
 
 -- some steps after others
-pub steps_then : (old mid new : Machine) (a b c : List Line) (hs gs : List Happening) → Steps old mid a b hs → Steps mid new b c gs → Steps old new a c (gs ++ hs)
+pub steps_then : (old mid new : CoreView) (a b c : List Line) (hs gs : List Happening) → Steps old mid a b hs → Steps mid new b c gs → Steps old new a c (gs ++ hs)
 steps_then old mid new a b c hs gs p q =
     let calls = old.calls in
     let workers = workers_of old in
@@ -282,5 +282,5 @@ steps_then old mid new a b c hs gs p q =
     }
 
 -- no steps leave the core and its lines
-pub no_steps : (m : Machine) (lines : List Line) → Steps m m lines lines []
+pub no_steps : (m : CoreView) (lines : List Line) → Steps m m lines lines []
 no_steps m lines = record { calls = refl; limit = refl; workers = refl; state = refl; lines = sym (append-nil lines) }

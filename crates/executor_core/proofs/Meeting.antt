@@ -10,10 +10,10 @@ use Rattle.delay_queue.specs.declared.entry.Entry.{Entry}
 use Rattle.delay_queue.specs.Queues as queues
 use Rattle.delay_queue.specs.Queues.{comes_before}
 use Rattle.queue_code.specs.Calls.{Planned, task_count, terms_of, due_at}
-use Rattle.executor_core.specs.declared.task.Phase.TheVariants as ph
+use Rattle.executor_core.specs.declared.task.Stage.TheVariants as ph
 use Rattle.executor_core.specs.declared.task.Task.{Task}
 use Rattle.executor_core.specs.State.{State, vacant, view_of_state, seen_task}
-use Rattle.executor_core.specs.Machine.{Machine, state_of}
+use Rattle.executor_core.specs.CoreView.{CoreView, state_of}
 use Rattle.executor_core.specs.own.Invariants.{IsWellFormedCore, IsSound, IsDue, held, queued}
 use Rattle.executor_core.specs.own.OwnSteps.{LeavesMet, is_met}
 use Rattle.executor_core.specs.own.Sought.{Sought}
@@ -110,11 +110,11 @@ due_apart calls s n apart due k =
     subst (λ t. (last : Option ℕ) × ((seen_task (terms_of calls k) t).due ≡ due_at (terms_of calls k) (seen_task (terms_of calls k) t).starts last)) (sym (apart.tasks k)) (due k)
 
 -- a core in which fewer tasks are kept
-pub fewer_apart : (m : Machine) (tasks : List Task) → KeepsFewer m.tasks tasks → KeptApart (state_of m) (state_of (record m { tasks = tasks }))
+pub fewer_apart : (m : CoreView) (tasks : List Task) → KeepsFewer m.tasks tasks → KeptApart (state_of m) (state_of (record m { tasks = tasks }))
 fewer_apart m tasks few = record { moment = refl; workers = λ w. refl; tasks = few.each }
 
 -- dropping kept tasks keeps a core well formed
-pub fewer_keeps : (m : Machine) (entries keeps left : List (Option ℕ)) (sought : Sought) (tasks : List Task) → IsWellFormedCore m entries keeps sought → KeepsFewer m.tasks tasks → left ≡ map held tasks →
+pub fewer_keeps : (m : CoreView) (entries keeps left : List (Option ℕ)) (sought : Sought) (tasks : List Task) → IsWellFormedCore m entries keeps sought → KeepsFewer m.tasks tasks → left ≡ map held tasks →
     IsWellFormedCore (record m { tasks = tasks }) entries left sought
 fewer_keeps m entries keeps left sought tasks kept few is =
     let apart = fewer_apart m tasks few in

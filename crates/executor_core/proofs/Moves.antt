@@ -7,8 +7,8 @@ use Rattle.executor_core.specs.declared.types.Outcome.{Outcome}
 use Rattle.executor_core.specs.declared.types.Outcome.TheVariants as o
 use Rattle.executor_core.specs.declared.types.Answer.{Answer}
 use Rattle.executor_core.specs.declared.types.Answer.TheVariants as a
-use Rattle.executor_core.specs.declared.task.Phase.{Phase}
-use Rattle.executor_core.specs.declared.task.Phase.TheVariants as ph
+use Rattle.executor_core.specs.declared.task.Stage.{Stage}
+use Rattle.executor_core.specs.declared.task.Stage.TheVariants as ph
 use Rattle.executor_core.specs.declared.task.Task.{Task}
 use Rattle.queue_code.specs.Calls.{Terms, due_at}
 use Rattle.executor_core.specs.View.{Fate}
@@ -51,7 +51,7 @@ Fits terms now k task _ = Unit {0}
 abbrev with_marks : Fate → Bool → Bool → Fate
 with_marks f cancelled kept = record f { cancelled = cancelled; kept = kept }
 
-still : (terms : Terms) (now : ℕ) (p : Phase) (run due : ℕ) (b held cancelled kept : Bool) →
+still : (terms : Terms) (now : ℕ) (p : Stage) (run due : ℕ) (b held cancelled kept : Bool) →
     with_marks (seen_phase terms p run due b held) (cancelled || b) kept ≡ moved_fate terms.timing (seen_phase terms p run due b held) now false cancelled false false false false kept
 still terms now ph.Vacant run due b held cancelled kept = refl
 still terms now ph.Waiting run due b held cancelled kept = refl
@@ -61,10 +61,10 @@ still terms now ph.Failed run due b held cancelled kept = refl
 still terms now ph.Dropped run due b held cancelled kept = refl
 
 -- a task with another phase
-abbrev in_phase : Phase → Task → Task
+abbrev in_phase : Stage → Task → Task
 in_phase p task = record task { phase = p }
 
-submits : (terms : Terms) (now : ℕ) (p : Phase) (task : Task) (cancelled kept : Bool) →
+submits : (terms : Terms) (now : ℕ) (p : Stage) (task : Task) (cancelled kept : Bool) →
     with_marks (seen_task terms (submit_phase terms.timing (due_at terms 0 None) p (in_phase p task))) (cancelled || task.cancelled) kept
     ≡ moved_fate terms.timing (seen_task terms (in_phase p task)) now true cancelled false false false false kept
 submits terms now ph.Vacant task cancelled kept = refl

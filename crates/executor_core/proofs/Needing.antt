@@ -23,13 +23,13 @@ use Rattle.executor_core.specs.declared.types.Outcome.{Outcome}
 use Rattle.executor_core.specs.declared.types.Need.{Need}
 use Rattle.executor_core.specs.declared.types.Need.TheVariants as n
 use Rattle.executor_core.specs.View.{is_waiting}
-use Rattle.executor_core.specs.Answers.{plain, called, effect_on, setting_sweeps, is_queued, is_swept, is_ended_by, swept}
+use Rattle.executor_core.specs.Answers.{bare, called, effect_on, setting_sweeps, is_queued, is_swept, is_ended_by, swept}
 use Rattle.executor_core.specs.Histories.{is_end}
 use Rattle.executor_core.specs.State.{vacant, seen_task, seen_phase, due_seen, due_past, view_of_state}
 use Rattle.executor_core.specs.Histories.{AreMade}
 use Rattle.executor_core.specs.own.Tables.{waits_with}
 use Rattle.executor_core.specs.Needs.{need_of, need_of_answer, need_of_cancel, need_of_finish, IsRipe}
-use Rattle.executor_core.specs.Machine.{Machine, workers_of, state_of}
+use Rattle.executor_core.specs.CoreView.{CoreView, workers_of, state_of}
 use Rattle.executor_core.specs.own.Invariants.{IsWellFormedCore, queued_phase, held}
 use Rattle.executor_core.specs.own.Sought.{Sought}
 use Rattle.executor_core.proofs.Calling.{view_at}
@@ -44,7 +44,7 @@ use Rattle.executor_core.proofs.Sweeping.{swept_under, ends_are}
 -- ---- what the next call moves
 
 -- what a call moves, given the core
-abbrev pub call_moves : Machine → CodeCall → Need
+abbrev pub call_moves : CoreView → CodeCall → Need
 call_moves m (c.Submit task timing delay) = cond m.shut n.Nothing (n.Submit task)
 call_moves m (c.Illegal task) = n.Nothing
 call_moves m (c.Cancel task) = need_of_cancel task (effect_on (seen_task (terms_of m.calls task) (slice_index_or m.tasks task vacant)))
@@ -52,7 +52,7 @@ call_moves m (c.SetPolicy which value) = cond (setting_sweeps m.shut which value
 call_moves m c.Shutdown = cond m.shut n.Nothing n.Sweep
 call_moves m c.Ask = n.Nothing
 
-called_moves : (m : Machine) (at : ℕ) (call : CodeCall) → need_of_answer m.shut (called m.calls (view_at m.calls (state_of m) at) call).answer ≡ call_moves m call
+called_moves : (m : CoreView) (at : ℕ) (call : CodeCall) → need_of_answer m.shut (called m.calls (view_at m.calls (state_of m) at) call).answer ≡ call_moves m call
 called_moves m at (c.Submit task timing delay) =
     let pick : (b : Bool) → need_of_answer m.shut (called m.calls (record (view_at m.calls (state_of m) at) { shut = b }) (c.Submit task timing delay)).answer ≡ cond b n.Nothing (n.Submit task) = elim [ true ↦ refl | false ↦ refl ] in
     pick m.shut
@@ -65,14 +65,14 @@ called_moves m at c.Shutdown =
 called_moves m at c.Ask = refl
 
 -- what the next call moves
-pub next_moves : (m old : Machine) (at : ℕ) (call : CodeCall) (need : Need) → m ≡ old → slice_get old.calls old.made ≡ Some (at, call) → need ≡ call_moves m call → need ≡ need_of old.calls (workers_of old) (state_of old) h.Call
+pub next_moves : (m old : CoreView) (at : ℕ) (call : CodeCall) (need : Need) → m ≡ old → slice_get old.calls old.made ≡ Some (at, call) → need ≡ call_moves m call → need ≡ need_of old.calls (workers_of old) (state_of old) h.Call
 next_moves m old at call need same is there =
     there ∙ (ap (λ x. call_moves x call) same ∙ (sym (called_moves old at call)
-    ∙ ap (λ q. need_of_answer old.shut (option_map_or (λ (p : Planned). called old.calls (view_at old.calls (state_of old) p.0) p.1) q (plain a.Clock)).answer) (sym is)))
+    ∙ ap (λ q. need_of_answer old.shut (option_map_or (λ (p : Planned). called old.calls (view_at old.calls (state_of old) p.0) p.1) q (bare a.Clock)).answer) (sym is)))
 
 -- what a core needs, as one sees it
-needs_of : (m old : Machine) (happening : Happening) (need : Need) → m ≡ old → need_of m.calls (workers_of m) (state_of m) happening ≡ need → need ≡ need_of old.calls (workers_of old) (state_of old) happening
-needs_of m old happening need same is = sym is ∙ ap (λ (x : Machine). need_of x.calls (workers_of x) (state_of x) happening) same
+needs_of : (m old : CoreView) (happening : Happening) (need : Need) → m ≡ old → need_of m.calls (workers_of m) (state_of m) happening ≡ need → need ≡ need_of old.calls (workers_of old) (state_of old) happening
+needs_of m old happening need same is = sym is ∙ ap (λ (x : CoreView). need_of x.calls (workers_of x) (state_of x) happening) same
 
 -- ---- whether a call is left
 
@@ -88,31 +88,31 @@ all_made calls made t p orderly is later i q there l =
 -- ---- what a cancel from outside moves
 
 -- of a task of the plan, on which it has this effect
-pub cancel_needs : (m old : Machine) (k : ℕ) (effect : CancelEffect) → m ≡ old → length m.tasks ≡ task_count m.calls → k < length m.tasks →
+pub cancel_needs : (m old : CoreView) (k : ℕ) (effect : CancelEffect) → m ≡ old → length m.tasks ≡ task_count m.calls → k < length m.tasks →
     effect ≡ effect_on (seen_task (terms_of m.calls k) (slice_index_or m.tasks k vacant)) → need_of_cancel k effect ≡ need_of old.calls (workers_of old) (state_of old) (h.Cancel k)
 cancel_needs m old k effect same count low is =
     let task : nat_lt k (task_count m.calls) ≡ true = grind (arith, nat_tests, count, low) in
     let said : need_of_cancel k effect ≡ need_of m.calls (workers_of m) (state_of m) (h.Cancel k) =
     ap (need_of_cancel k) is ∙ ap (λ b. need_of_answer m.shut (cond b (a.Outside k (effect_on (seen_task (terms_of m.calls k) (slice_index_or m.tasks k vacant)))) (a.Error x.NoTask))) (sym task)
     in
-    said ∙ ap (λ (o : Machine). need_of o.calls (workers_of o) (state_of o) (h.Cancel k)) same
+    said ∙ ap (λ (o : CoreView). need_of o.calls (workers_of o) (state_of o) (h.Cancel k)) same
 
 -- ---- what a start and a finish move
 
 -- a start that gets a task
-pub started_needs : (m old : Machine) (entries keeps : List (Option ℕ)) (sought : Sought) (w : ℕ) (e : Entry) → m ≡ old → IsWellFormedCore m entries keeps sought → Gets m entries w e →
+pub started_needs : (m old : CoreView) (entries keeps : List (Option ℕ)) (sought : Sought) (w : ℕ) (e : Entry) → m ≡ old → IsWellFormedCore m entries keeps sought → Gets m entries w e →
     n.Start e.task ≡ need_of old.calls (workers_of old) (state_of old) (h.Start w)
 started_needs m old entries keeps sought w e same kept gets = needs_of m old (h.Start w) (n.Start e.task) same (start_needs m entries keeps sought w e kept gets)
 
 -- a start that gets none
-pub idle_needs : (m old : Machine) (entries keeps : List (Option ℕ)) (sought : Sought) (w : ℕ) → m ≡ old → IsWellFormedCore m entries keeps sought → w < workers_of m → slice_index_or m.work w None ≡ None → NoneIsDue entries m.moment →
+pub idle_needs : (m old : CoreView) (entries keeps : List (Option ℕ)) (sought : Sought) (w : ℕ) → m ≡ old → IsWellFormedCore m entries keeps sought → w < workers_of m → slice_index_or m.work w None ≡ None → NoneIsDue entries m.moment →
     n.Nothing ≡ need_of old.calls (workers_of old) (state_of old) (h.Start w)
 idle_needs m old entries keeps sought w same kept l free none =
     let first = none_is_first m kept.sound (subst (λ q. NoneIsDue q m.moment) kept.queue none) in
     needs_of m old (h.Start w) n.Nothing same (ap (λ r. need_of_answer m.shut r.answer) (idle_starts m.calls (workers_of m) w (state_of m) l free first))
 
 -- a finish of a worker that works
-pub finished_needs : (m old : Machine) (entries keeps : List (Option ℕ)) (sought : Sought) (w k : ℕ) (ending : Ending) (outcome : Outcome) (task : Task) (need : Need) → m ≡ old → IsWellFormedCore m entries keeps sought →
+pub finished_needs : (m old : CoreView) (entries keeps : List (Option ℕ)) (sought : Sought) (w k : ℕ) (ending : Ending) (outcome : Outcome) (task : Task) (need : Need) → m ≡ old → IsWellFormedCore m entries keeps sought →
     Ran m w k ending outcome (due_past task.timing task.due m.moment) task → need ≡ need_of_finish k outcome → need ≡ need_of old.calls (workers_of old) (state_of old) (h.Finish w ending)
 finished_needs m old entries keeps sought w k ending outcome task need same kept ran is =
     let due = due_past task.timing task.due m.moment in
@@ -158,7 +158,7 @@ either true b q = inl refl
 either false b q = inr q
 
 -- a task of the queue is ripe where its entry is due
-pub queue_ripe : (m old : Machine) (entries keeps : List (Option ℕ)) (sought : Sought) (e : Entry) → m ≡ old → IsWellFormedCore m entries keeps sought → IsLeast entries e.due e.task → e.due ≤ m.moment →
+pub queue_ripe : (m old : CoreView) (entries keeps : List (Option ℕ)) (sought : Sought) (e : Entry) → m ≡ old → IsWellFormedCore m entries keeps sought → IsLeast entries e.due e.task → e.due ≤ m.moment →
     IsRipe old.calls (view_of_state old.calls (state_of old))
 queue_ripe m old entries keeps sought e same kept least due =
     let t = slice_index_or m.tasks e.task vacant in
@@ -167,7 +167,7 @@ queue_ripe m old entries keeps sought e same kept least due =
     let waits : is_queued (seen_task terms t) ≡ true =
     ap (λ b. b || t.kept) ((λ i. is_waiting (seen_phase terms (here.0 i) t.run t.due (here.2 i) t.kept)) ∙ is_seen_waiting terms t.run t.due t.kept)
     in
-    subst (λ (x : Machine). IsRipe x.calls (view_of_state x.calls (state_of x))) same
+    subst (λ (x : CoreView). IsRipe x.calls (view_of_state x.calls (state_of x))) same
     (e.task, waits, omega (arith, due, here.1, ap (λ p. due_seen terms p t.due) here.0))
 
 held_is : (t : Task) (d : ℕ) → held t ≡ Some d → (t.kept ≡ true) × (t.due ≡ d)
@@ -178,21 +178,21 @@ held_is t d q = by t.kept refl q
     by false is q = absurd (none-some d q)
 
 -- a kept task is ripe where its entry is due
-pub kept_ripe : (m old : Machine) (entries keeps : List (Option ℕ)) (sought : Sought) (e : Entry) → m ≡ old → IsWellFormedCore m entries keeps sought → IsLeast keeps e.due e.task → e.due ≤ m.moment →
+pub kept_ripe : (m old : CoreView) (entries keeps : List (Option ℕ)) (sought : Sought) (e : Entry) → m ≡ old → IsWellFormedCore m entries keeps sought → IsLeast keeps e.due e.task → e.due ≤ m.moment →
     IsRipe old.calls (view_of_state old.calls (state_of old))
 kept_ripe m old entries keeps sought e same kept least due =
     let t = slice_index_or m.tasks e.task vacant in
     let terms = terms_of m.calls e.task in
     let here = held_is t e.due (sym (held_at m.tasks e.task) ∙ (sym (ap (λ q. slice_index_or q e.task None) kept.keeping) ∙ least.there)) in
     let waits = kept.sound.kept e.task here.0 in
-    subst (λ (x : Machine). IsRipe x.calls (view_of_state x.calls (state_of x))) same
+    subst (λ (x : CoreView). IsRipe x.calls (view_of_state x.calls (state_of x))) same
     (e.task, ap (λ b. is_waiting (seen_task terms t) || b) here.0 ∙ or_right (is_waiting (seen_task terms t)), omega (arith, due, here.1, ap (λ p. due_seen terms p t.due) waits.0))
 
 -- where no entry is due, no task is ripe
-pub none_ripe : (m old : Machine) (entries keeps : List (Option ℕ)) (sought : Sought) → m ≡ old → IsWellFormedCore m entries keeps sought → NoneIsDue entries m.moment → NoneIsDue keeps m.moment →
+pub none_ripe : (m old : CoreView) (entries keeps : List (Option ℕ)) (sought : Sought) → m ≡ old → IsWellFormedCore m entries keeps sought → NoneIsDue entries m.moment → NoneIsDue keeps m.moment →
     IsRipe old.calls (view_of_state old.calls (state_of old)) → ⊥
 none_ripe m old entries keeps sought same kept none unkept ripe =
-    let (k, stands, due) = subst (λ (x : Machine). IsRipe x.calls (view_of_state x.calls (state_of x))) (sym same) ripe in
+    let (k, stands, due) = subst (λ (x : CoreView). IsRipe x.calls (view_of_state x.calls (state_of x))) (sym same) ripe in
     let t = slice_index_or m.tasks k vacant in
     let terms = terms_of m.calls k in
     elim (either (is_waiting (seen_task terms t)) t.kept stands) [
@@ -208,7 +208,7 @@ none_ripe m old entries keeps sought same kept none unkept ripe =
 -- ---- which tasks a call ends
 
 -- a task is one of those that a sweep ends where it waits and the policies do not let it run
-pub ends_so : (m old : Machine) (entries keeps : List (Option ℕ)) (sought : Sought) (k now : ℕ) (policies : Policies) (b : Bool) → m ≡ old → IsWellFormedCore m entries keeps sought →
+pub ends_so : (m old : CoreView) (entries keeps : List (Option ℕ)) (sought : Sought) (k now : ℕ) (policies : Policies) (b : Bool) → m ≡ old → IsWellFormedCore m entries keeps sought →
     b ≡ (waits_with (slice_index_or m.tasks k vacant) && is_ended_by policies now (slice_index_or m.tasks k vacant).timing (slice_index_or m.tasks k vacant).due) →
     b ≡ is_end k (swept old.calls (record (view_of_state old.calls (state_of old)) { moment = now }) policies)
 ends_so m old entries keeps sought k now policies b same kept is =
@@ -220,4 +220,4 @@ ends_so m old entries keeps sought k now policies b same kept is =
     λ high. at k ∙ ap (λ (t : Task). waits_with t && is_ended_by policies now t.timing t.due) (get_or_past m.tasks k vacant (omega (arith, high, kept.count)))
     in
     is ∙ (sym (at k) ∙ (sym (ends_are test (task_count m.calls) k past)
-    ∙ ap (λ (x : Machine). is_end k (swept x.calls (record (view_of_state x.calls (state_of x)) { moment = now }) policies)) same))
+    ∙ ap (λ (x : CoreView). is_end k (swept x.calls (record (view_of_state x.calls (state_of x)) { moment = now }) policies)) same))

@@ -8,8 +8,8 @@ use Rattle.std.proofs.lemmas.Bool.{false≢true, eqb-true, eq-eqb, cases_lt, cas
 use Rattle.std.proofs.lemmas.Bool.Decides.{nat_tests}
 use Rattle.std.proofs.lemmas.List.{append-nil, get_or_past, length-append}
 use Rattle.std.proofs.lemmas.Option.{none-some, same_Some}
-use Rattle.executor_core.specs.declared.task.Phase.{Phase}
-use Rattle.executor_core.specs.declared.task.Phase.TheVariants as ph
+use Rattle.executor_core.specs.declared.task.Stage.{Stage}
+use Rattle.executor_core.specs.declared.task.Stage.TheVariants as ph
 use Rattle.executor_core.specs.declared.task.Task.{Task}
 use Rattle.executor_core.specs.declared.types.Line.{Line}
 use Rattle.sched_time.specs.declared.timing.Timing.{Timing}
@@ -18,7 +18,7 @@ use Rattle.executor_core.specs.Answers.{is_ended_by}
 use Rattle.executor_core.specs.Histories.{is_end}
 use Rattle.executor_core.specs.State.{vacant}
 use Rattle.executor_core.specs.own.Tables.{goes_on, is_live_phase, is_periodic, is_waiting_phase, waits_again, waits_with}
-use Rattle.executor_core.specs.Machine.{Machine, workers_of}
+use Rattle.executor_core.specs.CoreView.{CoreView, workers_of}
 use Rattle.executor_core.specs.own.Sought.{Sought}
 use Rattle.executor_core.specs.own.Invariants.{IsWellFormedCore}
 use Rattle.executor_core.specs.own.OwnSteps.{Ends}
@@ -143,7 +143,7 @@ fits_workers (Some x ∷ work) test a n staffed = omega (arith, one_fewer test x
 goes_runs : (t : Task) → goes_on t ≡ true → waits_again t ≡ false → t.phase ≡ ph.Running
 goes_runs t on idle = let parts = goes_parts t.phase t.cancelled t.timing on in by t.phase parts.0 refl
   where
-    by : (p : Phase) → is_live_phase p ≡ true → t.phase ≡ p → p ≡ ph.Running
+    by : (p : Stage) → is_live_phase p ≡ true → t.phase ≡ p → p ≡ ph.Running
     by ph.Vacant live is = absurd (false≢true live)
     by ph.Waiting live is =
         let parts = goes_parts t.phase t.cancelled t.timing on in
@@ -155,12 +155,12 @@ goes_runs t on idle = let parts = goes_parts t.phase t.cancelled t.timing on in 
     by ph.Dropped live is = absurd (false≢true live)
 
 -- where no periodic task waits, as many go on at most as there are workers
-pub going_few : (m : Machine) (entries keeps : List (Option ℕ)) (sought : Sought) → IsWellFormedCore m entries keeps sought → ((k : ℕ) → waits_again (slice_index_or m.tasks k vacant) ≡ false) → length (all_going m.tasks) ≤ workers_of m
+pub going_few : (m : CoreView) (entries keeps : List (Option ℕ)) (sought : Sought) → IsWellFormedCore m entries keeps sought → ((k : ℕ) → waits_again (slice_index_or m.tasks k vacant) ≡ false) → length (all_going m.tasks) ≤ workers_of m
 going_few m entries keeps sought kept none =
     fits_workers m.work (going_in m.tasks) 0 (length m.tasks) (λ k on. kept.sound.staffed k (goes_runs (slice_index_or m.tasks k vacant) on (none k)))
 
 -- the core stays well formed with them
-going_noted : (m : Machine) (entries keeps : List (Option ℕ)) (sought : Sought) → IsWellFormedCore m entries keeps sought → m.shut ≡ true → ((k : ℕ) → waits_again (slice_index_or m.tasks k vacant) ≡ false) →
+going_noted : (m : CoreView) (entries keeps : List (Option ℕ)) (sought : Sought) → IsWellFormedCore m entries keeps sought → m.shut ≡ true → ((k : ℕ) → waits_again (slice_index_or m.tasks k vacant) ≡ false) →
     IsWellFormedCore m entries keeps (record sought { periodic = true; going = all_going m.tasks })
 going_noted m entries keeps sought kept shut none = record {
   orderly = kept.orderly;
@@ -189,7 +189,7 @@ going_noted m entries keeps sought kept shut none = record {
 }
 
 -- the core stays well formed once they are noted
-pub going_kept : (m : Machine) (entries keeps : List (Option ℕ)) (sought now : Sought) → IsWellFormedCore m entries keeps sought → m.shut ≡ true → ((k : ℕ) → waits_again (slice_index_or m.tasks k vacant) ≡ false) →
+pub going_kept : (m : CoreView) (entries keeps : List (Option ℕ)) (sought now : Sought) → IsWellFormedCore m entries keeps sought → m.shut ≡ true → ((k : ℕ) → waits_again (slice_index_or m.tasks k vacant) ≡ false) →
     (sought.periodic ≡ true → now ≡ sought) → (sought.periodic ≡ false → now ≡ record sought { periodic = true; going = all_going m.tasks }) → IsWellFormedCore m entries keeps now
 going_kept m entries keeps sought now kept shut none again first = elim (cases_Bool sought.periodic) [
   | inl noted ↦ subst (IsWellFormedCore m entries keeps) (sym (again noted)) kept
@@ -199,7 +199,7 @@ going_kept m entries keeps sought now kept shut none again first = elim (cases_B
 -- what a later sweep may end
 
 -- once sweeps have looked for both sorts of tasks that they end, each task that a sweep ends was noted
-pub swept_noted : (m : Machine) (entries keeps : List (Option ℕ)) (sought : Sought) → IsWellFormedCore m entries keeps sought → sought.periodic ≡ true → (m.policies.executes ≡ true) ⊎ (sought.delayed ≡ true) →
+pub swept_noted : (m : CoreView) (entries keeps : List (Option ℕ)) (sought : Sought) → IsWellFormedCore m entries keeps sought → sought.periodic ≡ true → (m.policies.executes ≡ true) ⊎ (sought.delayed ≡ true) →
     (k : ℕ) → sweeps_at m k ≡ true → is_end k sought.going ≡ true
 swept_noted m entries keeps sought kept looked delayed k swept =
     let t = slice_index_or m.tasks k vacant in
@@ -231,20 +231,20 @@ swept_noted m entries keeps sought kept looked delayed k swept =
     not_both now due low late = grind (arith, nat_tests, late, low)
 
 -- what is not noted is not ended
-pub unnoted_stays : (m : Machine) (entries keeps : List (Option ℕ)) (sought : Sought) → IsWellFormedCore m entries keeps sought → sought.periodic ≡ true → (m.policies.executes ≡ true) ⊎ (sought.delayed ≡ true) →
+pub unnoted_stays : (m : CoreView) (entries keeps : List (Option ℕ)) (sought : Sought) → IsWellFormedCore m entries keeps sought → sought.periodic ≡ true → (m.policies.executes ≡ true) ⊎ (sought.delayed ≡ true) →
     (k : ℕ) → (is_end k sought.going ≡ true → ⊥) → sweeps_at m k ≡ false
 unnoted_stays m entries keeps sought kept looked delayed k not =
     elim (cases_Bool (sweeps_at m k)) [ inl swept ↦ absurd (not (swept_noted m entries keeps sought kept looked delayed k swept)) | inr stays ↦ stays ]
 
 -- a sweep that passes over some tasks which it does not end
-passes_over : (old cur : Machine) (before lines : List Line) (d n : ℕ) → Ends old cur before lines n → ((k : ℕ) → n ≤ k → k < n + d → sweeps_at cur k ≡ false) → Ends old cur before lines (n + d)
+passes_over : (old cur : CoreView) (before lines : List Line) (d n : ℕ) → Ends old cur before lines n → ((k : ℕ) → n ≤ k → k < n + d → sweeps_at cur k ≡ false) → Ends old cur before lines (n + d)
 passes_over old cur before lines zero n ends none = subst (Ends old cur before lines) (omega arith) ends
 passes_over old cur before lines (suc d) n ends none =
     subst (Ends old cur before lines) (omega arith)
     (passes_over old cur before lines d (n + 1) (ends_not old cur before lines n ends (none n (omega arith) (omega arith))) (λ k from below. none k (omega (arith, from)) (omega (arith, below))))
 
 -- the same, up to a number
-pub ends_passed : (old cur : Machine) (before lines : List Line) (n to : ℕ) → Ends old cur before lines n → n ≤ to → ((k : ℕ) → n ≤ k → k < to → sweeps_at cur k ≡ false) → Ends old cur before lines to
+pub ends_passed : (old cur : CoreView) (before lines : List Line) (n to : ℕ) → Ends old cur before lines n → n ≤ to → ((k : ℕ) → n ≤ k → k < to → sweeps_at cur k ≡ false) → Ends old cur before lines to
 ends_passed old cur before lines n to ends le none =
     let same : n + (to - n) ≡ to = omega (arith, le) in
     subst (Ends old cur before lines) same (passes_over old cur before lines (to - n) n ends (λ k from below. none k from (omega (arith, below, le))))

@@ -7,12 +7,12 @@ use Rattle.std.proofs.lemmas.Bool.Decides.{nat_tests}
 use Rattle.std.proofs.lemmas.List.{length-replicate}
 use Rattle.executor_core.specs.declared.policies.Policies.{Policies}
 use Rattle.executor_core.specs.declared.task.Task.{Task}
-use Rattle.executor_core.specs.declared.task.Phase.TheVariants as ph
+use Rattle.executor_core.specs.declared.task.Stage.TheVariants as ph
 use Rattle.queue_code.specs.Calls.{Planned, IsOrderly, IsOrderlyFrom, count_after, how_many, task_count}
 use Rattle.executor_core.specs.Flows.{reached, ReachesNext}
 use Rattle.executor_core.specs.Answers.{default_policies}
 use Rattle.executor_core.specs.State.{opening, vacant, view_of_state}
-use Rattle.executor_core.specs.Machine.{Machine, state_of, IsOpening}
+use Rattle.executor_core.specs.CoreView.{CoreView, state_of, IsOpening}
 use Rattle.executor_core.specs.own.Invariants.{IsWellFormedCore, IsSound, IsDue, queued, held}
 use Rattle.executor_core.specs.own.Sought.{Sought}
 use Rattle.executor_core.proofs.Agree.{opening_sound}
@@ -30,7 +30,7 @@ map_unheld zero = refl
 map_unheld (suc n) = ap (λ l. None ∷ l) (map_unheld n)
 
 -- what contracts see of a core that was just made
-abbrev pub opening_machine : List Planned → ℕ → List Task → List (Option ℕ) → Policies → Machine
+abbrev pub opening_machine : List Planned → ℕ → List Task → List (Option ℕ) → Policies → CoreView
 opening_machine calls limit tasks work policies = record { calls = calls; limit = limit; taken = 0; made = 0; moment = 0; tasks = tasks; work = work; policies = policies; shut = false }
 
 opening_state : (calls : List Planned) (count workers limit : ℕ) (tasks : List Task) (work : List (Option ℕ)) (policies : Policies) → tasks ≡ replicate count vacant → work ≡ replicate workers None → policies ≡ default_policies → state_of (opening_machine calls limit tasks work policies) ≡ opening

@@ -14,7 +14,7 @@ use Rattle.executor_core.specs.declared.types.Line.{Line}
 use Rattle.executor_core.specs.Answers.{is_accepted, moment_after}
 use Rattle.executor_core.specs.Histories.{AreMade, MayFrom, made_after}
 use Rattle.executor_core.specs.Flows.{ReachesNext, happening_of, reached, calls_before, part_of, CallComes, EventComes}
-use Rattle.executor_core.specs.Machine.{Machine, Counts, Steps}
+use Rattle.executor_core.specs.CoreView.{CoreView, Counts, Steps}
 use Rattle.executor_core.proofs.Events.{uncounted}
 use Rattle.executor_core.proofs.Flowing.{all_reached, no_steps}
 use Rattle.executor_core.proofs.Needing.{all_made}
@@ -147,25 +147,25 @@ told_accepted calls made now t false o is next none = told_next calls made now (
 -- ---- what a core has made happen of an event, and what is left of it
 
 -- what is left of an event's part
-abbrev pub part_from : Machine → Event → List Happening
+abbrev pub part_from : CoreView → Event → List Happening
 part_from m event = part_of m.calls m.made m.moment event
 
 -- nothing has happened yet
-pub none_happened : (old counted : Machine) (event : Event) → Counts old counted → part_from old event ≡ part_from counted event ++ []
-none_happened old counted event one = sym (append-nil (part_from old event)) ∙ ap (λ (m : Machine). part_from m event ++ []) (sym one)
+pub none_happened : (old counted : CoreView) (event : Event) → Counts old counted → part_from old event ≡ part_from counted event ++ []
+none_happened old counted event one = sym (append-nil (part_from old event)) ∙ ap (λ (m : CoreView). part_from m event ++ []) (sym one)
 
 -- what is left after a call, by the core after it
-left_moved : (old new : Machine) (before lines : List Line) (event : Event) → Steps old new before lines (h.Call ∷ []) →
+left_moved : (old new : CoreView) (before lines : List Line) (event : Event) → Steps old new before lines (h.Call ∷ []) →
     part_from new event ≡ part_of old.calls (made_after old.made h.Call) (moment_after old.moment (slice_get old.calls old.made) h.Call) event
 left_moved old new before lines event steps = λ i. part_of (steps.calls i) (steps.state i).made (steps.state i).moment event
 
 -- one call more
-pub left_after : (old new : Machine) (before lines : List Line) (event : Event) (part hs : List Happening) → part ≡ part_from old event ++ hs →
+pub left_after : (old new : CoreView) (before lines : List Line) (event : Event) (part hs : List Happening) → part ≡ part_from old event ++ hs →
     CallComes old.calls old.made old.moment event → Steps old new before lines (h.Call ∷ []) → part ≡ part_from new event ++ h.Call ∷ hs
 left_after old new before lines event part hs is next steps =
     let there = left_moved old new before lines event steps in
     is ∙ (ap (λ l. l ++ hs) (next.rest ∙ ap (λ l. l ++ h.Call ∷ []) (sym there)) ∙ append_assoc (part_from new event) (h.Call ∷ []) hs)
 
 -- and at last the event itself
-pub all_happened : (m : Machine) (event : Event) (part hs : List Happening) → part ≡ part_from m event ++ hs → EventComes m.calls m.made m.moment event → part ≡ happening_of event ∷ hs
+pub all_happened : (m : CoreView) (event : Event) (part hs : List Happening) → part ≡ part_from m event ++ hs → EventComes m.calls m.made m.moment event → part ≡ happening_of event ∷ hs
 all_happened m event part hs is next = is ∙ ap (λ l. l ++ hs) next.alone

@@ -8,7 +8,7 @@ use Rattle.executor_core.specs.Flows.{lines_from}
 use Rattle.executor_core.specs.Histories.{cancels, is_call}
 use Rattle.executor_core.specs.State.{State, vacant, reply_of}
 use Rattle.executor_core.specs.Tasks.{uncancelled_in}
-use Rattle.executor_core.specs.Machine.{Machine, workers_of, state_of, room_of, Steps}
+use Rattle.executor_core.specs.CoreView.{CoreView, workers_of, state_of, room_of, Steps}
 
 or_true : (a b : Bool) → b ≡ true → (a || b) ≡ true
 or_true true b q = refl
@@ -30,7 +30,7 @@ fewer (x ∷ xs) (y ∷ ys) e stay =
     by false false stays l = omega (arith, l)
 
 -- where lines are added and the room that they take is given up, no more room is needed
-pub room_less : (old new : Machine) (before lines : List Line) (hs : List Happening) → Steps old new before lines hs → length lines + room_of new ≤ length before + room_of old → room_of new ≤ room_of old
+pub room_less : (old new : CoreView) (before lines : List Line) (hs : List Happening) → Steps old new before lines hs → length lines + room_of new ≤ length before + room_of old → room_of new ≤ room_of old
 room_less old new before lines hs steps l =
     let added = lines_from old.calls (workers_of old) (state_of old) hs in
     omega (arith, l, ap length steps.lines, length-append before added)
@@ -40,7 +40,7 @@ made_more true n = omega arith
 made_more false n = omega arith
 
 -- a step makes no room needed that was not before
-pub room_stays : (old new : Machine) (before lines : List Line) (happening : Happening) → Steps old new before lines (happening ∷ []) → length new.tasks ≡ length old.tasks → room_of new ≤ room_of old
+pub room_stays : (old new : CoreView) (before lines : List Line) (happening : Happening) → Steps old new before lines (happening ∷ []) → length new.tasks ≡ length old.tasks → room_of new ≤ room_of old
 room_stays old new before lines happening steps size =
     let said = reply_of old.calls (workers_of old) (state_of old) happening in
     let still : (k : ℕ) → (slice_index_or old.tasks k vacant).cancelled ≡ true → (slice_index_or new.tasks k vacant).cancelled ≡ true =

@@ -6,8 +6,8 @@ use Rattle.sched_time.specs.declared.timing.Timing.{Timing}
 use Rattle.queue_code.specs.declared.call.CodeCall.{CodeCall}
 use Rattle.queue_code.specs.declared.call.CodeCall.TheVariants as c
 use Rattle.queue_code.specs.Calls.{Planned, terms_of, task_count, due_at}
-use Rattle.executor_core.specs.declared.task.Phase.{Phase}
-use Rattle.executor_core.specs.declared.task.Phase.TheVariants as ph
+use Rattle.executor_core.specs.declared.task.Stage.{Stage}
+use Rattle.executor_core.specs.declared.task.Stage.TheVariants as ph
 use Rattle.executor_core.specs.declared.task.Task.{Task}
 use Rattle.executor_core.specs.declared.types.Answer.{Answer}
 use Rattle.executor_core.specs.declared.types.Answer.TheVariants as a
@@ -17,16 +17,16 @@ use Rattle.executor_core.specs.declared.types.Happening.{Happening}
 use Rattle.executor_core.specs.declared.types.Happening.TheVariants as h
 use Rattle.executor_core.specs.declared.types.Line.{Line}
 use Rattle.executor_core.specs.View.{View}
-use Rattle.executor_core.specs.Answers.{Reply, plain, called, kind_of, effect_on, setting_sweeps, set_policy, swept}
+use Rattle.executor_core.specs.Answers.{Reply, bare, called, kind_of, effect_on, setting_sweeps, set_policy, swept}
 use Rattle.executor_core.specs.State.{State, vacant, view_of_state, move_task, submit_phase, reply_of}
-use Rattle.executor_core.specs.Machine.{Machine, workers_of, state_of, Steps, IsCounted}
+use Rattle.executor_core.specs.CoreView.{CoreView, workers_of, state_of, Steps, IsCounted}
 
 -- an answer says that some run was finished
 abbrev pub finishes_some : Answer → Bool
 finishes_some (a.Finish worker task run outcome) = true
 finishes_some _ = false
 
-submitted_run : (timing : Timing) (due : ℕ) (p : Phase) (task : Task) → (submit_phase timing due p task).run ≤ task.run
+submitted_run : (timing : Timing) (due : ℕ) (p : Stage) (task : Task) → (submit_phase timing due p task).run ≤ task.run
 submitted_run timing due ph.Vacant task = omega arith
 submitted_run timing due ph.Waiting task = omega arith
 submitted_run timing due ph.Running task = omega arith
@@ -63,14 +63,14 @@ call_finishes calls v (c.Illegal task) = refl
 call_finishes calls v (c.Cancel task) = refl
 call_finishes calls v (c.SetPolicy which value) = refl
 call_finishes calls v c.Shutdown =
-    let pick : (b : Bool) → finishes_some (cond b (plain a.ShutdownAgain) (record { answer = a.Shutdown; ends = swept calls v v.policies })).answer ≡ false = elim [ true ↦ refl | false ↦ refl ] in
+    let pick : (b : Bool) → finishes_some (cond b (bare a.ShutdownAgain) (record { answer = a.Shutdown; ends = swept calls v v.policies })).answer ≡ false = elim [ true ↦ refl | false ↦ refl ] in
     pick v.shut
 call_finishes calls v c.Ask = refl
 
 next_finishes : (calls : List Planned) (workers : ℕ) (s : State) → finishes_some (reply_of calls workers s h.Call).answer ≡ false
 next_finishes calls workers s = by (slice_get calls s.made)
   where
-    by : (next : Option Planned) → finishes_some (option_map_or (λ p. called calls (record (view_of_state calls s) { moment = max s.moment p.0 }) p.1) next (plain a.Clock)).answer ≡ false
+    by : (next : Option Planned) → finishes_some (option_map_or (λ p. called calls (record (view_of_state calls s) { moment = max s.moment p.0 }) p.1) next (bare a.Clock)).answer ≡ false
     by None = refl
     by (Some p) = call_finishes calls (record (view_of_state calls s) { moment = max s.moment p.0 }) p.1
 
@@ -80,7 +80,7 @@ cancel_finishes calls workers k s =
     let pick : (b : Bool) → finishes_some (cond b (a.Outside k (effect_on ((view_of_state calls s).fate k))) (a.Error x.NoTask)) ≡ false = elim [ true ↦ refl | false ↦ refl ] in
     pick (nat_lt k (task_count calls))
 
-counted_on : (old new : Machine) (before lines : List Line) (happening : Happening) → finishes_some (reply_of old.calls (workers_of old) (state_of old) happening).answer ≡ false → new.taken ≡ old.taken →
+counted_on : (old new : CoreView) (before lines : List Line) (happening : Happening) → finishes_some (reply_of old.calls (workers_of old) (state_of old) happening).answer ≡ false → new.taken ≡ old.taken →
     Steps old new before lines (happening ∷ []) → IsCounted old → IsCounted new
 counted_on old new before lines happening none taken steps counted k =
     let calls = old.calls in
@@ -89,9 +89,9 @@ counted_on old new before lines happening none taken steps counted k =
     omega (arith, ap (λ (t : State). (t.tasks k).run) steps.state, stays, counted k, taken)
 
 -- events stay counted at a call
-pub call_counted : (old new : Machine) (before lines : List Line) → new.taken ≡ old.taken → Steps old new before lines (h.Call ∷ []) → IsCounted old → IsCounted new
+pub call_counted : (old new : CoreView) (before lines : List Line) → new.taken ≡ old.taken → Steps old new before lines (h.Call ∷ []) → IsCounted old → IsCounted new
 call_counted old new before lines = counted_on old new before lines h.Call (next_finishes old.calls (workers_of old) (state_of old))
 
 -- and at a cancel from outside
-pub cancel_counted : (old new : Machine) (before lines : List Line) (k : ℕ) → new.taken ≡ old.taken → Steps old new before lines (h.Cancel k ∷ []) → IsCounted old → IsCounted new
+pub cancel_counted : (old new : CoreView) (before lines : List Line) (k : ℕ) → new.taken ≡ old.taken → Steps old new before lines (h.Cancel k ∷ []) → IsCounted old → IsCounted new
 cancel_counted old new before lines k = counted_on old new before lines (h.Cancel k) (cancel_finishes old.calls (workers_of old) k (state_of old))

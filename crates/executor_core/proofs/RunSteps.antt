@@ -15,17 +15,17 @@ use Rattle.executor_core.specs.declared.types.Outcome.{Outcome}
 use Rattle.executor_core.specs.declared.types.Outcome.TheVariants as o
 use Rattle.executor_core.specs.declared.types.Answer.{Answer}
 use Rattle.executor_core.specs.declared.types.Answer.TheVariants as a
-use Rattle.executor_core.specs.declared.task.Phase.{Phase}
-use Rattle.executor_core.specs.declared.task.Phase.TheVariants as ph
+use Rattle.executor_core.specs.declared.task.Stage.{Stage}
+use Rattle.executor_core.specs.declared.task.Stage.TheVariants as ph
 use Rattle.executor_core.specs.declared.task.Task.{Task}
 use Rattle.delay_queue.specs.declared.entry.Entry.{Entry}
 use Rattle.delay_queue.specs.Queues as queues
 use Rattle.queue_code.specs.Calls.{terms_of, task_count}
-use Rattle.executor_core.specs.Answers.{plain, outcome_in, stops_periodic}
+use Rattle.executor_core.specs.Answers.{bare, outcome_in, stops_periodic}
 use Rattle.executor_core.specs.declared.types.Need.TheVariants as n
 use Rattle.executor_core.specs.Needs.{need_of, need_of_answer}
 use Rattle.executor_core.specs.State.{vacant, view_of_state, reply_of, state_after, end_task, due_past}
-use Rattle.executor_core.specs.Machine.{Machine, workers_of, state_of}
+use Rattle.executor_core.specs.CoreView.{CoreView, workers_of, state_of}
 use Rattle.executor_core.specs.own.Invariants.{IsWellFormedCore, IsSound, IsDue, queued, queued_phase, held}
 use Rattle.executor_core.specs.own.OwnSteps.{Takes, LeavesMet, queued_again, finished_task}
 use Rattle.executor_core.specs.own.Sought.{Sought}
@@ -36,7 +36,7 @@ use Rattle.executor_core.proofs.WorkerSteps.{queued_at, by_reply, in_queue, entr
 use Rattle.executor_core.specs.own.Tables.{goes_on, is_live_phase, is_periodic}
 
 -- a step from what is seen of a core is one from the core
-pub of_view : (m old new : Machine) (happening : Happening) (answer : Answer) → m ≡ old → Takes m new happening answer → Takes old new happening answer
+pub of_view : (m old new : CoreView) (happening : Happening) (answer : Answer) → m ≡ old → Takes m new happening answer → Takes old new happening answer
 of_view m old new happening answer same takes = subst (λ x. Takes x new happening answer) same takes
 
 -- where one task is written
@@ -46,7 +46,7 @@ pub unqueued : (entries : List (Option ℕ)) (tasks : List Task) (k : ℕ) (task
 unqueued entries tasks k task q none = ap (λ l. set l k None) q ∙ (ap (λ e. set (map queued tasks) k e) (sym none) ∙ sym (map-set queued tasks k task))
 
 -- each task has the timing of its terms, where one that was submitted is written and keeps its own
-timing_stays : (m : Machine) (entries keeps : List (Option ℕ)) (sought : Sought) (k : ℕ) (task : Task) → IsWellFormedCore m entries keeps sought → k < length m.tasks → (slice_index_or m.tasks k vacant).phase ≢ ph.Vacant →
+timing_stays : (m : CoreView) (entries keeps : List (Option ℕ)) (sought : Sought) (k : ℕ) (task : Task) → IsWellFormedCore m entries keeps sought → k < length m.tasks → (slice_index_or m.tasks k vacant).phase ≢ ph.Vacant →
     task.timing ≡ (slice_index_or m.tasks k vacant).timing → (j : ℕ) → (slice_index_or (set m.tasks k task) j vacant).phase ≢ ph.Vacant → (slice_index_or (set m.tasks k task) j vacant).timing ≡ (terms_of m.calls j).timing
 timing_stays m entries keeps sought k task kept low busy same j =
     subst (λ (x : Task). x.phase ≢ ph.Vacant → x.timing ≡ (terms_of m.calls j).timing) (sym (at_set m.tasks k j task vacant low)) (by (k == j) refl)
@@ -56,7 +56,7 @@ timing_stays m entries keeps sought k task kept low busy same j =
     by false apart used = kept.timing j used
 
 -- what no call submitted stays vacant where a task that was submitted is written
-pub fresh_stays : (m : Machine) (entries keeps : List (Option ℕ)) (sought : Sought) (k : ℕ) (task : Task) → IsWellFormedCore m entries keeps sought → k < length m.tasks → (slice_index_or m.tasks k vacant).phase ≢ ph.Vacant →
+pub fresh_stays : (m : CoreView) (entries keeps : List (Option ℕ)) (sought : Sought) (k : ℕ) (task : Task) → IsWellFormedCore m entries keeps sought → k < length m.tasks → (slice_index_or m.tasks k vacant).phase ≢ ph.Vacant →
     (j : ℕ) → task_count (take m.made m.calls) ≤ j → slice_index_or (set m.tasks k task) j vacant ≡ vacant
 fresh_stays m entries keeps sought k task kept low busy j above = at_set m.tasks k j task vacant low ∙ by (k == j) refl
   where
@@ -69,26 +69,26 @@ running_unqueued t e =
     let pick : (b : Bool) → cond b None (queued_phase t.phase t.due) ≡ None = elim [ true ↦ refl | false ↦ ap (λ q. queued_phase q t.due) e ] in
     pick t.cancelled
 
-not_vacant : (p q : Phase) → p ≡ q → (q ≡ ph.Vacant → ⊥) → p ≢ ph.Vacant
+not_vacant : (p q : Stage) → p ≡ q → (q ≡ ph.Vacant → ⊥) → p ≢ ph.Vacant
 not_vacant p q e no_vacancy f = no_vacancy (sym e ∙ f)
 
 -- a core with another table of tasks
-abbrev pub with_tasks : Machine → List Task → Machine
+abbrev pub with_tasks : CoreView → List Task → CoreView
 with_tasks m tasks = record m { tasks = tasks }
 
 -- a start
 
 -- the least entry of the queue has its place in the tables
-pub least_within : (m : Machine) (entries keeps : List (Option ℕ)) (sought : Sought) (k d : ℕ) → IsWellFormedCore m entries keeps sought → queues.IsLeast entries d k → k < length m.tasks
+pub least_within : (m : CoreView) (entries keeps : List (Option ℕ)) (sought : Sought) (k d : ℕ) → IsWellFormedCore m entries keeps sought → queues.IsLeast entries d k → k < length m.tasks
 least_within m entries keeps sought k d kept least = entry_within m.tasks k d (subst (λ q. queues.IsLeast q d k) kept.queue least).there
 
 -- the least entry of the queue is that of a task that waits
-pub least_waits : (m : Machine) (entries keeps : List (Option ℕ)) (sought : Sought) (k d : ℕ) → IsWellFormedCore m entries keeps sought → queues.IsLeast entries d k →
+pub least_waits : (m : CoreView) (entries keeps : List (Option ℕ)) (sought : Sought) (k d : ℕ) → IsWellFormedCore m entries keeps sought → queues.IsLeast entries d k →
     ((slice_index_or m.tasks k vacant).phase ≡ ph.Waiting) × ((slice_index_or m.tasks k vacant).due ≡ d) × ((slice_index_or m.tasks k vacant).cancelled ≡ false)
 least_waits m entries keeps sought k d kept least = in_queue m.tasks k d (subst (λ q. queues.IsLeast q d k) kept.queue least).there
 
 -- a core takes the step of a start that gets no task
-pub start_idles : (m new : Machine) (entries keeps : List (Option ℕ)) (sought : Sought) (w : ℕ) → IsWellFormedCore m entries keeps sought → w < workers_of m → slice_index_or m.work w None ≡ None →
+pub start_idles : (m new : CoreView) (entries keeps : List (Option ℕ)) (sought : Sought) (w : ℕ) → IsWellFormedCore m entries keeps sought → w < workers_of m → slice_index_or m.work w None ≡ None →
     queues.NoneIsDue entries m.moment → new ≡ with_tasks m new.tasks → LeavesMet m.moment None m.tasks new.tasks → Takes m new (h.Start w) (a.Idle w)
 start_idles m new entries keeps sought w kept l free none rest left =
     let reply = idle_starts m.calls (workers_of m) w (state_of m) l free (none_is_first m kept.sound (subst (λ q. queues.NoneIsDue q m.moment) kept.queue none)) in
@@ -102,37 +102,37 @@ start_idles m new entries keeps sought w kept l free none rest left =
     })
 
 -- a core once a worker has started a task
-abbrev pub started : Machine → ℕ → ℕ → List Task → Machine
+abbrev pub started : CoreView → ℕ → ℕ → List Task → CoreView
 started m w k tasks = record m { tasks = tasks; work = set m.work w (Some k) }
 
 -- the table of tasks then, but for the kept ones that leave
-abbrev pub started_in : Machine → ℕ → List Task
+abbrev pub started_in : CoreView → ℕ → List Task
 started_in m k = set m.tasks k (running (slice_index_or m.tasks k vacant))
 
 -- what a worker without work gets
-pub record Gets (m : Machine) (entries : List (Option ℕ)) (w : ℕ) (e : Entry) : Type 0 where
+pub record Gets (m : CoreView) (entries : List (Option ℕ)) (w : ℕ) (e : Entry) : Type 0 where
   pub worker : w < workers_of m
   pub free : slice_index_or m.work w None ≡ None
   pub least : queues.IsLeast entries e.due e.task
   pub due : e.due ≤ m.moment
 
 -- the reply to a start that gets a task
-start_reply : (m : Machine) (entries keeps : List (Option ℕ)) (sought : Sought) (w : ℕ) (e : Entry) → IsWellFormedCore m entries keeps sought → Gets m entries w e →
-    reply_of m.calls (workers_of m) (state_of m) (h.Start w) ≡ plain (a.Start w e.task (slice_index_or m.tasks e.task vacant).run e.due)
+start_reply : (m : CoreView) (entries keeps : List (Option ℕ)) (sought : Sought) (w : ℕ) (e : Entry) → IsWellFormedCore m entries keeps sought → Gets m entries w e →
+    reply_of m.calls (workers_of m) (state_of m) (h.Start w) ≡ bare (a.Start w e.task (slice_index_or m.tasks e.task vacant).run e.due)
 start_reply m entries keeps sought w e kept gets = task_starts m w e.task e.due gets.worker gets.free kept.sound kept.count (subst (λ q. queues.IsLeast q e.due e.task) kept.queue gets.least) gets.due
 
 -- and what it moves
-pub start_needs : (m : Machine) (entries keeps : List (Option ℕ)) (sought : Sought) (w : ℕ) (e : Entry) → IsWellFormedCore m entries keeps sought → Gets m entries w e →
+pub start_needs : (m : CoreView) (entries keeps : List (Option ℕ)) (sought : Sought) (w : ℕ) (e : Entry) → IsWellFormedCore m entries keeps sought → Gets m entries w e →
     need_of m.calls (workers_of m) (state_of m) (h.Start w) ≡ n.Start e.task
 start_needs m entries keeps sought w e kept gets = ap (λ r. need_of_answer m.shut r.answer) (start_reply m entries keeps sought w e kept gets)
 
 -- a core takes the step of a start that gets a task
-pub start_takes : (m new : Machine) (entries keeps : List (Option ℕ)) (sought : Sought) (w n : ℕ) (e : Entry) (tasks : List Task) → IsWellFormedCore m entries keeps sought → Gets m entries w e →
+pub start_takes : (m new : CoreView) (entries keeps : List (Option ℕ)) (sought : Sought) (w n : ℕ) (e : Entry) (tasks : List Task) → IsWellFormedCore m entries keeps sought → Gets m entries w e →
     tasks ≡ started_in m e.task → n ≡ (slice_index_or m.tasks e.task vacant).run → new ≡ started m w e.task new.tasks → LeavesMet m.moment (Some e) tasks new.tasks → Takes m new (h.Start w) (a.Start w e.task n e.due)
 start_takes m new entries keeps sought w n e tasks kept gets written run rest left =
     let low = least_within m entries keeps sought e.task e.due kept gets.least in
     let waits = least_waits m entries keeps sought e.task e.due kept gets.least in
-    let reply = start_reply m entries keeps sought w e kept gets ∙ ap (λ i. plain (a.Start w e.task i e.due)) (sym run) in
+    let reply = start_reply m entries keeps sought w e kept gets ∙ ap (λ i. bare (a.Start w e.task i e.due)) (sym run) in
     subst (λ x. Takes m x (h.Start w) (a.Start w e.task n e.due)) (sym rest) (record {
       calls = refl;
       limit = refl;
@@ -144,8 +144,8 @@ start_takes m new entries keeps sought w n e tasks kept gets written run rest le
     })
 
 -- what is kept over a start was cancelled while it waited
-started_kept : (m : Machine) (w k n d j : ℕ) → IsSound (state_of m) → k < length m.tasks → (slice_index_or m.tasks k vacant).cancelled ≡ false → (slice_index_or (started_in m k) j vacant).kept ≡ true →
-    (let after = state_after m.calls (state_of m) (h.Start w) (plain (a.Start w k n d)) in ((after.tasks j).phase ≡ ph.Waiting) × ((after.tasks j).cancelled ≡ true))
+started_kept : (m : CoreView) (w k n d j : ℕ) → IsSound (state_of m) → k < length m.tasks → (slice_index_or m.tasks k vacant).cancelled ≡ false → (slice_index_or (started_in m k) j vacant).kept ≡ true →
+    (let after = state_after m.calls (state_of m) (h.Start w) (bare (a.Start w k n d)) in ((after.tasks j).phase ≡ ph.Waiting) × ((after.tasks j).cancelled ≡ true))
 started_kept m w k n d j sound low live q =
     let was = sound.kept j (sym (ap (λ (x : Task). x.kept) (started_task m w k n d j low)) ∙ q) in
     (by (k == j) refl was.0 was.1, was.1)
@@ -155,7 +155,7 @@ started_kept m w k n d j sound low live q =
     by false apart waits over = waits
 
 -- no one-shot task waits after a start whose due moment is not reached
-started_delayed : (m : Machine) (k j : ℕ) → k < length m.tasks → ((slice_index_or m.tasks j vacant).phase ≡ ph.Waiting → (slice_index_or m.tasks j vacant).cancelled ≡ false → (slice_index_or m.tasks j vacant).timing ≡ t.Once → (slice_index_or m.tasks j vacant).due ≤ m.moment) →
+started_delayed : (m : CoreView) (k j : ℕ) → k < length m.tasks → ((slice_index_or m.tasks j vacant).phase ≡ ph.Waiting → (slice_index_or m.tasks j vacant).cancelled ≡ false → (slice_index_or m.tasks j vacant).timing ≡ t.Once → (slice_index_or m.tasks j vacant).due ≤ m.moment) →
     (let x : Task = slice_index_or (started_in m k) j vacant in x.phase ≡ ph.Waiting → x.cancelled ≡ false → x.timing ≡ t.Once → x.due ≤ m.moment)
 started_delayed m k j low old =
     subst (λ (x : Task). x.phase ≡ ph.Waiting → x.cancelled ≡ false → x.timing ≡ t.Once → x.due ≤ m.moment) (sym (at_set m.tasks k j (running (slice_index_or m.tasks k vacant)) vacant low)) (by (k == j))
@@ -165,7 +165,7 @@ started_delayed m k j low old =
     by false waits live once = old waits live once
 
 -- what goes on after a start went on before it
-started_goes : (m : Machine) (k j : ℕ) → k < length m.tasks → (slice_index_or m.tasks k vacant).phase ≡ ph.Waiting → goes_on (slice_index_or (started_in m k) j vacant) ≡ true → goes_on (slice_index_or m.tasks j vacant) ≡ true
+started_goes : (m : CoreView) (k j : ℕ) → k < length m.tasks → (slice_index_or m.tasks k vacant).phase ≡ ph.Waiting → goes_on (slice_index_or (started_in m k) j vacant) ≡ true → goes_on (slice_index_or m.tasks j vacant) ≡ true
 started_goes m k j low waits on = by (k == j) refl (sym (ap goes_on (at_set m.tasks k j (running (slice_index_or m.tasks k vacant)) vacant low)) ∙ on)
   where
     by : (b : Bool) → (k == j) ≡ b → goes_on (cond b (running (slice_index_or m.tasks k vacant)) (slice_index_or m.tasks j vacant)) ≡ true → goes_on (slice_index_or m.tasks j vacant) ≡ true
@@ -174,7 +174,7 @@ started_goes m k j low waits on = by (k == j) refl (sym (ap goes_on (at_set m.ta
     by false apart on = on
 
 -- a core stays well formed where a worker starts a task, and no kept task has left yet
-start_kept : (m : Machine) (entries keeps : List (Option ℕ)) (sought : Sought) (w : ℕ) (e : Entry) → IsWellFormedCore m entries keeps sought → Gets m entries w e → (slice_index_or m.tasks e.task vacant).run < m.taken →
+start_kept : (m : CoreView) (entries keeps : List (Option ℕ)) (sought : Sought) (w : ℕ) (e : Entry) → IsWellFormedCore m entries keeps sought → Gets m entries w e → (slice_index_or m.tasks e.task vacant).run < m.taken →
     IsWellFormedCore (started m w e.task (started_in m e.task)) (set entries e.task None) keeps sought
 start_kept m entries keeps sought w e kept gets counted =
     let k = e.task in
@@ -184,7 +184,7 @@ start_kept m entries keeps sought w e kept gets counted =
     let used : task.phase ≢ ph.Vacant = not_vacant task.phase ph.Waiting waits.0 (λ q. cc) in
     let answer = a.Start w k task.run e.due in
     let s = state_of m in
-    let after = state_after m.calls s (h.Start w) (plain answer) in
+    let after = state_after m.calls s (h.Start w) (bare answer) in
     let reply = start_reply m entries keeps sought w e kept gets in
     let new = state_of (started m w k (started_in m k)) in
     let apart = started_apart m w k task.run e.due gets.worker low in
@@ -211,7 +211,7 @@ start_kept m entries keeps sought w e kept gets counted =
     }
 
 -- the same, with the tables as the calls leave them
-pub start_keeps : (m : Machine) (entries keeps left : List (Option ℕ)) (sought : Sought) (w : ℕ) (e : Entry) (tasks : List Task) → IsWellFormedCore m entries keeps sought → Gets m entries w e → (slice_index_or m.tasks e.task vacant).run < m.taken →
+pub start_keeps : (m : CoreView) (entries keeps left : List (Option ℕ)) (sought : Sought) (w : ℕ) (e : Entry) (tasks : List Task) → IsWellFormedCore m entries keeps sought → Gets m entries w e → (slice_index_or m.tasks e.task vacant).run < m.taken →
     tasks ≡ started_in m e.task → left ≡ set entries e.task None → IsWellFormedCore (started m w e.task tasks) left keeps sought
 start_keeps m entries keeps left sought w e tasks kept gets counted written gone =
     subst (λ x. IsWellFormedCore (started m w e.task x) left keeps sought) (sym written)
@@ -220,10 +220,10 @@ start_keeps m entries keeps left sought w e tasks kept gets counted written gone
 -- a finish
 
 -- a core once a worker has finished a task
-abbrev pub finished : Machine → ℕ → List Task → Machine
+abbrev pub finished : CoreView → ℕ → List Task → CoreView
 finished m w tasks = record m { tasks = tasks; work = set m.work w None }
 
-at_work : (m : Machine) (entries keeps : List (Option ℕ)) (sought : Sought) (w k : ℕ) → IsWellFormedCore m entries keeps sought → slice_index_or m.work w None ≡ Some k → (slice_index_or m.tasks k vacant).phase ≡ ph.Running
+at_work : (m : CoreView) (entries keeps : List (Option ℕ)) (sought : Sought) (w k : ℕ) → IsWellFormedCore m entries keeps sought → slice_index_or m.work w None ≡ Some k → (slice_index_or m.tasks k vacant).phase ≡ ph.Running
 at_work m entries keeps sought w k kept busy = kept.sound.at_work w k busy
 
 known : (tasks : List Task) (k : ℕ) → (slice_index_or tasks k vacant).phase ≢ ph.Vacant → k < length tasks
@@ -232,27 +232,27 @@ known (x ∷ tasks) zero busy = omega arith
 known (x ∷ tasks) (suc k) busy = omega (arith, known tasks k busy)
 
 -- the task of a busy worker has its place in the tables
-pub work_within : (m : Machine) (entries keeps : List (Option ℕ)) (sought : Sought) (w k : ℕ) → IsWellFormedCore m entries keeps sought → slice_index_or m.work w None ≡ Some k → k < length m.tasks
+pub work_within : (m : CoreView) (entries keeps : List (Option ℕ)) (sought : Sought) (w k : ℕ) → IsWellFormedCore m entries keeps sought → slice_index_or m.work w None ≡ Some k → k < length m.tasks
 work_within m entries keeps sought w k kept busy = known m.tasks k (not_vacant _ ph.Running (at_work m entries keeps sought w k kept busy) (λ q. cc))
 
 -- the timing of the task of a worker is that of its terms
-work_timing : (m : Machine) (entries keeps : List (Option ℕ)) (sought : Sought) (w k : ℕ) → IsWellFormedCore m entries keeps sought → slice_index_or m.work w None ≡ Some k → (slice_index_or m.tasks k vacant).timing ≡ (terms_of m.calls k).timing
+work_timing : (m : CoreView) (entries keeps : List (Option ℕ)) (sought : Sought) (w k : ℕ) → IsWellFormedCore m entries keeps sought → slice_index_or m.work w None ≡ Some k → (slice_index_or m.tasks k vacant).timing ≡ (terms_of m.calls k).timing
 work_timing m entries keeps sought w k kept busy = kept.timing k (not_vacant _ ph.Running (at_work m entries keeps sought w k kept busy) (λ q. cc))
 
 -- a task whose run is under way does not stand in the queue
-pub run_unqueued : (m : Machine) (entries keeps : List (Option ℕ)) (sought : Sought) (w k : ℕ) → IsWellFormedCore m entries keeps sought → slice_index_or m.work w None ≡ Some k → slice_index_or entries k None ≡ None
+pub run_unqueued : (m : CoreView) (entries keeps : List (Option ℕ)) (sought : Sought) (w k : ℕ) → IsWellFormedCore m entries keeps sought → slice_index_or m.work w None ≡ Some k → slice_index_or entries k None ≡ None
 run_unqueued m entries keeps sought w k kept busy =
     ap (λ q. slice_index_or q k None) kept.queue ∙ (queued_at m.tasks k ∙ running_unqueued (slice_index_or m.tasks k vacant) (at_work m entries keeps sought w k kept busy))
 
 -- and is not kept
-run_unkept : (m : Machine) (entries keeps : List (Option ℕ)) (sought : Sought) (w k : ℕ) → IsWellFormedCore m entries keeps sought → slice_index_or m.work w None ≡ Some k → (slice_index_or m.tasks k vacant).kept ≡ false
+run_unkept : (m : CoreView) (entries keeps : List (Option ℕ)) (sought : Sought) (w k : ℕ) → IsWellFormedCore m entries keeps sought → slice_index_or m.work w None ≡ Some k → (slice_index_or m.tasks k vacant).kept ≡ false
 run_unkept m entries keeps sought w k kept busy = elim (cases_Bool (slice_index_or m.tasks k vacant).kept) [
   | inl is ↦ let clash : ph.Running ≡ ph.Waiting = sym (at_work m entries keeps sought w k kept busy) ∙ (kept.sound.kept k is).0 in absurd cc
   | inr not ↦ not
 ]
 
 -- the end of the run of a worker's task, with its outcome and the due moment that the task holds from then on
-pub record Ran (m : Machine) (w k : ℕ) (ending : Ending) (outcome : Outcome) (due : ℕ) (task : Task) : Type 0 where
+pub record Ran (m : CoreView) (w k : ℕ) (ending : Ending) (outcome : Outcome) (due : ℕ) (task : Task) : Type 0 where
   pub worker : w < workers_of m
   pub busy : slice_index_or m.work w None ≡ Some k
   pub is : task ≡ slice_index_or m.tasks k vacant
@@ -260,11 +260,11 @@ pub record Ran (m : Machine) (w k : ℕ) (ending : Ending) (outcome : Outcome) (
   pub next : due ≡ due_past task.timing task.due m.moment
 
 -- the table of tasks then
-abbrev pub finished_in : Machine → ℕ → Outcome → ℕ → List Task
+abbrev pub finished_in : CoreView → ℕ → Outcome → ℕ → List Task
 finished_in m k outcome due = set m.tasks k (finished_task outcome due (slice_index_or m.tasks k vacant))
 
 -- a core takes the step of a finish
-pub finish_takes : (m : Machine) (entries keeps : List (Option ℕ)) (sought : Sought) (w k n due : ℕ) (ending : Ending) (outcome : Outcome) (task : Task) (tasks : List Task) → IsWellFormedCore m entries keeps sought →
+pub finish_takes : (m : CoreView) (entries keeps : List (Option ℕ)) (sought : Sought) (w k n due : ℕ) (ending : Ending) (outcome : Outcome) (task : Task) (tasks : List Task) → IsWellFormedCore m entries keeps sought →
     Ran m w k ending outcome due task → tasks ≡ finished_in m k outcome due → n ≡ task.run → Takes m (finished m w tasks) (h.Finish w ending) (a.Finish w k n outcome)
 finish_takes m entries keeps sought w k n due ending outcome task tasks kept ran written run =
     let x : Task = slice_index_or m.tasks k vacant in
@@ -276,7 +276,7 @@ finish_takes m entries keeps sought w k n due ending outcome task tasks kept ran
     ran.out ∙ (λ i. outcome_in (ran.is i).cancelled stops (same i) (due_past (same i) (ran.is i).due m.moment) ending)
     in
     let reply = task_finishes m.calls (workers_of m) w k ending outcome (state_of m) ran.worker ran.busy (at_work m entries keeps sought w k kept ran.busy) kept.due out
-    ∙ ap (λ i. plain (a.Finish w k i outcome)) (sym (run ∙ ap (λ (y : Task). y.run) ran.is))
+    ∙ ap (λ i. bare (a.Finish w k i outcome)) (sym (run ∙ ap (λ (y : Task). y.run) ran.is))
     in
     record {
       calls = refl;
@@ -319,7 +319,7 @@ unheld : (task : Task) → task.kept ≡ false → held task ≡ None
 unheld task q = ap (λ b. cond b (Some task.due) None) q
 
 -- a core stays well formed where a worker finishes a task
-finish_kept : (m : Machine) (entries keeps left : List (Option ℕ)) (sought : Sought) (w k due : ℕ) (ending : Ending) (outcome : Outcome) (task : Task) → IsWellFormedCore m entries keeps sought → Ran m w k ending outcome due task →
+finish_kept : (m : CoreView) (entries keeps left : List (Option ℕ)) (sought : Sought) (w k due : ℕ) (ending : Ending) (outcome : Outcome) (task : Task) → IsWellFormedCore m entries keeps sought → Ran m w k ending outcome due task →
     left ≡ set entries k (queued_again outcome) → IsWellFormedCore (finished m w (finished_in m k outcome due)) left keeps sought
 finish_kept m entries keeps left sought w k due ending outcome task kept ran put =
     let x : Task = slice_index_or m.tasks k vacant in
@@ -354,7 +354,7 @@ finish_kept m entries keeps left sought w k due ending outcome task kept ran put
     }
 
 -- the same, with the tasks as the calls leave them
-pub finish_keeps : (m : Machine) (entries keeps left : List (Option ℕ)) (sought : Sought) (w k due : ℕ) (ending : Ending) (outcome : Outcome) (task : Task) (tasks : List Task) → IsWellFormedCore m entries keeps sought → Ran m w k ending outcome due task →
+pub finish_keeps : (m : CoreView) (entries keeps left : List (Option ℕ)) (sought : Sought) (w k due : ℕ) (ending : Ending) (outcome : Outcome) (task : Task) (tasks : List Task) → IsWellFormedCore m entries keeps sought → Ran m w k ending outcome due task →
     tasks ≡ finished_in m k outcome due → left ≡ set entries k (queued_again outcome) → IsWellFormedCore (finished m w tasks) left keeps sought
 finish_keeps m entries keeps left sought w k due ending outcome task tasks kept ran written put =
     subst (λ l. IsWellFormedCore (finished m w l) left keeps sought) (sym written) (finish_kept m entries keeps left sought w k due ending outcome task kept ran put)

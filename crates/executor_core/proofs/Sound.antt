@@ -15,8 +15,8 @@ use Rattle.executor_core.specs.declared.types.Outcome.{Outcome}
 use Rattle.executor_core.specs.declared.types.Outcome.TheVariants as o
 use Rattle.executor_core.specs.declared.types.Answer.{Answer}
 use Rattle.executor_core.specs.declared.types.Answer.TheVariants as a
-use Rattle.executor_core.specs.declared.task.Phase.{Phase}
-use Rattle.executor_core.specs.declared.task.Phase.TheVariants as ph
+use Rattle.executor_core.specs.declared.task.Stage.{Stage}
+use Rattle.executor_core.specs.declared.task.Stage.TheVariants as ph
 use Rattle.executor_core.specs.declared.task.Task.{Task}
 use Rattle.sched_time.specs.declared.timing.Timing.{Timing}
 use Rattle.sched_time.specs.declared.timing.Timing.TheVariants as t
@@ -24,7 +24,7 @@ use Rattle.sched_time.specs.declared.timing.Ending.{Ending}
 use Rattle.sched_time.specs.declared.timing.Ending.TheVariants as e
 use Rattle.queue_code.specs.Calls.{Planned, Terms, terms_of, due_at, numbers, task_count}
 use Rattle.executor_core.specs.View.{View, is_enabled, is_running, is_waiting, first_enabled, earlier, precedes}
-use Rattle.executor_core.specs.Answers.{Reply, plain, called, kind_of, swept, started, finished, effect_on, outcome_in, stops_periodic, due_next, is_accepted, moment_after}
+use Rattle.executor_core.specs.Answers.{Reply, bare, called, kind_of, swept, start_answer, finish_answer, effect_on, outcome_in, stops_periodic, due_next, is_accepted, moment_after}
 use Rattle.executor_core.specs.Histories.{is_cancel, is_end, is_finish_with, is_ended, is_sweep, meets, kept_after, cancels, work_after}
 use Rattle.executor_core.specs.State.{State, view_of_state, seen_phase, was_submitted, due_seen, reply_of, state_after, move_task, submit_phase, finish_task}
 use Rattle.executor_core.specs.own.Invariants.{IsSound}
@@ -78,7 +78,7 @@ no_and true y e = e
 no_and false y e = refl
 
 -- a task that is seen to wait is in that phase
-pub waits : (terms : Terms) (p : Phase) (run due : ℕ) (b kept : Bool) → (p ≡ ph.Dropped → b ≡ true) → is_waiting (seen_phase terms p run due b kept) ≡ true → (p ≡ ph.Waiting) × (b ≡ false)
+pub waits : (terms : Terms) (p : Stage) (run due : ℕ) (b kept : Bool) → (p ≡ ph.Dropped → b ≡ true) → is_waiting (seen_phase terms p run due b kept) ≡ true → (p ≡ ph.Waiting) × (b ≡ false)
 waits terms p run due true kept over q = absurd (false≢true (sym (no_and (was_submitted p) (not (is_running (seen_phase terms p run due true kept)) && false) (no_and (not (is_running (seen_phase terms p run due true kept))) false refl)) ∙ q))
 waits terms ph.Vacant run due false kept over q = absurd (false≢true q)
 waits terms ph.Waiting run due false kept over q = (refl, refl)
@@ -106,7 +106,7 @@ call_finds calls s moment (c.Cancel task) = tt
 call_finds calls s moment (c.SetPolicy which value) = tt
 call_finds calls s moment c.Shutdown =
     let v = record (view_of_state calls s) { moment = moment } in
-    let pick : (b : Bool) → Finds calls s (cond b (plain a.ShutdownAgain) (record { answer = a.Shutdown; ends = swept calls v s.policies })).answer = elim [ true ↦ tt | false ↦ tt ] in
+    let pick : (b : Bool) → Finds calls s (cond b (bare a.ShutdownAgain) (record { answer = a.Shutdown; ends = swept calls v s.policies })).answer = elim [ true ↦ tt | false ↦ tt ] in
     pick s.shut
 call_finds calls s moment c.Ask = tt
 
@@ -142,7 +142,7 @@ again false stops timing due (e.Fault code) = tt
 -- what each reply finds in a sound state
 pub reply_finds : (calls : List Planned) (workers : ℕ) (s : State) (happening : Happening) → IsSound s → Finds calls s (reply_of calls workers s happening).answer
 reply_finds calls workers s h.Call sound =
-    let pick : (q : Option Planned) → Finds calls s (option_map_or (λ p. called calls (record (view_of_state calls s) { moment = max s.moment p.0 }) p.1) q (plain a.Clock)).answer =
+    let pick : (q : Option Planned) → Finds calls s (option_map_or (λ p. called calls (record (view_of_state calls s) { moment = max s.moment p.0 }) p.1) q (bare a.Clock)).answer =
     elim [ None ↦ tt | Some p ↦ call_finds calls s (max s.moment p.0) p.1 ]
     in
     pick (slice_get calls s.made)
@@ -151,19 +151,19 @@ reply_finds calls workers s (h.Clock t) sound =
     pick _ _
 reply_finds calls workers s (h.Start w) sound =
     let v = view_of_state calls s in
-    let first : (q : Option ℕ) → s.workers w ≡ None → first_enabled v (numbers calls) ≡ q → Finds calls s (started v w q) =
+    let first : (q : Option ℕ) → s.workers w ≡ None → first_enabled v (numbers calls) ≡ q → Finds calls s (start_answer v w q) =
     elim [
       | None ↦ λ free is. tt
       | Some k ↦ λ free is. let enabled = enabled_in calls s k sound (first_is_enabled v (numbers calls) k is) in (free, enabled.0, enabled.1, enabled.2)
     ]
     in
-    let pick : (b : Bool) (work : Option ℕ) → s.workers w ≡ work → Finds calls s (cond b (option_map_or (λ _. a.Error x.Busy) work (started v w (first_enabled v (numbers calls)))) (a.Error x.NoWorker)) =
+    let pick : (b : Bool) (work : Option ℕ) → s.workers w ≡ work → Finds calls s (cond b (option_map_or (λ _. a.Error x.Busy) work (start_answer v w (first_enabled v (numbers calls)))) (a.Error x.NoWorker)) =
     elim [ true ↦ elim [ None ↦ λ free. first (first_enabled v (numbers calls)) free refl | Some k ↦ λ busy. tt ] | false ↦ λ work is. tt ]
     in
     pick (nat_lt w workers) (s.workers w) refl
 reply_finds calls workers s (h.Finish w ending) sound =
     let v = view_of_state calls s in
-    let pick : (b : Bool) (work : Option ℕ) → s.workers w ≡ work → Finds calls s (cond b (finished calls v w ending work) (a.Error x.NoWorker)) =
+    let pick : (b : Bool) (work : Option ℕ) → s.workers w ≡ work → Finds calls s (cond b (finish_answer calls v w ending work) (a.Error x.NoWorker)) =
     elim [ true ↦ elim [ None ↦ λ is. tt | Some k ↦ λ is. (is, drops (s.tasks k).cancelled (stops_periodic s.shut s.policies) (terms_of calls k).timing (due_next calls v k) ending, again (s.tasks k).cancelled (stops_periodic s.shut s.policies) (terms_of calls k).timing (due_next calls v k) ending) ] | false ↦ λ work is. tt ]
     in
     pick (nat_lt w workers) (s.workers w) refl
@@ -189,7 +189,7 @@ started_runs : (b : Bool) (task : Task) → task.phase ≡ ph.Running → (cond 
 started_runs true task q = refl
 started_runs false task q = q
 
-abbrev phase_after : List Planned → State → Answer → ℕ → Phase
+abbrev phase_after : List Planned → State → Answer → ℕ → Stage
 phase_after calls s answer k = (move_task (terms_of calls k).timing s.moment k answer (s.tasks k)).phase
 
 at_work_after : (calls : List Planned) (s : State) (answer : Answer) → IsSound s → Finds calls s answer → (w k : ℕ) → work_after w answer (s.workers w) ≡ Some k → phase_after calls s answer k ≡ ph.Running
@@ -227,7 +227,7 @@ no_run_again timing now (o.Again due) task q = cc
 staffed_after : (calls : List Planned) (s : State) (answer : Answer) → IsSound s → Finds calls s answer → (k : ℕ) → phase_after calls s answer k ≡ ph.Running → (w : ℕ) × (work_after w answer (s.workers w) ≡ Some k)
 staffed_after calls s (a.Submit j kind due) sound f k = λ q. sound.staffed k (submitted (j == k) q)
   where
-    unsubmitted : (p : Phase) (task : Task) → task.phase ≡ p → (submit_phase (terms_of calls k).timing due p task).phase ≡ ph.Running → task.phase ≡ ph.Running
+    unsubmitted : (p : Stage) (task : Task) → task.phase ≡ p → (submit_phase (terms_of calls k).timing due p task).phase ≡ ph.Running → task.phase ≡ ph.Running
     unsubmitted ph.Vacant task is q = absurd cc
     unsubmitted ph.Waiting task is q = q
     unsubmitted ph.Running task is q = q
@@ -306,7 +306,7 @@ run_reached calls s (a.Submit j kind due) sound f k =
     in
     pick (j == k)
   where
-    unsubmitted : (p : Phase) (task : Task) → task ≡ s.tasks k → (submit_phase (terms_of calls k).timing due p task).phase ≡ ph.Running → (submit_phase (terms_of calls k).timing due p task).due ≤ s.moment
+    unsubmitted : (p : Stage) (task : Task) → task ≡ s.tasks k → (submit_phase (terms_of calls k).timing due p task).phase ≡ ph.Running → (submit_phase (terms_of calls k).timing due p task).due ≤ s.moment
     unsubmitted ph.Vacant task is q = absurd cc
     unsubmitted ph.Waiting task is q = subst (λ (x : Task). x.due ≤ s.moment) (sym is) (sound.reached k (sym (ap (λ (x : Task). x.phase) is) ∙ q))
     unsubmitted ph.Running task is q = subst (λ (x : Task). x.due ≤ s.moment) (sym is) (sound.reached k (sym (ap (λ (x : Task). x.phase) is) ∙ q))
@@ -333,7 +333,7 @@ over_after calls s r sound f k q = by r.answer refl f q
     old : (answer : Answer) → (s.tasks k).phase ≡ ph.Dropped → (cancels k answer r.ends || (s.tasks k).cancelled) ≡ true
     old answer q = or_right (cancels k answer r.ends) (s.tasks k).cancelled (sound.over k q)
 
-    unsubmitted : (due : ℕ) (p : Phase) (task : Task) → task.phase ≡ p → (submit_phase (terms_of calls k).timing due p task).phase ≡ ph.Dropped → task.phase ≡ ph.Dropped
+    unsubmitted : (due : ℕ) (p : Stage) (task : Task) → task.phase ≡ p → (submit_phase (terms_of calls k).timing due p task).phase ≡ ph.Dropped → task.phase ≡ ph.Dropped
     unsubmitted due ph.Vacant task is q = absurd cc
     unsubmitted due ph.Waiting task is q = q
     unsubmitted due ph.Running task is q = q
@@ -399,7 +399,7 @@ kept_sound calls s r sound f k q = by r.answer f q
               (same ∙ (waits_in calls s k sound waiting.0).0, or_left (cancels k answer r.ends) (s.tasks k).cancelled (or_left (is_cancel k answer) (is_end k r.ends || is_finish_with is_ended k answer) both.0))
         ]
 
-    submit_vacant : (p : Phase) (due : ℕ) (task : Task) → task.phase ≡ p → p ≡ ph.Waiting → (submit_phase (terms_of calls k).timing due p task).phase ≡ p
+    submit_vacant : (p : Stage) (due : ℕ) (task : Task) → task.phase ≡ p → p ≡ ph.Waiting → (submit_phase (terms_of calls k).timing due p task).phase ≡ p
     submit_vacant p due task is w = subst (λ x. (submit_phase (terms_of calls k).timing due x task).phase ≡ x) (sym w) (is ∙ w)
 
     submitted : (b : Bool) (due : ℕ) → (s.tasks k).phase ≡ ph.Waiting → (cond b (submit_phase (terms_of calls k).timing due (s.tasks k).phase (s.tasks k)) (s.tasks k)).phase ≡ (s.tasks k).phase

@@ -11,7 +11,7 @@ use Rattle.executor_core.specs.declared.types.Happening.TheVariants as h
 use Rattle.executor_core.specs.declared.types.Answer.TheVariants as a
 use Rattle.queue_code.specs.Calls.{Planned, numbers, terms_of, due_at}
 use Rattle.executor_core.specs.View.{View, first_enabled}
-use Rattle.executor_core.specs.Answers.{plain, reply, called, kind_of, swept, started, finished, moment_after, effect_on}
+use Rattle.executor_core.specs.Answers.{bare, reply, called, kind_of, swept, start_answer, finish_answer, moment_after, effect_on}
 
 -- what an answer that starts a task says of the view that it was given on, and of what happened
 pub record StartsFirst (calls : List Planned) (v : View) (happening : Happening) (k n d : ℕ) : Type 0 where
@@ -28,14 +28,14 @@ no_call_starts calls v (c.Illegal task) w k n d q = cc
 no_call_starts calls v (c.Cancel task) w k n d q = cc
 no_call_starts calls v (c.SetPolicy which value) w k n d q = cc
 no_call_starts calls v c.Shutdown w k n d q =
-    let pick : (b : Bool) → (cond b (plain a.ShutdownAgain) (record { answer = a.Shutdown; ends = swept calls v v.policies })).answer ≡ a.Start w k n d → ⊥ = elim [ true ↦ λ q. cc | false ↦ λ q. cc ] in
+    let pick : (b : Bool) → (cond b (bare a.ShutdownAgain) (record { answer = a.Shutdown; ends = swept calls v v.policies })).answer ≡ a.Start w k n d → ⊥ = elim [ true ↦ λ q. cc | false ↦ λ q. cc ] in
     pick v.shut q
 no_call_starts calls v c.Ask w k n d q = cc
 
 -- what the answer to a start says of the view it was given in
 pub start_says : (calls : List Planned) (workers : ℕ) (v : View) (y : Happening) (w k n d : ℕ) → (reply calls workers v y).answer ≡ a.Start w k n d → StartsFirst calls v y k n d
 start_says calls workers v h.Call w k n d q =
-    let pick : (o : Option Planned) → (option_map_or (λ p. called calls (record v { moment = max v.moment p.0 }) p.1) o (plain a.Clock)).answer ≡ a.Start w k n d → ⊥ =
+    let pick : (o : Option Planned) → (option_map_or (λ p. called calls (record v { moment = max v.moment p.0 }) p.1) o (bare a.Clock)).answer ≡ a.Start w k n d → ⊥ =
     elim [ None ↦ λ q. cc | Some p ↦ λ q. no_call_starts calls (record v { moment = max v.moment p.0 }) p.1 w k n d q ]
     in
     absurd (pick (slice_get calls v.made) q)
@@ -43,7 +43,7 @@ start_says calls workers v (h.Clock t) w k n d q =
     let other : (b c : Bool) → cond b (a.Error x.Backward) (cond c (a.Error x.TooFar) a.Clock) ≡ a.Start w k n d → ⊥ = elim [ true ↦ λ c q. cc | false ↦ elim [ true ↦ λ q. cc | false ↦ λ q. cc ] ] in
     absurd (other _ _ q)
 start_says calls workers v (h.Start u) w k n d q =
-    let from : (o : Option ℕ) → first_enabled v (numbers calls) ≡ o → started v u o ≡ a.Start w k n d → StartsFirst calls v (h.Start u) k n d =
+    let from : (o : Option ℕ) → first_enabled v (numbers calls) ≡ o → start_answer v u o ≡ a.Start w k n d → StartsFirst calls v (h.Start u) k n d =
     elim [
       | None ↦ λ is q. absurd cc
       | Some j ↦ λ is q.
@@ -53,12 +53,12 @@ start_says calls workers v (h.Start u) w k n d q =
           record { first = is ∙ ap Some same; run = sym run ∙ ap (λ i. (v.fate i).starts) same; due = sym due ∙ ap (λ i. (v.fate i).due) same; still = λ now next. refl }
     ]
     in
-    let pick : (b : Bool) (o : Option ℕ) → cond b (option_map_or (λ _. a.Error x.Busy) o (started v u (first_enabled v (numbers calls)))) (a.Error x.NoWorker) ≡ a.Start w k n d → StartsFirst calls v (h.Start u) k n d =
+    let pick : (b : Bool) (o : Option ℕ) → cond b (option_map_or (λ _. a.Error x.Busy) o (start_answer v u (first_enabled v (numbers calls)))) (a.Error x.NoWorker) ≡ a.Start w k n d → StartsFirst calls v (h.Start u) k n d =
     elim [ true ↦ elim [ None ↦ λ q. from (first_enabled v (numbers calls)) refl q | Some j ↦ λ q. absurd cc ] | false ↦ λ o q. absurd cc ]
     in
     pick _ _ q
 start_says calls workers v (h.Finish u ending) w k n d q =
-    let other : (b : Bool) (o : Option ℕ) → cond b (finished calls v u ending o) (a.Error x.NoWorker) ≡ a.Start w k n d → ⊥ = elim [ true ↦ elim [ None ↦ λ q. cc | Some j ↦ λ q. cc ] | false ↦ λ o q. cc ] in
+    let other : (b : Bool) (o : Option ℕ) → cond b (finish_answer calls v u ending o) (a.Error x.NoWorker) ≡ a.Start w k n d → ⊥ = elim [ true ↦ elim [ None ↦ λ q. cc | Some j ↦ λ q. cc ] | false ↦ λ o q. cc ] in
     absurd (other _ _ q)
 start_says calls workers v (h.Cancel j) w k n d q =
     let other : (b : Bool) → cond b (a.Outside j (effect_on (v.fate j))) (a.Error x.NoTask) ≡ a.Start w k n d → ⊥ = elim [ true ↦ λ q. cc | false ↦ λ q. cc ] in

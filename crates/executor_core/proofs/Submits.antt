@@ -18,10 +18,10 @@ use Rattle.executor_core.specs.declared.types.Kind.{Kind}
 use Rattle.executor_core.specs.declared.types.Answer.TheVariants as a
 use Rattle.executor_core.specs.declared.task.Task.{Task}
 use Rattle.queue_code.specs.Calls.{Terms, terms_of, due_at, task_count}
-use Rattle.executor_core.specs.Answers.{plain, called, kind_of}
+use Rattle.executor_core.specs.Answers.{bare, called, kind_of}
 use Rattle.executor_core.specs.State.{vacant, view_of_state, submit_phase, submit_task}
 use Rattle.executor_core.specs.Tasks.{uncancelled_in}
-use Rattle.executor_core.specs.Machine.{Machine, workers_of, state_of}
+use Rattle.executor_core.specs.CoreView.{CoreView, workers_of, state_of}
 use Rattle.executor_core.specs.own.Invariants.{IsWellFormedCore, queued, held}
 use Rattle.executor_core.specs.own.OwnSteps.{Takes}
 use Rattle.executor_core.specs.own.Sought.{Sought}
@@ -33,7 +33,7 @@ use Rattle.executor_core.proofs.Calling.{view_at, called_state, call_reply, call
 -- a call that is refused
 
 -- the state after a refusal
-refused_state : (m : Machine) (at task : ℕ) (refusal : Refusal) → state_of (passed m (max m.moment at)) ≡ called_state m.calls (state_of m) at (a.Refuse task refusal)
+refused_state : (m : CoreView) (at task : ℕ) (refusal : Refusal) → state_of (passed m (max m.moment at)) ≡ called_state m.calls (state_of m) at (a.Refuse task refusal)
 refused_state m at task refusal =
     let one : m.made + 1 ≡ 1 + m.made = omega arith in
     λ i. record (state_of m) {
@@ -43,14 +43,14 @@ refused_state m at task refusal =
     }
 
 -- a core takes the step of a call that is refused
-pub refuse_steps : (m old : Machine) (moment at task : ℕ) (call : CodeCall) (refusal : Refusal) → slice_get m.calls m.made ≡ Some (at, call) → called m.calls (view_at m.calls (state_of m) at) call ≡ plain (a.Refuse task refusal) →
+pub refuse_steps : (m old : CoreView) (moment at task : ℕ) (call : CodeCall) (refusal : Refusal) → slice_get m.calls m.made ≡ Some (at, call) → called m.calls (view_at m.calls (state_of m) at) call ≡ bare (a.Refuse task refusal) →
     moment ≡ max m.moment at → m ≡ old → Takes old (passed m moment) h.Call (a.Refuse task refusal)
 refuse_steps m old moment at task call refusal is said greatest same =
     passed_steps m old moment at call (a.Refuse task refusal) is said (refused_state m at task refusal) greatest same
 
 -- the reply to a submission where the executor is shut
-pub shut_reply : (m : Machine) (at task delay : ℕ) (timing : Timing) → m.shut ≡ true → called m.calls (view_at m.calls (state_of m) at) (c.Submit task timing delay) ≡ plain (a.Refuse task refusal.Rejected)
-shut_reply m at task delay timing shut = ap (λ b. plain (cond b (a.Refuse task refusal.Rejected) (a.Submit task (kind_of timing) (due_at (terms_of m.calls task) 0 None)))) shut
+pub shut_reply : (m : CoreView) (at task delay : ℕ) (timing : Timing) → m.shut ≡ true → called m.calls (view_at m.calls (state_of m) at) (c.Submit task timing delay) ≡ bare (a.Refuse task refusal.Rejected)
+shut_reply m at task delay timing shut = ap (λ b. bare (cond b (a.Refuse task refusal.Rejected) (a.Submit task (kind_of timing) (due_at (terms_of m.calls task) 0 None)))) shut
 
 -- a call that is accepted
 
@@ -59,7 +59,7 @@ abbrev pub waiting : Timing → ℕ → Task
 waiting timing due = submit_task timing due vacant
 
 -- a core whose next call submitted a task
-abbrev pub submitted : Machine → ℕ → ℕ → Timing → ℕ → Machine
+abbrev pub submitted : CoreView → ℕ → ℕ → Timing → ℕ → CoreView
 submitted m moment task timing due = record m { made = m.made + 1; moment = moment; tasks = set m.tasks task (waiting timing due) }
 
 due_first : (terms : Terms) (timing : Timing) (first : ℕ) → terms ≡ record { timing = timing; first = first } → due_at terms 0 None ≡ first
@@ -69,16 +69,16 @@ due_first terms timing first e = ap (λ x. due_at x 0 None) e ∙ by timing
     by timing = elim timing as (λ timing. due_at (record { timing = timing; first = first }) 0 None ≡ first) [ t.Once ↦ refl | t.Rate period ↦ omega arith | t.Fixed delay ↦ refl ]
 
 -- the reply to a submission where the executor is not shut
-open_reply : (m : Machine) (at task delay : ℕ) (timing : Timing) (kind : Kind) → m.shut ≡ false → terms_of m.calls task ≡ record { timing = timing; first = at + delay } → kind ≡ kind_of timing →
-    called m.calls (view_at m.calls (state_of m) at) (c.Submit task timing delay) ≡ plain (a.Submit task kind (at + delay))
+open_reply : (m : CoreView) (at task delay : ℕ) (timing : Timing) (kind : Kind) → m.shut ≡ false → terms_of m.calls task ≡ record { timing = timing; first = at + delay } → kind ≡ kind_of timing →
+    called m.calls (view_at m.calls (state_of m) at) (c.Submit task timing delay) ≡ bare (a.Submit task kind (at + delay))
 open_reply m at task delay timing kind opened terms how = λ i.
-    plain (cond (opened i) (a.Refuse task refusal.Rejected) (a.Submit task (sym how i) (due_first (terms_of m.calls task) timing (at + delay) terms i)))
+    bare (cond (opened i) (a.Refuse task refusal.Rejected) (a.Submit task (sym how i) (due_first (terms_of m.calls task) timing (at + delay) terms i)))
 
 -- a task, cancelled and kept as before
 abbrev as_before : Task → Task → Task
 as_before old new = record new { cancelled = old.cancelled; kept = (old.kept && true) || false }
 
-submitted_at : (m : Machine) (task k due : ℕ) (timing : Timing) → task < length m.tasks → slice_index_or m.tasks task vacant ≡ vacant → (terms_of m.calls task).timing ≡ timing →
+submitted_at : (m : CoreView) (task k due : ℕ) (timing : Timing) → task < length m.tasks → slice_index_or m.tasks task vacant ≡ vacant → (terms_of m.calls task).timing ≡ timing →
     slice_index_or (set m.tasks task (waiting timing due)) k vacant
     ≡ as_before (slice_index_or m.tasks k vacant) (cond (task == k) (submit_phase (terms_of m.calls k).timing due (slice_index_or m.tasks k vacant).phase (slice_index_or m.tasks k vacant)) (slice_index_or m.tasks k vacant))
 submitted_at m task k due timing low fresh timed = at_set m.tasks task k (waiting timing due) vacant low ∙ by (task == k) refl
@@ -92,7 +92,7 @@ submitted_at m task k due timing low fresh timed = at_set m.tasks task k (waitin
     by false apart = λ i. record (slice_index_or m.tasks k vacant) { kept = kept_so (slice_index_or m.tasks k vacant).kept i }
 
 -- the step of a submission
-submit_takes : (m : Machine) (entries keeps : List (Option ℕ)) (sought : Sought) (at task delay : ℕ) (timing : Timing) (kind : Kind) → IsWellFormedCore m entries keeps sought →
+submit_takes : (m : CoreView) (entries keeps : List (Option ℕ)) (sought : Sought) (at task delay : ℕ) (timing : Timing) (kind : Kind) → IsWellFormedCore m entries keeps sought →
     slice_get m.calls m.made ≡ Some (at, c.Submit task timing delay) → m.shut ≡ false → kind ≡ kind_of timing → Takes m (submitted m (max m.moment at) task timing (at + delay)) h.Call (a.Submit task kind (at + delay))
 submit_takes m entries keeps sought at task delay timing kind kept is opened how =
     let sub = submission m.calls 0 0 m.made at task timing delay kept.orderly.1 is in
@@ -113,7 +113,7 @@ submit_takes m entries keeps sought at task delay timing kind kept is opened how
     }
 
 -- what stays true after a submission
-submit_kept : (m : Machine) (entries keeps : List (Option ℕ)) (sought : Sought) (at task delay : ℕ) (timing : Timing) → IsWellFormedCore m entries keeps sought →
+submit_kept : (m : CoreView) (entries keeps : List (Option ℕ)) (sought : Sought) (at task delay : ℕ) (timing : Timing) → IsWellFormedCore m entries keeps sought →
     slice_get m.calls m.made ≡ Some (at, c.Submit task timing delay) → m.shut ≡ false → IsWellFormedCore (submitted m (max m.moment at) task timing (at + delay)) (set entries task (Some (at + delay))) keeps sought
 submit_kept m entries keeps sought at task delay timing kept is opened =
     let sub = submission m.calls 0 0 m.made at task timing delay kept.orderly.1 is in
@@ -150,7 +150,7 @@ submit_kept m entries keeps sought at task delay timing kept is opened =
 -- the same, with what a call gives
 
 -- a core whose tables the code has written at a submission stays well formed
-pub submit_keeps_in : (m : Machine) (entries entries' keeps : List (Option ℕ)) (sought : Sought) (moment at task delay : ℕ) (timing : Timing) (tasks : List Task) → IsWellFormedCore m entries keeps sought →
+pub submit_keeps_in : (m : CoreView) (entries entries' keeps : List (Option ℕ)) (sought : Sought) (moment at task delay : ℕ) (timing : Timing) (tasks : List Task) → IsWellFormedCore m entries keeps sought →
     slice_get m.calls m.made ≡ Some (at, c.Submit task timing delay) → m.shut ≡ false → moment ≡ max m.moment at → entries' ≡ set entries task (Some (at + delay)) → tasks ≡ set m.tasks task (waiting timing (at + delay)) →
     IsWellFormedCore (record m { made = m.made + 1; moment = moment; tasks = tasks }) entries' keeps sought
 submit_keeps_in m entries entries' keeps sought moment at task delay timing tasks kept is opened greatest put written =
@@ -159,7 +159,7 @@ submit_keeps_in m entries entries' keeps sought moment at task delay timing task
     (subst (λ n. IsWellFormedCore (submitted m n task timing (at + delay)) (set entries task (Some (at + delay))) keeps sought) (sym greatest) (submit_kept m entries keeps sought at task delay timing kept is opened)))
 
 -- a core whose table the code has written takes the step of a submission
-pub submit_steps_in : (m old : Machine) (entries keeps : List (Option ℕ)) (sought : Sought) (moment at task delay : ℕ) (timing : Timing) (kind : Kind) (tasks : List Task) → IsWellFormedCore m entries keeps sought →
+pub submit_steps_in : (m old : CoreView) (entries keeps : List (Option ℕ)) (sought : Sought) (moment at task delay : ℕ) (timing : Timing) (kind : Kind) (tasks : List Task) → IsWellFormedCore m entries keeps sought →
     slice_get m.calls m.made ≡ Some (at, c.Submit task timing delay) → m.shut ≡ false → kind ≡ kind_of timing → moment ≡ max m.moment at → m ≡ old → tasks ≡ set m.tasks task (waiting timing (at + delay)) →
     Takes old (record m { made = m.made + 1; moment = moment; tasks = tasks }) h.Call (a.Submit task kind (at + delay))
 submit_steps_in m old entries keeps sought moment at task delay timing kind tasks kept is opened how greatest same written =
@@ -168,7 +168,7 @@ submit_steps_in m old entries keeps sought moment at task delay timing kind task
     (subst (λ n. Takes m (submitted m n task timing (at + delay)) h.Call (a.Submit task kind (at + delay))) (sym greatest) (submit_takes m entries keeps sought at task delay timing kind kept is opened how)))
 
 -- a submission makes no more tasks that are not cancelled
-pub submit_fewer : (m old : Machine) (task due : ℕ) (timing : Timing) (tasks : List Task) → task < length m.tasks → slice_index_or m.tasks task vacant ≡ vacant → m ≡ old → tasks ≡ set m.tasks task (waiting timing due) →
+pub submit_fewer : (m old : CoreView) (task due : ℕ) (timing : Timing) (tasks : List Task) → task < length m.tasks → slice_index_or m.tasks task vacant ≡ vacant → m ≡ old → tasks ≡ set m.tasks task (waiting timing due) →
     uncancelled_in tasks ≤ uncancelled_in old.tasks
 submit_fewer m old task due timing tasks low fresh same written =
-    omega (arith, ap uncancelled_in written, ap (λ (x : Machine). uncancelled_in x.tasks) same, uncancelled_set m.tasks task (waiting timing due) low (λ q. ap (λ (x : Task). x.cancelled) fresh))
+    omega (arith, ap uncancelled_in written, ap (λ (x : CoreView). uncancelled_in x.tasks) same, uncancelled_set m.tasks task (waiting timing due) low (λ q. ap (λ (x : Task). x.cancelled) fresh))

@@ -15,12 +15,12 @@ use Rattle.sched_time.specs.declared.policies.Which.{Which}
 use Rattle.queue_code.specs.declared.call.CodeCall.{CodeCall}
 use Rattle.queue_code.specs.declared.call.CodeCall.TheVariants as c
 use Rattle.queue_code.specs.Calls.{Planned, terms_of, task_count}
-use Rattle.executor_core.specs.Answers.{Reply, plain, called, swept, set_policy, setting_sweeps}
+use Rattle.executor_core.specs.Answers.{Reply, bare, called, swept, set_policy, setting_sweeps}
 use Rattle.executor_core.specs.Histories.{is_end, cancels, is_sweep, is_shutdown, policies_after, work_after}
 use Rattle.executor_core.specs.State.{view_of_state, move_task, state_after, reply_of, next}
 use Rattle.executor_core.specs.Flows.{end_line, answer_line, lines_at}
 use Rattle.executor_core.specs.Tasks.{uncancelled_in}
-use Rattle.executor_core.specs.Machine.{Machine, state_of, Steps, room_of, workers_of}
+use Rattle.executor_core.specs.CoreView.{CoreView, state_of, Steps, room_of, workers_of}
 use Rattle.executor_core.specs.own.OwnSteps.{Sweeps, Takes}
 use Rattle.executor_core.proofs.Keeping.{kept_stays, kept_swept}
 use Rattle.executor_core.proofs.Calling.{view_at, called_state, call_state, call_reply, passed, passed_steps}
@@ -65,15 +65,15 @@ shutdown_sweeps shut policies unshut = record {
 }
 
 -- the core at a sweep: its call is made, and its policies are set
-abbrev pub swept_from : Machine → ℕ → Policies → Machine
+abbrev pub swept_from : CoreView → ℕ → Policies → CoreView
 swept_from m moment policies = record m { made = m.made + 1; moment = moment; policies = policies; shut = true }
 
 -- what a call that sweeps at some moment is answered
-abbrev pub swept_reply : Machine → ℕ → Policies → Answer → Reply
+abbrev pub swept_reply : CoreView → ℕ → Policies → Answer → Reply
 swept_reply m at policies answer = record { answer = answer; ends = swept m.calls (view_at m.calls (state_of m) at) policies }
 
 -- the state after it
-sweep_state : (m new : Machine) (at : ℕ) (answer : Answer) (policies : Policies) (before lines : List Line) → length m.tasks ≡ task_count m.calls → IsSweeping m.shut m.policies answer policies →
+sweep_state : (m new : CoreView) (at : ℕ) (answer : Answer) (policies : Policies) (before lines : List Line) → length m.tasks ≡ task_count m.calls → IsSweeping m.shut m.policies answer policies →
     Sweeps (swept_from m (max m.moment at) policies) new before lines →
     state_of new ≡ record (state_after m.calls (state_of m) h.Call (swept_reply m at policies answer)) { moment = max m.moment at }
 sweep_state m new at answer policies before lines count is done =
@@ -97,13 +97,13 @@ sweep_state m new at answer policies before lines count is done =
     })
 
 -- the steps of a call that sweeps
-sweep_called : (m new : Machine) (at : ℕ) (call : CodeCall) (answer : Answer) (policies : Policies) (before mid lines : List Line) → slice_get m.calls m.made ≡ Some (at, call) → length m.tasks ≡ task_count m.calls →
+sweep_called : (m new : CoreView) (at : ℕ) (call : CodeCall) (answer : Answer) (policies : Policies) (before mid lines : List Line) → slice_get m.calls m.made ≡ Some (at, call) → length m.tasks ≡ task_count m.calls →
     called m.calls (view_at m.calls (state_of m) at) call ≡ swept_reply m at policies answer → IsSweeping m.shut m.policies answer policies → mid ≡ before ++ answer_line (max m.moment at) answer ∷ [] →
     Sweeps (swept_from m (max m.moment at) policies) new mid lines → Steps m new before lines (h.Call ∷ [])
 sweep_called m new at call answer policies before mid lines is count said sweeping put done =
     let s = state_of m in
     let r = swept_reply m at policies answer in
-    let to = λ (q : Option Planned). option_map_or (λ p. called m.calls (view_at m.calls s p.0) p.1) q (plain a.Clock) in
+    let to = λ (q : Option Planned). option_map_or (λ p. called m.calls (view_at m.calls s p.0) p.1) q (bare a.Clock) in
     let reply : reply_of m.calls (workers_of m) s h.Call ≡ r = ap to is ∙ said in
     let state : state_of new ≡ next m.calls (workers_of m) s h.Call =
     sweep_state m new at answer policies mid lines count sweeping done
@@ -111,9 +111,9 @@ sweep_called m new at call answer policies before mid lines is count said sweepi
     ∙ ap (λ (q : Option Planned). record (state_after m.calls s h.Call (to q)) { moment = option_map_or (λ p. max s.moment p.0) q s.moment }) (sym is))
     in
     record {
-      calls = ap (λ (x : Machine). x.calls) done.rest;
-      limit = ap (λ (x : Machine). x.limit) done.rest;
-      workers = ap (λ (x : Machine). length x.work) done.rest;
+      calls = ap (λ (x : CoreView). x.calls) done.rest;
+      limit = ap (λ (x : CoreView). x.limit) done.rest;
+      workers = ap (λ (x : CoreView). length x.work) done.rest;
       state = state;
       lines = done.lines
           ∙ ((λ i. put i ++ map (end_line (max m.moment at)) r.ends)
@@ -122,7 +122,7 @@ sweep_called m new at call answer policies before mid lines is count said sweepi
     }
 
 -- the same, with the moment as the call gives it, and the core as it was
-pub sweep_steps : (m old new : Machine) (moment at : ℕ) (call : CodeCall) (answer : Answer) (policies : Policies) (before mid lines : List Line) → slice_get m.calls m.made ≡ Some (at, call) → length m.tasks ≡ task_count m.calls →
+pub sweep_steps : (m old new : CoreView) (moment at : ℕ) (call : CodeCall) (answer : Answer) (policies : Policies) (before mid lines : List Line) → slice_get m.calls m.made ≡ Some (at, call) → length m.tasks ≡ task_count m.calls →
     called m.calls (view_at m.calls (state_of m) at) call ≡ swept_reply m at policies answer → IsSweeping m.shut m.policies answer policies → moment ≡ max m.moment at → m ≡ old → mid ≡ before ++ answer_line moment answer ∷ [] →
     Sweeps (swept_from m moment policies) new mid lines → Steps old new before lines (h.Call ∷ [])
 sweep_steps m old new moment at call answer policies before mid lines is count said sweeping greatest same put done =
@@ -130,22 +130,22 @@ sweep_steps m old new moment at call answer policies before mid lines is count s
     (sweep_called m new at call answer policies before mid lines is count said sweeping (put ∙ ap (λ n. before ++ answer_line n answer ∷ []) greatest) (subst (λ n. Sweeps (swept_from m n policies) new mid lines) greatest done))
 
 -- the room for lines after a call that sweeps
-pub sweep_room : (m old mid new : Machine) (p : Planned) (before within after : ℕ) → slice_get m.calls m.made ≡ Some p → m ≡ old → mid.calls ≡ m.calls → mid.made ≡ m.made + 1 → mid.tasks ≡ m.tasks → new ≡ record mid { tasks = new.tasks } →
+pub sweep_room : (m old mid new : CoreView) (p : Planned) (before within after : ℕ) → slice_get m.calls m.made ≡ Some p → m ≡ old → mid.calls ≡ m.calls → mid.made ≡ m.made + 1 → mid.tasks ≡ m.tasks → new ≡ record mid { tasks = new.tasks } →
     within ≡ before + 1 → after + uncancelled_in new.tasks ≤ within + uncancelled_in mid.tasks → after + room_of new ≤ before + room_of old
 sweep_room m old mid new p before within after is same calls made tasks rest put room =
-    omega (arith, slice_get_within m.calls m.made p is, ap room_of same, ap length calls, made, ap uncancelled_in tasks, ap (λ (x : Machine). length x.calls) rest, ap (λ (x : Machine). x.made) rest, put, room)
+    omega (arith, slice_get_within m.calls m.made p is, ap room_of same, ap length calls, made, ap uncancelled_in tasks, ap (λ (x : CoreView). length x.calls) rest, ap (λ (x : CoreView). x.made) rest, put, room)
 
 -- the steps of the calls that might sweep and do not
 
 -- a policy is set, and there is no sweep
-policy_takes : (m : Machine) (at : ℕ) (which : Which) (value : Bool) → slice_get m.calls m.made ≡ Some (at, c.SetPolicy which value) → setting_sweeps m.shut which value ≡ false →
+policy_takes : (m : CoreView) (at : ℕ) (which : Which) (value : Bool) → slice_get m.calls m.made ≡ Some (at, c.SetPolicy which value) → setting_sweeps m.shut which value ≡ false →
     Takes m (record m { made = m.made + 1; moment = max m.moment at; policies = set_policy which value m.policies }) h.Call (a.Policy which value)
 policy_takes m at which value is still =
     let s = state_of m in
     let v = view_at m.calls s at in
     let answer : Answer = a.Policy which value in
     let one : m.made + 1 ≡ 1 + m.made = omega arith in
-    let said : called m.calls v (c.SetPolicy which value) ≡ plain answer = ap (λ b. record { answer = answer; ends = cond b (swept m.calls v (set_policy which value m.policies)) [] }) still in
+    let said : called m.calls v (c.SetPolicy which value) ≡ bare answer = ap (λ b. record { answer = answer; ends = cond b (swept m.calls v (set_policy which value m.policies)) [] }) still in
     record {
       calls = refl;
       limit = refl;
@@ -163,7 +163,7 @@ policy_takes m at which value is still =
     }
 
 -- a policy that is set and sweeps nothing is one step of a core, and one line
-pub policy_steps : (m old : Machine) (moment at : ℕ) (which : Which) (value : Bool) (policies : Policies) (before lines : List Line) → slice_get m.calls m.made ≡ Some (at, c.SetPolicy which value) → setting_sweeps m.shut which value ≡ false →
+pub policy_steps : (m old : CoreView) (moment at : ℕ) (which : Which) (value : Bool) (policies : Policies) (before lines : List Line) → slice_get m.calls m.made ≡ Some (at, c.SetPolicy which value) → setting_sweeps m.shut which value ≡ false →
     moment ≡ max m.moment at → policies ≡ set_policy which value m.policies → m ≡ old → lines ≡ before ++ answer_line moment (a.Policy which value) ∷ [] →
     Steps old (record m { made = m.made + 1; moment = moment; policies = policies }) before lines (h.Call ∷ [])
 policy_steps m old moment at which value policies before lines is still greatest set same put =
@@ -174,13 +174,13 @@ policy_steps m old moment at which value policies before lines is still greatest
     one_step old _ before lines h.Call (a.Policy which value) takes put
 
 -- a shutdown where the executor is shut
-pub again_steps : (m old : Machine) (moment at : ℕ) (before lines : List Line) → slice_get m.calls m.made ≡ Some (at, c.Shutdown) → m.shut ≡ true → moment ≡ max m.moment at → m ≡ old →
+pub again_steps : (m old : CoreView) (moment at : ℕ) (before lines : List Line) → slice_get m.calls m.made ≡ Some (at, c.Shutdown) → m.shut ≡ true → moment ≡ max m.moment at → m ≡ old →
     lines ≡ before ++ answer_line moment a.ShutdownAgain ∷ [] → Steps old (passed m moment) before lines (h.Call ∷ [])
 again_steps m old moment at before lines is shut greatest same put =
     let s = state_of m in
     let v = view_at m.calls s at in
     let one : m.made + 1 ≡ 1 + m.made = omega arith in
-    let said : called m.calls v c.Shutdown ≡ plain a.ShutdownAgain = ap (λ b. cond b (plain a.ShutdownAgain) (record { answer = a.Shutdown; ends = swept m.calls v m.policies })) shut in
+    let said : called m.calls v c.Shutdown ≡ bare a.ShutdownAgain = ap (λ b. cond b (bare a.ShutdownAgain) (record { answer = a.Shutdown; ends = swept m.calls v m.policies })) shut in
     let there : state_of (passed m (max m.moment at)) ≡ called_state m.calls s at a.ShutdownAgain = λ i. record {
       made = one i;
       moment = max m.moment at;
@@ -193,7 +193,7 @@ again_steps m old moment at before lines is shut greatest same put =
     one_step old (passed m moment) before lines h.Call a.ShutdownAgain (passed_steps m old moment at c.Shutdown a.ShutdownAgain is said there greatest same) put
 
 -- the steps of a policy that is set, where that sweeps
-pub policy_sweep_steps : (m old new : Machine) (moment at : ℕ) (which : Which) (value : Bool) (policies : Policies) (before mid lines : List Line) → slice_get m.calls m.made ≡ Some (at, c.SetPolicy which value) → length m.tasks ≡ task_count m.calls →
+pub policy_sweep_steps : (m old new : CoreView) (moment at : ℕ) (which : Which) (value : Bool) (policies : Policies) (before mid lines : List Line) → slice_get m.calls m.made ≡ Some (at, c.SetPolicy which value) → length m.tasks ≡ task_count m.calls →
     setting_sweeps m.shut which value ≡ true → moment ≡ max m.moment at → policies ≡ set_policy which value m.policies → m ≡ old → mid ≡ before ++ answer_line moment (a.Policy which value) ∷ [] →
     Sweeps (record m { made = m.made + 1; moment = moment; policies = policies }) new mid lines → Steps old new before lines (h.Call ∷ [])
 policy_sweep_steps m old new moment at which value policies before mid lines is count sweeping greatest set same put done =
@@ -205,15 +205,15 @@ policy_sweep_steps m old new moment at which value policies before mid lines is 
     (subst (λ b. Sweeps (record m { made = m.made + 1; moment = moment; policies = after; shut = b }) new mid lines) shut (subst (λ p. Sweeps (record m { made = m.made + 1; moment = moment; policies = p }) new mid lines) set done))
 
 -- the steps of the first shutdown
-pub shutdown_steps : (m old new : Machine) (moment at : ℕ) (before mid lines : List Line) → slice_get m.calls m.made ≡ Some (at, c.Shutdown) → length m.tasks ≡ task_count m.calls →
+pub shutdown_steps : (m old new : CoreView) (moment at : ℕ) (before mid lines : List Line) → slice_get m.calls m.made ≡ Some (at, c.Shutdown) → length m.tasks ≡ task_count m.calls →
     m.shut ≡ false → moment ≡ max m.moment at → m ≡ old → mid ≡ before ++ answer_line moment a.Shutdown ∷ [] →
     Sweeps (swept_from m moment m.policies) new mid lines → Steps old new before lines (h.Call ∷ [])
 shutdown_steps m old new moment at before mid lines is count unshut greatest same put done =
     let v = view_at m.calls (state_of m) at in
-    let said : called m.calls v c.Shutdown ≡ swept_reply m at m.policies a.Shutdown = ap (λ b. cond b (plain a.ShutdownAgain) (record { answer = a.Shutdown; ends = swept m.calls v m.policies })) unshut in
+    let said : called m.calls v c.Shutdown ≡ swept_reply m at m.policies a.Shutdown = ap (λ b. cond b (bare a.ShutdownAgain) (record { answer = a.Shutdown; ends = swept m.calls v m.policies })) unshut in
     sweep_steps m old new moment at c.Shutdown a.Shutdown m.policies before mid lines is count said (shutdown_sweeps m.shut m.policies unshut) greatest same put done
 
 -- the room for lines after a call that ends no task
-pub pass_room : (m old : Machine) (moment : ℕ) (policies : Policies) (p : Planned) (before after : ℕ) → slice_get m.calls m.made ≡ Some p → m ≡ old → after ≡ before + 1 →
+pub pass_room : (m old : CoreView) (moment : ℕ) (policies : Policies) (p : Planned) (before after : ℕ) → slice_get m.calls m.made ≡ Some p → m ≡ old → after ≡ before + 1 →
     after + room_of (record m { made = m.made + 1; moment = moment; policies = policies }) ≤ before + room_of old
 pass_room m old moment policies p before after is same put = omega (arith, slice_get_within m.calls m.made p is, ap room_of same, put)

@@ -11,11 +11,11 @@ use Rattle.sched_time.specs.declared.timing.Timing.{Timing}
 use Rattle.sched_time.specs.declared.timing.Timing.TheVariants as how
 use Rattle.delay_queue.specs.Queues.{IsEmpty}
 use Rattle.executor_core.specs.declared.policies.Policies.{Policies}
-use Rattle.executor_core.specs.declared.task.Phase.{Phase}
-use Rattle.executor_core.specs.declared.task.Phase.TheVariants as ph
+use Rattle.executor_core.specs.declared.task.Stage.{Stage}
+use Rattle.executor_core.specs.declared.task.Stage.TheVariants as ph
 use Rattle.executor_core.specs.declared.task.Task.{Task}
 use Rattle.executor_core.specs.declared.types.Line.{Line}
-use Rattle.queue_code.specs.Calls.{Planned, Terms, terms_of, due_at, task_count, is_submission, IsOrderly, how_many}
+use Rattle.queue_code.specs.Calls.{Planned, Terms, terms_of, due_at, task_count, submits_task, IsOrderly, how_many}
 use Rattle.executor_core.specs.View.{is_running, is_waiting}
 use Rattle.executor_core.specs.Answers.{is_swept, is_ended_by, swept}
 use Rattle.executor_core.specs.Histories.{is_end}
@@ -23,7 +23,7 @@ use Rattle.executor_core.specs.State.{vacant, seen_task, seen_phase, due_seen, v
 use Rattle.executor_core.specs.Flows.{end_line}
 use Rattle.executor_core.specs.Tasks.{uncancelled_in}
 use Rattle.executor_core.specs.own.Tables.{waits_with, waits_again, is_waiting_phase, is_periodic, periodic_in, goes_on, is_live_phase}
-use Rattle.executor_core.specs.Machine.{Machine, state_of}
+use Rattle.executor_core.specs.CoreView.{CoreView, state_of}
 use Rattle.executor_core.specs.own.Invariants.{IsWellFormedCore, NoneDelayed, queued, held}
 use Rattle.executor_core.specs.own.OwnSteps.{Ends, Drops, Sweeps}
 use Rattle.executor_core.specs.own.Sought.{Sought}
@@ -129,7 +129,7 @@ quieter_goes before after quieter on =
     (sym (ap (λ (t : Task). is_periodic t.timing) quieter.same) ∙ parts.2)
 
 -- a core with such tasks stays well formed, where its queues are those of the tasks
-pub quieter_kept : (m : Machine) (entries keeps entries' keeps' : List (Option ℕ)) (sought : Sought) (tasks : List Task) → IsWellFormedCore m entries keeps sought → AreQuieter m.tasks tasks → entries' ≡ map queued tasks → keeps' ≡ map held tasks →
+pub quieter_kept : (m : CoreView) (entries keeps entries' keeps' : List (Option ℕ)) (sought : Sought) (tasks : List Task) → IsWellFormedCore m entries keeps sought → AreQuieter m.tasks tasks → entries' ≡ map queued tasks → keeps' ≡ map held tasks →
     IsWellFormedCore (record m { tasks = tasks }) entries' keeps' sought
 quieter_kept m entries keeps entries' keeps' sought tasks kept quieter queue keeping =
     let phase : (k : ℕ) → (slice_index_or tasks k vacant).phase ≡ (slice_index_or m.tasks k vacant).phase = λ k. ap (λ (t : Task). t.phase) (quieter.each k).same in
@@ -205,7 +205,7 @@ ends_quietly t waits = record {
 }
 
 -- the core stays well formed where a task that waits is ended
-pub end_kept : (m : Machine) (entries left keeps : List (Option ℕ)) (sought : Sought) (k : ℕ) (tasks : List Task) → IsWellFormedCore m entries keeps sought → k < length m.tasks →
+pub end_kept : (m : CoreView) (entries left keeps : List (Option ℕ)) (sought : Sought) (k : ℕ) (tasks : List Task) → IsWellFormedCore m entries keeps sought → k < length m.tasks →
     waits_with (slice_index_or m.tasks k vacant) ≡ true → left ≡ set entries k None → tasks ≡ set m.tasks k (record (slice_index_or m.tasks k vacant) { cancelled = true }) →
     IsWellFormedCore (record m { tasks = tasks }) left keeps sought
 end_kept m entries left keeps sought k tasks kept low waits gone is =
@@ -223,7 +223,7 @@ tasks_within [] = omega arith
 tasks_within (p ∷ calls) =
     let rest = tasks_within calls in
     let pick : (b : Bool) → cond b (1 + task_count calls) (task_count calls) ≤ suc (length calls) = elim [ true ↦ omega (arith, rest) | false ↦ omega (arith, rest) ] in
-    pick (is_submission p.1)
+    pick (submits_task p.1)
 
 -- orderly calls submit no more tasks than there may be calls
 pub few_tasks : (calls : List Planned) → IsOrderly calls → task_count calls ≤ 65536
@@ -249,7 +249,7 @@ seen_waiting terms t over = by t.phase refl
     not_done true = refl
     not_done false = refl
 
-    by : (p : Phase) → t.phase ≡ p → is_waiting (seen_phase terms p t.run t.due t.cancelled t.kept) ≡ (is_waiting_phase p && not t.cancelled)
+    by : (p : Stage) → t.phase ≡ p → is_waiting (seen_phase terms p t.run t.due t.cancelled t.kept) ≡ (is_waiting_phase p && not t.cancelled)
     by ph.Vacant q = refl
     by ph.Waiting q = ap (λ b. not (not b) && not (t.cancelled || false)) (same t.run) ∙ or_none t.cancelled
     by ph.Running q = ap (λ b. not (not b) && not (t.cancelled || false)) (next t.run)
@@ -258,7 +258,7 @@ seen_waiting terms t over = by t.phase refl
     by ph.Dropped q = ap (λ b. not (not b) && not (t.cancelled || false)) (same (1 + t.run)) ∙ (or_none t.cancelled ∙ ap not (over q))
 
 -- a task in this phase waits
-phase_waits : (p : Phase) → is_waiting_phase p ≡ true → p ≡ ph.Waiting
+phase_waits : (p : Stage) → is_waiting_phase p ≡ true → p ≡ ph.Waiting
 phase_waits ph.Vacant q = absurd (false≢true q)
 phase_waits ph.Waiting q = refl
 phase_waits ph.Running q = absurd (false≢true q)
@@ -271,7 +271,7 @@ pub waits_phase : (t : Task) → waits_with t ≡ true → t.phase ≡ ph.Waitin
 waits_phase t waits = phase_waits t.phase (and_left (is_waiting_phase t.phase) _ waits)
 
 -- whether a sweep of a core ends a task
-abbrev pub sweeps_at : Machine → ℕ → Bool
+abbrev pub sweeps_at : CoreView → ℕ → Bool
 sweeps_at m k = is_swept m.calls (view_of_state m.calls (state_of m)) m.policies k
 
 -- a sweep under some policies, at some moment, ends a task that waits and that the policies do not let run
@@ -290,18 +290,18 @@ swept_under terms t policies moment over timing =
     ap (λ b. b && is_ended_by policies moment terms.timing (due_seen terms t.phase t.due)) (seen_waiting terms t over) ∙ pick (waits_with t) refl
 
 -- a sweep ends the tasks that wait and that the policies do not let run
-pub swept_is : (m : Machine) (entries keeps : List (Option ℕ)) (sought : Sought) (k : ℕ) → IsWellFormedCore m entries keeps sought →
+pub swept_is : (m : CoreView) (entries keeps : List (Option ℕ)) (sought : Sought) (k : ℕ) → IsWellFormedCore m entries keeps sought →
     sweeps_at m k ≡ (waits_with (slice_index_or m.tasks k vacant) && is_ended_by m.policies m.moment (slice_index_or m.tasks k vacant).timing (slice_index_or m.tasks k vacant).due)
 swept_is m entries keeps sought k kept = swept_under (terms_of m.calls k) (slice_index_or m.tasks k vacant) m.policies m.moment (kept.sound.over k) (kept.timing k)
 
 -- what waits on a sweep
 
 -- what a sweep of a core ends waits
-pub swept_waits : (m : Machine) (entries keeps : List (Option ℕ)) (sought : Sought) (k : ℕ) → IsWellFormedCore m entries keeps sought → sweeps_at m k ≡ true → waits_with (slice_index_or m.tasks k vacant) ≡ true
+pub swept_waits : (m : CoreView) (entries keeps : List (Option ℕ)) (sought : Sought) (k : ℕ) → IsWellFormedCore m entries keeps sought → sweeps_at m k ≡ true → waits_with (slice_index_or m.tasks k vacant) ≡ true
 swept_waits m entries keeps sought k kept swept = and_left (waits_with (slice_index_or m.tasks k vacant)) _ (sym (swept_is m entries keeps sought k kept) ∙ swept)
 
 -- the same, of the core that is seen
-pub swept_waits_in : (m cur : Machine) (entries keeps : List (Option ℕ)) (sought : Sought) (k : ℕ) → IsWellFormedCore m entries keeps sought → m ≡ cur → sweeps_at cur k ≡ true → waits_with (slice_index_or cur.tasks k vacant) ≡ true
+pub swept_waits_in : (m cur : CoreView) (entries keeps : List (Option ℕ)) (sought : Sought) (k : ℕ) → IsWellFormedCore m entries keeps sought → m ≡ cur → sweeps_at cur k ≡ true → waits_with (slice_index_or cur.tasks k vacant) ≡ true
 swept_waits_in m cur entries keeps sought k kept is swept = swept_waits cur entries keeps sought k (subst (λ x. IsWellFormedCore x entries keeps sought) is kept) swept
 
 -- where none is counted, none passes the test
@@ -315,7 +315,7 @@ none_counted test (t ∷ tasks) (suc k) past none =
     none_counted test tasks k past (pick (test t) none)
 
 -- no task is ended where periodic tasks go on, or none waits, and delayed ones are run, or none is left
-pub none_swept : (m : Machine) (entries keeps : List (Option ℕ)) (sought : Sought) → IsWellFormedCore m entries keeps sought →
+pub none_swept : (m : CoreView) (entries keeps : List (Option ℕ)) (sought : Sought) → IsWellFormedCore m entries keeps sought →
     (m.policies.continues ≡ true) ⊎ (periodic_in m.tasks ≡ 0) → (m.policies.executes ≡ true) ⊎ (sought.delayed ≡ true) → (k : ℕ) → sweeps_at m k ≡ false
 none_swept m entries keeps sought kept periodic delayed k =
     let t = slice_index_or m.tasks k vacant in
@@ -369,27 +369,27 @@ more_below : (k n : ℕ) → (n == k) ≡ false → nat_lt k n ≡ nat_lt k (n +
 more_below k n apart = grind (arith, nat_tests, apart)
 
 -- the task at the place that is reached is as it was
-untouched : (old cur : Machine) (before lines : List Line) (n : ℕ) → Ends old cur before lines n → slice_index_or cur.tasks n vacant ≡ slice_index_or old.tasks n vacant
+untouched : (old cur : CoreView) (before lines : List Line) (n : ℕ) → Ends old cur before lines n → slice_index_or cur.tasks n vacant ≡ slice_index_or old.tasks n vacant
 untouched old cur before lines n ends =
     ends.each n ∙ ap (λ b. record (slice_index_or old.tasks n vacant) { cancelled = (b && sweeps_at old n) || (slice_index_or old.tasks n vacant).cancelled }) (same_below n)
 
 -- whether a sweep of a core ends this task in the place k
-abbrev sweeps_task : Machine → ℕ → Task → Bool
+abbrev sweeps_task : CoreView → ℕ → Task → Bool
 sweeps_task m k t = is_waiting (seen_task (terms_of m.calls k) t) && is_ended_by m.policies m.moment (terms_of m.calls k).timing (seen_task (terms_of m.calls k) t).due
 
-sweeps_alike : (old cur : Machine) (before lines : List Line) (n : ℕ) → Ends old cur before lines n → sweeps_at cur n ≡ sweeps_at old n
+sweeps_alike : (old cur : CoreView) (before lines : List Line) (n : ℕ) → Ends old cur before lines n → sweeps_at cur n ≡ sweeps_at old n
 sweeps_alike old cur before lines n ends =
     ap (λ m. sweeps_at m n) ends.rest ∙ ap (λ t. sweeps_task old n t) (untouched old cur before lines n ends)
 
 -- no task is ended below the first one
-pub ends_none : (m : Machine) (lines : List Line) → Ends m m lines lines 0
+pub ends_none : (m : CoreView) (lines : List Line) → Ends m m lines lines 0
 ends_none m lines = record { rest = refl; size = refl; each = λ k. by k; lines = sym (append-nil lines) }
   where
     by : (k : ℕ) → slice_index_or m.tasks k vacant ≡ record (slice_index_or m.tasks k vacant) { cancelled = (nat_lt k 0 && sweeps_at m k) || (slice_index_or m.tasks k vacant).cancelled }
     by k = let low : nat_lt k 0 ≡ false = grind (arith, nat_tests) in ap (λ b. record (slice_index_or m.tasks k vacant) { cancelled = (b && sweeps_at m k) || (slice_index_or m.tasks k vacant).cancelled }) (sym low)
 
 -- a task that is not ended
-pub ends_not : (old cur : Machine) (before lines : List Line) (n : ℕ) → Ends old cur before lines n → sweeps_at cur n ≡ false → Ends old cur before lines (n + 1)
+pub ends_not : (old cur : CoreView) (before lines : List Line) (n : ℕ) → Ends old cur before lines n → sweeps_at cur n ≡ false → Ends old cur before lines (n + 1)
 ends_not old cur before lines n ends unswept =
     let not_old : sweeps_at old n ≡ false = sym (sweeps_alike old cur before lines n ends) ∙ unswept in
     record {
@@ -406,12 +406,12 @@ ends_not old cur before lines n ends unswept =
     by not_old false k apart = ap (λ b. b && sweeps_at old k) (more_below k n apart)
 
 -- a task that is ended
-pub ends_more : (old cur new : Machine) (before lines longer : List Line) (n : ℕ) → Ends old cur before lines n → n < length cur.tasks → sweeps_at cur n ≡ true →
+pub ends_more : (old cur new : CoreView) (before lines longer : List Line) (n : ℕ) → Ends old cur before lines n → n < length cur.tasks → sweeps_at cur n ≡ true →
     new ≡ record cur { tasks = set cur.tasks n (record (slice_index_or cur.tasks n vacant) { cancelled = true }) } → longer ≡ lines ++ end_line cur.moment n ∷ [] → Ends old new before longer (n + 1)
 ends_more old cur new before lines longer n ends low swept is put =
     let so_old : sweeps_at old n ≡ true = sym (sweeps_alike old cur before lines n ends) ∙ swept in
     let ended : Task = record (slice_index_or cur.tasks n vacant) { cancelled = true } in
-    let tasks : new.tasks ≡ set cur.tasks n ended = ap (λ (x : Machine). x.tasks) is in
+    let tasks : new.tasks ≡ set cur.tasks n ended = ap (λ (x : CoreView). x.tasks) is in
     let added : filter (sweeps_at old) (range_with_len 0 (n + 1)) ≡ filter (sweeps_at old) (range_with_len 0 n) ++ n ∷ [] = filter_next (sweeps_at old) n ∙ ap (λ b. filter (sweeps_at old) (range_with_len 0 n) ++ cond b (n ∷ []) []) so_old in
     record {
       rest = is ∙ ((λ i. record (ends.rest i) { tasks = set cur.tasks n ended }) ∙ (λ i. record old { tasks = sym tasks i }));
@@ -485,16 +485,16 @@ dropped_quietly before after dropped = record {
 }
 
 -- the core stays well formed where tasks are kept no more
-pub dropped_kept : (m cur : Machine) (entries entries' keeps keeps' : List (Option ℕ)) (sought sought' : Sought) → IsWellFormedCore m entries keeps sought → cur ≡ record m { tasks = cur.tasks } → entries' ≡ entries → sought' ≡ sought →
+pub dropped_kept : (m cur : CoreView) (entries entries' keeps keeps' : List (Option ℕ)) (sought sought' : Sought) → IsWellFormedCore m entries keeps sought → cur ≡ record m { tasks = cur.tasks } → entries' ≡ entries → sought' ≡ sought →
     AreDropped m.tasks cur.tasks → keeps' ≡ map held cur.tasks → IsWellFormedCore cur entries' keeps' sought'
 dropped_kept m cur entries entries' keeps keeps' sought sought' kept rest same_entries same_sought dropped keeping =
     let whole = quieter_kept m entries keeps entries keeps' sought cur.tasks kept (record { size = dropped.size; each = λ k. dropped_quietly _ _ (dropped.each k) }) (kept.queue ∙ same_queued m.tasks cur.tasks dropped) keeping in
-    subst (λ s. IsWellFormedCore cur entries' keeps' s) (sym same_sought) (subst (λ l. IsWellFormedCore cur l keeps' sought) (sym same_entries) (subst (λ (x : Machine). IsWellFormedCore x entries keeps' sought) (sym rest) whole))
+    subst (λ s. IsWellFormedCore cur entries' keeps' s) (sym same_sought) (subst (λ l. IsWellFormedCore cur l keeps' sought) (sym same_entries) (subst (λ (x : CoreView). IsWellFormedCore x entries keeps' sought) (sym rest) whole))
 
 -- where the queue of kept tasks is empty, none is kept
-pub drops : (m old cur : Machine) (keeps : List (Option ℕ)) → m ≡ old → cur ≡ record m { tasks = cur.tasks } → AreDropped m.tasks cur.tasks → keeps ≡ map held cur.tasks → IsEmpty keeps → Drops old cur
+pub drops : (m old cur : CoreView) (keeps : List (Option ℕ)) → m ≡ old → cur ≡ record m { tasks = cur.tasks } → AreDropped m.tasks cur.tasks → keeps ≡ map held cur.tasks → IsEmpty keeps → Drops old cur
 drops m old cur keeps is rest dropped keeping empty =
-    subst (λ (x : Machine). Drops x cur) is (record {
+    subst (λ (x : CoreView). Drops x cur) is (record {
       rest = rest;
       size = dropped.size;
       each = λ k. (dropped.each k).same ∙ ap (λ b. record (slice_index_or m.tasks k vacant) { kept = b }) (unkept k);
@@ -508,11 +508,11 @@ drops m old cur keeps is rest dropped keeping empty =
 -- a whole sweep
 
 -- past the table nothing is ended
-pub past_unswept : (m : Machine) (k : ℕ) → length m.tasks ≤ k → sweeps_at m k ≡ false
+pub past_unswept : (m : CoreView) (k : ℕ) → length m.tasks ≤ k → sweeps_at m k ≡ false
 past_unswept m k past = ap (λ t. sweeps_task m k t) (get_or_past m.tasks k vacant past)
 
 -- where nothing is to be ended, nothing is
-pub ends_nothing : (m : Machine) (lines : List Line) (count : ℕ) → ((k : ℕ) → sweeps_at m k ≡ false) → Ends m m lines lines count
+pub ends_nothing : (m : CoreView) (lines : List Line) (count : ℕ) → ((k : ℕ) → sweeps_at m k ≡ false) → Ends m m lines lines count
 ends_nothing m lines count none = record {
   rest = refl;
   size = refl;
@@ -525,7 +525,7 @@ or_neither true c q = absurd (false≢true (sym q))
 or_neither false c q = (refl, q)
 
 -- what a sweep ends below the end of the table is what it ends
-all_below : (m : Machine) (k : ℕ) → (nat_lt k (length m.tasks) && sweeps_at m k) ≡ sweeps_at m k
+all_below : (m : CoreView) (k : ℕ) → (nat_lt k (length m.tasks) && sweeps_at m k) ≡ sweeps_at m k
 all_below m k =
     let pick : (b : Bool) → nat_lt k (length m.tasks) ≡ b → (b && sweeps_at m k) ≡ sweeps_at m k =
     elim [ true ↦ λ low. refl | false ↦ λ high. sym (past_unswept m k (high_le k (length m.tasks) high)) ]
@@ -536,7 +536,7 @@ all_below m k =
     high_le k n q = grind (arith, nat_tests, q)
 
 -- a cancelled task is not ended
-cancelled_stays : (m : Machine) (k : ℕ) (t : Task) → t.cancelled ≡ true → sweeps_task m k t ≡ false
+cancelled_stays : (m : CoreView) (k : ℕ) (t : Task) → t.cancelled ≡ true → sweeps_task m k t ≡ false
 cancelled_stays m k t over =
     let f = seen_task (terms_of m.calls k) t in
     let e = is_ended_by m.policies m.moment (terms_of m.calls k).timing f.due in
@@ -544,7 +544,7 @@ cancelled_stays m k t over =
     ∙ (ap (λ b. (f.accepted && b) && e) (and_none (not (is_running f))) ∙ ap (λ b. b && e) (and_none f.accepted))
 
 -- once the tasks are ended, none is left to end
-pub all_ended : (old cur : Machine) (before lines : List Line) → Ends old cur before lines (length old.tasks) → (k : ℕ) → sweeps_at cur k ≡ false
+pub all_ended : (old cur : CoreView) (before lines : List Line) → Ends old cur before lines (length old.tasks) → (k : ℕ) → sweeps_at cur k ≡ false
 all_ended old cur before lines ends k =
     let t = slice_index_or old.tasks k vacant in
     let pick : (b : Bool) → sweeps_at old k ≡ b → sweeps_task old k (record t { cancelled = b || t.cancelled }) ≡ false =
@@ -554,7 +554,7 @@ all_ended old cur before lines ends k =
     ∙ (ap (λ x. sweeps_task old k x) (ends.each k ∙ ap (λ b. record t { cancelled = b || t.cancelled }) (all_below old k)) ∙ pick (sweeps_at old k) refl)
 
 -- where delayed tasks are not run, and none is left to end, none waits
-pub none_delayed : (m : Machine) (entries keeps : List (Option ℕ)) (sought : Sought) → IsWellFormedCore m entries keeps sought → m.policies.executes ≡ false → ((k : ℕ) → sweeps_at m k ≡ false) → NoneDelayed (state_of m)
+pub none_delayed : (m : CoreView) (entries keeps : List (Option ℕ)) (sought : Sought) → IsWellFormedCore m entries keeps sought → m.policies.executes ≡ false → ((k : ℕ) → sweeps_at m k ≡ false) → NoneDelayed (state_of m)
 none_delayed m entries keeps sought kept off swept k waits live once =
     let t = slice_index_or m.tasks k vacant in
     let waiting : waits_with t ≡ true = λ i. is_waiting_phase (waits i) && not (live i) in
@@ -567,7 +567,7 @@ none_delayed m entries keeps sought kept off swept k waits live once =
     not_after now due q = grind (arith, nat_tests, q)
 
 -- where periodic tasks do not go on, and none is left to end, no periodic task waits
-pub none_again : (m : Machine) (entries keeps : List (Option ℕ)) (sought : Sought) → IsWellFormedCore m entries keeps sought → m.policies.continues ≡ false → ((k : ℕ) → sweeps_at m k ≡ false) → (k : ℕ) → waits_again (slice_index_or m.tasks k vacant) ≡ false
+pub none_again : (m : CoreView) (entries keeps : List (Option ℕ)) (sought : Sought) → IsWellFormedCore m entries keeps sought → m.policies.continues ≡ false → ((k : ℕ) → sweeps_at m k ≡ false) → (k : ℕ) → waits_again (slice_index_or m.tasks k vacant) ≡ false
 none_again m entries keeps sought kept off swept k =
     let t = slice_index_or m.tasks k vacant in
     let stays : (waits_with t && is_ended_by m.policies m.moment t.timing t.due) ≡ false = sym (swept_is m entries keeps sought k kept) ∙ swept k in
@@ -582,7 +582,7 @@ none_again m entries keeps sought kept off swept k =
     false≢true (sym stays ∙ (λ i. (waiting i && live i) && ends t.timing more i)))
 
 -- the core stays well formed once it is noted that no delayed task is left
-pub delayed_is_noted : (m : Machine) (entries keeps : List (Option ℕ)) (sought now : Sought) → IsWellFormedCore m entries keeps sought → m.shut ≡ true → NoneDelayed (state_of m) → now ≡ record sought { delayed = true } →
+pub delayed_is_noted : (m : CoreView) (entries keeps : List (Option ℕ)) (sought now : Sought) → IsWellFormedCore m entries keeps sought → m.shut ≡ true → NoneDelayed (state_of m) → now ≡ record sought { delayed = true } →
     IsWellFormedCore m entries keeps now
 delayed_is_noted m entries keeps sought now kept shut none is = subst (IsWellFormedCore m entries keeps) (sym is) (record {
   orderly = kept.orderly;
@@ -605,10 +605,10 @@ delayed_is_noted m entries keeps sought now kept shut none is = subst (IsWellFor
 })
 
 -- a sweep: the tasks are ended, and then those that are kept are dropped
-pub sweeps_all : (m old cur now new : Machine) (before lines : List Line) → length m.tasks ≡ task_count m.calls → m ≡ old → Ends old cur before lines (length old.tasks) → now ≡ cur → Drops now new → Sweeps old new before lines
+pub sweeps_all : (m old cur now new : CoreView) (before lines : List Line) → length m.tasks ≡ task_count m.calls → m ≡ old → Ends old cur before lines (length old.tasks) → now ≡ cur → Drops now new → Sweeps old new before lines
 sweeps_all m old cur now new before lines sized is ends same drops =
-    let count : length old.tasks ≡ task_count old.calls = subst (λ (x : Machine). length x.tasks ≡ task_count x.calls) is sized in
-    let tasks : now.tasks ≡ cur.tasks = ap (λ (x : Machine). x.tasks) same in
+    let count : length old.tasks ≡ task_count old.calls = subst (λ (x : CoreView). length x.tasks ≡ task_count x.calls) is sized in
+    let tasks : now.tasks ≡ cur.tasks = ap (λ (x : CoreView). x.tasks) same in
     record {
       rest = drops.rest ∙ ((λ i. record (same i) { tasks = new.tasks }) ∙ (λ i. record (ends.rest i) { tasks = new.tasks }));
       size = drops.size ∙ (ap length tasks ∙ ends.size);
@@ -628,5 +628,5 @@ same_count test (x ∷ xs) (y ∷ ys) size same =
     λ i. cond (same 0 i) (1 + rest i) (rest i)
 
 -- as many tasks are not cancelled where some are kept no more
-pub drops_count : (now new : Machine) → Drops now new → uncancelled_in new.tasks ≡ uncancelled_in now.tasks
+pub drops_count : (now new : CoreView) → Drops now new → uncancelled_in new.tasks ≡ uncancelled_in now.tasks
 drops_count now new drops = same_count (λ (t : Task). not t.cancelled) now.tasks new.tasks drops.size (λ k. ap (λ (t : Task). not t.cancelled) (drops.each k))

@@ -8,14 +8,14 @@ use Rattle.std.proofs.lemmas.List.{get_or-set_same, get_or-set_other}
 use Rattle.queue_code.specs.declared.call.CodeCall.{CodeCall}
 use Rattle.queue_code.specs.declared.call.CodeCall.TheVariants as c
 use Rattle.sched_time.specs.declared.timing.Timing.{Timing}
-use Rattle.executor_core.specs.declared.task.Phase.TheVariants as ph
+use Rattle.executor_core.specs.declared.task.Stage.TheVariants as ph
 use Rattle.executor_core.specs.declared.task.Task.{Task}
 use Rattle.executor_core.specs.State.{vacant}
 use Rattle.executor_core.specs.Tasks.{uncancelled_in}
 use Rattle.executor_core.specs.own.Invariants.{RunsBelow, queued, held}
 use Rattle.executor_core.specs.own.Sought.{Sought, AreNoted}
-use Rattle.queue_code.specs.Calls.{Planned, IsOrderlyFrom, IsOrderlyCall, count_after, is_submission, task_count, terms_of}
-use Rattle.executor_core.specs.declared.task.Phase.{Phase}
+use Rattle.queue_code.specs.Calls.{Planned, IsOrderlyFrom, IsOrderlyCall, count_after, submits_task, task_count, terms_of}
+use Rattle.executor_core.specs.declared.task.Stage.{Stage}
 use Rattle.executor_core.specs.own.Tables.{is_live_phase, is_periodic}
 
 -- a table after a write
@@ -111,7 +111,7 @@ count_grows (p ∷ calls) (suc n) =
     let pick : (b : Bool) → cond b (1 + task_count (take n calls)) (task_count (take n calls)) ≤ cond b (1 + task_count (take (suc n) calls)) (task_count (take (suc n) calls)) =
     elim [ true ↦ omega (arith, rest) | false ↦ rest ]
     in
-    pick (is_submission p.1)
+    pick (submits_task p.1)
 
 -- the entry of a task in the queue of some tasks
 pub queued_at : (tasks : List Task) (k : ℕ) → slice_index_or (map queued tasks) k None ≡ queued (slice_index_or tasks k vacant)
@@ -182,7 +182,7 @@ uncancelled_set (x ∷ tasks) (suc k) task low same =
 -- tasks that go on
 
 -- a periodic task that goes on is of such a timing, in such a phase, and not cancelled
-pub goes_parts : (phase : Phase) (cancelled : Bool) (timing : Timing) → (is_live_phase phase && (not cancelled && is_periodic timing)) ≡ true → (is_live_phase phase ≡ true) × (cancelled ≡ false) × (is_periodic timing ≡ true)
+pub goes_parts : (phase : Stage) (cancelled : Bool) (timing : Timing) → (is_live_phase phase && (not cancelled && is_periodic timing)) ≡ true → (is_live_phase phase ≡ true) × (cancelled ≡ false) × (is_periodic timing ≡ true)
 goes_parts phase cancelled timing is =
     let rest = and_parts (is_live_phase phase) (not cancelled && is_periodic timing) is in
     let last = and_parts (not cancelled) (is_periodic timing) rest.1 in
@@ -193,7 +193,7 @@ goes_parts phase cancelled timing is =
     not_true false q = refl
 
 -- and a task of such parts goes on
-pub goes_from : (phase : Phase) (cancelled : Bool) (timing : Timing) → is_live_phase phase ≡ true → cancelled ≡ false → is_periodic timing ≡ true → (is_live_phase phase && (not cancelled && is_periodic timing)) ≡ true
+pub goes_from : (phase : Stage) (cancelled : Bool) (timing : Timing) → is_live_phase phase ≡ true → cancelled ≡ false → is_periodic timing ≡ true → (is_live_phase phase && (not cancelled && is_periodic timing)) ≡ true
 goes_from phase cancelled timing live uncancelled more = λ i. live i && (not (uncancelled i) && more i)
 
 -- what was noted stays so where there are as many tasks and workers

@@ -17,7 +17,7 @@ use Rattle.executor_core.specs.Answers.{reply, moment_after, is_accepted}
 use Rattle.executor_core.specs.Histories.{HistoryEntry, IsHistoryOf, view_of_history, happenings, made, now_of, is_start, is_finish, starts, last_finish, due_of}
 use Rattle.executor_core.specs.State.{due_ahead}
 use Rattle.executor_core.specs.Flows.{history_from}
-use Rattle.executor_core.specs.Within.{IsAnswered}
+use Rattle.executor_core.specs.Within.{IsAnsweredByTable}
 use Rattle.executor_core.specs.own.Within.{IsWithin}
 use Rattle.executor_core.proofs.Tables.{call_moment}
 use Rattle.executor_core.proofs.Moves.{due_landed, due_after}
@@ -125,7 +125,7 @@ first_due terms l = by terms.timing
     by (t.Fixed delay) = l
 
 -- each due moment that a history shows is at most 2^63
-pub answered_within : (calls : List Planned) (workers : ℕ) (past : List HistoryEntry) → IsOrderly calls → IsAnswered calls workers past → IsWithin calls past
+pub answered_within : (calls : List Planned) (workers : ℕ) (past : List HistoryEntry) → IsOrderly calls → IsAnsweredByTable calls workers past → IsWithin calls past
 answered_within calls workers [] o m k = first_due (terms_of calls k) (first_within 0 0 calls k o.1)
 answered_within calls workers (e ∷ past) o m k =
     let terms = terms_of calls k in
@@ -138,7 +138,7 @@ answered_within calls workers (e ∷ past) o m k =
     (λ q. start_was_due calls workers (view_of_history calls past) e.happening k e.answer m.1 q))
 
 -- as in a history that means the calls
-pub means_answered : (calls : List Planned) (workers : ℕ) (past : List HistoryEntry) → IsHistoryOf calls workers past → IsAnswered calls workers past
+pub means_answered : (calls : List Planned) (workers : ℕ) (past : List HistoryEntry) → IsHistoryOf calls workers past → IsAnsweredByTable calls workers past
 means_answered calls workers [] m = tt
 means_answered calls workers (e ∷ past) m = (means_answered calls workers past m.0, m.2, m.3)
 
@@ -147,7 +147,7 @@ pub dues_within : (calls : List Planned) (workers : ℕ) (past : List HistoryEnt
 dues_within calls workers past o m = answered_within calls workers past o (means_answered calls workers past m)
 
 -- a history that is made longer by answers of the table is answered so
-pub answered_from : (calls : List Planned) (workers : ℕ) (past : List HistoryEntry) (more : List Happening) → IsAnswered calls workers past → IsAnswered calls workers (history_from calls workers past more)
+pub answered_from : (calls : List Planned) (workers : ℕ) (past : List HistoryEntry) (more : List Happening) → IsAnsweredByTable calls workers past → IsAnsweredByTable calls workers (history_from calls workers past more)
 answered_from calls workers past [] m = m
 answered_from calls workers past (y ∷ more) m = (answered_from calls workers past more m, refl, refl)
 

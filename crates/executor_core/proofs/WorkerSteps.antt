@@ -15,8 +15,8 @@ use Rattle.executor_core.specs.declared.types.Outcome.{Outcome}
 use Rattle.executor_core.specs.declared.types.Outcome.TheVariants as o
 use Rattle.executor_core.specs.declared.types.Answer.{Answer}
 use Rattle.executor_core.specs.declared.types.Answer.TheVariants as a
-use Rattle.executor_core.specs.declared.task.Phase.{Phase}
-use Rattle.executor_core.specs.declared.task.Phase.TheVariants as ph
+use Rattle.executor_core.specs.declared.task.Stage.{Stage}
+use Rattle.executor_core.specs.declared.task.Stage.TheVariants as ph
 use Rattle.executor_core.specs.declared.task.Task.{Task}
 use Rattle.sched_time.specs.declared.timing.Ending.{Ending}
 use Rattle.delay_queue.specs.declared.entry.Entry.{Entry}
@@ -24,10 +24,10 @@ use Rattle.delay_queue.specs.Queues as queues
 use Rattle.delay_queue.specs.Queues.{comes_before}
 use Rattle.queue_code.specs.Calls.{Planned, Terms, terms_of, due_at, numbers, task_count}
 use Rattle.executor_core.specs.View.{is_waiting, is_enabled, first_enabled}
-use Rattle.executor_core.specs.Answers.{plain, started, finished, outcome_in, due_next, stops_periodic}
+use Rattle.executor_core.specs.Answers.{bare, start_answer, finish_answer, outcome_in, due_next, stops_periodic}
 use Rattle.executor_core.specs.Histories.{is_ended, kept_after, meets}
 use Rattle.executor_core.specs.State.{State, view_of_state, seen_phase, due_seen, due_ahead, due_past, next, reply_of, state_after, task_after, vacant, finish_task, end_task}
-use Rattle.executor_core.specs.Machine.{Machine, state_of, workers_of}
+use Rattle.executor_core.specs.CoreView.{CoreView, state_of, workers_of}
 use Rattle.executor_core.specs.own.Invariants.{queued, queued_phase, IsDue, IsSound}
 use Rattle.executor_core.specs.own.OwnSteps.{finished_task, is_met, LeavesMet}
 use Rattle.executor_core.proofs.Moves.{due_landed, past_is_landed}
@@ -38,13 +38,13 @@ use Rattle.executor_core.proofs.Meeting.{KeptApart}
 use Rattle.executor_core.proofs.Tables.{at_set}
 
 -- a step by its reply
-pub by_reply : (calls : List Planned) (workers : ℕ) (s new : State) (happening : Happening) (answer : Answer) → reply_of calls workers s happening ≡ plain answer →
-    new ≡ state_after calls s happening (plain answer) → new ≡ next calls workers s happening
+pub by_reply : (calls : List Planned) (workers : ℕ) (s new : State) (happening : Happening) (answer : Answer) → reply_of calls workers s happening ≡ bare answer →
+    new ≡ state_after calls s happening (bare answer) → new ≡ next calls workers s happening
 by_reply calls workers s new happening answer is there = there ∙ ap (state_after calls s happening) (sym is)
 
 -- ---- entries of the queue are waiting tasks
 
-queued_is : (p : Phase) (due d : ℕ) → queued_phase p due ≡ Some d → (p ≡ ph.Waiting) × (due ≡ d)
+queued_is : (p : Stage) (due d : ℕ) → queued_phase p due ≡ Some d → (p ≡ ph.Waiting) × (due ≡ d)
 queued_is ph.Vacant due d q = absurd (none-some d q)
 queued_is ph.Waiting due d q = (refl, same_Some due d q)
 queued_is ph.Running due d q = absurd (none-some d q)
@@ -81,7 +81,7 @@ seen_due : (terms : Terms) (t : Task) → t.phase ≡ ph.Waiting → due_seen te
 seen_due terms t q = ap (λ p. due_seen terms p t.due) q
 
 -- an enabled task stands in the queue with its due moment, which is reached
-pub enabled_queued : (m : Machine) (j : ℕ) → IsSound (state_of m) → is_enabled (view_of_state m.calls (state_of m)) j ≡ true →
+pub enabled_queued : (m : CoreView) (j : ℕ) → IsSound (state_of m) → is_enabled (view_of_state m.calls (state_of m)) j ≡ true →
     (slice_index_or (map queued m.tasks) j None ≡ Some (slice_index_or m.tasks j vacant).due) × ((slice_index_or m.tasks j vacant).due ≤ m.moment)
 enabled_queued m j sound e =
     let s = state_of m in
@@ -92,7 +92,7 @@ enabled_queued m j sound e =
     (queued_at m.tasks j ∙ (λ i. cond (waits.1 i) None (queued_phase (waits.0 i) t.due)), omega (arith, leb-true (v.fate j).due m.moment parts.1, seen_due (terms_of m.calls j) t waits.0))
 
 -- the least entry of the queue, where it is due, is the first enabled task
-pub least_is_first : (m : Machine) (k d : ℕ) → IsSound (state_of m) → length m.tasks ≡ task_count m.calls →
+pub least_is_first : (m : CoreView) (k d : ℕ) → IsSound (state_of m) → length m.tasks ≡ task_count m.calls →
     queues.IsLeast (map queued m.tasks) d k → d ≤ m.moment → first_enabled (view_of_state m.calls (state_of m)) (numbers m.calls) ≡ Some k
 least_is_first m k d sound count least due =
     let calls = m.calls in
@@ -114,7 +114,7 @@ least_is_first m k d sound count least due =
     ])
 
 -- where no entry of the queue is due, no task is enabled
-pub none_is_first : (m : Machine) → IsSound (state_of m) → queues.NoneIsDue (map queued m.tasks) m.moment →
+pub none_is_first : (m : CoreView) → IsSound (state_of m) → queues.NoneIsDue (map queued m.tasks) m.moment →
     first_enabled (view_of_state m.calls (state_of m)) (numbers m.calls) ≡ None
 none_is_first m sound none =
     first_is_none (view_of_state m.calls (state_of m)) (numbers m.calls)
@@ -123,25 +123,25 @@ none_is_first m sound none =
 -- ---- the replies to a start
 
 start_reply : (calls : List Planned) (workers w : ℕ) (s : State) (work first : Option ℕ) → w < workers → s.workers w ≡ work → first_enabled (view_of_state calls s) (numbers calls) ≡ first →
-    reply_of calls workers s (h.Start w) ≡ plain (option_map_or (λ _. a.Error x.Busy) work (started (view_of_state calls s) w first))
+    reply_of calls workers s (h.Start w) ≡ bare (option_map_or (λ _. a.Error x.Busy) work (start_answer (view_of_state calls s) w first))
 start_reply calls workers w s work first l e f =
-    ap (λ b. plain (cond b (option_map_or (λ _. a.Error x.Busy) (s.workers w) (started (view_of_state calls s) w (first_enabled (view_of_state calls s) (numbers calls)))) (a.Error x.NoWorker))) (lt-ltb w workers l)
-    ∙ (λ i. plain (option_map_or (λ _. a.Error x.Busy) (e i) (started (view_of_state calls s) w (f i))))
+    ap (λ b. bare (cond b (option_map_or (λ _. a.Error x.Busy) (s.workers w) (start_answer (view_of_state calls s) w (first_enabled (view_of_state calls s) (numbers calls)))) (a.Error x.NoWorker))) (lt-ltb w workers l)
+    ∙ (λ i. bare (option_map_or (λ _. a.Error x.Busy) (e i) (start_answer (view_of_state calls s) w (f i))))
 
 -- the reply to a start where no task is enabled
-pub idle_starts : (calls : List Planned) (workers w : ℕ) (s : State) → w < workers → s.workers w ≡ None → first_enabled (view_of_state calls s) (numbers calls) ≡ None → reply_of calls workers s (h.Start w) ≡ plain (a.Idle w)
+pub idle_starts : (calls : List Planned) (workers w : ℕ) (s : State) → w < workers → s.workers w ≡ None → first_enabled (view_of_state calls s) (numbers calls) ≡ None → reply_of calls workers s (h.Start w) ≡ bare (a.Idle w)
 idle_starts calls workers w s l e f = start_reply calls workers w s None None l e f
 
 -- the reply to a start that gets the least entry of the queue
-pub task_starts : (m : Machine) (w k d : ℕ) → w < workers_of m → slice_index_or m.work w None ≡ None → IsSound (state_of m) →
+pub task_starts : (m : CoreView) (w k d : ℕ) → w < workers_of m → slice_index_or m.work w None ≡ None → IsSound (state_of m) →
     length m.tasks ≡ task_count m.calls → queues.IsLeast (map queued m.tasks) d k → d ≤ m.moment →
-    reply_of m.calls (workers_of m) (state_of m) (h.Start w) ≡ plain (a.Start w k (slice_index_or m.tasks k vacant).run d)
+    reply_of m.calls (workers_of m) (state_of m) (h.Start w) ≡ bare (a.Start w k (slice_index_or m.tasks k vacant).run d)
 task_starts m w k d l free sound count least due =
     let t = slice_index_or m.tasks k vacant in
     let terms = terms_of m.calls k in
     let here = in_queue m.tasks k d least.there in
     start_reply m.calls (workers_of m) w (state_of m) None (Some k) l free (least_is_first m k d sound count least due)
-    ∙ (ap (λ p. plain (a.Start w k (seen_phase terms p t.run t.due t.cancelled t.kept).starts (seen_phase terms p t.run t.due t.cancelled t.kept).due)) here.0 ∙ ap (λ n. plain (a.Start w k t.run n)) here.1)
+    ∙ (ap (λ p. bare (a.Start w k (seen_phase terms p t.run t.due t.cancelled t.kept).starts (seen_phase terms p t.run t.due t.cancelled t.kept).due)) here.0 ∙ ap (λ n. bare (a.Start w k t.run n)) here.1)
 
 -- the states after a start
 
@@ -158,11 +158,11 @@ same_kept true met meets q = ap not (q refl) ∙ or_false (not meets)
 same_kept false met meets q = refl
 
 -- the due moment that is seen of a kept task
-kept_due : (m : Machine) (j : ℕ) → IsSound (state_of m) → (slice_index_or m.tasks j vacant).kept ≡ true → (slice_index_or m.tasks j vacant).due ≡ ((view_of_state m.calls (state_of m)).fate j).due
+kept_due : (m : CoreView) (j : ℕ) → IsSound (state_of m) → (slice_index_or m.tasks j vacant).kept ≡ true → (slice_index_or m.tasks j vacant).due ≡ ((view_of_state m.calls (state_of m)).fate j).due
 kept_due m j sound q = sym (seen_due (terms_of m.calls j) (slice_index_or m.tasks j vacant) (sound.kept j q).0)
 
 -- a start that gets no task leaves kept what it does not meet
-idle_kept : (m : Machine) (w j : ℕ) → IsSound (state_of m) →
+idle_kept : (m : CoreView) (w j : ℕ) → IsSound (state_of m) →
     ((slice_index_or m.tasks j vacant).kept && not (is_met m.moment None (slice_index_or m.tasks j vacant).due j)) ≡ kept_after (view_of_state m.calls (state_of m)) j (a.Idle w)
 idle_kept m w j sound =
     let t = slice_index_or m.tasks j vacant in
@@ -170,7 +170,7 @@ idle_kept m w j sound =
     same_kept t.kept (is_met m.moment None t.due j) (meets v (v.fate j).due j (a.Idle w)) (λ q. ap (λ n. nat_le n m.moment) (kept_due m j sound q))
 
 -- a start that gets a task leaves kept what it does not meet
-start_kept : (m : Machine) (w j n : ℕ) (e : Entry) → IsSound (state_of m) → (slice_index_or m.tasks e.task vacant).phase ≡ ph.Waiting → (slice_index_or m.tasks e.task vacant).due ≡ e.due →
+start_kept : (m : CoreView) (w j n : ℕ) (e : Entry) → IsSound (state_of m) → (slice_index_or m.tasks e.task vacant).phase ≡ ph.Waiting → (slice_index_or m.tasks e.task vacant).due ≡ e.due →
     ((slice_index_or m.tasks j vacant).kept && not (is_met m.moment (Some e) (slice_index_or m.tasks j vacant).due j)) ≡ kept_after (view_of_state m.calls (state_of m)) j (a.Start w e.task n e.due)
 start_kept m w j n e sound waits due =
     let t = slice_index_or m.tasks j vacant in
@@ -180,15 +180,15 @@ start_kept m w j n e sound waits due =
     (λ q. (λ i. nat_le (kept_due m j sound q i) m.moment && comes_before (kept_due m j sound q i) j (first i) e.task))
 
 -- the state after a start that gets no task
-pub idle_state : (m : Machine) (w : ℕ) (tasks : List Task) → IsSound (state_of m) → LeavesMet m.moment None m.tasks tasks →
-    state_of (record m { tasks = tasks }) ≡ state_after m.calls (state_of m) (h.Start w) (plain (a.Idle w))
+pub idle_state : (m : CoreView) (w : ℕ) (tasks : List Task) → IsSound (state_of m) → LeavesMet m.moment None m.tasks tasks →
+    state_of (record m { tasks = tasks }) ≡ state_after m.calls (state_of m) (h.Start w) (bare (a.Idle w))
 idle_state m w tasks sound left = λ i. record (state_of m) {
   tasks = λ j. (left.each j ∙ ap (λ b. record (slice_index_or m.tasks j vacant) { kept = b }) (idle_kept m w j sound)) i;
 }
 
 -- a task after a start
-pub started_task : (m : Machine) (w k n d j : ℕ) → k < length m.tasks → slice_index_or (set m.tasks k (running (slice_index_or m.tasks k vacant))) j vacant
-    ≡ record (task_after m.calls (state_of m) (plain (a.Start w k n d)) j) { kept = (slice_index_or m.tasks j vacant).kept }
+pub started_task : (m : CoreView) (w k n d j : ℕ) → k < length m.tasks → slice_index_or (set m.tasks k (running (slice_index_or m.tasks k vacant))) j vacant
+    ≡ record (task_after m.calls (state_of m) (bare (a.Start w k n d)) j) { kept = (slice_index_or m.tasks j vacant).kept }
 started_task m w k n d j low = at_set m.tasks k j (running (slice_index_or m.tasks k vacant)) vacant low ∙ moved (k == j) refl
   where
     moved : (b : Bool) → (k == j) ≡ b → cond b (running (slice_index_or m.tasks k vacant)) (slice_index_or m.tasks j vacant)
@@ -197,7 +197,7 @@ started_task m w k n d j low = at_set m.tasks k j (running (slice_index_or m.tas
     moved false same = refl
 
 -- a task after a start is due as it was
-started_due : (m : Machine) (k j : ℕ) → k < length m.tasks → (slice_index_or (set m.tasks k (running (slice_index_or m.tasks k vacant))) j vacant).due ≡ (slice_index_or m.tasks j vacant).due
+started_due : (m : CoreView) (k j : ℕ) → k < length m.tasks → (slice_index_or (set m.tasks k (running (slice_index_or m.tasks k vacant))) j vacant).due ≡ (slice_index_or m.tasks j vacant).due
 started_due m k j low = ap (λ (t : Task). t.due) (at_set m.tasks k j (running (slice_index_or m.tasks k vacant)) vacant low) ∙ by (k == j) refl
   where
     by : (b : Bool) → (k == j) ≡ b → (cond b (running (slice_index_or m.tasks k vacant)) (slice_index_or m.tasks j vacant)).due ≡ (slice_index_or m.tasks j vacant).due
@@ -205,42 +205,42 @@ started_due m k j low = ap (λ (t : Task). t.due) (at_set m.tasks k j (running (
     by false same = refl
 
 -- the state after a start that gets a task, but for what is kept
-pub started_apart : (m : Machine) (w k n d : ℕ) → w < length m.work → k < length m.tasks →
-    KeptApart (state_after m.calls (state_of m) (h.Start w) (plain (a.Start w k n d))) (state_of (record m { tasks = set m.tasks k (running (slice_index_or m.tasks k vacant)); work = set m.work w (Some k) }))
+pub started_apart : (m : CoreView) (w k n d : ℕ) → w < length m.work → k < length m.tasks →
+    KeptApart (state_after m.calls (state_of m) (h.Start w) (bare (a.Start w k n d))) (state_of (record m { tasks = set m.tasks k (running (slice_index_or m.tasks k vacant)); work = set m.work w (Some k) }))
 started_apart m w k n d l low = record {
   moment = refl;
   workers = λ u. at_set m.work w u (Some k) None l;
   tasks = λ j.
       let is = started_task m w k n d j low in
-      is ∙ ap (λ b. record (task_after m.calls (state_of m) (plain (a.Start w k n d)) j) { kept = b }) (sym (ap (λ (t : Task). t.kept) is));
+      is ∙ ap (λ b. record (task_after m.calls (state_of m) (bare (a.Start w k n d)) j) { kept = b }) (sym (ap (λ (t : Task). t.kept) is));
 }
 
 -- the state after a start that gets a task
-pub start_state : (m : Machine) (w n : ℕ) (e : Entry) (tasks : List Task) → IsSound (state_of m) → w < length m.work → e.task < length m.tasks →
+pub start_state : (m : CoreView) (w n : ℕ) (e : Entry) (tasks : List Task) → IsSound (state_of m) → w < length m.work → e.task < length m.tasks →
     (slice_index_or m.tasks e.task vacant).phase ≡ ph.Waiting → (slice_index_or m.tasks e.task vacant).due ≡ e.due →
     LeavesMet m.moment (Some e) (set m.tasks e.task (running (slice_index_or m.tasks e.task vacant))) tasks →
-    state_of (record m { tasks = tasks; work = set m.work w (Some e.task) }) ≡ state_after m.calls (state_of m) (h.Start w) (plain (a.Start w e.task n e.due))
+    state_of (record m { tasks = tasks; work = set m.work w (Some e.task) }) ≡ state_after m.calls (state_of m) (h.Start w) (bare (a.Start w e.task n e.due))
 start_state m w n e tasks sound l low waits due left = λ i. record (state_of m) {
   tasks = λ j. each j i;
   workers = λ u. at_set m.work w u (Some e.task) None l i;
 }
   where
-    each : (j : ℕ) → slice_index_or tasks j vacant ≡ task_after m.calls (state_of m) (plain (a.Start w e.task n e.due)) j
+    each : (j : ℕ) → slice_index_or tasks j vacant ≡ task_after m.calls (state_of m) (bare (a.Start w e.task n e.due)) j
     each j =
         let is = started_task m w e.task n e.due j low in
         let kept = ap (λ (t : Task). t.kept) is in
         let moment = started_due m e.task j low in
         left.each j
         ∙ ((λ i. record (is i) { kept = kept i && not (is_met m.moment (Some e) (moment i) j) })
-        ∙ ap (λ b. record (task_after m.calls (state_of m) (plain (a.Start w e.task n e.due)) j) { kept = b }) (start_kept m w j n e sound waits due))
+        ∙ ap (λ b. record (task_after m.calls (state_of m) (bare (a.Start w e.task n e.due)) j) { kept = b }) (start_kept m w j n e sound waits due))
 
 -- ---- the replies to a finish
 
 finish_reply : (calls : List Planned) (workers w : ℕ) (ending : Ending) (s : State) (work : Option ℕ) → w < workers → s.workers w ≡ work →
-    reply_of calls workers s (h.Finish w ending) ≡ plain (finished calls (view_of_state calls s) w ending work)
+    reply_of calls workers s (h.Finish w ending) ≡ bare (finish_answer calls (view_of_state calls s) w ending work)
 finish_reply calls workers w ending s work l e =
-    ap (λ b. plain (cond b (finished calls (view_of_state calls s) w ending (s.workers w)) (a.Error x.NoWorker))) (lt-ltb w workers l)
-    ∙ ap (λ x. plain (finished calls (view_of_state calls s) w ending x)) e
+    ap (λ b. bare (cond b (finish_answer calls (view_of_state calls s) w ending (s.workers w)) (a.Error x.NoWorker))) (lt-ltb w workers l)
+    ∙ ap (λ x. bare (finish_answer calls (view_of_state calls s) w ending x)) e
 
 -- the due moment of the run that would come after a finish is the one that the finish leaves
 landing : (timing : Timing) (first n now : ℕ) (last : Option ℕ) →
@@ -262,15 +262,15 @@ next_is_past calls s k busy due =
 -- the reply to a finish of a worker that works
 pub task_finishes : (calls : List Planned) (workers w k : ℕ) (ending : Ending) (outcome : Outcome) (s : State) → w < workers → s.workers w ≡ Some k → (s.tasks k).phase ≡ ph.Running →
     IsDue calls (view_of_state calls s) → outcome ≡ outcome_in (s.tasks k).cancelled (stops_periodic s.shut s.policies) (terms_of calls k).timing (due_past (terms_of calls k).timing (s.tasks k).due s.moment) ending →
-    reply_of calls workers s (h.Finish w ending) ≡ plain (a.Finish w k (s.tasks k).run outcome)
+    reply_of calls workers s (h.Finish w ending) ≡ bare (a.Finish w k (s.tasks k).run outcome)
 task_finishes calls workers w k ending outcome s l e busy due is =
     let t = s.tasks k in
     let terms = terms_of calls k in
     let next = ap (λ d. outcome_in t.cancelled (stops_periodic s.shut s.policies) terms.timing d ending) (next_is_past calls s k busy due) in
     finish_reply calls workers w ending s (Some k) l e
-    ∙ (ap (λ x. plain (a.Finish w k (((view_of_state calls s).fate k).starts - 1) x)) (next ∙ sym is)
-    ∙ (ap (λ p. plain (a.Finish w k ((seen_phase terms p t.run t.due t.cancelled t.kept).starts - 1) outcome)) busy
-    ∙ ap (λ n. plain (a.Finish w k n outcome)) (less t.run)))
+    ∙ (ap (λ x. bare (a.Finish w k (((view_of_state calls s).fate k).starts - 1) x)) (next ∙ sym is)
+    ∙ (ap (λ p. bare (a.Finish w k ((seen_phase terms p t.run t.due t.cancelled t.kept).starts - 1) outcome)) busy
+    ∙ ap (λ n. bare (a.Finish w k n outcome)) (less t.run)))
   where
     less : (n : ℕ) → 1 + n - 1 ≡ n
     less n = omega arith
@@ -294,11 +294,11 @@ goes_not_on tasks mid new k due outcome low is there then =
     ∙ (set-set tasks k y (record y { cancelled = true }) ∙ ap (λ b. set tasks k (record y { cancelled = b || t.cancelled })) (sym is))))
 
 -- the state after a finish
-pub finish_state : (m : Machine) (w k n : ℕ) (ending : Ending) (outcome : Outcome) → w < length m.work → k < length m.tasks →
+pub finish_state : (m : CoreView) (w k n : ℕ) (ending : Ending) (outcome : Outcome) → w < length m.work → k < length m.tasks →
     state_of (record m { tasks = set m.tasks k (finished_task outcome (due_past (terms_of m.calls k).timing (slice_index_or m.tasks k vacant).due m.moment) (slice_index_or m.tasks k vacant)); work = set m.work w None })
-    ≡ state_after m.calls (state_of m) (h.Finish w ending) (plain (a.Finish w k n outcome))
+    ≡ state_after m.calls (state_of m) (h.Finish w ending) (bare (a.Finish w k n outcome))
 finish_state m w k n ending outcome l low = λ i. record (state_of m) {
-  tasks = λ j. (at_set m.tasks k j (to k) vacant low ∙ moved (k == j) j refl ∙ ap (λ b. record (task_after m.calls (state_of m) (plain (a.Finish w k n outcome)) j) { kept = b }) (sym (kept_stays (view_of_state m.calls (state_of m)) j (a.Finish w k n outcome) refl refl refl))) i;
+  tasks = λ j. (at_set m.tasks k j (to k) vacant low ∙ moved (k == j) j refl ∙ ap (λ b. record (task_after m.calls (state_of m) (bare (a.Finish w k n outcome)) j) { kept = b }) (sym (kept_stays (view_of_state m.calls (state_of m)) j (a.Finish w k n outcome) refl refl refl))) i;
   workers = λ u. at_set m.work w u None None l i;
 }
   where

@@ -28,7 +28,7 @@ use Rattle.executor_core.specs.declared.types.Outcome.TheVariants as o
 use Rattle.executor_core.specs.declared.types.Answer.{Answer}
 use Rattle.executor_core.specs.declared.types.Answer.TheVariants as a
 use Rattle.queue_code.specs.Calls.{Planned, how_many, terms_of, due_at, numbers, task_count}
-use Rattle.executor_core.specs.View.{Fate, View, is_waiting, is_running, is_live, first_enabled}
+use Rattle.executor_core.specs.View.{Fate, View, is_waiting, is_running, is_cancellable, first_enabled}
 
 -- an answer, and the tasks that it ends, ascending
 pub record Reply : Type 0 where
@@ -36,8 +36,8 @@ pub record Reply : Type 0 where
   pub ends : List ℕ
 
 -- an answer that ends no task
-abbrev pub plain : Answer → Reply
-plain answer = record { answer = answer; ends = [] }
+abbrev pub bare : Answer → Reply
+bare answer = record { answer = answer; ends = [] }
 
 -- the kind of task that a submission's answer names, by how the task is timed
 -- (ScheduledExecutorService: schedule, scheduleAtFixedRate, scheduleWithFixedDelay)
@@ -49,7 +49,7 @@ kind_of (t.Fixed delay) = kind.Fixed
 -- what a cancel does to a task of which this is known: nothing where its submission was not accepted, and
 -- nothing where it is over; else it is cancelled, whether it waits or is run
 abbrev pub effect_on : Fate → CancelEffect
-effect_on fate = if fate.accepted then (if is_live fate then f.Yes else f.No) else f.Absent
+effect_on fate = if fate.accepted then (if is_cancellable fate then f.Yes else f.No) else f.Absent
 
 -- the policies, and what sets them
 
@@ -120,19 +120,19 @@ is_terminated shut queue running = shut && ((queue == 0) && (running == 0))
 -- shut down.")
 abbrev pub called : List Planned → View → CodeCall → Reply
 called calls v (c.Submit task timing delay) =
-    plain (if v.shut then a.Refuse task refusal.Rejected else a.Submit task (kind_of timing) (due_at (terms_of calls task) 0 None))
-called calls v (c.Illegal task) = plain (a.Refuse task refusal.Illegal)
-called calls v (c.Cancel task) = plain (a.Cancel task (effect_on (v.fate task)))
+    bare (if v.shut then a.Refuse task refusal.Rejected else a.Submit task (kind_of timing) (due_at (terms_of calls task) 0 None))
+called calls v (c.Illegal task) = bare (a.Refuse task refusal.Illegal)
+called calls v (c.Cancel task) = bare (a.Cancel task (effect_on (v.fate task)))
 called calls v (c.SetPolicy which value) =
     record { answer = a.Policy which value; ends = if setting_sweeps v.shut which value then swept calls v (set_policy which value v.policies) else [] }
-called calls v c.Shutdown = if v.shut then plain a.ShutdownAgain else record { answer = a.Shutdown; ends = swept calls v v.policies }
+called calls v c.Shutdown = if v.shut then bare a.ShutdownAgain else record { answer = a.Shutdown; ends = swept calls v v.policies }
 called calls v c.Ask =
-    plain (a.Ask (queue_size calls v) (running_count calls v) v.shut (is_terminated v.shut (queue_size calls v) (running_count calls v)))
+    bare (a.Ask (queue_size calls v) (running_count calls v) v.shut (is_terminated v.shut (queue_size calls v) (running_count calls v)))
 
 -- the answer to a worker without work that asks for a task: the first enabled one, or idle where none is
-abbrev pub started : View → ℕ → Option ℕ → Answer
-started v w None = a.Idle w
-started v w (Some k) = a.Start w k (v.fate k).starts (v.fate k).due
+abbrev pub start_answer : View → ℕ → Option ℕ → Answer
+start_answer v w None = a.Idle w
+start_answer v w (Some k) = a.Start w k (v.fate k).starts (v.fate k).due
 
 -- what comes after a run of a periodic task, where the run after it would be due at some moment: the task waits
 -- for it, or ends where periodic tasks do not go on
@@ -146,17 +146,17 @@ next_run stops due = if stops then o.Ended else o.Again due
 -- (ScheduledExecutorService.schedule: "a value-returning one-shot task"; scheduleAtFixedRate and
 -- scheduleWithFixedDelay: "The sequence of task executions continues indefinitely until one of the following
 -- exceptional completions occur")
-abbrev pub ended_well : Bool → Timing → ℕ → ℕ → Outcome
-ended_well stops t.Once due value = o.Done value
-ended_well stops (t.Rate period) due value = next_run stops due
-ended_well stops (t.Fixed delay) due value = next_run stops due
+abbrev pub outcome_of_value : Bool → Timing → ℕ → ℕ → Outcome
+outcome_of_value stops t.Once due value = o.Done value
+outcome_of_value stops (t.Rate period) due value = next_run stops due
+outcome_of_value stops (t.Fixed delay) due value = next_run stops due
 
 -- the outcome of a run, by how its task is timed, when the run after it would be due, and how the run ended:
 -- a failure is the end of each task
 -- (ScheduledExecutorService.scheduleAtFixedRate and scheduleWithFixedDelay: "An execution of the task throws an
 -- exception. [..] Subsequent executions are suppressed."; of a one-shot task: this project's rule)
 abbrev pub outcome_of : Bool → Timing → ℕ → Ending → Outcome
-outcome_of stops timing due (e.Value value) = ended_well stops timing due value
+outcome_of stops timing due (e.Value value) = outcome_of_value stops timing due value
 outcome_of stops timing due (e.Fault code) = o.Failed code
 
 -- the outcome of a run whose task was maybe cancelled: then it is dropped, whatever the run gave
@@ -173,9 +173,9 @@ due_next calls v k = due_at (terms_of calls k) (v.fate k).starts (Some v.moment)
 
 -- the answer to a worker that finishes: an error where it has no work, and else the run that it started
 -- last, with its outcome
-abbrev pub finished : List Planned → View → ℕ → Ending → Option ℕ → Answer
-finished calls v w ending None = a.Error x.NotRunning
-finished calls v w ending (Some k) = a.Finish w k ((v.fate k).starts - 1) (outcome_in (v.fate k).cancelled (stops_periodic v.shut v.policies) (terms_of calls k).timing (due_next calls v k) ending)
+abbrev pub finish_answer : List Planned → View → ℕ → Ending → Option ℕ → Answer
+finish_answer calls v w ending None = a.Error x.NotRunning
+finish_answer calls v w ending (Some k) = a.Finish w k ((v.fate k).starts - 1) (outcome_in (v.fate k).cancelled (stops_periodic v.shut v.policies) (terms_of calls k).timing (due_next calls v k) ending)
 
 -- a clock is accepted where it does not go back and is within the limit
 abbrev pub is_accepted : ℕ → ℕ → Bool
@@ -190,12 +190,12 @@ moment_after now call _ = now
 -- the answer to a happening; a call past the last one never comes
 abbrev pub reply : List Planned → ℕ → View → Happening → Reply
 reply calls workers v h.Call =
-    option_map_or (λ p. called calls (record v { moment = max v.moment p.0 }) p.1) (slice_get calls v.made) (plain a.Clock)
+    option_map_or (λ p. called calls (record v { moment = max v.moment p.0 }) p.1) (slice_get calls v.made) (bare a.Clock)
 reply calls workers v (h.Clock moment) =
-    plain (if nat_lt moment v.moment then a.Error x.Backward else (if nat_lt longest moment then a.Error x.TooFar else a.Clock))
+    bare (if nat_lt moment v.moment then a.Error x.Backward else (if nat_lt longest moment then a.Error x.TooFar else a.Clock))
 reply calls workers v (h.Start w) =
-    plain (if nat_lt w workers then option_map_or (λ _. a.Error x.Busy) (v.work w) (started v w (first_enabled v (numbers calls))) else a.Error x.NoWorker)
+    bare (if nat_lt w workers then option_map_or (λ _. a.Error x.Busy) (v.work w) (start_answer v w (first_enabled v (numbers calls))) else a.Error x.NoWorker)
 reply calls workers v (h.Finish w ending) =
-    plain (if nat_lt w workers then finished calls v w ending (v.work w) else a.Error x.NoWorker)
+    bare (if nat_lt w workers then finish_answer calls v w ending (v.work w) else a.Error x.NoWorker)
 reply calls workers v (h.Cancel k) =
-    plain (if nat_lt k (task_count calls) then a.Outside k (effect_on (v.fate k)) else a.Error x.NoTask)
+    bare (if nat_lt k (task_count calls) then a.Outside k (effect_on (v.fate k)) else a.Error x.NoTask)

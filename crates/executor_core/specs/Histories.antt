@@ -84,14 +84,14 @@ is_failed (o.Failed code) = true
 is_failed _ = false
 
 -- a cancel had an effect
-abbrev pub is_yes : CancelEffect → Bool
-is_yes f.Yes = true
-is_yes _ = false
+abbrev pub had_effect : CancelEffect → Bool
+had_effect f.Yes = true
+had_effect _ = false
 
 -- an answer says that task k was cancelled, by the plan or from outside
 abbrev pub is_cancel : ℕ → Answer → Bool
-is_cancel k (a.Cancel task effect) = (task == k) && is_yes effect
-is_cancel k (a.Outside task effect) = (task == k) && is_yes effect
+is_cancel k (a.Cancel task effect) = (task == k) && had_effect effect
+is_cancel k (a.Outside task effect) = (task == k) && had_effect effect
 is_cancel k _ = false
 
 -- an outcome says that the run was the last one of a periodic task that does not go on

@@ -12,6 +12,6 @@ pub mod State
 pub mod Tasks
 pub mod Flows
 pub mod Within
-pub mod Machine
+pub mod CoreView
 pub mod Needs
 pub mod own

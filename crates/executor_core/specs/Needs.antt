@@ -14,7 +14,7 @@ use Rattle.executor_core.specs.declared.types.Need.TheVariants as n
 use Rattle.executor_core.specs.View.{View}
 use Rattle.executor_core.specs.Answers.{is_queued, setting_sweeps}
 use Rattle.executor_core.specs.State.{State, vacant, reply_of}
-use Rattle.executor_core.specs.Machine.{Machine}
+use Rattle.executor_core.specs.CoreView.{CoreView}
 
 -- what a cancel of task k that has this effect moves
 abbrev pub need_of_cancel : ℕ → CancelEffect → Need
@@ -51,5 +51,5 @@ abbrev pub IsRipe : List Planned → View → Type 0
 IsRipe calls v = (k : ℕ) × (is_queued (v.fate k) ≡ true) × ((v.fate k).due ≤ v.moment)
 
 -- the task that a need starts, if any, has a run below the number of events taken
-abbrev pub RunsBelowTaken : Machine → Need → Type 0
+abbrev pub RunsBelowTaken : CoreView → Need → Type 0
 RunsBelowTaken m need = (k : ℕ) → need ≡ n.Start k → (slice_index_or m.tasks k vacant).run < m.taken

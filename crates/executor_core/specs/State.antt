@@ -11,8 +11,8 @@ use Rattle.executor_core.specs.declared.types.Outcome.{Outcome}
 use Rattle.executor_core.specs.declared.types.Outcome.TheVariants as o
 use Rattle.executor_core.specs.declared.types.Answer.{Answer}
 use Rattle.executor_core.specs.declared.types.Answer.TheVariants as a
-use Rattle.executor_core.specs.declared.task.Phase.{Phase}
-use Rattle.executor_core.specs.declared.task.Phase.TheVariants as ph
+use Rattle.executor_core.specs.declared.task.Stage.{Stage}
+use Rattle.executor_core.specs.declared.task.Stage.TheVariants as ph
 use Rattle.executor_core.specs.declared.task.Task.{Task}
 use Rattle.queue_code.specs.Calls.{Planned, Terms, terms_of, due_at}
 use Rattle.executor_core.specs.View.{Fate, View}
@@ -40,30 +40,30 @@ opening = record { made = 0; moment = 0; tasks = λ _. vacant; workers = λ _. N
 -- ---- what is seen of a task
 
 -- a task in this phase was submitted
-abbrev pub was_submitted : Phase → Bool
+abbrev pub was_submitted : Stage → Bool
 was_submitted ph.Vacant = false
 was_submitted _ = true
 
 -- a task in this phase ended its one run with a value
-abbrev pub is_done_phase : Phase → Bool
+abbrev pub is_done_phase : Stage → Bool
 is_done_phase ph.Done = true
 is_done_phase _ = false
 
 -- a run of a task in this phase failed
-abbrev pub is_failed_phase : Phase → Bool
+abbrev pub is_failed_phase : Stage → Bool
 is_failed_phase ph.Failed = true
 is_failed_phase _ = false
 
 -- how often a task in this phase has started: never before its submission, and else the runs before `run`,
 -- and that one where it is under way, done, failed or dropped
-abbrev pub starts_of : Phase → ℕ → ℕ
+abbrev pub starts_of : Stage → ℕ → ℕ
 starts_of ph.Vacant run = 0
 starts_of ph.Waiting run = run
 starts_of _ run = 1 + run
 
 -- how often a task in this phase has finished: never before its submission, and else the runs before `run`,
 -- and that one where the task is done or failed, or its last run was dropped or ended it
-abbrev pub finishes_of : Phase → ℕ → ℕ
+abbrev pub finishes_of : Stage → ℕ → ℕ
 finishes_of ph.Done run = 1 + run
 finishes_of ph.Failed run = 1 + run
 finishes_of ph.Dropped run = 1 + run
@@ -79,14 +79,14 @@ due_ahead (t.Fixed delay) due = due
 
 -- the due moment that is seen of a task: before its submission that of the first run, during a run the one
 -- ahead, and else the one that the task holds
-abbrev pub due_seen : Terms → Phase → ℕ → ℕ
+abbrev pub due_seen : Terms → Stage → ℕ → ℕ
 due_seen terms ph.Vacant due = due_at terms 0 None
 due_seen terms ph.Running due = due_ahead terms.timing due
 due_seen terms _ due = due
 
 -- what is known of a task with these terms, by its phase, its run, the due moment that it holds, and whether it
 -- was cancelled and is kept
-abbrev pub seen_phase : Terms → Phase → ℕ → ℕ → Bool → Bool → Fate
+abbrev pub seen_phase : Terms → Stage → ℕ → ℕ → Bool → Bool → Fate
 seen_phase terms phase run due cancelled kept = record {
   accepted = was_submitted phase;
   cancelled = cancelled;
@@ -136,7 +136,7 @@ abbrev pub submit_task : Timing → ℕ → Task → Task
 submit_task timing due task = record task { phase = ph.Waiting; run = 0; due = due; timing = timing }
 
 -- only a vacant task is submitted
-abbrev pub submit_phase : Timing → ℕ → Phase → Task → Task
+abbrev pub submit_phase : Timing → ℕ → Stage → Task → Task
 submit_phase timing due ph.Vacant task = submit_task timing due task
 submit_phase timing due _ task = task
 

@@ -4,12 +4,12 @@ use Rattle.task_word.specs.Words.{Parts}
 use Rattle.task_word.specs.declared.phases.Phase.{Phase as WordPhase}
 use Rattle.task_word.specs.declared.phases.Phase.TheVariants as w
 use Rattle.queue_code.specs.Calls.{how_many}
-use Rattle.executor_core.specs.declared.task.Phase.{Phase}
-use Rattle.executor_core.specs.declared.task.Phase.TheVariants as ph
+use Rattle.executor_core.specs.declared.task.Stage.{Stage}
+use Rattle.executor_core.specs.declared.task.Stage.TheVariants as ph
 use Rattle.executor_core.specs.declared.task.Task.{Task}
 
 -- the phase of a task's word: a cancelled word stands still, also once the run has ended
-abbrev pub word_phase : Phase → WordPhase
+abbrev pub word_phase : Stage → WordPhase
 word_phase ph.Vacant = w.Vacant
 word_phase ph.Waiting = w.New
 word_phase ph.Running = w.Running
@@ -18,8 +18,8 @@ word_phase ph.Done = w.Done
 word_phase ph.Failed = w.Failed
 
 -- the word of a task
-abbrev pub word_of : Task → Parts
-word_of task = record { phase = word_phase task.phase; run = task.run; marked = task.cancelled }
+abbrev pub word_of_task : Task → Parts
+word_of_task task = record { phase = word_phase task.phase; run = task.run; marked = task.cancelled }
 
 -- how many tasks are not cancelled
 abbrev pub uncancelled_in : List Task → ℕ

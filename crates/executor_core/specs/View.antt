@@ -54,8 +54,8 @@ abbrev pub is_waiting : Fate → Bool
 is_waiting f = f.accepted && (not (is_running f) && not (is_over f))
 
 -- a cancel would have an effect: it waits, or a run is under way and it was not cancelled (this project's rule)
-abbrev pub is_live : Fate → Bool
-is_live f = is_waiting f || (is_running f && not f.cancelled)
+abbrev pub is_cancellable : Fate → Bool
+is_cancellable f = is_waiting f || (is_running f && not f.cancelled)
 
 -- it waits, and its due moment is reached
 -- (ScheduledThreadPoolExecutor: "Delayed tasks execute no sooner than they are enabled, but without any

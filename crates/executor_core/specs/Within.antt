@@ -6,9 +6,9 @@ use Rattle.queue_code.specs.Calls.{Planned}
 use Rattle.executor_core.specs.Histories.{HistoryEntry, answer}
 
 -- each answer of a history is the table's for what stands before it, whatever may come there
-abbrev pub IsAnswered : List Planned → ℕ → List HistoryEntry → Type 0
-IsAnswered calls workers [] = Unit {0}
-IsAnswered calls workers (e ∷ past) = IsAnswered calls workers past × (e.answer ≡ (answer calls workers past e.happening).answer) × (e.ends ≡ (answer calls workers past e.happening).ends)
+abbrev pub IsAnsweredByTable : List Planned → ℕ → List HistoryEntry → Type 0
+IsAnsweredByTable calls workers [] = Unit {0}
+IsAnsweredByTable calls workers (e ∷ past) = IsAnsweredByTable calls workers past × (e.answer ≡ (answer calls workers past e.happening).answer) × (e.ends ≡ (answer calls workers past e.happening).ends)
 
 -- the latest due moment: the latest moment and the longest span
 abbrev pub latest_due : ℕ

@@ -110,7 +110,7 @@ pub use laws::most_workers_is_the_limit;
 pub use limits::MOST_WORKERS;
 pub use machine::Core;
 pub use policies::Policies;
-pub use task::{Phase, Task};
+pub use task::{Stage, Task};
 pub use types::{
     Answer, CancelEffect, Event, EventError, Happening, Kind, Line, Message, Need, Outcome, Refusal,
 };

@@ -3,7 +3,7 @@ ghost use Rattle.queue_code.specs.Calls.{task_count};
 ghost use Rattle.queue_code.specs.Codes.{calls_of};
 ghost use Rattle.executor_core.specs.Histories as histories;
 ghost use Rattle.sched_time.specs.Times.{longest};
-ghost use Rattle.executor_core.specs.Tasks.{word_of};
+ghost use Rattle.executor_core.specs.Tasks.{word_of_task};
 ghost use Rattle.executor_core.specs.Counts.{IsWorkerCount};
 ghost use Rattle.executor_core.specs.Flows.{part_of};
 
@@ -49,10 +49,10 @@ pub struct Core<A: Allocator> {
 }
 
 impl<A: Allocator> Model for Core<A> {
-    ghost use Rattle.executor_core.specs.Machine.{Machine};
+    ghost use Rattle.executor_core.specs.CoreView.{CoreView};
     ghost use Rattle.executor_core.specs.own.Invariants.{IsWellFormedCore};
 
-    ghost Value = { Machine };
+    ghost Value = { CoreView };
 
     ghost view = { λ c. record { calls = c.calls.items; limit = c.limit; taken = c.taken; made = c.calls.made; moment = c.moment; tasks = c.tasks; work = c.work.items; policies = c.policies; shut = c.shut } };
 
@@ -60,7 +60,7 @@ impl<A: Allocator> Model for Core<A> {
 }
 
 impl<A: Allocator> Core<A> {
-    ghost use Rattle.executor_core.specs.Machine.{workers_of, room_of, Counts, IsCounted, Steps, Stands, Continues, ErrorOnlyCounts, IsOpening};
+    ghost use Rattle.executor_core.specs.CoreView.{workers_of, room_of, Counts, IsCounted, Steps, Stands, Continues, ErrorOnlyCounts, IsOpening};
 
     /// A core before anything happened, for the calls of a code.
     ///
@@ -111,7 +111,7 @@ impl<A: Allocator> Core<A> {
     /// The word of each task by its number: how far the task has come, and whether it was cancelled.
     /// A cancelled word stands still, also once the run that was under way has ended.
     pub fn words(&self) -> &[Word]
-        ensures words { result.now ≡ map word_of self.now.tasks }
+        ensures words { result.now ≡ map word_of_task self.now.tasks }
         ensures count { length result.now ≡ task_count self.now.calls }
     {
         self.tasks.words()

@@ -7,7 +7,7 @@ ghost use Rattle.executor_core.specs.State.{vacant};
 ghost use Rattle.executor_core.specs.own.Tables.{goes_on, is_live_phase};
 
 use crate::tallies::is_periodic;
-use crate::task::{Phase, Task};
+use crate::task::{Stage, Task};
 use crate::tasks::Tasks;
 use std::alloc::{AllocError, Allocator};
 use std::marker::Model;
@@ -111,7 +111,7 @@ impl<A: Allocator> Sought<A> {
 fn goes_on(task: &Task) -> bool
     ensures { result ≡ goes_on task.now }
 {
-    matches!(task.phase, Phase::Waiting | Phase::Running)
+    matches!(task.phase, Stage::Waiting | Stage::Running)
         && !task.cancelled
         && is_periodic(task.timing)
 }

@@ -2,7 +2,7 @@
 ghost use Rattle.std.specs.Prelude.{◌≡◌};
 ghost use Rattle.executor_core.specs.own.Tables.{Count, IsRecount, is_periodic, is_running_phase, one, waits_again};
 
-use crate::task::{Phase, Task};
+use crate::task::{Stage, Task};
 use sched_time::Timing;
 
 /// How many tasks are of some sorts.
@@ -49,17 +49,17 @@ fn one(test: bool) -> usize
 }
 
 /// Whether a run is under way in this phase.
-fn is_running(phase: Phase) -> bool
+fn is_running(phase: Stage) -> bool
     ensures { result ≡ is_running_phase phase }
 {
-    matches!(phase, Phase::Running)
+    matches!(phase, Stage::Running)
 }
 
 /// Whether a periodic task waits for a run.
 fn waits_again(task: Task) -> bool
     ensures { result ≡ waits_again task }
 {
-    matches!(task.phase, Phase::Waiting) && !task.cancelled && is_periodic(task.timing)
+    matches!(task.phase, Stage::Waiting) && !task.cancelled && is_periodic(task.timing)
 }
 
 /// Whether a task of this timing has more runs than one.

@@ -2,7 +2,7 @@ use sched_time::Timing;
 
 /// How far a task has come.
 #[derive(Clone, Copy, Debug, PartialEq, Eq)]
-pub enum Phase {
+pub enum Stage {
     /// Not submitted.
     Vacant,
     /// It waits for a run, or was cancelled while it waited.
@@ -21,7 +21,7 @@ pub enum Phase {
 /// A task of the plan.
 #[derive(Clone, Copy, Debug, PartialEq, Eq)]
 pub struct Task {
-    pub phase: Phase,
+    pub phase: Stage,
     /// The number of the run that it waits for, that is under way, or that was its last.
     pub run: u32,
     /// The due moment of that run, and after the last one that of the run that would come, in

@@ -1,13 +1,13 @@
 //! The tasks of a core: the word of each, and beside it what its word does not say.
 ghost use Rattle.std.specs.Prelude.{◌≡◌, ◌≢◌, ◌+◌, ◌^◌, ◌<◌, ◌↔◌, true, false, length, replicate, map, slice_index_or, slice_set, IfOk, IsTrue};
-ghost use Rattle.executor_core.specs.declared.task.Phase.TheVariants as ph;
+ghost use Rattle.executor_core.specs.declared.task.Stage.TheVariants as ph;
 ghost use Rattle.executor_core.specs.declared.types.Outcome.TheVariants as o;
 ghost use Rattle.executor_core.specs.State.{vacant, submit_task, end_task};
-ghost use Rattle.executor_core.specs.Tasks.{word_of, uncancelled_in};
+ghost use Rattle.executor_core.specs.Tasks.{word_of_task, uncancelled_in};
 ghost use Rattle.executor_core.specs.own.Tables.{phase_in, running_in, periodic_in};
 
 use crate::tallies::Tallies;
-use crate::task::{Phase, Task};
+use crate::task::{Stage, Task};
 use crate::types::Outcome;
 use sched_time::Timing;
 use std::alloc::{AllocError, Allocator};
@@ -38,13 +38,13 @@ pub(crate) struct Tasks<A: Allocator> {
 impl<A: Allocator> Model for Tasks<A> {
     ghost use Rattle.std.specs.Prelude.{List};
     ghost use Rattle.executor_core.specs.declared.task.Task.{Task};
-    ghost use Rattle.executor_core.specs.own.Tables.{tasks_of, AreTables};
+    ghost use Rattle.executor_core.specs.own.Tables.{tasks_in_tables, TablesAgree};
 
     ghost Value = { List Task };
 
-    ghost view = { λ t. tasks_of t.words.items t.details.items };
+    ghost view = { λ t. tasks_in_tables t.words.items t.details.items };
 
-    ghost invariant = { λ t. AreTables t.words.items t.details.items t.tallies };
+    ghost invariant = { λ t. TablesAgree t.words.items t.details.items t.tallies };
 }
 
 impl<A: Allocator> Tasks<A> {
@@ -104,7 +104,7 @@ impl<A: Allocator> Tasks<A> {
 
     /// The words of the tasks.
     pub(crate) fn words(&self) -> &[Word]
-        ensures { result.now ≡ map word_of self.now }
+        ensures { result.now ≡ map word_of_task self.now }
     {
         &self.words
     }
@@ -134,7 +134,7 @@ impl<A: Allocator> Tasks<A> {
     {
         let before = self.get(task);
         let after = Task {
-            phase: Phase::Waiting,
+            phase: Stage::Waiting,
             timing,
             due,
             ..before
@@ -158,7 +158,7 @@ impl<A: Allocator> Tasks<A> {
     {
         let before = self.get(task);
         let after = Task {
-            phase: Phase::Running,
+            phase: Stage::Running,
             ..before
         };
         self.words[task] = self.words[task].started();
@@ -186,7 +186,7 @@ impl<A: Allocator> Tasks<A> {
         self.details[task] = Detail {
             due,
             timing: before.timing,
-            over: after.phase == Phase::Dropped,
+            over: after.phase == Stage::Dropped,
             kept: before.kept,
         };
         self.tallies = self.tallies.recount(before, after);
@@ -223,22 +223,22 @@ fn end_task(outcome: Outcome, due: u64, task: Task) -> Task
 {
     match outcome {
         Outcome::Done(_) => Task {
-            phase: Phase::Done,
+            phase: Stage::Done,
             due,
             ..task
         },
         Outcome::Failed(_) => Task {
-            phase: Phase::Failed,
+            phase: Stage::Failed,
             due,
             ..task
         },
         Outcome::Dropped | Outcome::Ended => Task {
-            phase: Phase::Dropped,
+            phase: Stage::Dropped,
             due,
             ..task
         },
         Outcome::Again(_) => Task {
-            phase: Phase::Waiting,
+            phase: Stage::Waiting,
             run: task.run + 1,
             due,
             ..task
@@ -247,15 +247,15 @@ fn end_task(outcome: Outcome, due: u64, task: Task) -> Task
 }
 
 /// The phase of a task whose word has this one.
-fn phase_in(phase: task_word::Phase, over: bool) -> Phase
+fn phase_in(phase: task_word::Phase, over: bool) -> Stage
     ensures { result ≡ phase_in phase over }
 {
     match phase {
-        task_word::Phase::Vacant => Phase::Vacant,
-        task_word::Phase::New => Phase::Waiting,
-        task_word::Phase::Running if over => Phase::Dropped,
-        task_word::Phase::Running => Phase::Running,
-        task_word::Phase::Done => Phase::Done,
-        task_word::Phase::Failed => Phase::Failed,
+        task_word::Phase::Vacant => Stage::Vacant,
+        task_word::Phase::New => Stage::Waiting,
+        task_word::Phase::Running if over => Stage::Dropped,
+        task_word::Phase::Running => Stage::Running,
+        task_word::Phase::Done => Stage::Done,
+        task_word::Phase::Failed => Stage::Failed,
     }
 }

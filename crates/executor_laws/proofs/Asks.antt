@@ -14,7 +14,7 @@ use Rattle.executor_core.specs.declared.types.Answer.{Answer}
 use Rattle.executor_core.specs.declared.types.Answer.TheVariants as a
 use Rattle.queue_code.specs.Calls.{Planned, how_many, numbers, task_count, terms_of, due_at}
 use Rattle.executor_core.specs.View.{View, is_running, is_over, is_waiting, first_enabled}
-use Rattle.executor_core.specs.Answers.{plain, reply, called, kind_of, swept, started, finished, is_queued, queue_size, running_count, is_terminated, effect_on}
+use Rattle.executor_core.specs.Answers.{bare, reply, called, kind_of, swept, start_answer, finish_answer, is_queued, queue_size, running_count, is_terminated, effect_on}
 use Rattle.executor_core.specs.Histories.{HistoryEntry, IsHistoryOf, view_of_history, starts, finishes, was_shut}
 use Rattle.executor_laws.specs.Policies.{KeptSince}
 use Rattle.executor_laws.specs.Asks.{Waits, IsUnderWay, IsCountOf, AsksByPosition}
@@ -41,26 +41,26 @@ call_asks calls v (c.Illegal task) q = absurd q
 call_asks calls v (c.Cancel task) q = absurd q
 call_asks calls v (c.SetPolicy which value) q = absurd q
 call_asks calls v c.Shutdown q =
-    let pick : (b : Bool) → IsAsk (cond b (plain a.ShutdownAgain) (record { answer = a.Shutdown; ends = swept calls v v.policies })).answer → ⊥ = elim [ true ↦ λ q. q | false ↦ λ q. q ] in
+    let pick : (b : Bool) → IsAsk (cond b (bare a.ShutdownAgain) (record { answer = a.Shutdown; ends = swept calls v v.policies })).answer → ⊥ = elim [ true ↦ λ q. q | false ↦ λ q. q ] in
     absurd (pick v.shut q)
 call_asks calls v c.Ask q = refl
 
 ask_says : (calls : List Planned) (workers : ℕ) (v : View) (y : Happening) → IsAsk (reply calls workers v y).answer → (reply calls workers v y).answer ≡ told calls v
 ask_says calls workers v h.Call q =
-    let answer : Option Planned → Answer = λ o. (option_map_or (λ p. called calls (record v { moment = max v.moment p.0 }) p.1) o (plain a.Clock)).answer in
+    let answer : Option Planned → Answer = λ o. (option_map_or (λ p. called calls (record v { moment = max v.moment p.0 }) p.1) o (bare a.Clock)).answer in
     let pick : (o : Option Planned) → IsAsk (answer o) → answer o ≡ told calls v = elim [ None ↦ λ q. absurd q | Some p ↦ call_asks calls (record v { moment = max v.moment p.0 }) p.1 ] in
     pick (slice_get calls v.made) q
 ask_says calls workers v (h.Clock t) q =
     let pick : (b d : Bool) → IsAsk (cond b (a.Error x.Backward) (cond d (a.Error x.TooFar) a.Clock)) → ⊥ = elim [ true ↦ λ d q. q | false ↦ elim [ true ↦ λ q. q | false ↦ λ q. q ] ] in
     absurd (pick _ _ q)
 ask_says calls workers v (h.Start u) q =
-    let start : (o : Option ℕ) → IsAsk (started v u o) → ⊥ = elim [ None ↦ λ q. q | Some j ↦ λ q. q ] in
-    let pick : (b : Bool) (o : Option ℕ) → IsAsk (cond b (option_map_or (λ _. a.Error x.Busy) o (started v u (first_enabled v (numbers calls)))) (a.Error x.NoWorker)) → ⊥ =
+    let start : (o : Option ℕ) → IsAsk (start_answer v u o) → ⊥ = elim [ None ↦ λ q. q | Some j ↦ λ q. q ] in
+    let pick : (b : Bool) (o : Option ℕ) → IsAsk (cond b (option_map_or (λ _. a.Error x.Busy) o (start_answer v u (first_enabled v (numbers calls)))) (a.Error x.NoWorker)) → ⊥ =
     elim [ true ↦ elim [ None ↦ start (first_enabled v (numbers calls)) | Some j ↦ λ q. q ] | false ↦ λ o q. q ]
     in
     absurd (pick _ _ q)
 ask_says calls workers v (h.Finish u ending) q =
-    let pick : (b : Bool) (o : Option ℕ) → IsAsk (cond b (finished calls v u ending o) (a.Error x.NoWorker)) → ⊥ =
+    let pick : (b : Bool) (o : Option ℕ) → IsAsk (cond b (finish_answer calls v u ending o) (a.Error x.NoWorker)) → ⊥ =
     elim [ true ↦ elim [ None ↦ λ q. q | Some j ↦ λ q. q ] | false ↦ λ o q. q ]
     in
     absurd (pick _ _ q)

@@ -11,8 +11,8 @@ use Rattle.queue_code.specs.declared.call.CodeCall.{CodeCall}
 use Rattle.queue_code.specs.declared.call.CodeCall.TheVariants as c
 use Rattle.queue_code.specs.Calls.{Planned, Terms, numbers, task_count, terms_of, due_at}
 use Rattle.executor_core.specs.declared.policies.Policies.{Policies}
-use Rattle.executor_core.specs.declared.task.Phase.{Phase}
-use Rattle.executor_core.specs.declared.task.Phase.TheVariants as ph
+use Rattle.executor_core.specs.declared.task.Stage.{Stage}
+use Rattle.executor_core.specs.declared.task.Stage.TheVariants as ph
 use Rattle.executor_core.specs.declared.task.Task.{Task}
 use Rattle.executor_core.specs.declared.types.EventError.TheVariants as x
 use Rattle.executor_core.specs.declared.types.Refusal.TheVariants as refusal
@@ -27,7 +27,7 @@ use Rattle.executor_core.specs.declared.types.Answer.TheVariants as a
 use Rattle.executor_core.specs.declared.types.Need.{Need}
 use Rattle.executor_core.specs.declared.types.Need.TheVariants as n
 use Rattle.executor_core.specs.View.{Fate, View, is_running, is_waiting, is_enabled, first_enabled}
-use Rattle.executor_core.specs.Answers.{Reply, plain, called, kind_of, swept, is_swept, is_ended_by, set_policy, setting_sweeps, started, finished, queue_size, running_count, is_terminated, outcome_in, stops_periodic, due_next, effect_on}
+use Rattle.executor_core.specs.Answers.{Reply, bare, called, kind_of, swept, is_swept, is_ended_by, set_policy, setting_sweeps, start_answer, finish_answer, queue_size, running_count, is_terminated, outcome_in, stops_periodic, due_next, effect_on}
 use Rattle.executor_core.specs.Histories.{happenings, is_submit, is_end}
 use Rattle.executor_core.specs.State.{State, view_of_state, seen_task, was_submitted, after, reply_of, state_after}
 use Rattle.executor_core.specs.Tasks.{word_phase}
@@ -44,10 +44,10 @@ use Rattle.executor_laws.proofs.WordMoves.{submits_once}
 -- ---- by the word of the task
 
 -- a task in a phase that is not the vacant one
-abbrev IsUsed : Phase → Type 0
+abbrev IsUsed : Stage → Type 0
 IsUsed p = word_phase p ≢ w.Vacant
 
-used_is_submitted : (p : Phase) → IsUsed p → was_submitted p ≡ true
+used_is_submitted : (p : Stage) → IsUsed p → was_submitted p ≡ true
 used_is_submitted ph.Vacant used = absurd (used refl)
 used_is_submitted ph.Waiting used = refl
 used_is_submitted ph.Running used = refl
@@ -59,10 +59,10 @@ used_is_submitted ph.Dropped used = refl
 goes_by_word : (terms : Terms) (t : Task) → (t.phase ≡ ph.Dropped → t.cancelled ≡ true) → effect_on (seen_task terms t) ≡ effect_on_word (word_phase t.phase) t.cancelled
 goes_by_word terms t over = by t.phase t.cancelled refl refl
   where
-    used : (p : Phase) → t.phase ≡ p → (p ≡ ph.Vacant → ⊥) → t.cancelled ≡ true → effect_on (seen_task terms t) ≡ f.No
+    used : (p : Stage) → t.phase ≡ p → (p ≡ ph.Vacant → ⊥) → t.cancelled ≡ true → effect_on (seen_task terms t) ≡ f.No
     used p is apart bit = sym (of_cancelled terms t (λ q. apart (sym is ∙ q)) bit)
 
-    by : (p : Phase) (b : Bool) → t.phase ≡ p → t.cancelled ≡ b → effect_on (seen_task terms t) ≡ effect_on_word (word_phase p) b
+    by : (p : Stage) (b : Bool) → t.phase ≡ p → t.cancelled ≡ b → effect_on (seen_task terms t) ≡ effect_on_word (word_phase p) b
     by ph.Vacant b is bit = sym (of_vacant terms t is)
     by ph.Waiting false is bit = sym (of_waiting terms t is bit)
     by ph.Waiting true is bit = used ph.Waiting is (λ q. cc) bit
@@ -79,7 +79,7 @@ cancels_go_by_words calls workers past k orderly means =
     let s = after calls workers (happenings past) in
     let effect = goes_by_word (terms_of calls k) (s.tasks k) ((after_agrees calls workers past means).sound.over k) in
     record {
-      outside = ap (λ e. plain (cond (nat_lt k (task_count calls)) (a.Outside k e) (a.Error x.NoTask))) effect;
+      outside = ap (λ e. bare (cond (nat_lt k (task_count calls)) (a.Outside k e) (a.Error x.NoTask))) effect;
       planned = λ happening e is. subst (Says calls s) is (says calls workers s happening) ∙ effect;
       task = λ used. submitted_is_a_task calls workers past k orderly means (used_is_submitted (s.tasks k).phase used);
     }
@@ -112,7 +112,7 @@ eqb_turns j k = grind (arith, nat_tests)
 
 -- the state after task j was cancelled from outside
 abbrev cancelled_at : List Planned → State → ℕ → State
-cancelled_at calls s j = state_after calls s (h.Cancel j) (plain (a.Outside j f.Yes))
+cancelled_at calls s j = state_after calls s (h.Cancel j) (bare (a.Outside j f.Yes))
 
 -- what a cancel of task j does to task k: it is marked where the two are one
 mark : (j k : ℕ) → (((j == k) && true) || false) ≡ (j == k)
@@ -170,7 +170,7 @@ swept_but calls s j k moment policies =
 
 -- the reply to a shutdown, where the executor was shut before it or not
 abbrev shutdown_reply : List Planned → View → Policies → Bool → Reply
-shutdown_reply calls v policies shut = cond shut (plain a.ShutdownAgain) (record { answer = a.Shutdown; ends = swept calls v policies })
+shutdown_reply calls v policies shut = cond shut (bare a.ShutdownAgain) (record { answer = a.Shutdown; ends = swept calls v policies })
 
 call_ends_but : (calls : List Planned) (s : State) (j k moment : ℕ) (call : CodeCall) →
     is_end k (called calls (at (view_of_state calls (cancelled_at calls s j)) moment) call).ends ≡ (is_end k (called calls (at (view_of_state calls s) moment) call).ends && not (j == k))
@@ -193,7 +193,7 @@ call_ends_but calls s j k moment c.Ask = refl
 
 -- the reply to the next call in a state, where this is the call
 abbrev call_reply : List Planned → State → Option Planned → Reply
-call_reply calls s call = option_map_or (λ p. called calls (at (view_of_state calls s) (max s.moment p.0)) p.1) call (plain a.Clock)
+call_reply calls s call = option_map_or (λ p. called calls (at (view_of_state calls s) (max s.moment p.0)) p.1) call (bare a.Clock)
 
 ends_but : (calls : List Planned) (workers : ℕ) (s : State) (j : ℕ) (happening : Happening) (k : ℕ) →
     is_end k (reply_of calls workers (cancelled_at calls s j) happening).ends ≡ (is_end k (reply_of calls workers s happening).ends && not (j == k))
@@ -259,21 +259,21 @@ answers_stay calls workers s j h.Call q = by (slice_get calls s.made) q
 answers_stay calls workers s j (h.Clock moment) q = refl
 answers_stay calls workers s j (h.Start v) q = by (nat_lt v workers) (s.workers v) q
   where
-    starts : (o : Option ℕ) → first_enabled (view_of_state calls s) (numbers calls) ≡ o → tells_of j (started (view_of_state calls s) v o) ≡ false →
-        started (view_of_state calls (cancelled_at calls s j)) v (first_enabled (view_of_state calls (cancelled_at calls s j)) (numbers calls)) ≡ started (view_of_state calls s) v o
-    starts None is q = ap (started (view_of_state calls (cancelled_at calls s j)) v) (first_stays calls s j None (λ r. none-some j r) is)
-    starts (Some k) is q = ap (started (view_of_state calls (cancelled_at calls s j)) v) (first_stays calls s j (Some k) (not_that j k q) is)
+    starts : (o : Option ℕ) → first_enabled (view_of_state calls s) (numbers calls) ≡ o → tells_of j (start_answer (view_of_state calls s) v o) ≡ false →
+        start_answer (view_of_state calls (cancelled_at calls s j)) v (first_enabled (view_of_state calls (cancelled_at calls s j)) (numbers calls)) ≡ start_answer (view_of_state calls s) v o
+    starts None is q = ap (start_answer (view_of_state calls (cancelled_at calls s j)) v) (first_stays calls s j None (λ r. none-some j r) is)
+    starts (Some k) is q = ap (start_answer (view_of_state calls (cancelled_at calls s j)) v) (first_stays calls s j (Some k) (not_that j k q) is)
 
-    by : (b : Bool) (work : Option ℕ) → tells_of j (cond b (option_map_or (λ _. a.Error x.Busy) work (started (view_of_state calls s) v (first_enabled (view_of_state calls s) (numbers calls)))) (a.Error x.NoWorker)) ≡ false →
-        cond b (option_map_or (λ _. a.Error x.Busy) work (started (view_of_state calls (cancelled_at calls s j)) v (first_enabled (view_of_state calls (cancelled_at calls s j)) (numbers calls)))) (a.Error x.NoWorker)
-        ≡ cond b (option_map_or (λ _. a.Error x.Busy) work (started (view_of_state calls s) v (first_enabled (view_of_state calls s) (numbers calls)))) (a.Error x.NoWorker)
+    by : (b : Bool) (work : Option ℕ) → tells_of j (cond b (option_map_or (λ _. a.Error x.Busy) work (start_answer (view_of_state calls s) v (first_enabled (view_of_state calls s) (numbers calls)))) (a.Error x.NoWorker)) ≡ false →
+        cond b (option_map_or (λ _. a.Error x.Busy) work (start_answer (view_of_state calls (cancelled_at calls s j)) v (first_enabled (view_of_state calls (cancelled_at calls s j)) (numbers calls)))) (a.Error x.NoWorker)
+        ≡ cond b (option_map_or (λ _. a.Error x.Busy) work (start_answer (view_of_state calls s) v (first_enabled (view_of_state calls s) (numbers calls)))) (a.Error x.NoWorker)
     by true None q = starts (first_enabled (view_of_state calls s) (numbers calls)) refl q
     by true (Some k) q = refl
     by false work q = refl
 answers_stay calls workers s j (h.Finish v ending) q = by (nat_lt v workers) (s.workers v) q
   where
-    by : (b : Bool) (work : Option ℕ) → tells_of j (cond b (finished calls (view_of_state calls s) v ending work) (a.Error x.NoWorker)) ≡ false →
-        cond b (finished calls (view_of_state calls (cancelled_at calls s j)) v ending work) (a.Error x.NoWorker) ≡ cond b (finished calls (view_of_state calls s) v ending work) (a.Error x.NoWorker)
+    by : (b : Bool) (work : Option ℕ) → tells_of j (cond b (finish_answer calls (view_of_state calls s) v ending work) (a.Error x.NoWorker)) ≡ false →
+        cond b (finish_answer calls (view_of_state calls (cancelled_at calls s j)) v ending work) (a.Error x.NoWorker) ≡ cond b (finish_answer calls (view_of_state calls s) v ending work) (a.Error x.NoWorker)
     by true None q = refl
     by true (Some k) q = ap (finish_with calls s v ending k) (marks j k (s.tasks k).cancelled false (eqb_turns j k ∙ q))
     by false work q = refl
@@ -324,14 +324,14 @@ asks_stay calls workers s j (h.Clock moment) queue running shut terminated q = a
     by false false q = cc
 asks_stay calls workers s j (h.Start v) queue running shut terminated q = absurd (by (nat_lt v workers) (s.workers v) (first_enabled (view_of_state calls s) (numbers calls)) q)
   where
-    by : (b : Bool) (work first : Option ℕ) → cond b (option_map_or (λ _. a.Error x.Busy) work (started (view_of_state calls s) v first)) (a.Error x.NoWorker) ≡ a.Ask queue running shut terminated → ⊥
+    by : (b : Bool) (work first : Option ℕ) → cond b (option_map_or (λ _. a.Error x.Busy) work (start_answer (view_of_state calls s) v first)) (a.Error x.NoWorker) ≡ a.Ask queue running shut terminated → ⊥
     by true None None q = cc
     by true None (Some k) q = cc
     by true (Some k) first q = cc
     by false work first q = cc
 asks_stay calls workers s j (h.Finish v ending) queue running shut terminated q = absurd (by (nat_lt v workers) (s.workers v) q)
   where
-    by : (b : Bool) (work : Option ℕ) → cond b (finished calls (view_of_state calls s) v ending work) (a.Error x.NoWorker) ≡ a.Ask queue running shut terminated → ⊥
+    by : (b : Bool) (work : Option ℕ) → cond b (finish_answer calls (view_of_state calls s) v ending work) (a.Error x.NoWorker) ≡ a.Ask queue running shut terminated → ⊥
     by true None q = cc
     by true (Some k) q = cc
     by false work q = cc
@@ -458,30 +458,30 @@ call_turns calls s j moment c.Shutdown used = by s.shut
 call_turns calls s j moment c.Ask used = stays_so j n.Nothing n.Nothing (λ q. false≢true q)
 
 -- what a start needs
-start_need : (shut : Bool) (v : View) (worker : ℕ) (first : Option ℕ) → need_of_answer shut (started v worker first) ≡ option_map_or (λ k. n.Start k) first n.Nothing
+start_need : (shut : Bool) (v : View) (worker : ℕ) (first : Option ℕ) → need_of_answer shut (start_answer v worker first) ≡ option_map_or (λ k. n.Start k) first n.Nothing
 start_need shut v worker None = refl
 start_need shut v worker (Some k) = refl
 
 -- a start turns to the first task that is enabled then
 start_turns : (calls : List Planned) (s : State) (j worker : ℕ) (first : Option ℕ) → first_enabled (view_of_state calls s) (numbers calls) ≡ first →
-    Turns j (need_of_answer s.shut (started (view_of_state calls s) worker first)) (need_instead calls (cancelled_at calls s j) (h.Start worker))
-    (need_of_answer s.shut (started (view_of_state calls (cancelled_at calls s j)) worker (first_enabled (view_of_state calls (cancelled_at calls s j)) (numbers calls))))
+    Turns j (need_of_answer s.shut (start_answer (view_of_state calls s) worker first)) (need_instead calls (cancelled_at calls s j) (h.Start worker))
+    (need_of_answer s.shut (start_answer (view_of_state calls (cancelled_at calls s j)) worker (first_enabled (view_of_state calls (cancelled_at calls s j)) (numbers calls))))
 start_turns calls s j worker first is = by first is
   where
-    by : (first : Option ℕ) → first_enabled (view_of_state calls s) (numbers calls) ≡ first → Turns j (need_of_answer s.shut (started (view_of_state calls s) worker first)) (need_instead calls (cancelled_at calls s j) (h.Start worker))
-        (need_of_answer s.shut (started (view_of_state calls (cancelled_at calls s j)) worker (first_enabled (view_of_state calls (cancelled_at calls s j)) (numbers calls))))
+    by : (first : Option ℕ) → first_enabled (view_of_state calls s) (numbers calls) ≡ first → Turns j (need_of_answer s.shut (start_answer (view_of_state calls s) worker first)) (need_instead calls (cancelled_at calls s j) (h.Start worker))
+        (need_of_answer s.shut (start_answer (view_of_state calls (cancelled_at calls s j)) worker (first_enabled (view_of_state calls (cancelled_at calls s j)) (numbers calls))))
     by None is = (
-      λ q. ap (λ first. need_of_answer s.shut (started (view_of_state calls (cancelled_at calls s j)) worker first)) (first_stays calls s j None (λ r. none-some j r) is),
+      λ q. ap (λ first. need_of_answer s.shut (start_answer (view_of_state calls (cancelled_at calls s j)) worker first)) (first_stays calls s j None (λ r. none-some j r) is),
       λ q. absurd (false≢true q),
     )
     by (Some k) is = (
-      λ q. ap (λ first. need_of_answer s.shut (started (view_of_state calls (cancelled_at calls s j)) worker first)) (first_stays calls s j (Some k) (not_that j k (sym (or_none (k == j)) ∙ q)) is),
+      λ q. ap (λ first. need_of_answer s.shut (start_answer (view_of_state calls (cancelled_at calls s j)) worker first)) (first_stays calls s j (Some k) (not_that j k (sym (or_none (k == j)) ∙ q)) is),
       λ q. start_need s.shut (view_of_state calls (cancelled_at calls s j)) worker (first_enabled (view_of_state calls (cancelled_at calls s j)) (numbers calls)),
     )
 
 -- the end of a run turns so
-finish_turns : (calls : List Planned) (s : State) (j worker k : ℕ) (ending : Ending) → Turns j (need_of_answer s.shut (finished calls (view_of_state calls s) worker ending (Some k))) n.Nothing
-    (need_of_answer s.shut (finished calls (view_of_state calls (cancelled_at calls s j)) worker ending (Some k)))
+finish_turns : (calls : List Planned) (s : State) (j worker k : ℕ) (ending : Ending) → Turns j (need_of_answer s.shut (finish_answer calls (view_of_state calls s) worker ending (Some k))) n.Nothing
+    (need_of_answer s.shut (finish_answer calls (view_of_state calls (cancelled_at calls s j)) worker ending (Some k)))
 finish_turns calls s j worker k ending =
     let v = view_of_state calls s in
     let need : Bool → Need = λ bit. need_of_finish k (outcome_in bit (stops_periodic s.shut s.policies) (terms_of calls k).timing (due_next calls v k) ending) in
@@ -503,16 +503,16 @@ needs_turn calls workers s j (h.Clock moment) used = by _ _
     by false false = stays_so j n.Nothing n.Nothing (λ q. false≢true q)
 needs_turn calls workers s j (h.Start v) used = by (nat_lt v workers) (s.workers v)
   where
-    by : (b : Bool) (work : Option ℕ) → Turns j (need_of_answer s.shut (cond b (option_map_or (λ _. a.Error x.Busy) work (started (view_of_state calls s) v (first_enabled (view_of_state calls s) (numbers calls)))) (a.Error x.NoWorker)))
+    by : (b : Bool) (work : Option ℕ) → Turns j (need_of_answer s.shut (cond b (option_map_or (λ _. a.Error x.Busy) work (start_answer (view_of_state calls s) v (first_enabled (view_of_state calls s) (numbers calls)))) (a.Error x.NoWorker)))
         (need_instead calls (cancelled_at calls s j) (h.Start v))
-        (need_of_answer s.shut (cond b (option_map_or (λ _. a.Error x.Busy) work (started (view_of_state calls (cancelled_at calls s j)) v (first_enabled (view_of_state calls (cancelled_at calls s j)) (numbers calls)))) (a.Error x.NoWorker)))
+        (need_of_answer s.shut (cond b (option_map_or (λ _. a.Error x.Busy) work (start_answer (view_of_state calls (cancelled_at calls s j)) v (first_enabled (view_of_state calls (cancelled_at calls s j)) (numbers calls)))) (a.Error x.NoWorker)))
     by true None = start_turns calls s j v (first_enabled (view_of_state calls s) (numbers calls)) refl
     by true (Some k) = stays_so j n.Nothing (need_instead calls (cancelled_at calls s j) (h.Start v)) (λ q. false≢true q)
     by false work = stays_so j n.Nothing (need_instead calls (cancelled_at calls s j) (h.Start v)) (λ q. false≢true q)
 needs_turn calls workers s j (h.Finish v ending) used = by (nat_lt v workers) (s.workers v)
   where
-    by : (b : Bool) (work : Option ℕ) → Turns j (need_of_answer s.shut (cond b (finished calls (view_of_state calls s) v ending work) (a.Error x.NoWorker))) n.Nothing
-        (need_of_answer s.shut (cond b (finished calls (view_of_state calls (cancelled_at calls s j)) v ending work) (a.Error x.NoWorker)))
+    by : (b : Bool) (work : Option ℕ) → Turns j (need_of_answer s.shut (cond b (finish_answer calls (view_of_state calls s) v ending work) (a.Error x.NoWorker))) n.Nothing
+        (need_of_answer s.shut (cond b (finish_answer calls (view_of_state calls (cancelled_at calls s j)) v ending work) (a.Error x.NoWorker)))
     by true None = stays_so j n.Nothing n.Nothing (λ q. false≢true q)
     by true (Some k) = finish_turns calls s j v k ending
     by false work = stays_so j n.Nothing n.Nothing (λ q. false≢true q)
@@ -550,7 +550,7 @@ cancels_touch_one_task calls workers past j orderly means said =
     let used : (happening : Happening) → is_submit j (reply_of calls workers s happening).answer ≡ true → ⊥ =
     λ happening q. live_is_used (terms_of calls j) (s.tasks j) effect (submits_once calls workers past happening j orderly means q).0
     in
-    subst (λ r. TouchesOneTask calls workers s (state_after calls s (h.Cancel j) r) j) (sym (ap plain said)) (touches_one calls workers s j used)
+    subst (λ r. TouchesOneTask calls workers s (state_after calls s (h.Cancel j) r) j) (sym (ap bare said)) (touches_one calls workers s j used)
 
 -- the law that only calls sweep
 pub only_calls_sweep : OnlyCallsSweep
@@ -563,7 +563,7 @@ only_calls_sweep calls workers s (h.Clock moment) q sweep = by _ _ sweep
     by false false r = cc
 only_calls_sweep calls workers s (h.Start v) q sweep = by (nat_lt v workers) (s.workers v) (first_enabled (view_of_state calls s) (numbers calls)) sweep
   where
-    by : (b : Bool) (work first : Option ℕ) → need_of_answer s.shut (cond b (option_map_or (λ _. a.Error x.Busy) work (started (view_of_state calls s) v first)) (a.Error x.NoWorker)) ≡ n.Sweep → ⊥
+    by : (b : Bool) (work first : Option ℕ) → need_of_answer s.shut (cond b (option_map_or (λ _. a.Error x.Busy) work (start_answer (view_of_state calls s) v first)) (a.Error x.NoWorker)) ≡ n.Sweep → ⊥
     by true None None r = cc
     by true None (Some k) r = cc
     by true (Some k) first r = cc
@@ -573,7 +573,7 @@ only_calls_sweep calls workers s (h.Finish v ending) q sweep = by (nat_lt v work
     of : (k : ℕ) (outcome : Outcome) → need_of_finish k outcome ≡ n.Sweep → ⊥
     of k outcome r = subst (IsNeedOf k) r (finish_is_of k outcome)
 
-    by : (b : Bool) (work : Option ℕ) → need_of_answer s.shut (cond b (finished calls (view_of_state calls s) v ending work) (a.Error x.NoWorker)) ≡ n.Sweep → ⊥
+    by : (b : Bool) (work : Option ℕ) → need_of_answer s.shut (cond b (finish_answer calls (view_of_state calls s) v ending work) (a.Error x.NoWorker)) ≡ n.Sweep → ⊥
     by true None r = cc
     by true (Some k) r = of k (outcome_in (s.tasks k).cancelled (stops_periodic s.shut s.policies) (terms_of calls k).timing (due_next calls (view_of_state calls s) k) ending) r
     by false work r = cc

@@ -17,7 +17,7 @@ use Rattle.executor_core.specs.declared.types.Answer.{Answer}
 use Rattle.executor_core.specs.declared.types.Answer.TheVariants as a
 use Rattle.queue_code.specs.Calls.{Planned, Terms, numbers, terms_of}
 use Rattle.executor_core.specs.View.{View, is_running, is_over, is_waiting, first_enabled}
-use Rattle.executor_core.specs.Answers.{plain, reply, called, started, finished, outcome_of, due_next, stops_periodic, effect_on, outcome_in}
+use Rattle.executor_core.specs.Answers.{bare, reply, called, start_answer, finish_answer, outcome_of, due_next, stops_periodic, effect_on, outcome_in}
 use Rattle.executor_core.specs.Histories.{HistoryEntry, IsHistoryOf, view_of_history, is_submit, is_start, is_finish, is_finish_with, is_done, is_failed, starts, finishes, was_accepted, was_done, was_failed, cancels, was_cancelled}
 use Rattle.executor_laws.specs.Laws.{NothingStartsOnceDone, OneShotsRunOnce, OneShotsStartOnce, RunsAreNumbered, IllegalTasksDoNotStart}
 use Rattle.executor_laws.specs.Positions.{IsSubmissionOf}
@@ -69,7 +69,7 @@ call_ends v k answer of q = absurd (false≢true (sym (unfinishing k answer of) 
 
 once_ends : (calls : List Planned) (workers : ℕ) (v : View) (y : Happening) (k : ℕ) → (terms_of calls k).timing ≡ t.Once → Ends v k (reply calls workers v y).answer
 once_ends calls workers v h.Call k once =
-    let pick : (p : Option Planned) → Ends v k (option_map_or (λ p. called calls (record v { moment = max v.moment p.0 }) p.1) p (plain a.Clock)).answer =
+    let pick : (p : Option Planned) → Ends v k (option_map_or (λ p. called calls (record v { moment = max v.moment p.0 }) p.1) p (bare a.Clock)).answer =
     elim [ None ↦ λ q. absurd (false≢true q) | Some p ↦ call_ends v k _ (call_answer calls (record v { moment = max v.moment p.0 }) p.1) ]
     in
     pick (slice_get calls v.made)
@@ -79,8 +79,8 @@ once_ends calls workers v (h.Clock moment) k once =
     in
     other _ _
 once_ends calls workers v (h.Start u) k once =
-    let start : (p : Option ℕ) → Ends v k (started v u p) = elim [ None ↦ λ q. absurd (false≢true q) | Some j ↦ λ q. absurd (false≢true q) ] in
-    let other : (b : Bool) (p : Option ℕ) → Ends v k (cond b (option_map_or (λ _. a.Error x.Busy) p (started v u (first_enabled v (numbers calls)))) (a.Error x.NoWorker)) =
+    let start : (p : Option ℕ) → Ends v k (start_answer v u p) = elim [ None ↦ λ q. absurd (false≢true q) | Some j ↦ λ q. absurd (false≢true q) ] in
+    let other : (b : Bool) (p : Option ℕ) → Ends v k (cond b (option_map_or (λ _. a.Error x.Busy) p (start_answer v u (first_enabled v (numbers calls)))) (a.Error x.NoWorker)) =
     elim [ true ↦ elim [ None ↦ start (first_enabled v (numbers calls)) | Some j ↦ λ q. absurd (false≢true q) ] | false ↦ λ p q. absurd (false≢true q) ]
     in
     other _ _
@@ -95,7 +95,7 @@ once_ends calls workers v (h.Finish u ending) k once =
     ap (λ i. (v.fate i).cancelled || (((j == k) && is_failed out) || ((j == k) && is_done out))) (sym (eqb-true j k q))
     ∙ (ap (λ b. (v.fate j).cancelled || ((b && is_failed out) || (b && is_done out))) q ∙ live (v.fate j).cancelled refl)
     in
-    let pick : (b : Bool) (work : Option ℕ) → Ends v k (cond b (finished calls v u ending work) (a.Error x.NoWorker)) =
+    let pick : (b : Bool) (work : Option ℕ) → Ends v k (cond b (finish_answer calls v u ending work) (a.Error x.NoWorker)) =
     elim [ true ↦ elim [ None ↦ λ q. absurd (false≢true q) | Some j ↦ from j ] | false ↦ λ work q. absurd (false≢true q) ]
     in
     pick _ _
@@ -196,7 +196,7 @@ submit_is_legal : (calls : List Planned) (workers : ℕ) (v : View) (y : Happeni
 submit_is_legal calls workers v y k q =
     let s = submit_says calls workers v y k q in
     let call : is_submit k (reply calls workers v h.Call).answer ≡ true = ap (λ z. is_submit k (reply calls workers v z).answer) (sym s.is) ∙ q in
-    let told = ap (λ p. is_submit k (option_map_or (λ p. called calls (record v { moment = max v.moment p.0 }) p.1) p (plain a.Clock)).answer) (sym s.there) ∙ call in
+    let told = ap (λ p. is_submit k (option_map_or (λ p. called calls (record v { moment = max v.moment p.0 }) p.1) p (bare a.Clock)).answer) (sym s.there) ∙ call in
     record { place = v.made; call = s.call; there = s.there; submits = s.submits; legal = call_is_legal calls (record v { moment = max v.moment s.call.0 }) s.call.1 k told }
 
 was_legal : (calls : List Planned) (workers : ℕ) (past : List HistoryEntry) (k : ℕ) → IsHistoryOf calls workers past → was_accepted k past ≡ true → WasLegal calls k

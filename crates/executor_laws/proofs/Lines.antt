@@ -11,7 +11,7 @@ use Rattle.sched_time.specs.declared.timing.Ending.{Ending}
 use Rattle.sched_time.specs.declared.timing.Ending.TheVariants as e
 use Rattle.queue_code.specs.declared.call.CodeCall.{CodeCall}
 use Rattle.queue_code.specs.declared.call.CodeCall.TheVariants as c
-use Rattle.queue_code.specs.Calls.{Planned, IsOrderly, IsOrderlyCall, IsOrderlyFrom, is_submission, count_after, how_many, numbers, task_count, terms_of, due_at}
+use Rattle.queue_code.specs.Calls.{Planned, IsOrderly, IsOrderlyCall, IsOrderlyFrom, submits_task, count_after, how_many, numbers, task_count, terms_of, due_at}
 use Rattle.executor_core.specs.declared.types.EventError.TheVariants as x
 use Rattle.executor_core.specs.declared.types.Refusal.TheVariants as refusal
 use Rattle.executor_core.specs.declared.types.Happening.{Happening}
@@ -24,7 +24,7 @@ use Rattle.executor_core.specs.declared.types.Line.{Line}
 use Rattle.executor_core.specs.declared.types.Message.{Message}
 use Rattle.executor_core.specs.declared.types.Message.TheVariants as m
 use Rattle.executor_core.specs.View.{View, is_running, first_enabled}
-use Rattle.executor_core.specs.Answers.{Reply, plain, reply, called, kind_of, swept, started, finished, is_queued, due_next, outcome_in, stops_periodic, effect_on}
+use Rattle.executor_core.specs.Answers.{Reply, bare, reply, called, kind_of, swept, start_answer, finish_answer, is_queued, due_next, outcome_in, stops_periodic, effect_on}
 use Rattle.executor_core.specs.Histories.{HistoryEntry, IsHistoryOf, view_of_history, happenings, now_of, is_start, is_end}
 use Rattle.executor_core.specs.State.{was_submitted}
 use Rattle.executor_core.specs.Flows.{end_line, lines_of, lines_at, reply_in}
@@ -60,7 +60,7 @@ message_behind calls workers past y (m.End task) r = r
 
 -- ---- the tasks that calls name
 
-counts_on : (count : ℕ) (call : CodeCall) (n : ℕ) → count_after count call + n ≡ count + cond (is_submission call) (1 + n) n
+counts_on : (count : ℕ) (call : CodeCall) (n : ℕ) → count_after count call + n ≡ count + cond (submits_task call) (1 + n) n
 counts_on count (c.Submit task timing delay) n = omega arith
 counts_on count (c.Illegal task) n = omega arith
 counts_on count (c.Cancel task) n = refl
@@ -103,7 +103,7 @@ called_in_range calls workers past view before (c.Cancel task) orderly few is = 
 called_in_range calls workers past view before (c.SetPolicy which value) orderly few is = tt
 called_in_range calls workers past view before c.Shutdown orderly few is = by view.shut
   where
-    by : (shut : Bool) → IsAnswerInRange calls workers past (let r : Reply = cond shut (plain a.ShutdownAgain) (record { answer = a.Shutdown; ends = swept calls view view.policies }) in r.answer)
+    by : (shut : Bool) → IsAnswerInRange calls workers past (let r : Reply = cond shut (bare a.ShutdownAgain) (record { answer = a.Shutdown; ends = swept calls view view.policies }) in r.answer)
     by true = tt
     by false = tt
 called_in_range calls workers past view before c.Ask orderly few is = (counted calls (λ k. is_queued (view.fate k)), counted calls (λ k. is_running (view.fate k)))
@@ -117,12 +117,12 @@ outcome_in_range past false true (t.Fixed delay) due (e.Value value) within ende
 outcome_in_range past false false (t.Fixed delay) due (e.Value value) within ended = omega (arith, within)
 outcome_in_range past false stops timing due (e.Fault code) within ended = ended
 
-started_in_range : (calls : List Planned) (workers : ℕ) (past : List HistoryEntry) (view : View) (w : ℕ) (first : Option ℕ) → IsSeenInRange calls past view → w < workers → first_enabled view (numbers calls) ≡ first → IsAnswerInRange calls workers past (started view w first)
+started_in_range : (calls : List Planned) (workers : ℕ) (past : List HistoryEntry) (view : View) (w : ℕ) (first : Option ℕ) → IsSeenInRange calls past view → w < workers → first_enabled view (numbers calls) ≡ first → IsAnswerInRange calls workers past (start_answer view w first)
 started_in_range calls workers past view w None seen low is = low
 started_in_range calls workers past view w (Some k) seen low is = (low, omega (arith, range_below 0 (task_count calls) k (first_is_in view (numbers calls) k is)), seen.runs k, omega (arith, seen.due k))
 
 finished_in_range : (calls : List Planned) (workers : ℕ) (past : List HistoryEntry) (view : View) (w : ℕ) (ending : Ending) (work : Option ℕ) → IsSeenInRange calls past view → w < workers → RunEnded past ending → view.work w ≡ work →
-    IsAnswerInRange calls workers past (finished calls view w ending work)
+    IsAnswerInRange calls workers past (finish_answer calls view w ending work)
 finished_in_range calls workers past view w ending None seen low ended is = tt
 finished_in_range calls workers past view w ending (Some k) seen low ended is = (
   low,
@@ -136,7 +136,7 @@ reply_in_range : (calls : List Planned) (workers : ℕ) (past : List HistoryEntr
     IsAnswerInRange calls workers past (reply calls workers view happening).answer
 reply_in_range calls workers past view h.Call orderly seen ended = by (slice_get calls view.made) refl
   where
-    by : (found : Option Planned) → slice_get calls view.made ≡ found → IsAnswerInRange calls workers past (option_map_or (λ p. called calls (record view { moment = max view.moment p.0 }) p.1) found (plain a.Clock)).answer
+    by : (found : Option Planned) → slice_get calls view.made ≡ found → IsAnswerInRange calls workers past (option_map_or (λ p. called calls (record view { moment = max view.moment p.0 }) p.1) found (bare a.Clock)).answer
     by (Some p) is =
         let order = call_in_order calls 0 0 view.made p orderly.1 is in
         called_in_range calls workers past (record view { moment = max view.moment p.0 }) order.0 p.1 orderly (omega (arith, order.1)) order.2
@@ -149,13 +149,13 @@ reply_in_range calls workers past view (h.Clock moment) orderly seen ended = by 
     by false false = tt
 reply_in_range calls workers past view (h.Start w) orderly seen ended = by (nat_lt w workers) refl (view.work w)
   where
-    by : (b : Bool) → nat_lt w workers ≡ b → (work : Option ℕ) → IsAnswerInRange calls workers past (cond b (option_map_or (λ _. a.Error x.Busy) work (started view w (first_enabled view (numbers calls)))) (a.Error x.NoWorker))
+    by : (b : Bool) → nat_lt w workers ≡ b → (work : Option ℕ) → IsAnswerInRange calls workers past (cond b (option_map_or (λ _. a.Error x.Busy) work (start_answer view w (first_enabled view (numbers calls)))) (a.Error x.NoWorker))
     by true is None = started_in_range calls workers past view w (first_enabled view (numbers calls)) seen (ltb-true w workers is) refl
     by true is (Some k) = tt
     by false is work = tt
 reply_in_range calls workers past view (h.Finish w ending) orderly seen ended = by (nat_lt w workers) refl
   where
-    by : (b : Bool) → nat_lt w workers ≡ b → IsAnswerInRange calls workers past (cond b (finished calls view w ending (view.work w)) (a.Error x.NoWorker))
+    by : (b : Bool) → nat_lt w workers ≡ b → IsAnswerInRange calls workers past (cond b (finish_answer calls view w ending (view.work w)) (a.Error x.NoWorker))
     by true is = finished_in_range calls workers past view w ending (view.work w) seen (ltb-true w workers is) (ended w ending refl) refl
     by false is = tt
 reply_in_range calls workers past view (h.Cancel k) orderly seen ended = by (nat_lt k (task_count calls)) refl

@@ -13,7 +13,7 @@ use Rattle.executor_core.specs.declared.types.Answer.{Answer}
 use Rattle.executor_core.specs.declared.types.Answer.TheVariants as a
 use Rattle.queue_code.specs.Calls.{Planned, how_many, numbers, task_count}
 use Rattle.executor_core.specs.View.{View, is_enabled, first_enabled}
-use Rattle.executor_core.specs.Answers.{plain, reply, called, started, finished, moment_after, is_accepted, effect_on}
+use Rattle.executor_core.specs.Answers.{bare, reply, called, start_answer, finish_answer, moment_after, is_accepted, effect_on}
 use Rattle.executor_core.specs.Histories.{HistoryEntry, IsHistoryOf, view_of_history, now_of, happenings, made, work_of, work_after, answer}
 use Rattle.executor_laws.specs.Positions.{starts_by, finishes_by, StartedLast, WorkIsTheLastStart, StartsExceedFinishes, busy, HasMoment, Shows, NowIsTheGreatest, FirstIsTheLeast, NoneIsEnabled}
 use Rattle.executor_core.proofs.Sound.{first_is_enabled}
@@ -61,7 +61,7 @@ call_tells _ w work of = tt
 -- what a reply says of the work of a worker
 pub work_is_told : (calls : List Planned) (workers : ℕ) (v : View) (y : Happening) (w : ℕ) → Told w (v.work w) (reply calls workers v y).answer
 work_is_told calls workers v h.Call w =
-    let pick : (q : Option Planned) → Told w (v.work w) (option_map_or (λ p. called calls (record v { moment = max v.moment p.0 }) p.1) q (plain a.Clock)).answer =
+    let pick : (q : Option Planned) → Told w (v.work w) (option_map_or (λ p. called calls (record v { moment = max v.moment p.0 }) p.1) q (bare a.Clock)).answer =
     elim [ None ↦ tt | Some p ↦ call_tells _ w (v.work w) (call_answer calls (record v { moment = max v.moment p.0 }) p.1) ]
     in
     pick (slice_get calls v.made)
@@ -69,15 +69,15 @@ work_is_told calls workers v (h.Clock t) w =
     let pick : (b c : Bool) → Told w (v.work w) (cond b (a.Error x.Backward) (cond c (a.Error x.TooFar) a.Clock)) = elim [ true ↦ λ c. tt | false ↦ elim [ true ↦ tt | false ↦ tt ] ] in
     pick _ _
 work_is_told calls workers v (h.Start u) w =
-    let first : (q : Option ℕ) → v.work u ≡ None → Told w (v.work w) (started v u q) =
+    let first : (q : Option ℕ) → v.work u ≡ None → Told w (v.work w) (start_answer v u q) =
     elim [ None ↦ λ free. tt | Some k ↦ λ free. λ same. subst (λ i. v.work i ≡ None) (eqb-true u w same) free ]
     in
-    let pick : (b : Bool) (q : Option ℕ) → v.work u ≡ q → Told w (v.work w) (cond b (option_map_or (λ _. a.Error x.Busy) q (started v u (first_enabled v (numbers calls)))) (a.Error x.NoWorker)) =
+    let pick : (b : Bool) (q : Option ℕ) → v.work u ≡ q → Told w (v.work w) (cond b (option_map_or (λ _. a.Error x.Busy) q (start_answer v u (first_enabled v (numbers calls)))) (a.Error x.NoWorker)) =
     elim [ true ↦ elim [ None ↦ λ free. first (first_enabled v (numbers calls)) free | Some k ↦ λ taken. tt ] | false ↦ λ q is. tt ]
     in
     pick (nat_lt u workers) (v.work u) refl
 work_is_told calls workers v (h.Finish u ending) w =
-    let pick : (b : Bool) (q : Option ℕ) → v.work u ≡ q → Told w (v.work w) (cond b (finished calls v u ending q) (a.Error x.NoWorker)) =
+    let pick : (b : Bool) (q : Option ℕ) → v.work u ≡ q → Told w (v.work w) (cond b (finish_answer calls v u ending q) (a.Error x.NoWorker)) =
     elim [ true ↦ elim [ None ↦ λ is. tt | Some k ↦ λ is. λ same. subst (λ i. v.work i ≡ Some k) (eqb-true u w same) is ] | false ↦ λ q is. tt ]
     in
     pick (nat_lt u workers) (v.work u) refl

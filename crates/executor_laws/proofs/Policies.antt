@@ -19,7 +19,7 @@ use Rattle.executor_core.specs.declared.types.Answer.{Answer}
 use Rattle.executor_core.specs.declared.types.Answer.TheVariants as a
 use Rattle.queue_code.specs.Calls.{Planned, numbers, task_count, terms_of, due_at}
 use Rattle.executor_core.specs.View.{View, first_enabled}
-use Rattle.executor_core.specs.Answers.{Reply, plain, reply, called, kind_of, set_policy, setting_sweeps, moment_after, is_swept, swept, started, finished, outcome_in, stops_periodic, due_next, effect_on}
+use Rattle.executor_core.specs.Answers.{Reply, bare, reply, called, kind_of, set_policy, setting_sweeps, moment_after, is_swept, swept, start_answer, finish_answer, outcome_in, stops_periodic, due_next, effect_on}
 use Rattle.executor_core.specs.Histories.{HistoryEntry, IsHistoryOf, view_of_history, happenings, made, now_of, answer, is_cancel, is_end, is_finish_with, is_ended, is_shutdown, is_sweep, cancels, was_shut, was_cancelled, policies_after, policies_of}
 use Rattle.executor_laws.specs.Policies.{NothingStartsAfterAnEnd, TasksAreCancelledOnce, value_of, is_same, sets, PoliciesAreTheLastSet, ShutdownWasMade, ShutIsAShutdown, AscendsFrom, SweptAreThose, SweepsEndThose}
 use Rattle.executor_core.proofs.First.{range_below}
@@ -45,7 +45,7 @@ call_ended v k _ of = λ q. absurd (false≢true q)
 -- a run that ends its task finds it not cancelled
 ended_says : (calls : List Planned) (workers : ℕ) (v : View) (y : Happening) (k : ℕ) → EndsLive v k (reply calls workers v y).answer
 ended_says calls workers v h.Call k =
-    let pick : (o : Option Planned) → EndsLive v k (option_map_or (λ p. called calls (record v { moment = max v.moment p.0 }) p.1) o (plain a.Clock)).answer =
+    let pick : (o : Option Planned) → EndsLive v k (option_map_or (λ p. called calls (record v { moment = max v.moment p.0 }) p.1) o (bare a.Clock)).answer =
     elim [ None ↦ λ q. absurd (false≢true q) | Some p ↦ call_ended v k _ (call_answer calls (record v { moment = max v.moment p.0 }) p.1) ]
     in
     pick (slice_get calls v.made)
@@ -55,19 +55,19 @@ ended_says calls workers v (h.Clock t) k =
     in
     other _ _
 ended_says calls workers v (h.Start u) k =
-    let start : (o : Option ℕ) → EndsLive v k (started v u o) = elim [ None ↦ λ q. absurd (false≢true q) | Some j ↦ λ q. absurd (false≢true q) ] in
-    let other : (b : Bool) (o : Option ℕ) → EndsLive v k (cond b (option_map_or (λ _. a.Error x.Busy) o (started v u (first_enabled v (numbers calls)))) (a.Error x.NoWorker)) =
+    let start : (o : Option ℕ) → EndsLive v k (start_answer v u o) = elim [ None ↦ λ q. absurd (false≢true q) | Some j ↦ λ q. absurd (false≢true q) ] in
+    let other : (b : Bool) (o : Option ℕ) → EndsLive v k (cond b (option_map_or (λ _. a.Error x.Busy) o (start_answer v u (first_enabled v (numbers calls)))) (a.Error x.NoWorker)) =
     elim [ true ↦ elim [ None ↦ start (first_enabled v (numbers calls)) | Some j ↦ λ q. absurd (false≢true q) ] | false ↦ λ o q. absurd (false≢true q) ]
     in
     other _ _
 ended_says calls workers v (h.Finish u ending) k =
     let stops = stops_periodic v.shut v.policies in
-    let from : (j : ℕ) → EndsLive v k (finished calls v u ending (Some j)) = λ j q.
+    let from : (j : ℕ) → EndsLive v k (finish_answer calls v u ending (Some j)) = λ j q.
     let live : (b : Bool) → is_ended (outcome_in b stops (terms_of calls j).timing (due_next calls v j) ending) ≡ true → b ≡ false = elim [ true ↦ λ q. absurd (false≢true q) | false ↦ λ q. refl ] in
     let parts = and_parts (j == k) (is_ended (outcome_in (v.fate j).cancelled stops (terms_of calls j).timing (due_next calls v j) ending)) q in
     ap (λ i. (v.fate i).cancelled) (sym (eqb-true j k parts.0)) ∙ live (v.fate j).cancelled parts.1
     in
-    let pick : (b : Bool) (work : Option ℕ) → EndsLive v k (cond b (finished calls v u ending work) (a.Error x.NoWorker)) =
+    let pick : (b : Bool) (work : Option ℕ) → EndsLive v k (cond b (finish_answer calls v u ending work) (a.Error x.NoWorker)) =
     elim [ true ↦ elim [ None ↦ λ q. absurd (false≢true q) | Some j ↦ from j ] | false ↦ λ work q. absurd (false≢true q) ]
     in
     pick _ _
@@ -152,7 +152,7 @@ call_shuts calls v c.Ask q = absurd (false≢true q)
 -- an answer to a shutdown is that of the call
 shut_says : (calls : List Planned) (workers : ℕ) (v : View) (y : Happening) → is_shutdown (reply calls workers v y).answer ≡ true → Shuts calls v y
 shut_says calls workers v h.Call q =
-    let pick : (o : Option Planned) → slice_get calls v.made ≡ o → is_shutdown (option_map_or (λ p. called calls (record v { moment = max v.moment p.0 }) p.1) o (plain a.Clock)).answer ≡ true → Shuts calls v h.Call =
+    let pick : (o : Option Planned) → slice_get calls v.made ≡ o → is_shutdown (option_map_or (λ p. called calls (record v { moment = max v.moment p.0 }) p.1) o (bare a.Clock)).answer ≡ true → Shuts calls v h.Call =
     elim [
       | None ↦ λ there q. absurd (false≢true q)
       | Some p ↦ λ there q. record { is = refl; moment = p.0; there = there ∙ ap (λ call. Some (p.0, call)) (call_shuts calls (record v { moment = max v.moment p.0 }) p.1 q) }
@@ -163,13 +163,13 @@ shut_says calls workers v (h.Clock t) q =
     let other : (b d : Bool) → is_shutdown (cond b (a.Error x.Backward) (cond d (a.Error x.TooFar) a.Clock)) ≡ true → ⊥ = elim [ true ↦ λ d q. false≢true q | false ↦ elim [ true ↦ λ q. false≢true q | false ↦ λ q. false≢true q ] ] in
     absurd (other _ _ q)
 shut_says calls workers v (h.Start u) q =
-    let start : (o : Option ℕ) → is_shutdown (started v u o) ≡ true → ⊥ = elim [ None ↦ λ q. false≢true q | Some j ↦ λ q. false≢true q ] in
-    let other : (b : Bool) (o : Option ℕ) → is_shutdown (cond b (option_map_or (λ _. a.Error x.Busy) o (started v u (first_enabled v (numbers calls)))) (a.Error x.NoWorker)) ≡ true → ⊥ =
+    let start : (o : Option ℕ) → is_shutdown (start_answer v u o) ≡ true → ⊥ = elim [ None ↦ λ q. false≢true q | Some j ↦ λ q. false≢true q ] in
+    let other : (b : Bool) (o : Option ℕ) → is_shutdown (cond b (option_map_or (λ _. a.Error x.Busy) o (start_answer v u (first_enabled v (numbers calls)))) (a.Error x.NoWorker)) ≡ true → ⊥ =
     elim [ true ↦ elim [ None ↦ λ q. start (first_enabled v (numbers calls)) q | Some j ↦ λ q. false≢true q ] | false ↦ λ o q. false≢true q ]
     in
     absurd (other _ _ q)
 shut_says calls workers v (h.Finish u ending) q =
-    let other : (b : Bool) (o : Option ℕ) → is_shutdown (cond b (finished calls v u ending o) (a.Error x.NoWorker)) ≡ true → ⊥ =
+    let other : (b : Bool) (o : Option ℕ) → is_shutdown (cond b (finish_answer calls v u ending o) (a.Error x.NoWorker)) ≡ true → ⊥ =
     elim [ true ↦ elim [ None ↦ λ q. false≢true q | Some j ↦ λ q. false≢true q ] | false ↦ λ o q. false≢true q ]
     in
     absurd (other _ _ q)
@@ -192,14 +192,14 @@ shutdown_found calls workers (e ∷ past) m q = elim (or_cases (is_shutdown e.an
 -- the answer to a shutdown says so
 shuts : (calls : List Planned) (v : View) → is_shutdown (called calls v c.Shutdown).answer ≡ true
 shuts calls v =
-    let pick : (b : Bool) → is_shutdown (cond b (plain a.ShutdownAgain) (record { answer = a.Shutdown; ends = swept calls v v.policies })).answer ≡ true = elim [ true ↦ refl | false ↦ refl ] in
+    let pick : (b : Bool) → is_shutdown (cond b (bare a.ShutdownAgain) (record { answer = a.Shutdown; ends = swept calls v v.policies })).answer ≡ true = elim [ true ↦ refl | false ↦ refl ] in
     pick v.shut
 
 -- the answer to the next call, where that is a shutdown
 shut_here : (calls : List Planned) (workers : ℕ) (past : List HistoryEntry) (moment : ℕ) → slice_get calls (made (happenings past)) ≡ Some (moment, c.Shutdown) → is_shutdown (answer calls workers past h.Call).answer ≡ true
 shut_here calls workers past moment there =
     let v = view_of_history calls past in
-    ap (λ o. is_shutdown (option_map_or (λ p. called calls (record v { moment = max v.moment p.0 }) p.1) o (plain a.Clock)).answer) there ∙ shuts calls (record v { moment = max v.moment moment })
+    ap (λ o. is_shutdown (option_map_or (λ p. called calls (record v { moment = max v.moment p.0 }) p.1) o (bare a.Clock)).answer) there ∙ shuts calls (record v { moment = max v.moment moment })
 
 -- where a shutdown was made, the executor is shut
 shut_since : (calls : List Planned) (workers : ℕ) (past : List HistoryEntry) (place moment : ℕ) → IsHistoryOf calls workers past → slice_get calls place ≡ Some (moment, c.Shutdown) → place < made (happenings past) → was_shut past ≡ true
@@ -257,7 +257,7 @@ SweepsThose calls v r = (is_sweep v.shut r.answer ≡ true → r.ends ≡ swept 
 
 call_sweeps : (calls : List Planned) (v : View) (call : CodeCall) → SweepsThose calls v (called calls v call)
 call_sweeps calls v (c.Submit task timing delay) =
-    let pick : (b : Bool) → SweepsThose calls v (plain (cond b (a.Refuse task refusal.Rejected) (a.Submit task (kind_of timing) (due_at (terms_of calls task) 0 None)))) =
+    let pick : (b : Bool) → SweepsThose calls v (bare (cond b (a.Refuse task refusal.Rejected) (a.Submit task (kind_of timing) (due_at (terms_of calls task) 0 None)))) =
     elim [ true ↦ (λ q. absurd (false≢true q), λ q. refl) | false ↦ (λ q. absurd (false≢true q), λ q. refl) ]
     in
     pick v.shut
@@ -268,7 +268,7 @@ call_sweeps calls v (c.SetPolicy which value) =
     let pick : (b : Bool) → (b ≡ true → cond b those [] ≡ those) × (b ≡ false → cond b those [] ≡ []) = elim [ true ↦ (λ q. refl, λ q. absurd (false≢true (sym q))) | false ↦ (λ q. absurd (false≢true q), λ q. refl) ] in
     pick (setting_sweeps v.shut which value)
 call_sweeps calls v c.Shutdown =
-    let pick : (b : Bool) → v.shut ≡ b → SweepsThose calls v (cond b (plain a.ShutdownAgain) (record { answer = a.Shutdown; ends = swept calls v v.policies })) =
+    let pick : (b : Bool) → v.shut ≡ b → SweepsThose calls v (cond b (bare a.ShutdownAgain) (record { answer = a.Shutdown; ends = swept calls v v.policies })) =
     elim [ true ↦ λ shut. (λ q. absurd (false≢true q), λ q. refl) | false ↦ λ unshut. (λ q. refl, λ q. absurd (false≢true (sym q ∙ ap not unshut))) ]
     in
     pick v.shut refl
@@ -277,29 +277,29 @@ call_sweeps calls v c.Ask = (λ q. absurd (false≢true q), λ q. refl)
 -- the same of each answer, at the moment after it
 sweeps_those : (calls : List Planned) (workers : ℕ) (v : View) (y : Happening) → SweepsThose calls (record v { moment = moment_after v.moment (slice_get calls v.made) y }) (reply calls workers v y)
 sweeps_those calls workers v h.Call =
-    let pick : (o : Option Planned) → SweepsThose calls (record v { moment = moment_after v.moment o h.Call }) (option_map_or (λ p. called calls (record v { moment = max v.moment p.0 }) p.1) o (plain a.Clock)) =
+    let pick : (o : Option Planned) → SweepsThose calls (record v { moment = moment_after v.moment o h.Call }) (option_map_or (λ p. called calls (record v { moment = max v.moment p.0 }) p.1) o (bare a.Clock)) =
     elim [ None ↦ (λ q. absurd (false≢true q), λ q. refl) | Some p ↦ call_sweeps calls (record v { moment = max v.moment p.0 }) p.1 ]
     in
     pick (slice_get calls v.made)
 sweeps_those calls workers v (h.Clock t) =
     let now = record v { moment = moment_after v.moment (slice_get calls v.made) (h.Clock t) } in
-    let pick : (b d : Bool) → SweepsThose calls now (plain (cond b (a.Error x.Backward) (cond d (a.Error x.TooFar) a.Clock))) =
+    let pick : (b d : Bool) → SweepsThose calls now (bare (cond b (a.Error x.Backward) (cond d (a.Error x.TooFar) a.Clock))) =
     elim [ true ↦ λ d. (λ q. absurd (false≢true q), λ q. refl) | false ↦ elim [ true ↦ (λ q. absurd (false≢true q), λ q. refl) | false ↦ (λ q. absurd (false≢true q), λ q. refl) ] ]
     in
     pick _ _
 sweeps_those calls workers v (h.Start u) =
-    let start : (o : Option ℕ) → SweepsThose calls v (plain (started v u o)) = elim [ None ↦ (λ q. absurd (false≢true q), λ q. refl) | Some j ↦ (λ q. absurd (false≢true q), λ q. refl) ] in
-    let pick : (b : Bool) (o : Option ℕ) → SweepsThose calls v (plain (cond b (option_map_or (λ _. a.Error x.Busy) o (started v u (first_enabled v (numbers calls)))) (a.Error x.NoWorker))) =
+    let start : (o : Option ℕ) → SweepsThose calls v (bare (start_answer v u o)) = elim [ None ↦ (λ q. absurd (false≢true q), λ q. refl) | Some j ↦ (λ q. absurd (false≢true q), λ q. refl) ] in
+    let pick : (b : Bool) (o : Option ℕ) → SweepsThose calls v (bare (cond b (option_map_or (λ _. a.Error x.Busy) o (start_answer v u (first_enabled v (numbers calls)))) (a.Error x.NoWorker))) =
     elim [ true ↦ elim [ None ↦ start (first_enabled v (numbers calls)) | Some j ↦ (λ q. absurd (false≢true q), λ q. refl) ] | false ↦ λ o. (λ q. absurd (false≢true q), λ q. refl) ]
     in
     pick _ _
 sweeps_those calls workers v (h.Finish u ending) =
-    let pick : (b : Bool) (o : Option ℕ) → SweepsThose calls v (plain (cond b (finished calls v u ending o) (a.Error x.NoWorker))) =
+    let pick : (b : Bool) (o : Option ℕ) → SweepsThose calls v (bare (cond b (finish_answer calls v u ending o) (a.Error x.NoWorker))) =
     elim [ true ↦ elim [ None ↦ (λ q. absurd (false≢true q), λ q. refl) | Some j ↦ (λ q. absurd (false≢true q), λ q. refl) ] | false ↦ λ o. (λ q. absurd (false≢true q), λ q. refl) ]
     in
     pick _ _
 sweeps_those calls workers v (h.Cancel j) =
-    let pick : (b : Bool) → SweepsThose calls v (plain (cond b (a.Outside j (effect_on (v.fate j))) (a.Error x.NoTask))) = elim [ true ↦ (λ q. absurd (false≢true q), λ q. refl) | false ↦ (λ q. absurd (false≢true q), λ q. refl) ] in
+    let pick : (b : Bool) → SweepsThose calls v (bare (cond b (a.Outside j (effect_on (v.fate j))) (a.Error x.NoTask))) = elim [ true ↦ (λ q. absurd (false≢true q), λ q. refl) | false ↦ (λ q. absurd (false≢true q), λ q. refl) ] in
     pick _
 
 -- the law on the tasks that an answer ends

@@ -11,7 +11,7 @@ use Rattle.executor_core.specs.declared.types.Event.{Event}
 use Rattle.executor_core.specs.declared.types.Event.TheVariants as v
 use Rattle.executor_core.specs.declared.types.Happening.{Happening}
 use Rattle.executor_core.specs.declared.types.Happening.TheVariants as h
-use Rattle.queue_code.specs.Calls.{Planned, how_many, task_count, is_submission, count_after, IsOrderlyCall, IsOrderlyFrom, IsOrderly}
+use Rattle.queue_code.specs.Calls.{Planned, how_many, task_count, submits_task, count_after, IsOrderlyCall, IsOrderlyFrom, IsOrderly}
 use Rattle.executor_core.specs.Answers.{is_accepted}
 use Rattle.executor_core.specs.Histories.{HistoryEntry, IsHistoryOf, MayCome, happenings, made, now_of}
 use Rattle.executor_core.specs.Flows.{reached, flow, happening_of, calls_before, history_of}
@@ -73,7 +73,7 @@ reached_is_a_front calls first t o = (
 
 -- the number of submissions that a call makes, one or none
 abbrev submitted : CodeCall → ℕ
-submitted call = cond (is_submission call) 1 0
+submitted call = cond (submits_task call) 1 0
 
 after_call : (count : ℕ) (call : CodeCall) → count_after count call ≡ count + submitted call
 after_call count (c.Submit task timing delay) = refl
@@ -83,7 +83,7 @@ after_call count (c.SetPolicy which value) = omega arith
 after_call count c.Shutdown = omega arith
 after_call count c.Ask = omega arith
 
-one_task : (call : CodeCall) (n : ℕ) → cond (is_submission call) (1 + n) n ≡ submitted call + n
+one_task : (call : CodeCall) (n : ℕ) → cond (submits_task call) (1 + n) n ≡ submitted call + n
 one_task (c.Submit task timing delay) n = refl
 one_task (c.Illegal task) n = refl
 one_task (c.Cancel task) n = omega arith
@@ -151,7 +151,7 @@ submitted_at count moment (x ∷ calls) k o l m =
     let later : count + submitted x.1 ≤ k → Submitted (x ∷ calls) k =
     λ above. submitted_later x calls k (submitted_at (count_after count x.1) x.0 calls k o.3 (omega (arith, above, more)) (omega (arith, m, total, more)))
     in
-    let pick : (b : Bool) → is_submission x.1 ≡ b → Submitted (x ∷ calls) k =
+    let pick : (b : Bool) → submits_task x.1 ≡ b → Submitted (x ∷ calls) k =
     elim [
       | true ↦ λ q.
           let by : (b : Bool) → (count == k) ≡ b → Submitted (x ∷ calls) k =
@@ -164,7 +164,7 @@ submitted_at count moment (x ∷ calls) k o l m =
       | false ↦ λ q. later (let none : submitted x.1 ≡ 0 = ap (λ b. cond b 1 0) q in omega (arith, l, none))
     ]
     in
-    pick (is_submission x.1) refl
+    pick (submits_task x.1) refl
 
 -- the law that each task is submitted by one call
 pub tasks_are_submitted : TasksAreSubmitted

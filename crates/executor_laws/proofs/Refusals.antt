@@ -14,7 +14,7 @@ use Rattle.executor_core.specs.declared.types.Answer.{Answer}
 use Rattle.executor_core.specs.declared.types.Answer.TheVariants as a
 use Rattle.queue_code.specs.Calls.{Planned, IsOrderly, numbers, terms_of, due_at}
 use Rattle.executor_core.specs.View.{View, first_enabled}
-use Rattle.executor_core.specs.Answers.{plain, reply, called, kind_of, swept, started, finished, effect_on}
+use Rattle.executor_core.specs.Answers.{bare, reply, called, kind_of, swept, start_answer, finish_answer, effect_on}
 use Rattle.executor_core.specs.Histories.{HistoryEntry, IsHistoryOf, view_of_history, happenings, made, is_submit, was_accepted}
 use Rattle.executor_laws.specs.Positions.{IsSubmissionOf}
 use Rattle.executor_laws.specs.TaskWords.{word_after, starts_of_word}
@@ -34,7 +34,7 @@ shut_call calls v (c.Illegal task) k shut q = false≢true q
 shut_call calls v (c.Cancel task) k shut q = false≢true q
 shut_call calls v (c.SetPolicy which value) k shut q = false≢true q
 shut_call calls v c.Shutdown k shut q =
-    let pick : (b : Bool) → is_submit k (cond b (plain a.ShutdownAgain) (record { answer = a.Shutdown; ends = swept calls v v.policies })).answer ≡ true → ⊥ = elim [ true ↦ λ q. false≢true q | false ↦ λ q. false≢true q ] in
+    let pick : (b : Bool) → is_submit k (cond b (bare a.ShutdownAgain) (record { answer = a.Shutdown; ends = swept calls v v.policies })).answer ≡ true → ⊥ = elim [ true ↦ λ q. false≢true q | false ↦ λ q. false≢true q ] in
     pick v.shut q
 shut_call calls v c.Ask k shut q = false≢true q
 
@@ -43,7 +43,7 @@ pub accepts_none : (calls : List Planned) (workers : ℕ) (v : View) (y : Happen
 accepts_none calls workers v y k shut q =
     let s = submit_says calls workers v y k q in
     let call : is_submit k (reply calls workers v h.Call).answer ≡ true = ap (λ z. is_submit k (reply calls workers v z).answer) (sym s.is) ∙ q in
-    let told = ap (λ p. is_submit k (option_map_or (λ p. called calls (record v { moment = max v.moment p.0 }) p.1) p (plain a.Clock)).answer) (sym s.there) ∙ call in
+    let told = ap (λ p. is_submit k (option_map_or (λ p. called calls (record v { moment = max v.moment p.0 }) p.1) p (bare a.Clock)).answer) (sym s.there) ∙ call in
     shut_call calls (record v { moment = max v.moment s.call.0 }) s.call.1 k shut told
 
 -- the law that no task is accepted once the executor is shut
@@ -60,14 +60,14 @@ call_refuses calls v (c.Illegal task) k why q = cc
 call_refuses calls v (c.Cancel task) k why q = absurd cc
 call_refuses calls v (c.SetPolicy which value) k why q = absurd cc
 call_refuses calls v c.Shutdown k why q =
-    let pick : (b : Bool) → (cond b (plain a.ShutdownAgain) (record { answer = a.Shutdown; ends = swept calls v v.policies })).answer ≡ a.Refuse k why → ⊥ = elim [ true ↦ λ q. cc | false ↦ λ q. cc ] in
+    let pick : (b : Bool) → (cond b (bare a.ShutdownAgain) (record { answer = a.Shutdown; ends = swept calls v v.policies })).answer ≡ a.Refuse k why → ⊥ = elim [ true ↦ λ q. cc | false ↦ λ q. cc ] in
     pick v.shut q
 call_refuses calls v c.Ask k why q = absurd cc
 
 -- a refusal is the answer to a call that submits the task
 refuse_says : (calls : List Planned) (workers : ℕ) (v : View) (y : Happening) (k : ℕ) (why : Refusal) → (reply calls workers v y).answer ≡ a.Refuse k why → Submits calls v y k
 refuse_says calls workers v h.Call k why q =
-    let pick : (o : Option Planned) → slice_get calls v.made ≡ o → (option_map_or (λ p. called calls (record v { moment = max v.moment p.0 }) p.1) o (plain a.Clock)).answer ≡ a.Refuse k why → Submits calls v h.Call k =
+    let pick : (o : Option Planned) → slice_get calls v.made ≡ o → (option_map_or (λ p. called calls (record v { moment = max v.moment p.0 }) p.1) o (bare a.Clock)).answer ≡ a.Refuse k why → Submits calls v h.Call k =
     elim [
       | None ↦ λ there q. absurd cc
       | Some p ↦ λ there q. record { call = p; is = refl; there = there; submits = call_refuses calls (record v { moment = max v.moment p.0 }) p.1 k why q }
@@ -78,13 +78,13 @@ refuse_says calls workers v (h.Clock t) k why q =
     let other : (b d : Bool) → cond b (a.Error x.Backward) (cond d (a.Error x.TooFar) a.Clock) ≡ a.Refuse k why → ⊥ = elim [ true ↦ λ d q. cc | false ↦ elim [ true ↦ λ q. cc | false ↦ λ q. cc ] ] in
     absurd (other _ _ q)
 refuse_says calls workers v (h.Start u) k why q =
-    let start : (o : Option ℕ) → started v u o ≡ a.Refuse k why → ⊥ = elim [ None ↦ λ q. cc | Some j ↦ λ q. cc ] in
-    let other : (b : Bool) (o : Option ℕ) → cond b (option_map_or (λ _. a.Error x.Busy) o (started v u (first_enabled v (numbers calls)))) (a.Error x.NoWorker) ≡ a.Refuse k why → ⊥ =
+    let start : (o : Option ℕ) → start_answer v u o ≡ a.Refuse k why → ⊥ = elim [ None ↦ λ q. cc | Some j ↦ λ q. cc ] in
+    let other : (b : Bool) (o : Option ℕ) → cond b (option_map_or (λ _. a.Error x.Busy) o (start_answer v u (first_enabled v (numbers calls)))) (a.Error x.NoWorker) ≡ a.Refuse k why → ⊥ =
     elim [ true ↦ elim [ None ↦ λ q. start (first_enabled v (numbers calls)) q | Some j ↦ λ q. cc ] | false ↦ λ o q. cc ]
     in
     absurd (other _ _ q)
 refuse_says calls workers v (h.Finish u ending) k why q =
-    let other : (b : Bool) (o : Option ℕ) → cond b (finished calls v u ending o) (a.Error x.NoWorker) ≡ a.Refuse k why → ⊥ = elim [ true ↦ elim [ None ↦ λ q. cc | Some j ↦ λ q. cc ] | false ↦ λ o q. cc ] in
+    let other : (b : Bool) (o : Option ℕ) → cond b (finish_answer calls v u ending o) (a.Error x.NoWorker) ≡ a.Refuse k why → ⊥ = elim [ true ↦ elim [ None ↦ λ q. cc | Some j ↦ λ q. cc ] | false ↦ λ o q. cc ] in
     absurd (other _ _ q)
 refuse_says calls workers v (h.Cancel j) k why q =
     let other : (b : Bool) → cond b (a.Outside j (effect_on (v.fate j))) (a.Error x.NoTask) ≡ a.Refuse k why → ⊥ = elim [ true ↦ λ q. cc | false ↦ λ q. cc ] in

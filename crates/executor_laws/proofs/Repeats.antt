@@ -21,8 +21,8 @@ use Rattle.executor_core.specs.declared.types.Outcome.TheVariants as o
 use Rattle.executor_core.specs.declared.types.Answer.TheVariants as a
 use Rattle.queue_code.specs.Calls.{Planned, Terms, numbers, task_count, terms_of, due_at}
 use Rattle.executor_core.specs.View.{Fate, View, is_running, is_over, is_waiting, first_enabled}
-use Rattle.executor_core.specs.Answers.{plain, reply, called, kind_of, swept, started, finished, outcome_of, due_next, stops_periodic, effect_on, outcome_in}
-use Rattle.executor_core.specs.Histories.{HistoryEntry, view_of_history, happenings, now_of, is_cancel, cancels, is_yes, is_start, is_finish, is_finish_with, is_failed, starts, finishes, last_finish, was_cancelled, was_failed, due_of}
+use Rattle.executor_core.specs.Answers.{bare, reply, called, kind_of, swept, start_answer, finish_answer, outcome_of, due_next, stops_periodic, effect_on, outcome_in}
+use Rattle.executor_core.specs.Histories.{HistoryEntry, view_of_history, happenings, now_of, is_cancel, cancels, had_effect, is_start, is_finish, is_finish_with, is_failed, starts, finishes, last_finish, was_cancelled, was_failed, due_of}
 use Rattle.executor_laws.specs.Laws.{Starts, TiesGoBySubmission, RateRunsAreDue, FixedRunsAreDue, AgainIsDue, RunsDoNotOverlap, NothingStartsAfterAFailure, NothingStartsAfterACancel, CancelsHaveOneEffect}
 use Rattle.executor_core.proofs.Tables.{submission}
 use Rattle.executor_core.proofs.Sound.{first_is_enabled}
@@ -104,11 +104,11 @@ rate_runs_are_due calls workers past e w k n d place moment initial period o is 
     start.due ∙ (due_by calls past k _ terms ∙ ap (λ i. moment + initial + i * period) (sym start.run))
 
 -- where a task finished there is a last finish
-some_finish : (calls : List Planned) (k : ℕ) (past : List HistoryEntry) → 0 < finishes k past → (finished : ℕ) × (last_finish calls k past ≡ Some finished)
+some_finish : (calls : List Planned) (k : ℕ) (past : List HistoryEntry) → 0 < finishes k past → (finish_answer : ℕ) × (last_finish calls k past ≡ Some finish_answer)
 some_finish calls k [] l = absurd (omega arith)
 some_finish calls k (e ∷ past) l =
     let pick : (b : Bool) → 0 < cond b (1 + finishes k past) (finishes k past) →
-    (finished : ℕ) × (cond b (Some (now_of calls (happenings past))) (last_finish calls k past) ≡ Some finished) =
+    (finish_answer : ℕ) × (cond b (Some (now_of calls (happenings past))) (last_finish calls k past) ≡ Some finish_answer) =
     elim [ true ↦ λ l. (now_of calls (happenings past), refl) | false ↦ λ l. some_finish calls k past l ]
     in
     pick (is_finish k e.answer) l
@@ -145,7 +145,7 @@ again_landed false (t.Fixed delay) due d (e.Value value) q = cc
 
 again_says : (calls : List Planned) (workers : ℕ) (v : View) (y : Happening) (w k n d : ℕ) → (reply calls workers v y).answer ≡ a.Finish w k n (o.Again d) → d ≡ due_next calls v k
 again_says calls workers v h.Call w k n d q =
-    let pick : (q : Option Planned) → (option_map_or (λ p. called calls (record v { moment = max v.moment p.0 }) p.1) q (plain a.Clock)).answer ≡ a.Finish w k n (o.Again d) → ⊥ =
+    let pick : (q : Option Planned) → (option_map_or (λ p. called calls (record v { moment = max v.moment p.0 }) p.1) q (bare a.Clock)).answer ≡ a.Finish w k n (o.Again d) → ⊥ =
     elim [ None ↦ λ q. cc | Some p ↦ λ q. subst IsOfCall q (call_answer calls (record v { moment = max v.moment p.0 }) p.1) ]
     in
     absurd (pick (slice_get calls v.made) q)
@@ -153,8 +153,8 @@ again_says calls workers v (h.Clock t) w k n d q =
     let other : (b d' : Bool) → cond b (a.Error x.Backward) (cond d' (a.Error x.TooFar) a.Clock) ≡ a.Finish w k n (o.Again d) → ⊥ = elim [ true ↦ λ d' q. cc | false ↦ elim [ true ↦ λ q. cc | false ↦ λ q. cc ] ] in
     absurd (other _ _ q)
 again_says calls workers v (h.Start u) w k n d q =
-    let start : (p : Option ℕ) → started v u p ≡ a.Finish w k n (o.Again d) → ⊥ = elim [ None ↦ λ q. cc | Some j ↦ λ q. cc ] in
-    let other : (b : Bool) (p : Option ℕ) → cond b (option_map_or (λ _. a.Error x.Busy) p (started v u (first_enabled v (numbers calls)))) (a.Error x.NoWorker) ≡ a.Finish w k n (o.Again d) → ⊥ =
+    let start : (p : Option ℕ) → start_answer v u p ≡ a.Finish w k n (o.Again d) → ⊥ = elim [ None ↦ λ q. cc | Some j ↦ λ q. cc ] in
+    let other : (b : Bool) (p : Option ℕ) → cond b (option_map_or (λ _. a.Error x.Busy) p (start_answer v u (first_enabled v (numbers calls)))) (a.Error x.NoWorker) ≡ a.Finish w k n (o.Again d) → ⊥ =
     elim [ true ↦ elim [ None ↦ λ q. start (first_enabled v (numbers calls)) q | Some j ↦ λ q. cc ] | false ↦ λ p q. cc ]
     in
     absurd (other _ _ q)
@@ -168,7 +168,7 @@ again_says calls workers v (h.Finish u ending) w k n d q =
     in
     live (v.fate j).cancelled outcome ∙ ap (due_next calls v) same
     in
-    let pick : (b : Bool) (work : Option ℕ) → cond b (finished calls v u ending work) (a.Error x.NoWorker) ≡ a.Finish w k n (o.Again d) → d ≡ due_next calls v k =
+    let pick : (b : Bool) (work : Option ℕ) → cond b (finish_answer calls v u ending work) (a.Error x.NoWorker) ≡ a.Finish w k n (o.Again d) → d ≡ due_next calls v k =
     elim [ true ↦ elim [ None ↦ λ q. absurd cc | Some j ↦ λ q. from j q ] | false ↦ λ work q. absurd cc ]
     in
     pick _ _ q
@@ -254,7 +254,7 @@ nothing_starts_after_a_cancel calls workers past between cancel start w k n d s 
 abbrev effect_with : Bool → Bool → Bool → Bool → CancelEffect
 effect_with accepted running cancelled over = cond accepted (cond ((accepted && (not running && not (cancelled || over))) || (running && not cancelled)) f.Yes f.No) f.Absent
 
-yes_live : (accepted running cancelled over : Bool) → is_yes (effect_with accepted running cancelled over) ≡ true → cancelled ≡ false
+yes_live : (accepted running cancelled over : Bool) → had_effect (effect_with accepted running cancelled over) ≡ true → cancelled ≡ false
 yes_live accepted running false over q = refl
 yes_live true true true over q = absurd (false≢true q)
 yes_live true false true over q = absurd (false≢true q)
@@ -262,10 +262,10 @@ yes_live false true true over q = absurd (false≢true q)
 yes_live false false true over q = absurd (false≢true q)
 
 -- a cancel with an effect finds the task not cancelled
-effect_live : (v : View) (j k : ℕ) → ((j == k) && is_yes (effect_on (v.fate j))) ≡ true → (v.fate k).cancelled ≡ false
+effect_live : (v : View) (j k : ℕ) → ((j == k) && had_effect (effect_on (v.fate j))) ≡ true → (v.fate k).cancelled ≡ false
 effect_live v j k q =
     let fate = v.fate j in
-    let parts = and_parts (j == k) (is_yes (effect_on fate)) q in
+    let parts = and_parts (j == k) (had_effect (effect_on fate)) q in
     ap (λ i. (v.fate i).cancelled) (sym (eqb-true j k parts.0)) ∙ yes_live fate.accepted (is_running fate) fate.cancelled (fate.failed || fate.done) parts.1
 
 call_cancels : (calls : List Planned) (v : View) (call : CodeCall) (k : ℕ) → is_cancel k (called calls v call).answer ≡ true → (v.fate k).cancelled ≡ false
@@ -276,14 +276,14 @@ call_cancels calls v (c.Illegal task) k q = absurd (false≢true q)
 call_cancels calls v (c.Cancel task) k q = effect_live v task k q
 call_cancels calls v (c.SetPolicy which value) k q = absurd (false≢true q)
 call_cancels calls v c.Shutdown k q =
-    let pick : (b : Bool) → is_cancel k (cond b (plain a.ShutdownAgain) (record { answer = a.Shutdown; ends = swept calls v v.policies })).answer ≡ true → ⊥ = elim [ true ↦ λ q. false≢true q | false ↦ λ q. false≢true q ] in
+    let pick : (b : Bool) → is_cancel k (cond b (bare a.ShutdownAgain) (record { answer = a.Shutdown; ends = swept calls v v.policies })).answer ≡ true → ⊥ = elim [ true ↦ λ q. false≢true q | false ↦ λ q. false≢true q ] in
     absurd (pick v.shut q)
 call_cancels calls v c.Ask k q = absurd (false≢true q)
 
 -- a cancel that has an effect finds the task not cancelled
 pub cancel_says : (calls : List Planned) (workers : ℕ) (v : View) (y : Happening) (k : ℕ) → is_cancel k (reply calls workers v y).answer ≡ true → (v.fate k).cancelled ≡ false
 cancel_says calls workers v h.Call k =
-    let pick : (p : Option Planned) → is_cancel k (option_map_or (λ p. called calls (record v { moment = max v.moment p.0 }) p.1) p (plain a.Clock)).answer ≡ true → (v.fate k).cancelled ≡ false =
+    let pick : (p : Option Planned) → is_cancel k (option_map_or (λ p. called calls (record v { moment = max v.moment p.0 }) p.1) p (bare a.Clock)).answer ≡ true → (v.fate k).cancelled ≡ false =
     elim [ None ↦ λ q. absurd (false≢true q) | Some p ↦ call_cancels calls (record v { moment = max v.moment p.0 }) p.1 k ]
     in
     pick (slice_get calls v.made)
@@ -293,13 +293,13 @@ cancel_says calls workers v (h.Clock t) k =
     in
     other _ _
 cancel_says calls workers v (h.Start u) k =
-    let start : (p : Option ℕ) → is_cancel k (started v u p) ≡ true → (v.fate k).cancelled ≡ false = elim [ None ↦ λ q. absurd (false≢true q) | Some j ↦ λ q. absurd (false≢true q) ] in
-    let other : (b : Bool) (p : Option ℕ) → is_cancel k (cond b (option_map_or (λ _. a.Error x.Busy) p (started v u (first_enabled v (numbers calls)))) (a.Error x.NoWorker)) ≡ true → (v.fate k).cancelled ≡ false =
+    let start : (p : Option ℕ) → is_cancel k (start_answer v u p) ≡ true → (v.fate k).cancelled ≡ false = elim [ None ↦ λ q. absurd (false≢true q) | Some j ↦ λ q. absurd (false≢true q) ] in
+    let other : (b : Bool) (p : Option ℕ) → is_cancel k (cond b (option_map_or (λ _. a.Error x.Busy) p (start_answer v u (first_enabled v (numbers calls)))) (a.Error x.NoWorker)) ≡ true → (v.fate k).cancelled ≡ false =
     elim [ true ↦ elim [ None ↦ start (first_enabled v (numbers calls)) | Some j ↦ λ q. absurd (false≢true q) ] | false ↦ λ p q. absurd (false≢true q) ]
     in
     other _ _
 cancel_says calls workers v (h.Finish u ending) k =
-    let other : (b : Bool) (work : Option ℕ) → is_cancel k (cond b (finished calls v u ending work) (a.Error x.NoWorker)) ≡ true → (v.fate k).cancelled ≡ false =
+    let other : (b : Bool) (work : Option ℕ) → is_cancel k (cond b (finish_answer calls v u ending work) (a.Error x.NoWorker)) ≡ true → (v.fate k).cancelled ≡ false =
     elim [ true ↦ elim [ None ↦ λ q. absurd (false≢true q) | Some j ↦ λ q. absurd (false≢true q) ] | false ↦ λ work q. absurd (false≢true q) ]
     in
     other _ _

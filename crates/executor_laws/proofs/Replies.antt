@@ -14,7 +14,7 @@ use Rattle.executor_core.specs.declared.types.Answer.{Answer}
 use Rattle.executor_core.specs.declared.types.Answer.TheVariants as a
 use Rattle.queue_code.specs.Calls.{Planned, numbers, terms_of, due_at}
 use Rattle.executor_core.specs.View.{Fate, View, is_waiting}
-use Rattle.executor_core.specs.Answers.{Reply, plain, reply, called, kind_of, set_policy, setting_sweeps, is_swept, is_ended_by, swept}
+use Rattle.executor_core.specs.Answers.{Reply, bare, reply, called, kind_of, set_policy, setting_sweeps, is_swept, is_ended_by, swept}
 use Rattle.executor_core.specs.Histories.{is_end}
 
 -- ---- the answers to calls
@@ -34,7 +34,7 @@ call_answer calls v (c.Illegal task) = tt
 call_answer calls v (c.Cancel task) = tt
 call_answer calls v (c.SetPolicy which value) = tt
 call_answer calls v c.Shutdown =
-    let pick : (b : Bool) → IsOfCall (cond b (plain a.ShutdownAgain) (record { answer = a.Shutdown; ends = swept calls v v.policies })).answer = elim [ true ↦ tt | false ↦ tt ] in
+    let pick : (b : Bool) → IsOfCall (cond b (bare a.ShutdownAgain) (record { answer = a.Shutdown; ends = swept calls v v.policies })).answer = elim [ true ↦ tt | false ↦ tt ] in
     pick v.shut
 call_answer calls v c.Ask = tt
 
@@ -78,7 +78,7 @@ call_ends calls v (c.SetPolicy which value) k q =
     let pick : (b : Bool) → is_end k (cond b (swept calls v policies) []) ≡ true → is_waiting (v.fate k) ≡ true = elim [ true ↦ swept_waits calls v policies k | false ↦ λ q. absurd (false≢true q) ] in
     record { waited = pick (setting_sweeps v.shut which value) q; sweeps = tt }
 call_ends calls v c.Shutdown k q =
-    let both : Bool → Reply = λ b. cond b (plain a.ShutdownAgain) (record { answer = a.Shutdown; ends = swept calls v v.policies }) in
+    let both : Bool → Reply = λ b. cond b (bare a.ShutdownAgain) (record { answer = a.Shutdown; ends = swept calls v v.policies }) in
     let pick : (b : Bool) → is_end k (both b).ends ≡ true → EndsTask (v.fate k) (both b).answer =
     elim [ true ↦ λ q. absurd (false≢true q) | false ↦ λ q. record { waited = swept_waits calls v v.policies k q; sweeps = tt } ]
     in
@@ -88,7 +88,7 @@ call_ends calls v c.Ask k q = absurd (false≢true q)
 -- a task that an answer ends waited, and the answer is a sweep's
 pub ends_say : (calls : List Planned) (workers : ℕ) (v : View) (y : Happening) (k : ℕ) → is_end k (reply calls workers v y).ends ≡ true → EndsTask (v.fate k) (reply calls workers v y).answer
 ends_say calls workers v h.Call k q =
-    let made : Option Planned → Reply = λ o. option_map_or (λ p. called calls (record v { moment = max v.moment p.0 }) p.1) o (plain a.Clock) in
+    let made : Option Planned → Reply = λ o. option_map_or (λ p. called calls (record v { moment = max v.moment p.0 }) p.1) o (bare a.Clock) in
     let pick : (o : Option Planned) → is_end k (made o).ends ≡ true → EndsTask (v.fate k) (made o).answer =
     elim [ None ↦ λ q. absurd (false≢true q) | Some p ↦ call_ends calls (record v { moment = max v.moment p.0 }) p.1 k ]
     in

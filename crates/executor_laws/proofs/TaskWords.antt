@@ -19,15 +19,15 @@ use Rattle.executor_core.specs.declared.types.Outcome.{Outcome}
 use Rattle.executor_core.specs.declared.types.Outcome.TheVariants as o
 use Rattle.executor_core.specs.declared.types.Answer.{Answer}
 use Rattle.executor_core.specs.declared.types.Answer.TheVariants as a
-use Rattle.executor_core.specs.declared.task.Phase.{Phase}
-use Rattle.executor_core.specs.declared.task.Phase.TheVariants as ph
+use Rattle.executor_core.specs.declared.task.Stage.{Stage}
+use Rattle.executor_core.specs.declared.task.Stage.TheVariants as ph
 use Rattle.executor_core.specs.declared.task.Task.{Task}
 use Rattle.queue_code.specs.Calls.{Planned, Terms, numbers, task_count, terms_of, due_at}
 use Rattle.executor_core.specs.View.{Fate, View, is_waiting, is_running, first_enabled}
-use Rattle.executor_core.specs.Answers.{plain, called, kind_of, swept, started, finished, outcome_in, stops_periodic, due_next, effect_on}
-use Rattle.executor_core.specs.Histories.{HistoryEntry, IsHistoryOf, view_of_history, happenings, is_yes, is_cancel, is_end, is_finish_with, is_ended, cancels, kept_after, was_accepted, was_done, was_failed}
+use Rattle.executor_core.specs.Answers.{bare, called, kind_of, swept, start_answer, finish_answer, outcome_in, stops_periodic, due_next, effect_on}
+use Rattle.executor_core.specs.Histories.{HistoryEntry, IsHistoryOf, view_of_history, happenings, had_effect, is_cancel, is_end, is_finish_with, is_ended, cancels, kept_after, was_accepted, was_done, was_failed}
 use Rattle.executor_core.specs.State.{State, view_of_state, seen_phase, seen_task, was_submitted, is_done_phase, is_failed_phase, starts_of, reply_of, after, move_task, submit_phase, end_task, finish_task, due_past}
-use Rattle.executor_core.specs.Tasks.{word_phase, word_of}
+use Rattle.executor_core.specs.Tasks.{word_phase, word_of_task}
 use Rattle.executor_core.specs.own.Invariants.{IsSound}
 use Rattle.executor_core.proofs.Moves.{moved_task}
 use Rattle.executor_core.proofs.Sound.{Finds, reply_finds, is_seen_waiting, waits_in}
@@ -49,7 +49,7 @@ Meets k task _ = Unit {0}
 live_of : (terms : Terms) (t : Task) → effect_on (seen_task terms t) ≡ f.Yes → is_live (word_phase t.phase) ≡ true
 live_of terms t q = by t.phase refl
   where
-    by : (p : Phase) → t.phase ≡ p → is_live (word_phase p) ≡ true
+    by : (p : Stage) → t.phase ≡ p → is_live (word_phase p) ≡ true
     by ph.Vacant e = let clash : f.Absent ≡ f.Yes = of_vacant terms t e ∙ q in absurd cc
     by ph.Waiting e = refl
     by ph.Running e = refl
@@ -73,14 +73,14 @@ call_says calls s moment (c.Cancel task) = refl
 call_says calls s moment (c.SetPolicy which value) = tt
 call_says calls s moment c.Shutdown =
     let v = record (view_of_state calls s) { moment = moment } in
-    let pick : (b : Bool) → Says calls s (cond b (plain a.ShutdownAgain) (record { answer = a.Shutdown; ends = swept calls v s.policies })).answer = elim [ true ↦ tt | false ↦ tt ] in
+    let pick : (b : Bool) → Says calls s (cond b (bare a.ShutdownAgain) (record { answer = a.Shutdown; ends = swept calls v s.policies })).answer = elim [ true ↦ tt | false ↦ tt ] in
     pick s.shut
 call_says calls s moment c.Ask = tt
 
 -- what each reply says of a cancel and of the end of a run
 pub says : (calls : List Planned) (workers : ℕ) (s : State) (happening : Happening) → Says calls s (reply_of calls workers s happening).answer
 says calls workers s h.Call =
-    let pick : (q : Option Planned) → Says calls s (option_map_or (λ p. called calls (record (view_of_state calls s) { moment = max s.moment p.0 }) p.1) q (plain a.Clock)).answer =
+    let pick : (q : Option Planned) → Says calls s (option_map_or (λ p. called calls (record (view_of_state calls s) { moment = max s.moment p.0 }) p.1) q (bare a.Clock)).answer =
     elim [ None ↦ tt | Some p ↦ call_says calls s (max s.moment p.0) p.1 ]
     in
     pick (slice_get calls s.made)
@@ -89,8 +89,8 @@ says calls workers s (h.Clock t) =
     pick _ _
 says calls workers s (h.Start u) =
     let v = view_of_state calls s in
-    let first : (q : Option ℕ) → Says calls s (started v u q) = elim [ None ↦ tt | Some k ↦ tt ] in
-    let pick : (b : Bool) (work : Option ℕ) → Says calls s (cond b (option_map_or (λ _. a.Error x.Busy) work (started v u (first_enabled v (numbers calls)))) (a.Error x.NoWorker)) =
+    let first : (q : Option ℕ) → Says calls s (start_answer v u q) = elim [ None ↦ tt | Some k ↦ tt ] in
+    let pick : (b : Bool) (work : Option ℕ) → Says calls s (cond b (option_map_or (λ _. a.Error x.Busy) work (start_answer v u (first_enabled v (numbers calls)))) (a.Error x.NoWorker)) =
     elim [ true ↦ elim [ None ↦ first (first_enabled v (numbers calls)) | Some k ↦ tt ] | false ↦ λ work. tt ]
     in
     pick (nat_lt u workers) (s.workers u)
@@ -98,7 +98,7 @@ says calls workers s (h.Finish u ending) =
     let v = view_of_state calls s in
     let stops = stops_periodic s.shut s.policies in
     let dropped : (k : ℕ) (b : Bool) → b ≡ true → outcome_in b stops (terms_of calls k).timing (due_next calls v k) ending ≡ o.Dropped = λ k. elim [ true ↦ λ q. refl | false ↦ λ q. absurd (false≢true q) ] in
-    let pick : (b : Bool) (work : Option ℕ) → Says calls s (cond b (finished calls v u ending work) (a.Error x.NoWorker)) =
+    let pick : (b : Bool) (work : Option ℕ) → Says calls s (cond b (finish_answer calls v u ending work) (a.Error x.NoWorker)) =
     elim [ true ↦ elim [ None ↦ tt | Some k ↦ dropped k (s.tasks k).cancelled ] | false ↦ λ work. tt ]
     in
     pick (nat_lt u workers) (s.workers u)
@@ -125,14 +125,14 @@ record IsLived (task : Task) : Type 0 where
 
 -- ---- a task that is cancelled is live
 
-only_yes : (effect : CancelEffect) → is_yes effect ≡ true → effect ≡ f.Yes
+only_yes : (effect : CancelEffect) → had_effect effect ≡ true → effect ≡ f.Yes
 only_yes f.Yes q = refl
 only_yes _ q = absurd (false≢true q)
 
 -- a cancel of a task leaves its phase
 cancel_live : (timing : Timing) (now k : ℕ) (task : Task) (answer : Answer) → Meets k task answer → is_cancel k answer ≡ true → is_live (word_phase (move_task timing now k answer task).phase) ≡ true
-cancel_live timing now k task (a.Cancel j effect) met q = let parts = and_parts (j == k) (is_yes effect) q in met parts.0 (only_yes effect parts.1)
-cancel_live timing now k task (a.Outside j effect) met q = let parts = and_parts (j == k) (is_yes effect) q in met parts.0 (only_yes effect parts.1)
+cancel_live timing now k task (a.Cancel j effect) met q = let parts = and_parts (j == k) (had_effect effect) q in met parts.0 (only_yes effect parts.1)
+cancel_live timing now k task (a.Outside j effect) met q = let parts = and_parts (j == k) (had_effect effect) q in met parts.0 (only_yes effect parts.1)
 cancel_live timing now k task _ met q = absurd (false≢true q)
 
 -- a sweep leaves each task in its phase
@@ -172,7 +172,7 @@ cancels_live calls workers s y k sound q =
       ]
     ]
 
-submit_live : (timing : Timing) (due : ℕ) (p : Phase) (task : Task) → is_live (word_phase p) ≡ true → is_live (word_phase task.phase) ≡ true → is_live (word_phase (submit_phase timing due p task).phase) ≡ true
+submit_live : (timing : Timing) (due : ℕ) (p : Stage) (task : Task) → is_live (word_phase p) ≡ true → is_live (word_phase task.phase) ≡ true → is_live (word_phase (submit_phase timing due p task).phase) ≡ true
 submit_live timing due ph.Vacant task q live = absurd (false≢true q)
 submit_live timing due ph.Waiting task q live = live
 submit_live timing due ph.Running task q live = live
@@ -196,7 +196,7 @@ live_moves timing now k task (a.Finish u j run outcome) met old live =
     pick (j == k) met
 live_moves timing now k task _ met old live = live
 
-submit_fresh : (timing : Timing) (due : ℕ) (p : Phase) (task : Task) → (task.phase ≡ ph.Vacant → task.run ≡ 0) → (submit_phase timing due p task).phase ≡ ph.Vacant → (submit_phase timing due p task).run ≡ 0
+submit_fresh : (timing : Timing) (due : ℕ) (p : Stage) (task : Task) → (task.phase ≡ ph.Vacant → task.run ≡ 0) → (submit_phase timing due p task).phase ≡ ph.Vacant → (submit_phase timing due p task).run ≡ 0
 submit_fresh timing due ph.Vacant task fresh q = refl
 submit_fresh timing due ph.Waiting task fresh q = fresh q
 submit_fresh timing due ph.Running task fresh q = fresh q
@@ -245,39 +245,39 @@ lived_after calls workers (e ∷ past) k m =
 
 -- ---- ranks
 
-submit_rank : (timing : Timing) (due : ℕ) (p : Phase) (task : Task) → task.phase ≡ p → rank (word_of task) ≤ rank (word_of (submit_phase timing due p task))
-submit_rank timing due ph.Vacant task is = let none : rank (word_of task) ≡ 0 = ap (λ p. rank_in (word_phase p) task.run) is in omega (arith, none)
+submit_rank : (timing : Timing) (due : ℕ) (p : Stage) (task : Task) → task.phase ≡ p → rank (word_of_task task) ≤ rank (word_of_task (submit_phase timing due p task))
+submit_rank timing due ph.Vacant task is = let none : rank (word_of_task task) ≡ 0 = ap (λ p. rank_in (word_phase p) task.run) is in omega (arith, none)
 submit_rank timing due ph.Waiting task is = omega arith
 submit_rank timing due ph.Running task is = omega arith
 submit_rank timing due ph.Done task is = omega arith
 submit_rank timing due ph.Failed task is = omega arith
 submit_rank timing due ph.Dropped task is = omega arith
 
-end_rank : (task : Task) (due : ℕ) (outcome : Outcome) → rank_in (word_phase ph.Running) task.run ≤ rank (word_of (end_task outcome due task))
+end_rank : (task : Task) (due : ℕ) (outcome : Outcome) → rank_in (word_phase ph.Running) task.run ≤ rank (word_of_task (end_task outcome due task))
 end_rank task due (o.Done value) = omega arith
 end_rank task due (o.Failed code) = omega arith
 end_rank task due o.Dropped = omega arith
 end_rank task due o.Ended = omega arith
 end_rank task due (o.Again again) = omega arith
 
-rank_rises : (timing : Timing) (now k : ℕ) (task : Task) (answer : Answer) → Meets k task answer → rank (word_of task) ≤ rank (word_of (move_task timing now k answer task))
+rank_rises : (timing : Timing) (now k : ℕ) (task : Task) (answer : Answer) → Meets k task answer → rank (word_of_task task) ≤ rank (word_of_task (move_task timing now k answer task))
 rank_rises timing now k task (a.Submit j kind due) met =
-    let pick : (b : Bool) → rank (word_of task) ≤ rank (word_of (cond b (submit_phase timing due task.phase task) task)) =
+    let pick : (b : Bool) → rank (word_of_task task) ≤ rank (word_of_task (cond b (submit_phase timing due task.phase task) task)) =
     elim [ true ↦ submit_rank timing due task.phase task refl | false ↦ omega arith ]
     in
     pick (j == k)
 rank_rises timing now k task (a.Start u j run due) met =
-    let pick : (b : Bool) → (b ≡ true → (task.phase ≡ ph.Waiting) × (task.cancelled ≡ false)) → rank (word_of task) ≤ rank (word_of (cond b (record task { phase = ph.Running }) task)) =
+    let pick : (b : Bool) → (b ≡ true → (task.phase ≡ ph.Waiting) × (task.cancelled ≡ false)) → rank (word_of_task task) ≤ rank (word_of_task (cond b (record task { phase = ph.Running }) task)) =
     elim [
-      | true ↦ λ met. let waits : rank (word_of task) ≡ 1 + 2 * task.run = ap (λ p. rank_in (word_phase p) task.run) (met refl).0 in omega (arith, waits)
+      | true ↦ λ met. let waits : rank (word_of_task task) ≡ 1 + 2 * task.run = ap (λ p. rank_in (word_phase p) task.run) (met refl).0 in omega (arith, waits)
       | false ↦ λ met. omega arith
     ]
     in
     pick (j == k) met
 rank_rises timing now k task (a.Finish u j run outcome) met =
-    let pick : (b : Bool) → (b ≡ true → (task.phase ≡ ph.Running) × (task.cancelled ≡ true → outcome ≡ o.Dropped)) → rank (word_of task) ≤ rank (word_of (cond b (finish_task timing now outcome task) task)) =
+    let pick : (b : Bool) → (b ≡ true → (task.phase ≡ ph.Running) × (task.cancelled ≡ true → outcome ≡ o.Dropped)) → rank (word_of_task task) ≤ rank (word_of_task (cond b (finish_task timing now outcome task) task)) =
     elim [
-      | true ↦ λ met. let runs : rank (word_of task) ≡ rank_in (word_phase ph.Running) task.run = ap (λ p. rank_in (word_phase p) task.run) (met refl).0 in omega (arith, runs, end_rank task (due_past timing task.due now) outcome)
+      | true ↦ λ met. let runs : rank (word_of_task task) ≡ rank_in (word_phase ph.Running) task.run = ap (λ p. rank_in (word_phase p) task.run) (met refl).0 in omega (arith, runs, end_rank task (due_past timing task.due now) outcome)
       | false ↦ λ met. omega arith
     ]
     in
@@ -293,14 +293,14 @@ ranks_do_not_fall calls workers past e k m =
 -- ---- cancelled words
 
 -- a cancelled word has the bit, and its phase is live
-cancelled_parts : (task : Task) → is_cancelled (word_of task) ≡ true → (is_live (word_phase task.phase) ≡ true) × (task.cancelled ≡ true)
+cancelled_parts : (task : Task) → is_cancelled (word_of_task task) ≡ true → (is_live (word_phase task.phase) ≡ true) × (task.cancelled ≡ true)
 cancelled_parts task q = and_parts (is_live (word_phase task.phase)) task.cancelled q
 
 -- a task has the phase of its word and the run that it had
 abbrev Stands : Task → Task → Type 0
 Stands before after = (word_phase after.phase ≡ word_phase before.phase) × (after.run ≡ before.run)
 
-submit_stays : (timing : Timing) (due : ℕ) (p : Phase) (task : Task) → is_live (word_phase p) ≡ true → Stands task (submit_phase timing due p task)
+submit_stays : (timing : Timing) (due : ℕ) (p : Stage) (task : Task) → is_live (word_phase p) ≡ true → Stands task (submit_phase timing due p task)
 submit_stays timing due ph.Vacant task q = absurd (false≢true q)
 submit_stays timing due ph.Waiting task q = (refl, refl)
 submit_stays timing due ph.Running task q = (refl, refl)
@@ -332,7 +332,7 @@ marks_stay : (b marked : Bool) → marked ≡ true → (b || marked) ≡ marked
 marks_stay true marked q = sym q
 marks_stay false marked q = refl
 
-word_stays : (timing : Timing) (now k : ℕ) (task : Task) (answer : Answer) (cancelled kept : Bool) → Meets k task answer → is_cancelled (word_of task) ≡ true → word_of (moved_task timing now k answer cancelled kept task) ≡ word_of task
+word_stays : (timing : Timing) (now k : ℕ) (task : Task) (answer : Answer) (cancelled kept : Bool) → Meets k task answer → is_cancelled (word_of_task task) ≡ true → word_of_task (moved_task timing now k answer cancelled kept task) ≡ word_of_task task
 word_stays timing now k task answer cancelled kept met q =
     let parts = cancelled_parts task q in
     let stands = cancelled_stands timing now k task answer met parts.0 parts.1 in
@@ -347,7 +347,7 @@ cancelled_words_stay calls workers past e k m =
 
 -- ---- what a word says, phase by phase
 
-vacant_told : (p : Phase) → (word_phase p ≡ w.Vacant) ↔ (was_submitted p ≡ false)
+vacant_told : (p : Stage) → (word_phase p ≡ w.Vacant) ↔ (was_submitted p ≡ false)
 vacant_told ph.Vacant = (λ q. refl, λ q. refl)
 vacant_told ph.Waiting = (λ q. absurd cc, λ q. absurd (false≢true (sym q)))
 vacant_told ph.Running = (λ q. absurd cc, λ q. absurd (false≢true (sym q)))
@@ -355,7 +355,7 @@ vacant_told ph.Done = (λ q. absurd cc, λ q. absurd (false≢true (sym q)))
 vacant_told ph.Failed = (λ q. absurd cc, λ q. absurd (false≢true (sym q)))
 vacant_told ph.Dropped = (λ q. absurd cc, λ q. absurd (false≢true (sym q)))
 
-done_told : (p : Phase) → (word_phase p ≡ w.Done) ↔ (is_done_phase p ≡ true)
+done_told : (p : Stage) → (word_phase p ≡ w.Done) ↔ (is_done_phase p ≡ true)
 done_told ph.Vacant = (λ q. absurd cc, λ q. absurd (false≢true q))
 done_told ph.Waiting = (λ q. absurd cc, λ q. absurd (false≢true q))
 done_told ph.Running = (λ q. absurd cc, λ q. absurd (false≢true q))
@@ -363,7 +363,7 @@ done_told ph.Done = (λ q. refl, λ q. refl)
 done_told ph.Failed = (λ q. absurd cc, λ q. absurd (false≢true q))
 done_told ph.Dropped = (λ q. absurd cc, λ q. absurd (false≢true q))
 
-failed_told : (p : Phase) → (word_phase p ≡ w.Failed) ↔ (is_failed_phase p ≡ true)
+failed_told : (p : Stage) → (word_phase p ≡ w.Failed) ↔ (is_failed_phase p ≡ true)
 failed_told ph.Vacant = (λ q. absurd cc, λ q. absurd (false≢true q))
 failed_told ph.Waiting = (λ q. absurd cc, λ q. absurd (false≢true q))
 failed_told ph.Running = (λ q. absurd cc, λ q. absurd (false≢true q))
@@ -371,7 +371,7 @@ failed_told ph.Done = (λ q. absurd cc, λ q. absurd (false≢true q))
 failed_told ph.Failed = (λ q. refl, λ q. refl)
 failed_told ph.Dropped = (λ q. absurd cc, λ q. absurd (false≢true q))
 
-started_told : (p : Phase) (run : ℕ) → starts_of_word (word_phase p) run ≡ starts_of p run
+started_told : (p : Stage) (run : ℕ) → starts_of_word (word_phase p) run ≡ starts_of p run
 started_told ph.Vacant run = refl
 started_told ph.Waiting run = refl
 started_told ph.Running run = refl
@@ -382,24 +382,24 @@ started_told ph.Dropped run = refl
 -- a task in this phase is seen to be run, or to wait
 
 -- a task in the phase of a run is seen to run
-pub runs_seen : (terms : Terms) (p : Phase) (run due : ℕ) (cancelled kept : Bool) → p ≡ ph.Running → is_running (seen_phase terms p run due cancelled kept) ≡ true
+pub runs_seen : (terms : Terms) (p : Stage) (run due : ℕ) (cancelled kept : Bool) → p ≡ ph.Running → is_running (seen_phase terms p run due cancelled kept) ≡ true
 runs_seen terms p run due cancelled kept is = ap (λ p. is_running (seen_phase terms p run due cancelled kept)) is ∙ ap not apart
   where
     apart : (1 + run == run) ≡ false
     apart = grind (arith, nat_tests)
 
 -- a task in the phase of waiting that is not cancelled is seen to wait
-pub waits_seen : (terms : Terms) (p : Phase) (run due : ℕ) (cancelled kept : Bool) → p ≡ ph.Waiting → cancelled ≡ false → is_waiting (seen_phase terms p run due cancelled kept) ≡ true
+pub waits_seen : (terms : Terms) (p : Stage) (run due : ℕ) (cancelled kept : Bool) → p ≡ ph.Waiting → cancelled ≡ false → is_waiting (seen_phase terms p run due cancelled kept) ≡ true
 waits_seen terms p run due cancelled kept is live = (λ i. is_waiting (seen_phase terms (is i) run due (live i) kept)) ∙ is_seen_waiting terms run due kept
 
 -- only a task whose run is under way is seen to be run
-pub runs_in : (terms : Terms) (p : Phase) (run due : ℕ) (cancelled kept : Bool) → is_running (seen_phase terms p run due cancelled kept) ≡ true → p ≡ ph.Running
+pub runs_in : (terms : Terms) (p : Stage) (run due : ℕ) (cancelled kept : Bool) → is_running (seen_phase terms p run due cancelled kept) ≡ true → p ≡ ph.Running
 runs_in terms p run due cancelled kept = by p
   where
     still : (n : ℕ) → not (n == n) ≡ true → ⊥
     still n q = let same : (n == n) ≡ true = grind (arith, nat_tests) in false≢true (sym (ap not same) ∙ q)
 
-    by : (p : Phase) → is_running (seen_phase terms p run due cancelled kept) ≡ true → p ≡ ph.Running
+    by : (p : Stage) → is_running (seen_phase terms p run due cancelled kept) ≡ true → p ≡ ph.Running
     by ph.Vacant q = absurd (false≢true q)
     by ph.Waiting q = absurd (still run q)
     by ph.Running q = refl
@@ -408,7 +408,7 @@ runs_in terms p run due cancelled kept = by p
     by ph.Dropped q = absurd (still (1 + run) q)
 
 -- only a task that waits has a new word
-new_waits : (p : Phase) → word_phase p ≡ w.New → p ≡ ph.Waiting
+new_waits : (p : Stage) → word_phase p ≡ w.New → p ≡ ph.Waiting
 new_waits ph.Waiting q = refl
 new_waits ph.Vacant q = absurd cc
 new_waits ph.Running q = absurd cc
@@ -417,7 +417,7 @@ new_waits ph.Failed q = absurd cc
 new_waits ph.Dropped q = absurd cc
 
 -- and only one whose run is under way, or was dropped, has a running one
-running_runs : (p : Phase) → (p ≡ ph.Dropped → ⊥) → word_phase p ≡ w.Running → p ≡ ph.Running
+running_runs : (p : Stage) → (p ≡ ph.Dropped → ⊥) → word_phase p ≡ w.Running → p ≡ ph.Running
 running_runs ph.Running kept q = refl
 running_runs ph.Dropped kept q = absurd (kept refl)
 running_runs ph.Vacant kept q = absurd cc
@@ -438,7 +438,7 @@ running_told calls s k sound live =
       λ q. ap word_phase (runs_in (terms_of calls k) task.phase task.run task.due task.cancelled task.kept q),
     )
 
-unsubmitted : (p : Phase) → word_phase p ≡ w.Vacant → p ≡ ph.Vacant
+unsubmitted : (p : Stage) → word_phase p ≡ w.Vacant → p ≡ ph.Vacant
 unsubmitted ph.Vacant q = refl
 unsubmitted ph.Waiting q = absurd cc
 unsubmitted ph.Running q = absurd cc

@@ -12,10 +12,10 @@ use Rattle.executor_core.specs.declared.types.Happening.{Happening}
 use Rattle.executor_core.specs.declared.types.Happening.TheVariants as h
 use Rattle.executor_core.specs.declared.types.Answer.{Answer}
 use Rattle.executor_core.specs.declared.types.Answer.TheVariants as a
-use Rattle.executor_core.specs.declared.task.Phase.TheVariants as ph
+use Rattle.executor_core.specs.declared.task.Stage.TheVariants as ph
 use Rattle.queue_code.specs.Calls.{Planned, IsOrderly, how_many, numbers, task_count, terms_of, due_at}
 use Rattle.executor_core.specs.View.{Fate, View, is_running, is_waiting, first_enabled}
-use Rattle.executor_core.specs.Answers.{Reply, plain, reply, called, kind_of, swept, started, finished, is_queued, queue_size, running_count, is_terminated, effect_on}
+use Rattle.executor_core.specs.Answers.{Reply, bare, reply, called, kind_of, swept, start_answer, finish_answer, is_queued, queue_size, running_count, is_terminated, effect_on}
 use Rattle.executor_core.specs.Histories.{HistoryEntry, IsHistoryOf, view_of_history, happenings, is_submit, is_shutdown, cancels, was_accepted}
 use Rattle.executor_core.specs.State.{State, view_of_state, was_submitted, reply_of, next, after, move_task}
 use Rattle.executor_core.specs.own.Invariants.{IsSound}
@@ -71,7 +71,7 @@ call_over calls v (c.Illegal task) q = absurd q
 call_over calls v (c.Cancel task) q = absurd q
 call_over calls v (c.SetPolicy which value) q = absurd q
 call_over calls v c.Shutdown q =
-    let pick : (b : Bool) → AsksTerminated (cond b (plain a.ShutdownAgain) (record { answer = a.Shutdown; ends = swept calls v v.policies })).answer → ⊥ = elim [ true ↦ λ q. q | false ↦ λ q. q ] in
+    let pick : (b : Bool) → AsksTerminated (cond b (bare a.ShutdownAgain) (record { answer = a.Shutdown; ends = swept calls v v.policies })).answer → ⊥ = elim [ true ↦ λ q. q | false ↦ λ q. q ] in
     absurd (pick v.shut q)
 call_over calls v c.Ask q =
     let pick : (b : Bool) → AsksTerminated (a.Ask (queue_size calls v) (running_count calls v) v.shut b) → b ≡ true = elim [ true ↦ λ q. refl | false ↦ λ q. absurd q ] in
@@ -79,7 +79,7 @@ call_over calls v c.Ask q =
 
 over_says : (calls : List Planned) (workers : ℕ) (v : View) (y : Happening) → AsksTerminated (reply calls workers v y).answer → IsOver calls v
 over_says calls workers v h.Call =
-    let pick : (o : Option Planned) → AsksTerminated (option_map_or (λ p. called calls (record v { moment = max v.moment p.0 }) p.1) o (plain a.Clock)).answer → IsOver calls v =
+    let pick : (o : Option Planned) → AsksTerminated (option_map_or (λ p. called calls (record v { moment = max v.moment p.0 }) p.1) o (bare a.Clock)).answer → IsOver calls v =
     elim [ None ↦ λ q. absurd q | Some p ↦ call_over calls (record v { moment = max v.moment p.0 }) p.1 ]
     in
     pick (slice_get calls v.made)
@@ -87,13 +87,13 @@ over_says calls workers v (h.Clock t) =
     let pick : (b d : Bool) → AsksTerminated (cond b (a.Error x.Backward) (cond d (a.Error x.TooFar) a.Clock)) → IsOver calls v = elim [ true ↦ λ d q. absurd q | false ↦ elim [ true ↦ λ q. absurd q | false ↦ λ q. absurd q ] ] in
     pick _ _
 over_says calls workers v (h.Start u) =
-    let start : (o : Option ℕ) → AsksTerminated (started v u o) → IsOver calls v = elim [ None ↦ λ q. absurd q | Some j ↦ λ q. absurd q ] in
-    let pick : (b : Bool) (o : Option ℕ) → AsksTerminated (cond b (option_map_or (λ _. a.Error x.Busy) o (started v u (first_enabled v (numbers calls)))) (a.Error x.NoWorker)) → IsOver calls v =
+    let start : (o : Option ℕ) → AsksTerminated (start_answer v u o) → IsOver calls v = elim [ None ↦ λ q. absurd q | Some j ↦ λ q. absurd q ] in
+    let pick : (b : Bool) (o : Option ℕ) → AsksTerminated (cond b (option_map_or (λ _. a.Error x.Busy) o (start_answer v u (first_enabled v (numbers calls)))) (a.Error x.NoWorker)) → IsOver calls v =
     elim [ true ↦ elim [ None ↦ start (first_enabled v (numbers calls)) | Some j ↦ λ q. absurd q ] | false ↦ λ o q. absurd q ]
     in
     pick _ _
 over_says calls workers v (h.Finish u ending) =
-    let pick : (b : Bool) (o : Option ℕ) → AsksTerminated (cond b (finished calls v u ending o) (a.Error x.NoWorker)) → IsOver calls v =
+    let pick : (b : Bool) (o : Option ℕ) → AsksTerminated (cond b (finish_answer calls v u ending o) (a.Error x.NoWorker)) → IsOver calls v =
     elim [ true ↦ elim [ None ↦ λ q. absurd q | Some j ↦ λ q. absurd q ] | false ↦ λ o q. absurd q ]
     in
     pick _ _

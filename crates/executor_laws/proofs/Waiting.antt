@@ -15,7 +15,7 @@ use Rattle.executor_core.specs.declared.types.Answer.{Answer}
 use Rattle.executor_core.specs.declared.types.Answer.TheVariants as a
 use Rattle.queue_code.specs.Calls.{Planned, numbers, terms_of, due_at}
 use Rattle.executor_core.specs.View.{View, is_running, is_over, first_enabled}
-use Rattle.executor_core.specs.Answers.{plain, reply, called, kind_of, swept, started, finished, moment_after, effect_on}
+use Rattle.executor_core.specs.Answers.{bare, reply, called, kind_of, swept, start_answer, finish_answer, moment_after, effect_on}
 use Rattle.executor_core.specs.Histories.{HistoryEntry, IsHistoryOf, view_of_history, happenings, made, now_of, is_submit, is_finish, was_accepted, last_finish}
 use Rattle.executor_laws.specs.Positions.{IsSubmissionOf, WasSubmitted, WaitingIsATask, WaitingIsDueInTime, FinishedLast, LastFinishIsTheLast, FinishKeepsNow}
 use Rattle.executor_laws.proofs.Replies.{IsOfCall, call_answer}
@@ -42,14 +42,14 @@ call_submits calls v (c.Illegal task) k q = absurd (false≢true q)
 call_submits calls v (c.Cancel task) k q = absurd (false≢true q)
 call_submits calls v (c.SetPolicy which value) k q = absurd (false≢true q)
 call_submits calls v c.Shutdown k q =
-    let pick : (b : Bool) → is_submit k (cond b (plain a.ShutdownAgain) (record { answer = a.Shutdown; ends = swept calls v v.policies })).answer ≡ true → ⊥ = elim [ true ↦ λ q. false≢true q | false ↦ λ q. false≢true q ] in
+    let pick : (b : Bool) → is_submit k (cond b (bare a.ShutdownAgain) (record { answer = a.Shutdown; ends = swept calls v v.policies })).answer ≡ true → ⊥ = elim [ true ↦ λ q. false≢true q | false ↦ λ q. false≢true q ] in
     pick v.shut q
 call_submits calls v c.Ask k q = absurd (false≢true q)
 
 -- an answer that submits a task is that of a call that does
 pub submit_says : (calls : List Planned) (workers : ℕ) (v : View) (y : Happening) (k : ℕ) → is_submit k (reply calls workers v y).answer ≡ true → Submits calls v y k
 submit_says calls workers v h.Call k q =
-    let pick : (o : Option Planned) → slice_get calls v.made ≡ o → is_submit k (option_map_or (λ p. called calls (record v { moment = max v.moment p.0 }) p.1) o (plain a.Clock)).answer ≡ true → Submits calls v h.Call k =
+    let pick : (o : Option Planned) → slice_get calls v.made ≡ o → is_submit k (option_map_or (λ p. called calls (record v { moment = max v.moment p.0 }) p.1) o (bare a.Clock)).answer ≡ true → Submits calls v h.Call k =
     elim [
       | None ↦ λ there q. absurd (false≢true q)
       | Some p ↦ λ there q. record { call = p; is = refl; there = there; submits = call_submits calls (record v { moment = max v.moment p.0 }) p.1 k q }
@@ -60,13 +60,13 @@ submit_says calls workers v (h.Clock t) k q =
     let other : (b d : Bool) → is_submit k (cond b (a.Error x.Backward) (cond d (a.Error x.TooFar) a.Clock)) ≡ true → ⊥ = elim [ true ↦ λ d q. false≢true q | false ↦ elim [ true ↦ λ q. false≢true q | false ↦ λ q. false≢true q ] ] in
     absurd (other _ _ q)
 submit_says calls workers v (h.Start w) k q =
-    let start : (o : Option ℕ) → is_submit k (started v w o) ≡ true → ⊥ = elim [ None ↦ λ q. false≢true q | Some j ↦ λ q. false≢true q ] in
-    let other : (b : Bool) (o : Option ℕ) → is_submit k (cond b (option_map_or (λ _. a.Error x.Busy) o (started v w (first_enabled v (numbers calls)))) (a.Error x.NoWorker)) ≡ true → ⊥ =
+    let start : (o : Option ℕ) → is_submit k (start_answer v w o) ≡ true → ⊥ = elim [ None ↦ λ q. false≢true q | Some j ↦ λ q. false≢true q ] in
+    let other : (b : Bool) (o : Option ℕ) → is_submit k (cond b (option_map_or (λ _. a.Error x.Busy) o (start_answer v w (first_enabled v (numbers calls)))) (a.Error x.NoWorker)) ≡ true → ⊥ =
     elim [ true ↦ elim [ None ↦ λ q. start (first_enabled v (numbers calls)) q | Some j ↦ λ q. false≢true q ] | false ↦ λ o q. false≢true q ]
     in
     absurd (other _ _ q)
 submit_says calls workers v (h.Finish w ending) k q =
-    let other : (b : Bool) (o : Option ℕ) → is_submit k (cond b (finished calls v w ending o) (a.Error x.NoWorker)) ≡ true → ⊥ =
+    let other : (b : Bool) (o : Option ℕ) → is_submit k (cond b (finish_answer calls v w ending o) (a.Error x.NoWorker)) ≡ true → ⊥ =
     elim [ true ↦ elim [ None ↦ λ q. false≢true q | Some j ↦ λ q. false≢true q ] | false ↦ λ o q. false≢true q ]
     in
     absurd (other _ _ q)
@@ -186,7 +186,7 @@ unfinishing k _ of = refl
 
 finish_keeps : (calls : List Planned) (workers : ℕ) (v : View) (y : Happening) (k now : ℕ) (call : Option Planned) → is_finish k (reply calls workers v y).answer ≡ true → moment_after now call y ≡ now
 finish_keeps calls workers v h.Call k now call q =
-    let pick : (o : Option Planned) → is_finish k (option_map_or (λ p. called calls (record v { moment = max v.moment p.0 }) p.1) o (plain a.Clock)).answer ≡ true → ⊥ =
+    let pick : (o : Option Planned) → is_finish k (option_map_or (λ p. called calls (record v { moment = max v.moment p.0 }) p.1) o (bare a.Clock)).answer ≡ true → ⊥ =
     elim [ None ↦ λ q. false≢true q | Some p ↦ λ q. false≢true (sym (unfinishing k _ (call_answer calls (record v { moment = max v.moment p.0 }) p.1)) ∙ q) ]
     in
     absurd (pick (slice_get calls v.made) q)

@@ -6,14 +6,14 @@ use Rattle.std.specs.List.{All, list_any}
 use Rattle.std.proofs.lemmas.Bool.{false≢true, false_from_ne_true, eq-eqb, or_parts, or_left, or_right, or_from}
 use Rattle.std.proofs.lemmas.List.Elements.{All-nil, All-cons, All-map}
 use Rattle.task_word.specs.Words.{Parts, marked, is_live, is_cancelled}
-use Rattle.task_word.specs.Writes.{Kind, submit, start, done, fail, rearm, core_cancel, plain as plain_word, Writes, is_cancel}
+use Rattle.task_word.specs.Writes.{Kind, submit, start, done, fail, rearm, core_cancel, unmarked as plain_word, ChangesWord, sets_bit}
 use Rattle.task_word.specs.declared.phases.Phase.{Phase as WordPhase}
 use Rattle.task_word.specs.declared.phases.Phase.TheVariants as w
 use Rattle.queue_code.specs.declared.call.CodeCall.{CodeCall}
 use Rattle.queue_code.specs.declared.call.CodeCall.TheVariants as c
 use Rattle.queue_code.specs.Calls.{Planned, IsOrderly, task_count, terms_of}
-use Rattle.executor_core.specs.declared.task.Phase.{Phase}
-use Rattle.executor_core.specs.declared.task.Phase.TheVariants as ph
+use Rattle.executor_core.specs.declared.task.Stage.{Stage}
+use Rattle.executor_core.specs.declared.task.Stage.TheVariants as ph
 use Rattle.executor_core.specs.declared.task.Task.{Task}
 use Rattle.executor_core.specs.declared.types.CancelEffect.{CancelEffect}
 use Rattle.executor_core.specs.declared.types.CancelEffect.TheVariants as f
@@ -27,10 +27,10 @@ use Rattle.executor_core.specs.declared.types.Happening.TheVariants as h
 use Rattle.executor_core.specs.declared.types.Need.{Need}
 use Rattle.executor_core.specs.declared.types.Need.TheVariants as n
 use Rattle.executor_core.specs.View.{View}
-use Rattle.executor_core.specs.Answers.{Reply, plain, called, swept, set_policy, setting_sweeps, effect_on}
-use Rattle.executor_core.specs.Histories.{HistoryEntry, IsHistoryOf, happenings, made, is_submit, is_yes, is_end, is_ended, was_accepted}
+use Rattle.executor_core.specs.Answers.{Reply, bare, called, swept, set_policy, setting_sweeps, effect_on}
+use Rattle.executor_core.specs.Histories.{HistoryEntry, IsHistoryOf, happenings, made, is_submit, had_effect, is_end, is_ended, was_accepted}
 use Rattle.executor_core.specs.State.{State, view_of_state, seen_task, was_submitted, reply_of, after, task_after, submit_phase, finish_task}
-use Rattle.executor_core.specs.Tasks.{word_of, word_phase}
+use Rattle.executor_core.specs.Tasks.{word_of_task, word_phase}
 use Rattle.executor_core.specs.Needs.{need_of, need_of_answer, need_of_cancel, need_of_finish}
 use Rattle.executor_core.proofs.Agree.{after_agrees}
 use Rattle.executor_core.proofs.Sound.{waits_in}
@@ -49,7 +49,7 @@ abbrev word_with : Bool → Task → Parts
 word_with b t = record { phase = word_phase t.phase; run = t.run; marked = b }
 
 -- that of a task in this phase which is not cancelled
-plain_in : (t : Task) (p : Phase) → t.phase ≡ p → t.cancelled ≡ false → word_of t ≡ plain_word (word_phase p) t.run
+plain_in : (t : Task) (p : Stage) → t.phase ≡ p → t.cancelled ≡ false → word_of_task t ≡ plain_word (word_phase p) t.run
 plain_in t p is live = λ i. record { phase = word_phase (is i); run = t.run; marked = live i }
 
 same_eqb : (k : ℕ) → (k == k) ≡ true
@@ -67,7 +67,7 @@ plain_lives w p m e = ap is_cancelled e ∙ and_none (is_live p)
 
 -- the word of task k after it
 abbrev word_next : List Planned → State → Answer → List ℕ → ℕ → Parts
-word_next calls s answer ends k = word_of (task_after calls s (record { answer = answer; ends = ends }) k)
+word_next calls s answer ends k = word_of_task (task_after calls s (record { answer = answer; ends = ends }) k)
 
 record Knows (calls : List Planned) (s : State) (answer : Answer) (ends : List ℕ) : Type 0 where
   says : Says calls s answer
@@ -84,7 +84,7 @@ unswept calls s answer ends k knows apart = false_from_ne_true (is_end k ends) (
 -- ---- the writes that are named
 
 abbrev Written : List Planned → State → Answer → List ℕ → ℕ × Kind → Type 0
-Written calls s answer ends x = IsWritten calls x.0 x.1 (word_of (s.tasks x.0)) (word_next calls s answer ends x.0)
+Written calls s answer ends x = IsWritten calls x.0 x.1 (word_of_task (s.tasks x.0)) (word_next calls s answer ends x.0)
 
 -- one write alone
 one : (P : ℕ × Kind → Type 0) (x : ℕ × Kind) → P x → All P (x ∷ [])
@@ -96,15 +96,15 @@ of_ends P [] each = All-nil P
 of_ends P (k ∷ ends) each = All-cons P k ends (each k (or_left (k == k) (is_end k ends) (same_eqb k))) (of_ends P ends (λ j q. each j (or_right (k == j) (is_end j ends) q)))
 
 -- a write that is no cancel, of a task that is not cancelled
-exchange : (calls : List Planned) (s : State) (answer : Answer) (ends : List ℕ) (j : ℕ) (kind : Kind) (p : Phase) (r : WordPhase) (m : ℕ) → is_cancel kind ≡ false → j < task_count calls → (s.tasks j).phase ≡ p →
-    (s.tasks j).cancelled ≡ false → word_next calls s answer ends j ≡ plain_word r m → Writes kind (word_of (s.tasks j)) (word_next calls s answer ends j) → All (Written calls s answer ends) ((j, kind) ∷ [])
+exchange : (calls : List Planned) (s : State) (answer : Answer) (ends : List ℕ) (j : ℕ) (kind : Kind) (p : Stage) (r : WordPhase) (m : ℕ) → sets_bit kind ≡ false → j < task_count calls → (s.tasks j).phase ≡ p →
+    (s.tasks j).cancelled ≡ false → word_next calls s answer ends j ≡ plain_word r m → ChangesWord kind (word_of_task (s.tasks j)) (word_next calls s answer ends j) → All (Written calls s answer ends) ((j, kind) ∷ [])
 exchange calls s answer ends j kind p r m other low is live goes writes =
     let t = s.tasks j in
-    one (Written calls s answer ends) (j, kind) (low, writes, plain_lives (word_of t) (word_phase p) t.run (plain_in t p is live), plain_lives (word_next calls s answer ends j) r m goes ∙ sym other)
+    one (Written calls s answer ends) (j, kind) (low, writes, plain_lives (word_of_task t) (word_phase p) t.run (plain_in t p is live), plain_lives (word_next calls s answer ends j) r m goes ∙ sym other)
 
 -- a cancel of a task that waits or is run, and is not cancelled
 cancel : (calls : List Planned) (s : State) (answer : Answer) (ends : List ℕ) (j : ℕ) → j < task_count calls → is_live (word_phase (s.tasks j).phase) ≡ true → (s.tasks j).cancelled ≡ false →
-    word_next calls s answer ends j ≡ marked (word_of (s.tasks j)) → Written calls s answer ends (j, core_cancel)
+    word_next calls s answer ends j ≡ marked (word_of_task (s.tasks j)) → Written calls s answer ends (j, core_cancel)
 cancel calls s answer ends j low alive live is =
     let alive_phase = is_live (word_phase (s.tasks j).phase) in
     (low, is, ap (λ b. alive_phase && b) live ∙ and_none alive_phase, ap is_cancelled is ∙ ap (λ b. b && true) alive)
@@ -136,14 +136,14 @@ start_written calls s ends v j run due knows =
     exchange calls s (a.Start v j run due) ends j start ph.Waiting w.Running t.run refl (knows.tasks j (ap was_submitted found.0)) found.0 found.1 goes (t.run, plain_in t ph.Waiting found.0 found.1, goes)
 
 -- the word of task j after a cancel of it that has an effect
-cancelled_word : (ends : List ℕ) (j : ℕ) (effect : CancelEffect) (t : Task) → effect ≡ f.Yes → word_with ((((j == j) && is_yes effect) || (is_end j ends || false)) || t.cancelled) t ≡ marked (word_of t)
+cancelled_word : (ends : List ℕ) (j : ℕ) (effect : CancelEffect) (t : Task) → effect ≡ f.Yes → word_with ((((j == j) && had_effect effect) || (is_end j ends || false)) || t.cancelled) t ≡ marked (word_of_task t)
 cancelled_word ends j effect t has =
     let same = same_eqb j in
-    λ i. word_with (((same i && is_yes (has i)) || (is_end j ends || false)) || t.cancelled) t
+    λ i. word_with (((same i && had_effect (has i)) || (is_end j ends || false)) || t.cancelled) t
 
 -- a cancel, from the plan or from outside, with this effect
 cancel_written : (calls : List Planned) (s : State) (answer : Answer) (ends : List ℕ) (j : ℕ) (effect : CancelEffect) → Knows calls s answer ends → effect ≡ effect_on (seen_task (terms_of calls j) (s.tasks j)) →
-    (effect ≡ f.Yes → is_live (word_phase (s.tasks j).phase) ≡ true) → (effect ≡ f.Yes → word_next calls s answer ends j ≡ marked (word_of (s.tasks j))) → All (Written calls s answer ends) (writes_of (need_of_cancel j effect) ends)
+    (effect ≡ f.Yes → is_live (word_phase (s.tasks j).phase) ≡ true) → (effect ≡ f.Yes → word_next calls s answer ends j ≡ marked (word_of_task (s.tasks j))) → All (Written calls s answer ends) (writes_of (need_of_cancel j effect) ends)
 cancel_written calls s answer ends j f.Yes knows says alive goes =
     let t = s.tasks j in
     let accepted : (b : Bool) (rest : CancelEffect) → f.Yes ≡ cond b rest f.Absent → b ≡ true = elim [ true ↦ λ rest q. refl | false ↦ λ rest q. absurd cc ] in
@@ -208,7 +208,7 @@ finish_written calls s ends v j run o.Dropped found = All-nil (Written calls s (
 finish_written calls s ends v j run o.Ended found =
     let t = s.tasks j in
     let same = same_eqb j in
-    let goes : word_next calls s (a.Finish v j run o.Ended) ends j ≡ marked (word_of t) =
+    let goes : word_next calls s (a.Finish v j run o.Ended) ends j ≡ marked (word_of_task t) =
     (λ i. word_with ((false || (found.none i || (same i && true))) || t.cancelled) (cond (same i) (finish_task (terms_of calls j).timing s.moment o.Ended t) t))
     ∙ ap (λ p. record { phase = word_phase p; run = t.run; marked = true }) (sym found.runs)
     in
@@ -216,7 +216,7 @@ finish_written calls s ends v j run o.Ended found =
 
 -- a sweep, whose answer moves no task
 sweep_written : (calls : List Planned) (s : State) (answer : Answer) (ends : List ℕ) → Knows calls s answer ends →
-    ((k : ℕ) → is_end k ends ≡ true → word_next calls s answer ends k ≡ marked (word_of (s.tasks k))) → All (Written calls s answer ends) (map (λ k. (k, core_cancel)) ends)
+    ((k : ℕ) → is_end k ends ≡ true → word_next calls s answer ends k ≡ marked (word_of_task (s.tasks k))) → All (Written calls s answer ends) (map (λ k. (k, core_cancel)) ends)
 sweep_written calls s answer ends knows goes = All-map (Written calls s answer ends) (λ k. (k, core_cancel)) ends (of_ends (λ k. Written calls s answer ends (k, core_cancel)) ends (λ k q.
     let found = knows.ended k q in cancel calls s answer ends k (knows.tasks k (ap was_submitted found.0)) (ap (λ p. is_live (word_phase p)) found.0) found.1 (goes k q)))
 
@@ -266,11 +266,11 @@ unended k (n.Cancel j) ends none sweeps = false_from_ne_true (is_end k ends) (λ
 
 -- the word of a task that an answer neither moves nor cancels
 abbrev Stays : List Planned → State → Answer → List ℕ → ℕ → Type 0
-Stays calls s answer ends k = word_next calls s answer ends k ≡ word_of (s.tasks k)
+Stays calls s answer ends k = word_next calls s answer ends k ≡ word_of_task (s.tasks k)
 
 -- after a cancel of task j
 cancel_stays : (ends : List ℕ) (j k : ℕ) (effect : CancelEffect) (t : Task) → is_end k ends ≡ false → Unnamed k (writes_of (need_of_cancel j effect) ends) →
-    word_with ((((j == k) && is_yes effect) || (is_end k ends || false)) || t.cancelled) t ≡ word_of t
+    word_with ((((j == k) && had_effect effect) || (is_end k ends || false)) || t.cancelled) t ≡ word_of_task t
 cancel_stays ends j k f.Yes t none unnamed = let apart = named j k core_cancel unnamed in λ i. word_with (((apart i && true) || (none i || false)) || t.cancelled) t
 cancel_stays ends j k f.No t none unnamed = let off = and_none (j == k) in λ i. word_with ((off i || (none i || false)) || t.cancelled) t
 cancel_stays ends j k f.Absent t none unnamed = let off = and_none (j == k) in λ i. word_with ((off i || (none i || false)) || t.cancelled) t
@@ -332,7 +332,7 @@ call_sweeps calls s moment (c.SetPolicy which value) k q =
     pick (setting_sweeps s.shut which value) q
 call_sweeps calls s moment c.Shutdown k q =
     let all = swept calls (record (view_of_state calls s) { moment = moment }) s.policies in
-    let reply : Bool → Reply = λ b. cond b (plain a.ShutdownAgain) (record { answer = a.Shutdown; ends = all }) in
+    let reply : Bool → Reply = λ b. cond b (bare a.ShutdownAgain) (record { answer = a.Shutdown; ends = all }) in
     let pick : (b : Bool) → is_end k (reply b).ends ≡ true → need_of_answer s.shut (reply b).answer ≡ n.Sweep = elim [ true ↦ λ q. absurd (false≢true q) | false ↦ λ q. refl ] in
     pick s.shut q
 call_sweeps calls s moment c.Ask k q = absurd (false≢true q)
@@ -340,7 +340,7 @@ call_sweeps calls s moment c.Ask k q = absurd (false≢true q)
 -- where the step of a happening ends a task, its need is a sweep
 end_sweeps : (calls : List Planned) (workers : ℕ) (s : State) (happening : Happening) (k : ℕ) → is_end k (reply_of calls workers s happening).ends ≡ true → need_of calls workers s happening ≡ n.Sweep
 end_sweeps calls workers s h.Call k q =
-    let reply : Option Planned → Reply = λ p. option_map_or (λ (p : Planned). reply_at calls s (max s.moment p.0) p.1) p (plain a.Clock) in
+    let reply : Option Planned → Reply = λ p. option_map_or (λ (p : Planned). reply_at calls s (max s.moment p.0) p.1) p (bare a.Clock) in
     let pick : (p : Option Planned) → is_end k (reply p).ends ≡ true → need_of_answer s.shut (reply p).answer ≡ n.Sweep = elim [ None ↦ λ q. absurd (false≢true q) | Some p ↦ call_sweeps calls s (max s.moment p.0) p.1 k ] in
     pick (slice_get calls s.made) q
 end_sweeps calls workers s (h.Clock moment) k q = absurd (false≢true q)
@@ -348,7 +348,7 @@ end_sweeps calls workers s (h.Start v) k q = absurd (false≢true q)
 end_sweeps calls workers s (h.Finish v ending) k q = absurd (false≢true q)
 end_sweeps calls workers s (h.Cancel j) k q = absurd (false≢true q)
 
-is_vacant : (p : Phase) → was_submitted p ≡ false → p ≡ ph.Vacant
+is_vacant : (p : Stage) → was_submitted p ≡ false → p ≡ ph.Vacant
 is_vacant ph.Vacant q = refl
 is_vacant ph.Waiting q = absurd (false≢true (sym q))
 is_vacant ph.Running q = absurd (false≢true (sym q))

@@ -18,10 +18,10 @@ use Rattle.executor_core.specs.declared.types.Answer.TheVariants as a
 use Rattle.executor_core.specs.declared.types.Need.{Need}
 use Rattle.executor_core.specs.declared.types.Need.TheVariants as n
 use Rattle.executor_core.specs.View.{is_waiting, is_enabled, first_enabled}
-use Rattle.executor_core.specs.Answers.{plain, queue_size, is_terminated}
+use Rattle.executor_core.specs.Answers.{bare, queue_size, is_terminated}
 use Rattle.executor_core.specs.Histories.{HistoryEntry, IsHistoryOf, happenings, is_call, is_end}
 use Rattle.executor_core.specs.State.{State, view_of_state, after, next, reply_of}
-use Rattle.executor_core.specs.Tasks.{word_of}
+use Rattle.executor_core.specs.Tasks.{word_of_task}
 use Rattle.executor_core.specs.Needs.{need_of}
 use Rattle.executor_laws.specs.NeedWrites.{writes_of}
 
@@ -42,12 +42,12 @@ outside_answer calls k word = if nat_lt k (task_count calls) then a.Outside k (e
 
 -- in this state cancels of task k go by its word
 pub record CancelsByWord (calls : List Planned) (workers : ℕ) (s : State) (k : ℕ) : Type 0 where
-  pub outside : reply_of calls workers s (h.Cancel k) ≡ plain (outside_answer calls k (word_of (s.tasks k)))
+  pub outside : reply_of calls workers s (h.Cancel k) ≡ bare (outside_answer calls k (word_of_task (s.tasks k)))
   -- the plan's own cancel does the same
   pub planned : (happening : Happening) (effect : CancelEffect) → (reply_of calls workers s happening).answer ≡ a.Cancel k effect
-      → effect ≡ effect_on_word (word_of (s.tasks k)).phase (word_of (s.tasks k)).marked
+      → effect ≡ effect_on_word (word_of_task (s.tasks k)).phase (word_of_task (s.tasks k)).marked
   -- only a task of the calls has a word that is not vacant
-  pub task : (word_of (s.tasks k)).phase ≢ w.Vacant → k < task_count calls
+  pub task : (word_of_task (s.tasks k)).phase ≢ w.Vacant → k < task_count calls
 
 -- after each history of some calls a cancel goes by the word of its task
 abbrev pub CancelsGoByWords : Type 0
@@ -79,7 +79,7 @@ need_instead calls s _ = n.Nothing
 pub record TouchesOneTask (calls : List Planned) (workers : ℕ) (s t : State) (j : ℕ) : Type 0 where
   pub rest : t ≡ record s { tasks = t.tasks }
   pub others : (k : ℕ) → k ≢ j → t.tasks k ≡ s.tasks k
-  pub word : word_of (t.tasks j) ≡ marked (word_of (s.tasks j))
+  pub word : word_of_task (t.tasks j) ≡ marked (word_of_task (s.tasks j))
   -- that task is kept where it waited and the remove policy is false
   pub own : t.tasks j ≡ record (s.tasks j) { cancelled = true; kept = (s.tasks j).kept || (is_waiting ((view_of_state calls s).fate j) && not s.policies.removes) }
   -- a start finds the same tasks but that one

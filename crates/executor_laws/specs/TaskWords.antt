@@ -10,11 +10,11 @@ use Rattle.queue_code.specs.Calls.{Planned}
 use Rattle.executor_core.specs.View.{is_waiting, is_running}
 use Rattle.executor_core.specs.Histories.{HistoryEntry, IsHistoryOf, view_of_history, happenings, starts, was_accepted, was_cancelled, was_done, was_failed}
 use Rattle.executor_core.specs.State.{State, after, next, reply_of}
-use Rattle.executor_core.specs.Tasks.{word_of}
+use Rattle.executor_core.specs.Tasks.{word_of_task}
 
 -- the word of task k in the state that a history leads to
 abbrev pub word_after : List Planned → ℕ → List HistoryEntry → ℕ → Parts
-word_after calls workers past k = word_of ((after calls workers (happenings past)).tasks k)
+word_after calls workers past k = word_of_task ((after calls workers (happenings past)).tasks k)
 
 -- how often a task has started, by the phase and the run of its word: a vacant one never, one that waits once for
 -- each run before `run`, and any other one for that run too

@@ -3,7 +3,7 @@ ghost use Rattle.std.specs.Prelude.{◌≡◌, ◌↔◌, true};
 
 use executor_core::{
     Answer, CancelEffect, CoreError, Event, EventError, Happening, Kind, Line, Message, Need,
-    Outcome, Phase, Policies, Refusal, Task,
+    Outcome, Policies, Refusal, Stage, Task,
 };
 
 /// Two errors of a core compare as equal exactly when they are the same.
@@ -13,7 +13,7 @@ pub fn core_error_equality_tells()
 
 /// Two phases compare as equal exactly when they are the same.
 pub fn phase_equality_tells()
-    ensures { (a b : Phase) → (⟦<Phase as PartialEq>⟧.eq a b ≡ true) ↔ (a ≡ b) }
+    ensures { (a b : Stage) → (⟦<Stage as PartialEq>⟧.eq a b ≡ true) ↔ (a ≡ b) }
 {}
 
 /// Two tasks compare as equal exactly when they are the same.

@@ -9,8 +9,8 @@ use Rattle.executor_core.specs.declared.types.Event.{Event}
 use Rattle.executor_core.specs.declared.types.Happening.{Happening}
 use Rattle.executor_core.specs.declared.types.Happening.TheVariants as h
 use Rattle.executor_core.specs.declared.types.Answer.TheVariants as a
-use Rattle.queue_code.specs.Calls.{Planned, how_many, task_count, is_submission}
-use Rattle.executor_core.specs.Answers.{plain, called}
+use Rattle.queue_code.specs.Calls.{Planned, how_many, task_count, submits_task}
+use Rattle.executor_core.specs.Answers.{bare, called}
 use Rattle.executor_core.specs.Histories.{HistoryEntry, happenings, made, is_call, is_start, is_finish, starts, finishes, view_of_history, now_of, answer}
 use Rattle.executor_core.specs.Flows.{history_from, history_of, part_of, calls_before}
 use Rattle.executor_core.proofs.Flowing.{how_many-le, history_more}
@@ -31,7 +31,7 @@ finishes_le k past = how_many-le (λ (e : HistoryEntry). is_finish k e.answer) p
 
 -- no more tasks are submitted than there are calls
 pub task_count_le : (calls : List Planned) → task_count calls ≤ length calls
-task_count_le calls = how_many-le (λ (p : Planned). is_submission p.1) calls
+task_count_le calls = how_many-le (λ (p : Planned). submits_task p.1) calls
 
 -- counts and lists of numbers
 
@@ -66,7 +66,7 @@ pub call_replies : (calls : List Planned) (workers n moment : ℕ) (past : List 
 call_replies calls workers n moment past happening call is count found =
     let v = view_of_history calls past in
     ap (λ (x : Happening). answer calls workers past x) is
-    ∙ ap (λ (q : Option Planned). option_map_or (λ (p : Planned). called calls (record v { moment = max v.moment p.0 }) p.1) q (plain a.Clock)) (sym (found ∙ ap (slice_get calls) count))
+    ∙ ap (λ (q : Option Planned). option_map_or (λ (p : Planned). called calls (record v { moment = max v.moment p.0 }) p.1) q (bare a.Clock)) (sym (found ∙ ap (slice_get calls) count))
 
 -- one call more in a history
 pub one_call : (calls : List Planned) (workers n : ℕ) (start past new : List HistoryEntry) →

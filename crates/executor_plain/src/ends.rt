@@ -2,7 +2,7 @@ ghost use Rattle.std.specs.Prelude.{◌≡◌, IfOk};
 ghost use Rattle.queue_code.specs.Calls.{IsOrderly};
 ghost use Rattle.executor_core.specs.Answers as answers;
 ghost use Rattle.executor_core.specs.Histories as histories;
-ghost use Rattle.executor_core.specs.Within.{IsAnswered};
+ghost use Rattle.executor_core.specs.Within.{IsAnsweredByTable};
 ghost use Rattle.executor_plain.specs.own.Plain.{IsAnsweredBySome};
 
 use crate::history::{Past, call_at, made, now_of, policies_of, was_shut};
@@ -27,7 +27,7 @@ pub fn ends_after<A: Allocator>(
     happening: Happening,
 ) -> Result<Vec<u32, A>, AllocError>
     requires orderly { IsOrderly calls.now }
-    requires answered { IsAnswered calls.now workers past.now }
+    requires answered { IsAnsweredByTable calls.now workers past.now }
     ensures { IfOk result (λ ends. ends.items ≡ (histories.answer calls.now workers past.now happening).ends) }
 {
     match happening {

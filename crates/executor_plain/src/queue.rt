@@ -1,7 +1,7 @@
 ghost use Rattle.std.specs.Prelude.{◌≡◌, ℕ, ◌+◌, ◌≤◌};
 ghost use Rattle.std.specs.List.{range_with_len};
 ghost use Rattle.queue_code.specs.declared.call.CodeCall.TheVariants as call;
-ghost use Rattle.queue_code.specs.Calls.{IsOrderly, how_many, most_calls};
+ghost use Rattle.queue_code.specs.Calls.{IsOrderly, how_many, most_calls_of_code};
 ghost use Rattle.executor_core.specs.View as views;
 ghost use Rattle.executor_core.specs.Answers as answers;
 ghost use Rattle.executor_core.specs.Histories as histories;
@@ -32,7 +32,7 @@ fn count_queued<A: Allocator>(
 ) -> u32
     requires orderly { IsOrderly calls.now }
     requires answered { IsAnsweredBySome calls.now past.now }
-    requires within { from + count ≤ most_calls }
+    requires within { from + count ≤ most_calls_of_code }
     ensures { result ≡ how_many (λ k. answers.is_queued ((histories.view_of_history calls.now past.now).fate k)) (range_with_len from count) }
 {
     if count == 0 {
@@ -53,7 +53,7 @@ fn count_running<A: Allocator>(
     from: u32,
     count: u32,
 ) -> u32
-    requires { from + count ≤ most_calls }
+    requires { from + count ≤ most_calls_of_code }
     ensures { result ≡ how_many (λ k. views.is_running ((histories.view_of_history calls.now past.now).fate k)) (range_with_len from count) }
 {
     if count == 0 {

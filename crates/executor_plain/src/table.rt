@@ -4,7 +4,7 @@ ghost use Rattle.executor_core.specs.declared.types.Happening.TheVariants as hap
 ghost use Rattle.queue_code.specs.Calls.{IsOrderly, terms_of};
 ghost use Rattle.executor_core.specs.Answers as answers;
 ghost use Rattle.executor_core.specs.Histories as histories;
-ghost use Rattle.executor_core.specs.Within.{IsAnswered};
+ghost use Rattle.executor_core.specs.Within.{IsAnsweredByTable};
 ghost use Rattle.executor_plain.specs.own.Plain.{IsAnsweredBySome};
 
 use crate::history::{
@@ -30,7 +30,7 @@ pub fn answer_after<A: Allocator>(
     happening: Happening,
 ) -> Answer
     requires orderly { IsOrderly calls.now }
-    requires answered { IsAnswered calls.now workers past.now }
+    requires answered { IsAnsweredByTable calls.now workers past.now }
     ensures { result ≡ (histories.answer calls.now workers past.now happening).answer }
 {
     match happening {

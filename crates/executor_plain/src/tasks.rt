@@ -1,6 +1,6 @@
 ghost use Rattle.std.specs.Prelude.{◌≡◌, ◌+◌, ◌≤◌, length, nat_le};
 ghost use Rattle.std.specs.List.{range_with_len};
-ghost use Rattle.queue_code.specs.Calls.{IsOrderly, most_calls, task_count, terms_of, due_at};
+ghost use Rattle.queue_code.specs.Calls.{IsOrderly, most_calls_of_code, task_count, terms_of, due_at};
 ghost use Rattle.executor_core.specs.View as views;
 ghost use Rattle.executor_core.specs.Answers as answers;
 ghost use Rattle.executor_core.specs.Histories as histories;
@@ -113,7 +113,7 @@ pub(crate) fn effect_on<A: Allocator>(
 
 /// Whether a cancel of a task would have an effect.
 fn is_live<A: Allocator>(calls: &[(u64, CodeCall)], past: &[Past<A>], k: u32) -> bool
-    ensures { result ≡ views.is_live ((histories.view_of_history calls.now past.now).fate k) }
+    ensures { result ≡ views.is_cancellable ((histories.view_of_history calls.now past.now).fate k) }
 {
     is_waiting(calls, past, k) || (is_running(calls, past, k) && !was_cancelled(k, past))
 }
@@ -178,7 +178,7 @@ pub(crate) fn first_enabled<A: Allocator>(
 ) -> Option<u32>
     requires orderly { IsOrderly calls.now }
     requires answered { IsAnsweredBySome calls.now past.now }
-    requires within { from + count ≤ most_calls }
+    requires within { from + count ≤ most_calls_of_code }
     ensures { result ≡ views.first_enabled (histories.view_of_history calls.now past.now) (range_with_len from count) }
 {
     if count == 0 {
@@ -194,7 +194,7 @@ pub(crate) fn first_enabled<A: Allocator>(
 
 /// How many tasks the calls submit.
 pub(crate) fn count_tasks(calls: &[(u64, CodeCall)]) -> u32
-    requires { length calls.now ≤ most_calls }
+    requires { length calls.now ≤ most_calls_of_code }
     ensures { result ≡ task_count calls.now }
 {
     match calls {

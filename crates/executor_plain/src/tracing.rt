@@ -3,7 +3,7 @@ ghost use Rattle.executor_core.specs.declared.types.Happening.TheVariants as hap
 ghost use Rattle.queue_code.specs.Calls.{IsOrderly, how_many};
 ghost use Rattle.executor_core.specs.Histories as histories;
 ghost use Rattle.executor_core.specs.Flows as flows;
-ghost use Rattle.executor_core.specs.Within.{IsAnswered};
+ghost use Rattle.executor_core.specs.Within.{IsAnsweredByTable};
 
 use crate::ends::ends_after;
 use crate::history::{Past, is_accepted, made, now_of};
@@ -111,7 +111,7 @@ fn happen<A: Allocator + Copy>(
     happening: Happening,
 ) -> Result<(), AllocError>
     requires orderly { IsOrderly calls.now }
-    requires answered { IsAnswered calls.now workers past.old.items }
+    requires answered { IsAnsweredByTable calls.now workers past.old.items }
     ensures { OnOk result (past.new.items ≡ flows.history_from calls.now workers past.old.items (happening ∷ [])) }
 {
     let answer = answer_after(calls, workers, past, happening);
@@ -134,7 +134,7 @@ fn make_calls<A: Allocator + Copy>(
     count: usize,
 ) -> Result<(), AllocError>
     requires orderly { IsOrderly calls.now }
-    requires answered { IsAnswered calls.now workers past.old.items }
+    requires answered { IsAnsweredByTable calls.now workers past.old.items }
     ensures { OnOk result (past.new.items ≡ flows.history_from calls.now workers past.old.items (replicate count happening.Call)) }
 {
     for _made in 0..count {
@@ -152,7 +152,7 @@ fn take_event<A: Allocator + Copy>(
     event: Event,
 ) -> Result<(), AllocError>
     requires orderly { IsOrderly calls.now }
-    requires answered { IsAnswered calls.now workers past.old.items }
+    requires answered { IsAnsweredByTable calls.now workers past.old.items }
     ensures { OnOk result (past.new.items ≡ flows.history_from calls.now workers past.old.items
         (flows.part_of calls.now (histories.made (histories.happenings past.old.items)) (histories.now_of calls.now (histories.happenings past.old.items)) event)) }
 {

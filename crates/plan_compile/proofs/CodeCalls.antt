@@ -13,7 +13,7 @@ use Rattle.plan_read.specs.declared.plans.Header.{Header}
 use Rattle.plan_read.specs.declared.plans.Op.{Op}
 use Rattle.plan_read.specs.declared.plans.Op.TheVariants as ops
 use Rattle.plan_read.specs.Plans.{BlockTree, PlanTree, tasks_after, tasks_after_calls, AreBlocksAfter, IsOrdered}
-use Rattle.plan_compile.specs.PlanCalls.{code_call, calls_at, block_tasks, block_iteration, block_iterations, calls_of_blocks, calls_of}
+use Rattle.plan_compile.specs.PlanCalls.{code_call, calls_at, block_tasks, block_iteration, block_iterations, calls_of_blocks, calls_of_plan}
 use Rattle.plan_compile.specs.PlanCode.{instr_of, instrs_at, block_instrs, instrs_from, instrs_of}
 use Rattle.plan_compile.proofs.Counting.{tasks_after_calls-from, iterations-more}
 use Rattle.plan_compile.proofs.Ordering.{no_iterations}
@@ -190,5 +190,5 @@ blocks_are earlier (b ∷ bs) firsts first ordered =
     ∙ ap (λ (ps : List Planned). block_iterations firsts first b b.header.times ++ ps) (blocks_are (earlier ++ b ∷ []) bs (firsts ++ first ∷ []) (first + b.header.times * block_tasks b) ordered.1)
 
 -- the code of a plan makes the plan's calls
-pub code_makes_calls : (blocks : PlanTree) → IsOrdered blocks → code_calls (instrs_of blocks) ≡ calls_of blocks
+pub code_makes_calls : (blocks : PlanTree) → IsOrdered blocks → code_calls (instrs_of blocks) ≡ calls_of_plan blocks
 code_makes_calls blocks ordered = blocks_are [] blocks [] 0 ordered.1

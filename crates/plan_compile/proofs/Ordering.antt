@@ -13,7 +13,7 @@ use Rattle.plan_read.specs.declared.plans.Target.{Target}
 use Rattle.plan_read.specs.Plans.{BlockTree, PlanTree, is_submission, names_of, tasks_after, tasks_after_calls, last_offset, last_offset_from, end_of, end_of_block, made_by, made_from, IsWithinLimits, StandsBefore, IsAimed, AreCallsAfter, IsBlockAfter, AreBlocksAfter, IsOrdered}
 use Rattle.plan_read.proofs.Accepted.{end_from_one_more, made_from_one_more}
 use Rattle.plan_read.proofs.Naming.{tasks_after-one_more}
-use Rattle.plan_compile.specs.PlanCalls.{number_of, code_call, calls_at, block_tasks, block_iteration, block_iterations, calls_of_blocks, calls_of}
+use Rattle.plan_compile.specs.PlanCalls.{number_of, code_call, calls_at, block_tasks, block_iteration, block_iterations, calls_of_blocks, calls_of_plan}
 use Rattle.plan_compile.specs.own.PlanCode.{IsBelow}
 use Rattle.plan_compile.proofs.Counting.{tasks_after_calls-from, length-names_of, length-calls_from, times-suc}
 use Rattle.plan_compile.proofs.Runs.{Runs, runs_orderly, runs_earlier, runs_later, runs_append}
@@ -228,7 +228,7 @@ made_within earlier (b ∷ bs) ordered few =
     rw (made_from_one_more 0 earlier b) at (made_within (earlier ++ b ∷ []) bs ordered.1 (rw (made_from_one_more 0 earlier b) ordered.0.total))
 
 -- the calls of a plan are in order
-pub plan_orderly : (blocks : PlanTree) → IsOrdered blocks → IsOrderly (calls_of blocks)
+pub plan_orderly : (blocks : PlanTree) → IsOrdered blocks → IsOrderly (calls_of_plan blocks)
 plan_orderly blocks ordered =
     let all = blocks_run [] blocks [] 0 ordered.1 firsts_start in
-    (omega (arith, length-calls_from [] 0 0 blocks, made_within [] blocks ordered.1 (omega arith)), runs_orderly 0 0 (calls_of blocks) all.0 all.1 all.2)
+    (omega (arith, length-calls_from [] 0 0 blocks, made_within [] blocks ordered.1 (omega arith)), runs_orderly 0 0 (calls_of_plan blocks) all.0 all.1 all.2)

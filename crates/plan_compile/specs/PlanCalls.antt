@@ -57,5 +57,5 @@ calls_of_blocks firsts first (b ∷ bs) =
     block_iterations firsts first b b.header.times ++ calls_of_blocks (firsts ++ first ∷ []) (first + b.header.times * block_tasks b) bs
 
 -- the calls of a plan with their moments: block by block, iteration by iteration, call by call
-abbrev pub calls_of : PlanTree → List (ℕ × CodeCall)
-calls_of blocks = calls_of_blocks [] 0 blocks
+abbrev pub calls_of_plan : PlanTree → List (ℕ × CodeCall)
+calls_of_plan blocks = calls_of_blocks [] 0 blocks

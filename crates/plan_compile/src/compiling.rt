@@ -3,7 +3,7 @@
 ghost use Rattle.std.specs.Prelude.{◌≡◌, IfOk};
 ghost use Rattle.std.specs.List.{All};
 ghost use Rattle.queue_code.specs.Codes.{calls_of as code_calls};
-ghost use Rattle.plan_compile.specs.PlanCalls.{calls_of};
+ghost use Rattle.plan_compile.specs.PlanCalls.{calls_of_plan};
 ghost use Rattle.plan_compile.specs.PlanCode.{instrs_of, HasNoZeroPeriod};
 
 use crate::emitting::emit;
@@ -21,7 +21,7 @@ pub fn compile<A: Allocator + Copy, B: Allocator>(
     alloc: A,
     plan: &Plan<B>,
 ) -> Result<Code<A>, CompileFault>
-    ensures calls { IfOk result (λ code. code_calls code ≡ calls_of plan.now) }
+    ensures calls { IfOk result (λ code. code_calls code ≡ calls_of_plan plan.now) }
     ensures code { IfOk result (λ code. code ≡ instrs_of plan.now) }
     ensures periods { IfOk result (λ code. All HasNoZeroPeriod code) }
 {

@@ -1,7 +1,7 @@
 //! The instructions of a plan, block by block.
 
 ghost use Rattle.std.specs.Prelude.{◌≡◌, ℕ, ◌+◌, ◌*◌, ◌≤◌, ◌++◌, nat_lt, length, IfOk};
-ghost use Rattle.queue_code.specs.Calls.{most_calls};
+ghost use Rattle.queue_code.specs.Calls.{most_calls_of_code};
 ghost use Rattle.plan_read.specs.Plans.{tasks_after_calls, IsOrdered};
 ghost use Rattle.plan_compile.specs.PlanCalls.{block_tasks};
 ghost use Rattle.plan_compile.specs.PlanCode.{instrs_at, block_instrs, instrs_of};
@@ -79,7 +79,7 @@ fn emit_calls<A: Allocator, B: Allocator>(
 
 /// How many submissions each iteration of some calls makes.
 fn tasks_of(calls: &[Call]) -> u32
-    requires { length calls.now ≤ most_calls }
+    requires { length calls.now ≤ most_calls_of_code }
     ensures { result ≡ tasks_after_calls 0 calls.now }
 {
     let mut task = 0;

@@ -2,7 +2,7 @@
 
 ghost use Rattle.std.specs.Prelude.{◌≡◌, ◌≤◌};
 ghost use Rattle.sched_time.specs.Times.{longest};
-ghost use Rattle.queue_code.specs.Calls.{most_calls};
+ghost use Rattle.queue_code.specs.Calls.{most_calls_of_code};
 ghost use Rattle.plan_compile.specs.PlanCalls.{number_of};
 ghost use Rattle.plan_compile.specs.PlanCode.{cancel_instr, instr_of};
 ghost use Rattle.plan_compile.specs.own.PlanCode.{IsBelow};
@@ -18,7 +18,7 @@ use sched_time::Timing;
 /// A submission with a period, or a fixed delay, that is zero or negative is an illegal one.
 pub fn instr_of(firsts: &[u32], first: u32, repeated: bool, offset: u64, op: &Op) -> Instr
     requires offset { offset ≤ longest }
-    requires target { IsBelow firsts.now first most_calls op.now }
+    requires target { IsBelow firsts.now first most_calls_of_code op.now }
     ensures { result ≡ instr_of firsts.now first repeated offset op.now }
 {
     match op {
@@ -44,7 +44,7 @@ pub fn instr_of(firsts: &[u32], first: u32, repeated: bool, offset: u64, op: &Op
 /// The instruction of a cancel: in a repeated block, a submission of the same iteration is named by its place in it,
 /// and every other one by its number in the plan.
 fn cancel_instr(firsts: &[u32], first: u32, repeated: bool, offset: u64, target: Target) -> Instr
-    requires { number_of firsts.now first target ≤ most_calls }
+    requires { number_of firsts.now first target ≤ most_calls_of_code }
     ensures { result ≡ cancel_instr firsts.now first repeated offset target }
 {
     let is_own = firsts.get(target.block).is_none();

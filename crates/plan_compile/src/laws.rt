@@ -1,16 +1,16 @@
 //! What holds of the calls of each plan, and of the limits on its text and its calls.
 ghost use Rattle.std.specs.Prelude.{◌≡◌, ◌↔◌, ℕ, List, true};
-ghost use Rattle.queue_code.specs.Calls.{IsOrderly, most_calls};
+ghost use Rattle.queue_code.specs.Calls.{IsOrderly, most_calls_of_code};
 ghost use Rattle.plan_read.specs.Plans.{PlanTree, most_calls as most_calls_of_plan};
 ghost use Rattle.plan_read.specs.Texts.{TextWrites, longest_text};
-ghost use Rattle.plan_compile.specs.PlanCalls.{calls_of};
+ghost use Rattle.plan_compile.specs.PlanCalls.{calls_of_plan};
 
 use crate::fault::CompileFault;
 use plan_read::{LONGEST_TEXT, plans_are_ordered};
 
 /// The calls of each plan that a text writes are in order, as the executor takes them and as its laws ask.
 pub fn calls_are_in_order()
-    ensures { (text : List ℕ) (plan : PlanTree) → TextWrites text plan → IsOrderly (calls_of plan) }
+    ensures { (text : List ℕ) (plan : PlanTree) → TextWrites text plan → IsOrderly (calls_of_plan plan) }
 {
     plans_are_ordered();
 }
@@ -18,7 +18,7 @@ pub fn calls_are_in_order()
 /// A plan may make as many calls as a code may: the two limits are one number. And
 /// [`LONGEST_TEXT`](plan_read::LONGEST_TEXT) is the limit on a plan's text of which the contracts speak.
 pub fn limits_agree()
-    ensures calls { most_calls_of_plan ≡ most_calls }
+    ensures calls { most_calls_of_plan ≡ most_calls_of_code }
     ensures text { LONGEST_TEXT ≡ longest_text }
 {}
 

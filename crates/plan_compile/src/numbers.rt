@@ -1,7 +1,7 @@
 //! The numbers of submissions.
 
 ghost use Rattle.std.specs.Prelude.{◌≡◌, ◌≤◌};
-ghost use Rattle.queue_code.specs.Calls.{most_calls};
+ghost use Rattle.queue_code.specs.Calls.{most_calls_of_code};
 ghost use Rattle.plan_read.specs.Plans.{tasks_after};
 ghost use Rattle.plan_compile.specs.PlanCalls.{number_of};
 
@@ -10,7 +10,7 @@ use plan_read::{Op, Target};
 /// The number of a cancel's target, where `firsts` has the first number of each block before the
 /// cancel's own, and its own iteration begins with the number `start`.
 pub fn number_of(firsts: &[u32], start: u32, target: Target) -> u32
-    requires { number_of firsts.now start target ≤ most_calls }
+    requires { number_of firsts.now start target ≤ most_calls_of_code }
     ensures { result ≡ number_of firsts.now start target }
 {
     let first = firsts.get(target.block).copied().unwrap_or(start);
@@ -19,7 +19,7 @@ pub fn number_of(firsts: &[u32], start: u32, target: Target) -> u32
 
 /// How many submissions there are up to and with an operation.
 pub fn tasks_after(task: u32, op: &Op) -> u32
-    requires { task ≤ most_calls }
+    requires { task ≤ most_calls_of_code }
     ensures { result ≡ tasks_after task op.now }
 {
     if op.is_submission() { task + 1 } else { task }

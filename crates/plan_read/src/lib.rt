@@ -84,7 +84,7 @@
 //!
 //! A plan owns its blocks and calls, in the allocator that it was read with; a name stands in its call. While a
 //! text is read, a map from names to submissions takes memory of that allocator too, and its TOML tree memory of
-//! the heap: the allocator is a [`Room`], which gives the heap. A text of n bytes is read in the time of n log n: each name is looked up in
+//! the heap: the allocator is a [`HeapAllocator`], which gives the heap. A text of n bytes is read in the time of n log n: each name is looked up in
 //! the map once, and each table is read once. What a call needs of those before it is handed on.
 //!
 //! The tests of this crate stand in the crate above it, in `plan_compile/src/plan_tests.rt`.
@@ -95,19 +95,20 @@ mod call_tables;
 mod calls;
 mod faults;
 mod headers;
+mod heap_allocator;
 mod keys;
 mod laws;
 mod limits;
 mod names;
 mod plans;
 mod reading;
-mod room;
 mod sites;
 mod tables;
 mod units;
 mod verbs;
 
 pub use faults::{PlanFault, PlanFaultKind};
+pub use heap_allocator::HeapAllocator;
 pub use laws::{
     names_differ, plan_fault_equality_tells, plan_fault_kind_equality_tells, plans_are_ordered,
     target_equality_tells, targets_stand_before, trees_write_or_fail,
@@ -116,4 +117,3 @@ pub use limits::LONGEST_TEXT;
 pub use names::Name;
 pub use plans::{Block, Call, Op, Plan, Target};
 pub use reading::read_plan;
-pub use room::Room;

@@ -15,9 +15,9 @@ use crate::call_tables::CallTable;
 use crate::calls::{read_call, submits};
 use crate::faults::{Place, PlanFault, PlanFaultKind, ReadError};
 use crate::headers::{moment_in_last, read_header, read_top};
+use crate::heap_allocator::HeapAllocator;
 use crate::limits::LONGEST_TEXT;
 use crate::plans::{Block, Call, Header, Op, Plan, Target};
-use crate::room::Room;
 use crate::sites::{Site, find_or_add};
 use crate::tables::tables_at;
 use std::alloc::{Allocator, Global};
@@ -29,7 +29,7 @@ use toml::{Table, Value};
 /// The page of this crate says what a plan text is, and in which order faults are looked for. A fault of
 /// the kind [`PlanFaultKind::Memory`] may come in place of any other answer, and says nothing of the text;
 /// it has block 0 and call 0.
-pub fn read_plan<A: Room>(alloc: A, text: &[u8]) -> Result<Plan<A>, PlanFault>
+pub fn read_plan<A: HeapAllocator>(alloc: A, text: &[u8]) -> Result<Plan<A>, PlanFault>
     ensures plan { IfOk result (λ p. TextWrites text.now p) }
     ensures only { (plan : PlanTree) → TextWrites text.now plan → MatchResult result (λ p. p ≡ plan) (λ e. e ≡ out_of_memory) }
     ensures fault { IfErr result (λ e. (fault_of_text text.now ≡ Some e) ⊎ (e ≡ out_of_memory)) }
@@ -46,7 +46,7 @@ pub fn read_plan<A: Room>(alloc: A, text: &[u8]) -> Result<Plan<A>, PlanFault>
 }
 
 /// The plan that a text writes, or its fault.
-fn read_text<A: Room>(alloc: A, text: &[u8]) -> Result<Plan<A>, ReadError>
+fn read_text<A: HeapAllocator>(alloc: A, text: &[u8]) -> Result<Plan<A>, ReadError>
     ensures { Reads (λ p. p) result (fault_of_text text.now) (plan_of_text text.now) }
 {
     if text.len() > LONGEST_TEXT {

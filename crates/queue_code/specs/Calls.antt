@@ -16,8 +16,8 @@ abbrev pub Planned : Type 0
 Planned = ℕ × CodeCall
 
 -- the greatest number of calls, and so of tasks and of the iterations of a loop (this project's limit)
-abbrev pub most_calls : ℕ
-most_calls = 65536
+abbrev pub most_calls_of_code : ℕ
+most_calls_of_code = 65536
 
 -- how many items of a list pass a test
 abbrev pub how_many : {X : Type 0} → (X → Bool) → List X → ℕ
@@ -25,19 +25,19 @@ how_many test [] = 0
 how_many test (x ∷ xs) = if test x then 1 + how_many test xs else how_many test xs
 
 -- a call submits a task
-abbrev pub is_submission : CodeCall → Bool
-is_submission (c.Submit task timing delay) = true
-is_submission (c.Illegal task) = true
-is_submission (c.Cancel task) = false
-is_submission (c.SetPolicy which value) = false
-is_submission c.Shutdown = false
-is_submission c.Ask = false
+abbrev pub submits_task : CodeCall → Bool
+submits_task (c.Submit task timing delay) = true
+submits_task (c.Illegal task) = true
+submits_task (c.Cancel task) = false
+submits_task (c.SetPolicy which value) = false
+submits_task c.Shutdown = false
+submits_task c.Ask = false
 
 -- how many tasks some calls submit: submissions are numbered 0, 1, .. in the order of their
 -- calls, and each is a task, also one that is not accepted
 -- (this project's rule)
 abbrev pub task_count : List Planned → ℕ
-task_count calls = how_many (λ p. is_submission p.1) calls
+task_count calls = how_many (λ p. submits_task p.1) calls
 
 -- the numbers of the tasks, ascending
 abbrev pub numbers : List Planned → List ℕ
@@ -77,7 +77,7 @@ IsOrderlyFrom count moment (p ∷ calls) =
 
 -- the calls are in the order in which they are made, and few enough (this project's limits)
 abbrev pub IsOrderly : List Planned → Type 0
-IsOrderly calls = (length calls ≤ most_calls) × IsOrderlyFrom 0 0 calls
+IsOrderly calls = (length calls ≤ most_calls_of_code) × IsOrderlyFrom 0 0 calls
 
 -- how a task is timed, and when its first run is due
 pub record Terms : Type 0 where

@@ -8,7 +8,7 @@ use Rattle.queue_code.specs.declared.fault.CodeFault.{CodeFault}
 use Rattle.queue_code.specs.declared.fault.CodeFault.TheVariants as fault
 use Rattle.queue_code.specs.declared.instr.Instr.{Instr}
 use Rattle.queue_code.specs.declared.instr.Instr.TheVariants.{Submit, Illegal, CancelFixed, CancelHere, SetPolicy, Shutdown, Ask, Loop, EndLoop, Halt}
-use Rattle.queue_code.specs.Calls.{Planned, most_calls, task_count, IsTimed}
+use Rattle.queue_code.specs.Calls.{Planned, most_calls_of_code, task_count, IsTimed}
 use Rattle.queue_code.specs.Codes.{pass, calls_of}
 
 -- ---- what is in front of an instruction
@@ -154,10 +154,10 @@ is_out_of_order front loop i = makes_call i && nat_lt (offset_of i) (last_call_m
 -- TooMany: a loop that is not made 1 to 65,536 times; a call outside a loop, or the end of one, with more than 65,536
 -- calls so far, all iterations counted
 abbrev pub is_too_many : List Instr → Option Begun → Instr → Bool
-is_too_many front loop (Loop times every) = nat_lt times 1 || nat_lt most_calls times
+is_too_many front loop (Loop times every) = nat_lt times 1 || nat_lt most_calls_of_code times
 is_too_many front loop Halt = false
-is_too_many front loop EndLoop = nat_lt most_calls (length (calls_of front))
-is_too_many front loop i = is_none loop && nat_lt most_calls (length (calls_of (front ++ i ∷ [])))
+is_too_many front loop EndLoop = nat_lt most_calls_of_code (length (calls_of front))
+is_too_many front loop i = is_none loop && nat_lt most_calls_of_code (length (calls_of (front ++ i ∷ [])))
 
 -- the table of checks of an instruction, where `rest` comes behind it, in their order
 abbrev pub checks_with : List Instr → Option Begun → Instr → List Instr → List (CodeFault × Bool)

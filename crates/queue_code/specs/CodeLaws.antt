@@ -6,7 +6,7 @@ use Rattle.queue_code.specs.declared.instr.Instr.TheVariants.{CancelHere, Loop, 
 use Rattle.sched_time.specs.Times.{longest}
 use Rattle.sched_time.specs.Dues.{next_due}
 use Rattle.sched_time.specs.declared.timing.Timing.TheVariants.{Rate, Fixed}
-use Rattle.queue_code.specs.Calls.{most_calls, IsOrderly}
+use Rattle.queue_code.specs.Calls.{most_calls_of_code, IsOrderly}
 use Rattle.queue_code.specs.Codes.{calls_of}
 use Rattle.queue_code.specs.Checks.{fault_at, code_fault, AreTimed}
 use Rattle.queue_code.specs.Cursors.{BeginsWithCall}
@@ -30,7 +30,7 @@ CodesAreOrderly = (code : List Instr) → AreTimed code → code_fault code ≡ 
 -- is the only halt
 abbrev pub IsShaped : Bool → List Instr → Type 0
 IsShaped inside [] = ⊥
-IsShaped false (Loop times every ∷ is) = (1 ≤ times) × (times ≤ most_calls) × (every ≤ longest) × BeginsWithCall is × IsShaped true is
+IsShaped false (Loop times every ∷ is) = (1 ≤ times) × (times ≤ most_calls_of_code) × (every ≤ longest) × BeginsWithCall is × IsShaped true is
 IsShaped true (Loop times every ∷ is) = ⊥
 IsShaped true (EndLoop ∷ is) = IsShaped false is
 IsShaped false (EndLoop ∷ is) = ⊥

@@ -3,7 +3,7 @@ use Rattle.std.specs.Prelude.{◌≡◌, ℕ, zero, suc, ◌+◌, ◌*◌, ◌-�
 use Rattle.queue_code.specs.declared.instr.Instr.{Instr}
 use Rattle.queue_code.specs.declared.instr.Instr.TheVariants.{Loop, EndLoop, Halt}
 use Rattle.queue_code.specs.declared.cursor.Cursor.{Cursor}
-use Rattle.queue_code.specs.Calls.{Planned, most_calls, IsOrderlyFrom}
+use Rattle.queue_code.specs.Calls.{Planned, most_calls_of_code, IsOrderlyFrom}
 use Rattle.queue_code.specs.Codes.{tasks_in, pass, iterations, body_of, calls_from}
 
 -- the loop around an instruction: the index at which it begins, how often it is made, its step and its instructions
@@ -63,7 +63,7 @@ pub record IsCursorAt (code : List Instr) (c : Cursor) : Type 0 where
   pub within : c.index ≤ length code
   pub fits : FitsLoop (loop_around code c.index) (drop c.index code) c
   pub order : (moment : ℕ) × IsOrderlyFrom c.tasks moment (calls_left code c)
-  pub room : c.tasks + length (calls_left code c) ≤ most_calls
+  pub room : c.tasks + length (calls_left code c) ≤ most_calls_of_code
 
 -- a cursor is past the end of a code
 abbrev pub IsOver : List Instr → Cursor → Type 0
@@ -83,4 +83,4 @@ steps_at_end (Some i) = 0
 -- is not left, and 3 for the end
 pub record IsCursorOf (code : List Instr) (c : Cursor) : Type 0 where
   pub at : IsCursorAt code c
-  pub counted : steps_of c + 3 * length (calls_left code c) ≤ 3 * most_calls + steps_at_end (slice_get code c.index)
+  pub counted : steps_of c + 3 * length (calls_left code c) ≤ 3 * most_calls_of_code + steps_at_end (slice_get code c.index)

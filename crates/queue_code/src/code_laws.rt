@@ -2,7 +2,7 @@
 ghost use Rattle.std.specs.Prelude.{◌≡◌, ◌↔◌, true};
 ghost use Rattle.queue_code.specs.declared.fault.CodeFault.{CodeFault};
 ghost use Rattle.queue_code.specs.declared.instr.Instr.{Instr};
-ghost use Rattle.queue_code.specs.Calls.{most_calls};
+ghost use Rattle.queue_code.specs.Calls.{most_calls_of_code};
 ghost use Rattle.queue_code.specs.CodeLaws.{LeastIndex, NothingWrong, CodesAreOrderly, AcceptedExactly, ZeroNeverWaits};
 
 use crate::call::CodeCall;
@@ -12,7 +12,7 @@ use crate::limits::MOST_CALLS;
 
 /// [`MOST_CALLS`](crate::MOST_CALLS) is the limit of which the contracts speak.
 pub fn most_calls_is_the_limit()
-    ensures { MOST_CALLS ≡ most_calls }
+    ensures { MOST_CALLS ≡ most_calls_of_code }
 {}
 
 /// Two instructions compare as equal exactly when they are the same.

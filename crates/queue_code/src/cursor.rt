@@ -1,6 +1,6 @@
 ghost use Rattle.std.specs.Prelude.{◌≡◌, ◌≢◌, ℕ, ◌+◌, ◌^◌, ◌<◌, ◌≤◌, ◌⊎◌, Some, None, IfSome, slice_get, length, drop, option_map};
 ghost use Rattle.sched_time.specs.Times.{longest};
-ghost use Rattle.queue_code.specs.Calls.{IsOrderlyCall, most_calls};
+ghost use Rattle.queue_code.specs.Calls.{IsOrderlyCall, most_calls_of_code};
 ghost use Rattle.queue_code.specs.Codes.{calls_of, call_by};
 ghost use Rattle.queue_code.specs.Cursors.{IsCursorOf, IsCursorAt, IsOver, calls_left, steps_of};
 ghost use Rattle.queue_code.specs.own.Cursors.{EndsNoLoop, IsPlain};
@@ -162,7 +162,7 @@ impl Cursor {
 
     /// The call of an instruction here, if it makes one.
     fn call_of(&self, instr: &Instr) -> Option<(u64, CodeCall)>
-        requires { IfSome (call_by self.now.base self.now.start self.now.tasks instr.now) (λ p. (p.0 ≤ longest) × IsOrderlyCall self.now.tasks p.1 × (self.now.tasks < most_calls)) }
+        requires { IfSome (call_by self.now.base self.now.start self.now.tasks instr.now) (λ p. (p.0 ≤ longest) × IsOrderlyCall self.now.tasks p.1 × (self.now.tasks < most_calls_of_code)) }
         ensures { result ≡ call_by self.now.base self.now.start self.now.tasks instr.now }
     {
         let call = match instr {

@@ -5,7 +5,7 @@ use Rattle.std.specs.Fmt.{decimal}
 use Rattle.std.specs.Io.KnownBytes.{Appends, Keeps}
 use Rattle.executor_core.specs.Counts.{IsWorkerCount}
 use Rattle.plan_read.specs.Plans.{PlanTree}
-use Rattle.plan_compile.specs.PlanCalls.{calls_of}
+use Rattle.plan_compile.specs.PlanCalls.{calls_of_plan}
 use Rattle.trace_check.specs.Findings.{Finds}
 use Rattle.trace_check.specs.declared.finding.Finding.{Finding}
 use Rattle.trace_check.specs.declared.finding.Finding.TheVariants.{Conforms, Breaks}
@@ -27,9 +27,9 @@ finding_status (Breaks line) = 1
 -- of it was written, and nothing where the number of workers is out of range or memory ran out
 abbrev pub IsCheckedAsAsked : Result ℕ ProgramError → PlanTree → ℕ → List ℕ → Option (List ℕ) → Option (List ℕ) → Type 0
 IsCheckedAsAsked (Ok status) plan workers trace old new =
-    (finding : Finding) × Finds (calls_of plan) workers trace finding × (status ≡ finding_status finding) × Appends old new (finding_text finding)
+    (finding : Finding) × Finds (calls_of_plan plan) workers trace finding × (status ≡ finding_status finding) × Appends old new (finding_text finding)
 IsCheckedAsAsked (Err (Run x.Write)) plan workers trace old new =
-    (finding : Finding) × Finds (calls_of plan) workers trace finding × (n : ℕ) × Appends old new (take n (finding_text finding))
+    (finding : Finding) × Finds (calls_of_plan plan) workers trace finding × (n : ℕ) × Appends old new (take n (finding_text finding))
 IsCheckedAsAsked (Err (Run x.Workers)) plan workers trace old new = (¬ IsWorkerCount workers) × Keeps old new
 IsCheckedAsAsked (Err (Run x.Memory)) plan workers trace old new = Keeps old new
 IsCheckedAsAsked (Err fault) plan workers trace old new = ⊥

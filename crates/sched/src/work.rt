@@ -12,7 +12,7 @@ use crate::error::ProgramError;
 use crate::files::{plan_text, trace_text};
 use crate::finding::write_finding;
 use plan_read::read_plan;
-use sched_engine::{Room, RunError, Sink, Source, run, write_listing};
+use sched_engine::{HeapAllocator, RunError, Sink, Source, run, write_listing};
 use std::alloc::Global;
 use std::io;
 use std::io::Read;
@@ -35,7 +35,7 @@ pub fn run_file<P: Read + Drop, S: Source, W: Sink>(
 
 /// Runs a plan's text as asked, events from the reader and the trace to the writer. `Ok` is the
 /// exit status, 0.
-fn run_text<A: Room, S: Source, W: Sink>(
+fn run_text<A: HeapAllocator, S: Source, W: Sink>(
     alloc: A,
     asked: &RunArguments<'_>,
     text: &[u8],
@@ -63,7 +63,11 @@ pub fn list_file<P: Read + Drop, W: Sink>(
 }
 
 /// Writes the listing of a plan's text. `Ok` is the exit status, 0.
-fn list_text<A: Room, W: Sink>(alloc: A, text: &[u8], writer: &mut W) -> Result<u8, ProgramError>
+fn list_text<A: HeapAllocator, W: Sink>(
+    alloc: A,
+    text: &[u8],
+    writer: &mut W,
+) -> Result<u8, ProgramError>
     ensures listed { ListedAsAsked result text.now (W.contents writer.old) (W.contents writer.new) }
     ensures status { MatchResult result (λ s. s ≡ 0) (λ e. status_of e ≡ 1) }
 {

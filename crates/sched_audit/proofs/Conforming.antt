@@ -5,7 +5,7 @@ use Rattle.executor_core.specs.declared.Event.{Event}
 use Rattle.executor_core.specs.Histories.{HistoryEntry}
 use Rattle.plan_read.specs.Plans.{PlanTree}
 use Rattle.plan_read.specs.Texts.{TextWrites}
-use Rattle.plan_compile.specs.PlanCalls.{calls_of}
+use Rattle.plan_compile.specs.PlanCalls.{calls_of_plan}
 use Rattle.trace_check.specs.declared.finding.Finding.{Finding}
 use Rattle.trace_check.specs.declared.finding.Finding.TheVariants as f
 use Rattle.trace_check.specs.Findings.{Conforms}
@@ -31,13 +31,13 @@ runs_conform calls workers events past o count fit few trace =
 
 -- the calls of each plan that a text writes are in order
 abbrev pub AreInOrder : Type 0
-AreInOrder = (text : List ℕ) (plan : PlanTree) → TextWrites text plan → IsOrderly (calls_of plan)
+AreInOrder = (text : List ℕ) (plan : PlanTree) → TextWrites text plan → IsOrderly (calls_of_plan plan)
 
 -- a text conforms, by the plan that a plan text writes
 record ConformsByText (plan_text : List ℕ) (workers : ℕ) (text : List ℕ) : Type 0 where
   pub plan : PlanTree
   pub reads : TextWrites plan_text plan
-  pub conforms : Conforms (calls_of plan) workers text
+  pub conforms : Conforms (calls_of_plan plan) workers text
 
 wrote : (plan_text : List ℕ) (workers limit : ℕ) (calls : List Planned) (events : List Event) (past : List HistoryEntry) (output : List ℕ) → AreInOrder → limit < 2 ^ 32 → IsAccepted plan_text calls workers limit →
     AreEvents events → length events ≤ limit → IsTrace calls workers events past → output ≡ text_of calls past → ConformsByText plan_text workers output
@@ -73,4 +73,4 @@ pub whole_found : (answer : Result Report RunError) (plan_text : List ℕ) (work
     FindsByText plan_text workers output finding → finding ≡ f.Conforms
 whole_found answer plan_text workers limit input output finding ordered small ran whole finds =
     let c = whole_conforms answer plan_text workers limit input output ordered small ran whole in
-    findings_are_one (calls_of c.plan) workers output finding f.Conforms (finds c.plan c.reads) c.conforms
+    findings_are_one (calls_of_plan c.plan) workers output finding f.Conforms (finds c.plan c.reads) c.conforms

@@ -24,7 +24,7 @@ use Rattle.executor_core.specs.declared.types.Refusal.TheVariants as refusal
 use Rattle.executor_core.specs.declared.types.Answer.{Answer}
 use Rattle.executor_core.specs.declared.types.Answer.TheVariants as a
 use Rattle.executor_core.specs.View.{View, is_running, first_enabled}
-use Rattle.executor_core.specs.Answers.{Reply, plain, reply, called, kind_of, is_swept, swept, setting_sweeps, set_policy, is_queued, started, finished, due_next, outcome_in, stops_periodic, effect_on}
+use Rattle.executor_core.specs.Answers.{Reply, bare, reply, called, kind_of, is_swept, swept, setting_sweeps, set_policy, is_queued, start_answer, finish_answer, due_next, outcome_in, stops_periodic, effect_on}
 use Rattle.executor_core.specs.Histories.{HistoryEntry, IsHistoryOf, view_of_history, happenings, made, now_of, work_of, work_after, is_start}
 use Rattle.executor_core.specs.Flows.{flow, calls_before, happening_of, answer_line, end_line, lines_at, lines_of, reply_in}
 use Rattle.executor_core.proofs.First.{first_is_in, range_below}
@@ -91,7 +91,7 @@ called_ends calls view (c.SetPolicy which value) few = by (setting_sweeps view.s
     by false = none_ends
 called_ends calls view c.Shutdown few = by view.shut
   where
-    by : (shut : Bool) → All (Below (2 ^ 32)) (let r : Reply = cond shut (plain a.ShutdownAgain) (record { answer = a.Shutdown; ends = swept calls view view.policies }) in r.ends)
+    by : (shut : Bool) → All (Below (2 ^ 32)) (let r : Reply = cond shut (bare a.ShutdownAgain) (record { answer = a.Shutdown; ends = swept calls view view.policies }) in r.ends)
     by true = none_ends
     by false = swept_fit calls view view.policies few
 called_ends calls view c.Ask few = none_ends
@@ -100,7 +100,7 @@ called_ends calls view c.Ask few = none_ends
 reply_ends : (calls : List Planned) (workers : ℕ) (view : View) (y : Happening) → task_count calls ≤ 65536 → All (Below (2 ^ 32)) (reply calls workers view y).ends
 reply_ends calls workers view h.Call few = by (slice_get calls view.made)
   where
-    by : (found : Option Planned) → All (Below (2 ^ 32)) (option_map_or (λ p. called calls (record view { moment = max view.moment p.0 }) p.1) found (plain a.Clock)).ends
+    by : (found : Option Planned) → All (Below (2 ^ 32)) (option_map_or (λ p. called calls (record view { moment = max view.moment p.0 }) p.1) found (bare a.Clock)).ends
     by (Some p) = called_ends calls (record view { moment = max view.moment p.0 }) p.1 few
     by None = none_ends
 reply_ends calls workers view (h.Clock moment) few = none_ends
@@ -148,7 +148,7 @@ called_fits calls view before (c.Cancel task) o few is = omega (arith, is, few)
 called_fits calls view before (c.SetPolicy which value) o few is = tt
 called_fits calls view before c.Shutdown o few is = by view.shut
   where
-    by : (shut : Bool) → FitsAnswer (let r : Reply = cond shut (plain a.ShutdownAgain) (record { answer = a.Shutdown; ends = swept calls view view.policies }) in r.answer)
+    by : (shut : Bool) → FitsAnswer (let r : Reply = cond shut (bare a.ShutdownAgain) (record { answer = a.Shutdown; ends = swept calls view view.policies }) in r.answer)
     by true = tt
     by false = tt
 called_fits calls view before c.Ask o few is =
@@ -164,13 +164,13 @@ outcome_fits false true (t.Fixed delay) due (e.Value value) within fit = tt
 outcome_fits false false (t.Fixed delay) due (e.Value value) within fit = omega (arith, within)
 outcome_fits false stops timing due (e.Fault code) within fit = fit
 
-started_fits : (calls : List Planned) (view : View) (w : ℕ) (first : Option ℕ) → task_count calls ≤ 65536 → IsSeenWithin calls view → w < 256 → first_enabled view (numbers calls) ≡ first → FitsAnswer (started view w first)
+started_fits : (calls : List Planned) (view : View) (w : ℕ) (first : Option ℕ) → task_count calls ≤ 65536 → IsSeenWithin calls view → w < 256 → first_enabled view (numbers calls) ≡ first → FitsAnswer (start_answer view w first)
 started_fits calls view w None few seen low is = omega (arith, low)
 started_fits calls view w (Some k) few seen low is =
     let below = range_below 0 (task_count calls) k (first_is_in view (numbers calls) k is) in
     (omega (arith, low), omega (arith, below, few), seen.runs k, omega (arith, seen.due k))
 
-finished_fits : (calls : List Planned) (view : View) (w : ℕ) (ending : Ending) (work : Option ℕ) → IsSeenWithin calls view → w < 256 → FitsEnding ending → view.work w ≡ work → FitsAnswer (finished calls view w ending work)
+finished_fits : (calls : List Planned) (view : View) (w : ℕ) (ending : Ending) (work : Option ℕ) → IsSeenWithin calls view → w < 256 → FitsEnding ending → view.work w ≡ work → FitsAnswer (finish_answer calls view w ending work)
 finished_fits calls view w ending None seen low fit is = tt
 finished_fits calls view w ending (Some k) seen low fit is = (
   omega (arith, low),
@@ -183,7 +183,7 @@ finished_fits calls view w ending (Some k) seen low fit is = (
 reply_fits : (calls : List Planned) (workers : ℕ) (view : View) (y : Happening) → IsOrderly calls → workers ≤ 64 → IsSeenWithin calls view → FitsHappening y → FitsAnswer (reply calls workers view y).answer
 reply_fits calls workers view h.Call o few seen fit = by (slice_get calls view.made) refl
   where
-    by : (found : Option Planned) → slice_get calls view.made ≡ found → FitsAnswer (option_map_or (λ p. called calls (record view { moment = max view.moment p.0 }) p.1) found (plain a.Clock)).answer
+    by : (found : Option Planned) → slice_get calls view.made ≡ found → FitsAnswer (option_map_or (λ p. called calls (record view { moment = max view.moment p.0 }) p.1) found (bare a.Clock)).answer
     by (Some p) is =
         let order = call_in_order calls 0 0 view.made p o.1 is in
         called_fits calls (record view { moment = max view.moment p.0 }) order.0 p.1 o (omega (arith, order.1, o.0)) order.2
@@ -196,13 +196,13 @@ reply_fits calls workers view (h.Clock moment) o few seen fit = by _ _
     by false false = tt
 reply_fits calls workers view (h.Start w) o few seen fit = by (nat_lt w workers) refl (view.work w)
   where
-    by : (b : Bool) → nat_lt w workers ≡ b → (work : Option ℕ) → FitsAnswer (cond b (option_map_or (λ _. a.Error x.Busy) work (started view w (first_enabled view (numbers calls)))) (a.Error x.NoWorker))
+    by : (b : Bool) → nat_lt w workers ≡ b → (work : Option ℕ) → FitsAnswer (cond b (option_map_or (λ _. a.Error x.Busy) work (start_answer view w (first_enabled view (numbers calls)))) (a.Error x.NoWorker))
     by true is None = started_fits calls view w (first_enabled view (numbers calls)) (few_tasks calls o) seen (omega (arith, ltb-true w workers is, few)) refl
     by true is (Some k) = tt
     by false is work = tt
 reply_fits calls workers view (h.Finish w ending) o few seen fit = by (nat_lt w workers) refl
   where
-    by : (b : Bool) → nat_lt w workers ≡ b → FitsAnswer (cond b (finished calls view w ending (view.work w)) (a.Error x.NoWorker))
+    by : (b : Bool) → nat_lt w workers ≡ b → FitsAnswer (cond b (finish_answer calls view w ending (view.work w)) (a.Error x.NoWorker))
     by true is = finished_fits calls view w ending (view.work w) seen (omega (arith, ltb-true w workers is, few)) fit refl
     by false is = tt
 reply_fits calls workers view (h.Cancel k) o few seen fit = by (nat_lt k (task_count calls)) refl

@@ -2,7 +2,7 @@
 use Rattle.std.specs.Prelude.{ℕ, ◌<◌, List, length, Result, Ok, Err}
 use Rattle.plan_read.specs.Plans.{PlanTree}
 use Rattle.plan_read.specs.Texts.{TextWrites}
-use Rattle.plan_compile.specs.PlanCalls.{calls_of}
+use Rattle.plan_compile.specs.PlanCalls.{calls_of_plan}
 use Rattle.trace_check.specs.declared.finding.Finding.{Finding}
 use Rattle.trace_check.specs.Findings.{Finds}
 use Rattle.trace_check.specs.Standing.{most_bytes}
@@ -23,7 +23,7 @@ IsWhole (Err _) = ⊥
 
 -- what is found of a text, by the plan that a plan text writes
 abbrev pub FindsByText : List ℕ → ℕ → List ℕ → Finding → Type 0
-FindsByText plan_text workers text finding = (plan : PlanTree) → TextWrites plan_text plan → Finds (calls_of plan) workers text finding
+FindsByText plan_text workers text finding = (plan : PlanTree) → TextWrites plan_text plan → Finds (calls_of_plan plan) workers text finding
 
 -- why there is no audit of a run: it wrote no whole trace, or one that is longer than a check takes, or memory ran out, which
 -- says nothing of the run

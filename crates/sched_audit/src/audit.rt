@@ -6,7 +6,7 @@ ghost use Rattle.sched_audit.specs.Audits.{IsWhole, FindsByText, HasNoAudit};
 
 use crate::error::AuditError;
 use plan_compile::calls_are_in_order;
-use plan_read::{Room, read_plan};
+use plan_read::{HeapAllocator, read_plan};
 use sched_engine::{Report, RunError, run_in_memory};
 use std::alloc::Allocator;
 use trace_check::{Finding, MOST_BYTES, check};
@@ -30,7 +30,7 @@ pub struct Audit<A: Allocator> {
 /// the events before, and this is checked as well. On [`AuditError::Run`] there is no whole trace,
 /// on [`AuditError::TooLong`] it has more than [`MOST_BYTES`] bytes, and [`AuditError::Memory`] says nothing of the
 /// run. Nothing is kept after an error.
-pub fn run_and_check<A: Room>(
+pub fn run_and_check<A: HeapAllocator>(
     alloc: A,
     plan_text: &[u8],
     workers: u8,
@@ -70,7 +70,7 @@ fn unfinished(answer: Result<Report, RunError>) -> Option<RunError>
 }
 
 /// What is found of a trace, by the plan of a text that was read before: memory alone may be wanting.
-fn found<A: Room>(
+fn found<A: HeapAllocator>(
     alloc: A,
     plan_text: &[u8],
     workers: u8,

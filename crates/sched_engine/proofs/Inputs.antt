@@ -12,14 +12,14 @@ use Rattle.executor_core.specs.declared.Line.{Line}
 use Rattle.queue_code.specs.Calls.{Planned, IsOrderly}
 use Rattle.executor_core.specs.Histories.{HistoryEntry, happenings, made, now_of, IsHistoryOf}
 use Rattle.executor_core.specs.Flows.{flow, part_of, calls_before, history_from, history_of, lines_from, lines_of}
-use Rattle.executor_core.specs.Machine.{Machine, state_of, workers_of, Stands, Continues}
+use Rattle.executor_core.specs.CoreView.{CoreView, state_of, workers_of, Stands, Continues}
 use Rattle.trace_text.proofs.Texts.{take_add}
 use Rattle.executor_core.proofs.Flowing.{flow_means, history_more, lines_follow, stands_agrees, made_past, made-calls, happenings_from}
 use Rattle.trace_text.specs.Spelling.{event_line, FitsEvent, lines_text}
 use Rattle.sched_engine.specs.Inputs.{input_of}
 use Rattle.sched_engine.specs.own.Pieces.{Output}
 use Rattle.sched_engine.specs.Running.{text_of}
-use Rattle.sched_engine.specs.own.Turns.{TakesEvent, Extends, IsAnswered, IsStanding, answers_to}
+use Rattle.sched_engine.specs.own.Turns.{TakesEvent, Extends, IsAnswered, StandsAfterEvents, answers_to}
 use Rattle.sched_engine.proofs.Giving.{gives_both, gives_none, lines_text-append}
 use Rattle.sched_engine.proofs.LineCounts.{lines_by_calls}
 
@@ -77,7 +77,7 @@ lines_few calls workers events o =
 -- ---- one event more
 
 -- the history of one event more is that of the events before, and of the event's part of the flow from where the core is
-event_joins : (m : Machine) (event : Event) (events : List Event) → IsOrderly m.calls → Stands m (history_of m.calls (workers_of m) events) →
+event_joins : (m : CoreView) (event : Event) (events : List Event) → IsOrderly m.calls → Stands m (history_of m.calls (workers_of m) events) →
     history_from m.calls (workers_of m) (history_of m.calls (workers_of m) events) (part_of m.calls m.made m.moment event) ≡ history_of m.calls (workers_of m) (event ∷ events)
 event_joins m event events o stands =
     let calls = m.calls in
@@ -88,7 +88,7 @@ event_joins m event events o stands =
     ap (history_from calls workers past) part ∙ sym (history_more calls workers events event)
 
 -- the history of one event more, and its lines
-pub continue_history : (m new : Machine) (lines : List Line) (event : Event) (events : List Event) → IsOrderly m.calls → Stands m (history_of m.calls (workers_of m) events) →
+pub continue_history : (m new : CoreView) (lines : List Line) (event : Event) (events : List Event) → IsOrderly m.calls → Stands m (history_of m.calls (workers_of m) events) →
     ((past : List HistoryEntry) → IsHistoryOf m.calls (workers_of m) past → Stands m past → Continues m new [] lines event past) →
     Stands new (history_of m.calls (workers_of m) (event ∷ events))
     × (lines_of m.calls (history_of m.calls (workers_of m) (event ∷ events)) ≡ lines_of m.calls (history_of m.calls (workers_of m) events) ++ lines)
@@ -102,7 +102,7 @@ continue_history m new lines event events o stands goes =
     )
 
 -- the text of one event more
-pub event_says : (m : Machine) (event : Event) (events : List Event) → IsOrderly m.calls → Stands m (history_of m.calls (workers_of m) events) →
+pub event_says : (m : CoreView) (event : Event) (events : List Event) → IsOrderly m.calls → Stands m (history_of m.calls (workers_of m) events) →
     text_of m.calls (history_of m.calls (workers_of m) (event ∷ events)) ≡ text_of m.calls (history_of m.calls (workers_of m) events) ++ lines_text (answers_to m (part_of m.calls m.made m.moment event))
 event_says m event events o stands =
     let calls = m.calls in
@@ -113,7 +113,7 @@ event_says m event events o stands =
     ∙ lines_text-append (lines_of calls past) (lines_from calls workers (state_of m) part)
 
 -- the history before, and the answers to one event more
-extends_more : (old mid new : Machine) (more events : List Event) (event : Event) (before after : Output) (text : List ℕ) (count n : ℕ) → mid.calls ≡ old.calls → workers_of mid ≡ workers_of old → IsOrderly old.calls →
+extends_more : (old mid new : CoreView) (more events : List Event) (event : Event) (before after : Output) (text : List ℕ) (count n : ℕ) → mid.calls ≡ old.calls → workers_of mid ≡ workers_of old → IsOrderly old.calls →
     Extends old.calls (workers_of old) mid more events text count → (t : TakesEvent mid new event before after n) → Extends old.calls (workers_of old) new (event ∷ more) events (text ++ lines_text t.lines) (count + n)
 extends_more old mid new more events event before after text count n calls workers o so_far t =
     let all = more ++ events in
@@ -136,7 +136,7 @@ front_is xs front size is inside =
     ap (take size) is ∙ (take-append-le size front (drop size xs) (omega (arith, long)) ∙ take_all size front (omega (arith, long)))
 
 -- what one event more makes of the answers so far
-pub answered_more : (old mid new : Machine) (held : List ℕ) (before put after : Output) (taken size count n : ℕ) (event : Event) → IsAnswered old mid held taken before put count → FitsEvent event →
+pub answered_more : (old mid new : CoreView) (held : List ℕ) (before put after : Output) (taken size count n : ℕ) (event : Event) → IsAnswered old mid held taken before put count → FitsEvent event →
     drop taken held ≡ event_line event ++ drop size (drop taken held) → size ≤ length (drop taken held) → TakesEvent mid new event put after n → IsAnswered old new held (taken + size) before after (count + n)
 answered_more old mid new held before put after taken size count n event a fits front inside t = record {
   more = event ∷ a.more;
@@ -177,7 +177,7 @@ left_more event held rest next behind bound front =
     sym (next_is event rest next front) ∙ (ap (drop size) behind ∙ (drop-drop size (length held - length rest) held ∙ ap (λ k. drop k held) (sym (taken_more event held rest next bound front))))
 
 -- the same as `answered_more`, told by the bytes that are left
-pub answered_on : (old mid new : Machine) (held rest next : List ℕ) (before put after : Output) (count n : ℕ) (event : Event) → IsAnswered old mid held (length held - length rest) before put count → rest ≡ drop (length held - length rest) held →
+pub answered_on : (old mid new : CoreView) (held rest next : List ℕ) (before put after : Output) (count n : ℕ) (event : Event) → IsAnswered old mid held (length held - length rest) before put count → rest ≡ drop (length held - length rest) held →
     length rest ≤ length held → FitsEvent event → rest ≡ event_line event ++ next → TakesEvent mid new event put after n → IsAnswered old new held (length held - length next) before after (count + n)
 answered_on old mid new held rest next before put after count n event a behind bound fits front t =
     let taken = length held - length rest in
@@ -188,7 +188,7 @@ answered_on old mid new held rest next before put after count n event a behind b
     subst (λ k. IsAnswered old new held k before after (count + n)) (sym (taken_more event held rest next bound front)) (answered_more old mid new held before put after taken size count n event a fits there.0 there.1 t)
 
 -- nothing was answered yet
-pub answered_none : (m : Machine) (held : List ℕ) (before : Output) → IsAnswered m m held 0 before before 0
+pub answered_none : (m : CoreView) (held : List ℕ) (before : Output) → IsAnswered m m held 0 before before 0
 answered_none m held before = record {
   more = [];
   fit = All-nil FitsEvent;
@@ -204,7 +204,7 @@ answered_none m held before = record {
 }
 
 -- the count of lines fits, where the answers to the events so far stand
-pub count_fits : (old mid : Machine) (held : List ℕ) (before put : Output) (taken count : ℕ) → IsStanding old → IsAnswered old mid held taken before put count → mid.taken ≤ mid.limit → count < 2 ^ 34
+pub count_fits : (old mid : CoreView) (held : List ℕ) (before put : Output) (taken count : ℕ) → StandsAfterEvents old → IsAnswered old mid held taken before put count → mid.taken ≤ mid.limit → count < 2 ^ 34
 count_fits old mid held before put taken count s a within =
     let all = a.extends s.orderly s.events s.stands in
     omega (arith, all.counted, lines_few old.calls (workers_of old) (a.more ++ s.events) s.orderly, length-append a.more s.events, a.events, s.taken, s.small, within, a.limit)

@@ -13,7 +13,7 @@ use Rattle.executor_core.specs.declared.Happening.{Happening}
 use Rattle.executor_core.specs.declared.Happening.TheVariants as h
 use Rattle.executor_core.specs.declared.Answer.TheVariants as a
 use Rattle.executor_core.specs.View.{View}
-use Rattle.executor_core.specs.Answers.{Reply, plain, is_swept, swept, setting_sweeps, set_policy, called, reply}
+use Rattle.executor_core.specs.Answers.{Reply, bare, is_swept, swept, setting_sweeps, set_policy, called, reply}
 use Rattle.executor_core.specs.Histories.{HistoryEntry, happenings, made, now_of, is_call, view_of_history, IsHistoryOf}
 use Rattle.executor_core.specs.Flows.{end_line, lines_at, lines_of, reply_in}
 
@@ -46,7 +46,7 @@ called_few calls v (c.SetPolicy which value) = by (setting_sweeps v.shut which v
     by false = omega arith
 called_few calls v c.Shutdown = by v.shut
   where
-    by : (shut : Bool) → length (let r : Reply = cond shut (plain a.ShutdownAgain) (record { answer = a.Shutdown; ends = swept calls v v.policies }) in r.ends) ≤ task_count calls
+    by : (shut : Bool) → length (let r : Reply = cond shut (bare a.ShutdownAgain) (record { answer = a.Shutdown; ends = swept calls v v.policies }) in r.ends) ≤ task_count calls
     by true = omega arith
     by false = swept_few calls v v.policies
 
@@ -54,7 +54,7 @@ called_few calls v c.Shutdown = by v.shut
 reply_few : (calls : List Planned) (workers : ℕ) (v : View) (happening : Happening) → length (reply calls workers v happening).ends ≤ cond (is_call happening) (task_count calls) 0
 reply_few calls workers v h.Call = by (slice_get calls v.made)
   where
-    by : (found : Option Planned) → length (option_map_or (λ p. called calls (record v { moment = max v.moment p.0 }) p.1) found (plain a.Clock)).ends ≤ task_count calls
+    by : (found : Option Planned) → length (option_map_or (λ p. called calls (record v { moment = max v.moment p.0 }) p.1) found (bare a.Clock)).ends ≤ task_count calls
     by (Some p) = called_few calls (record v { moment = max v.moment p.0 }) p.1
     by None = omega arith
 reply_few calls workers v (h.Clock moment) = omega arith

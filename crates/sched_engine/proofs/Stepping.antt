@@ -8,7 +8,7 @@ use Rattle.executor_core.specs.declared.Line.{Line}
 use Rattle.queue_code.specs.Calls.{IsOrderly}
 use Rattle.executor_core.specs.Flows.{part_of, lines_from}
 use Rattle.executor_core.specs.State.{after_from}
-use Rattle.executor_core.specs.Machine.{Machine, Counts, Steps, state_of, workers_of}
+use Rattle.executor_core.specs.CoreView.{CoreView, Counts, Steps, state_of, workers_of}
 use Rattle.executor_core.proofs.Events.{counted_once, uncounted}
 use Rattle.executor_core.proofs.Flowing.{core_continues, lines_from-append, no_steps, steps_then}
 use Rattle.trace_text.specs.Spelling.{lines_text}
@@ -19,7 +19,7 @@ use Rattle.sched_engine.proofs.Giving.{gives_both, gives_front, gives_none, give
 -- ---- steps
 
 -- the same steps, whatever lines stand before theirs
-behind : (old new : Machine) (before lines : List Line) (hs : List Happening) → Steps old new [] lines hs → Steps old new before (before ++ lines) hs
+behind : (old new : CoreView) (before lines : List Line) (hs : List Happening) → Steps old new [] lines hs → Steps old new before (before ++ lines) hs
 behind old new before lines hs steps = record {
   calls = steps.calls;
   limit = steps.limit;
@@ -29,7 +29,7 @@ behind old new before lines hs steps = record {
 }
 
 -- the lines of happenings behind others
-then_lines : (old mid new : Machine) (hs gs : List Happening) (lines : List Line) → Steps old mid [] (answers_to old hs) hs → Steps mid new [] lines gs
+then_lines : (old mid new : CoreView) (hs gs : List Happening) (lines : List Line) → Steps old mid [] (answers_to old hs) hs → Steps mid new [] lines gs
     → Steps old new [] (answers_to old (gs ++ hs)) (gs ++ hs) × (answers_to old (gs ++ hs) ≡ answers_to old hs ++ lines)
 then_lines old mid new hs gs lines first second =
     let both = steps_then old mid new [] (answers_to old hs) (answers_to old hs ++ lines) hs gs first (behind mid new (answers_to old hs) lines gs second) in (
@@ -38,7 +38,7 @@ then_lines old mid new hs gs lines first second =
     )
 
 -- some happenings more, whose lines were given out too
-pub gives_then : (old mid new : Machine) (hs gs : List Happening) (a b c : Output) (lines : List Line) (n k : ℕ) → GivesSteps old mid hs a b n → Steps mid new [] lines gs → Gives b c (lines_text lines) → k ≡ length lines
+pub gives_then : (old mid new : CoreView) (hs gs : List Happening) (a b c : Output) (lines : List Line) (n k : ℕ) → GivesSteps old mid hs a b n → Steps mid new [] lines gs → Gives b c (lines_text lines) → k ≡ length lines
     → GivesSteps old new (gs ++ hs) a c (n + k)
 gives_then old mid new hs gs a b c lines n k so_far steps given many =
     let both = then_lines old mid new hs gs lines so_far.steps steps in
@@ -68,7 +68,7 @@ cut_on a b contents more next rest all given is cut =
     gives_front a whole contents (more ++ next) rest all low.0 (gives_put a b more next whole.text given refl) low.1 (subst (Appends b.contents contents) (sym low.2) cut.1) is
 
 -- a front of the text of some happenings is one of the text of these and more
-pub cuts_within : (old : Machine) (hs gs : List Happening) (a : Output) (contents : Option (List ℕ)) → CutsSteps old hs a contents → CutsSteps old (gs ++ hs) a contents
+pub cuts_within : (old : CoreView) (hs gs : List Happening) (a : Output) (contents : Option (List ℕ)) → CutsSteps old hs a contents → CutsSteps old (gs ++ hs) a contents
 cuts_within old hs gs a contents cut =
     let more = lines_from old.calls (workers_of old) (after_from old.calls (workers_of old) (state_of old) hs) gs in
     let all : lines_text (answers_to old (gs ++ hs)) ≡ lines_text (answers_to old hs) ++ lines_text more =
@@ -76,7 +76,7 @@ cuts_within old hs gs a contents cut =
     cut_on a a contents [] (lines_text (answers_to old hs)) (lines_text more) (lines_text (answers_to old (gs ++ hs))) (gives_none a) all cut
 
 -- the lines of some happenings were given out, and then a front of those of some more
-pub cuts_then : (old mid new : Machine) (hs gs : List Happening) (a b : Output) (contents : Option (List ℕ)) (lines : List Line) (n : ℕ) → GivesSteps old mid hs a b n → Steps mid new [] lines gs →
+pub cuts_then : (old mid new : CoreView) (hs gs : List Happening) (a b : Output) (contents : Option (List ℕ)) (lines : List Line) (n : ℕ) → GivesSteps old mid hs a b n → Steps mid new [] lines gs →
     (k : ℕ) × Appends b.contents contents (take k (b.text ++ lines_text lines)) → CutsSteps old (gs ++ hs) a contents
 cuts_then old mid new hs gs a b contents lines n so_far steps cut =
     let both = then_lines old mid new hs gs lines so_far.steps steps in
@@ -88,11 +88,11 @@ cuts_then old mid new hs gs a b contents lines n so_far steps cut =
 -- ---- an event
 
 -- nothing was given out yet
-pub gives_nothing : (old counted : Machine) (a : Output) → Counts old counted → GivesSteps old counted [] a a 0
+pub gives_nothing : (old counted : CoreView) (a : Output) → Counts old counted → GivesSteps old counted [] a a 0
 gives_nothing old counted a one = record { steps = uncounted old counted counted [] [] [] one (no_steps counted []); written = gives_none a; counted = refl }
 
 -- the happenings of its part are what an event takes
-pub takes : (old counted new : Machine) (event : Event) (a b : Output) (n : ℕ) → IsOrderly old.calls → Counts old counted → new.taken ≡ counted.taken →
+pub takes : (old counted new : CoreView) (event : Event) (a b : Output) (n : ℕ) → IsOrderly old.calls → Counts old counted → new.taken ≡ counted.taken →
     GivesSteps old new (part_of old.calls old.made old.moment event) a b n → TakesEvent old new event a b n
 takes old counted new event a b n orderly one taken gives = record {
   calls = gives.steps.calls;

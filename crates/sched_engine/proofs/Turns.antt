@@ -5,7 +5,7 @@ use Rattle.std.specs.Io.KnownBytes.{Consumes, Appends, Keeps, IsAtEnd, prepend_k
 use Rattle.executor_core.specs.declared.Event.{Event}
 use Rattle.queue_code.specs.Calls.{Planned, IsOrderly}
 use Rattle.executor_core.specs.Flows.{history_of, lines_of, part_of}
-use Rattle.executor_core.specs.Machine.{Machine, workers_of, Stands}
+use Rattle.executor_core.specs.CoreView.{CoreView, workers_of, Stands}
 use Rattle.executor_core.proofs.Flowing.{flow_means}
 use Rattle.trace_text.specs.Spelling.{IsLine, event_line, lines_text, FitsEvent}
 use Rattle.sched_engine.specs.declared.report.Report.{Report}
@@ -16,7 +16,7 @@ use Rattle.sched_engine.specs.declared.report.RunError.TheVariants as x
 use Rattle.sched_engine.specs.Inputs.{AreEvents, input_of, IsRefused, BeginsWithEvent}
 use Rattle.sched_engine.specs.Running.{IsAccepted, IsNoEventLine, IsTrace, Ran, Runs, Taken, piece, text_of}
 use Rattle.sched_engine.specs.own.Pieces.{Output}
-use Rattle.sched_engine.specs.own.Turns.{CutsSteps, Done, Extends, IsAnswered, IsBetweenTurns, IsCut, IsStanding, Opens, Progress, Setting, Turns, answers_to}
+use Rattle.sched_engine.specs.own.Turns.{CutsSteps, Done, Extends, IsAnswered, IsBetweenTurns, IsCut, StandsAfterEvents, Opens, Progress, Setting, Turns, answers_to}
 use Rattle.trace_text.specs.declared.front.Front.TheVariants as front
 use Rattle.trace_text.specs.Reading.{IsFront, most_event_bytes}
 use Rattle.trace_text.proofs.Fronts.{some_bytes, unread_part, unread_whatever_follows}
@@ -31,7 +31,7 @@ trace_of calls workers events o = record { means = flow_means calls workers even
 -- ---- one turn
 
 -- the core of a run stands where its events led it
-pub standing : (run : Setting) (at : Progress) → Done run at → IsStanding at.core
+pub standing : (run : Setting) (at : Progress) → Done run at → StandsAfterEvents at.core
 standing run at done =
     let P : List Planned → ℕ → Type 0 = λ calls workers. Stands at.core (history_of calls workers done.events) in
     record {
@@ -68,7 +68,7 @@ filled run at left held bytes done new all = record {
 }
 
 -- the events at the front of the bytes that are held were answered
-pub answered : (run : Setting) (at : Progress) (core : Machine) (taken count : ℕ) (out : Output) → Done run at → IsAnswered at.core core at.held taken (record { contents = at.contents; text = at.text }) out count → core.taken ≤ core.limit →
+pub answered : (run : Setting) (at : Progress) (core : CoreView) (taken count : ℕ) (out : Output) → Done run at → IsAnswered at.core core at.held taken (record { contents = at.contents; text = at.text }) out count → core.taken ≤ core.limit →
     Done run (record { left = at.left; held = drop taken at.held; text = out.text; contents = out.contents; core = core; count = at.count + count })
 answered run at core taken count out done a within =
     let P : List Planned → ℕ → Type 0 = λ calls workers. Stands at.core (history_of calls workers done.events) → Extends calls workers core a.more done.events a.text count in
@@ -285,7 +285,7 @@ smaller limit old new held bytes whole rest all some rises within same short par
     by (suc n) is = omega (arith, is, within, short, part)
 
 -- where no event was taken, no byte was
-pub nothing_taken : (old new : Machine) (held : List ℕ) (taken : ℕ) (before after : Output) (count : ℕ) → IsAnswered old new held taken before after count → new.taken ≡ old.taken → drop taken held ≡ held
+pub nothing_taken : (old new : CoreView) (held : List ℕ) (taken : ℕ) (before after : Output) (count : ℕ) → IsAnswered old new held taken before after count → new.taken ≡ old.taken → drop taken held ≡ held
 nothing_taken old new held taken before after count a same = by a.more a.front a.events
   where
     by : (more : List Event) → take taken held ≡ input_of more → new.taken ≡ old.taken + length more → drop taken held ≡ held

@@ -3,7 +3,7 @@ pub use Rattle.queue_code.specs.Codes
 pub use Rattle.queue_code.specs.Listings
 pub use Rattle.executor_core.specs.Histories
 pub use Rattle.executor_core.specs.Flows
-pub use Rattle.executor_core.specs.Machine
+pub use Rattle.executor_core.specs.CoreView
 pub use Rattle.plan_read.specs.Plans
 pub use Rattle.plan_read.specs.Reads
 pub use Rattle.plan_read.specs.Texts

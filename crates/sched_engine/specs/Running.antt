@@ -18,7 +18,7 @@ use Rattle.trace_text.specs.Reading.{IsFront, most_event_bytes}
 use Rattle.plan_read.specs.Plans.{PlanTree}
 use Rattle.plan_read.specs.Reads.{out_of_memory}
 use Rattle.plan_read.specs.Texts.{TextWrites, fault_of_text}
-use Rattle.plan_compile.specs.PlanCalls.{calls_of}
+use Rattle.plan_compile.specs.PlanCalls.{calls_of_plan}
 
 -- how many bytes are read at most behind the last event (this project's limit)
 abbrev pub piece : ℕ
@@ -61,7 +61,7 @@ pub record Taken (calls : List Planned) (workers limit : ℕ) (input left : Opti
 pub record IsAccepted (text : List ℕ) (calls : List Planned) (workers limit : ℕ) : Type 0 where
   pub plan : PlanTree
   pub reads : TextWrites text plan
-  pub makes : calls ≡ calls_of plan
+  pub makes : calls ≡ calls_of_plan plan
   pub counted : IsWorkerCount workers
   pub positive : 0 < limit
 
@@ -92,20 +92,20 @@ Runs (Err x.Workers) calls workers limit input left old new = ⊥
 Runs (Err x.Limit) calls workers limit input left old new = ⊥
 
 -- why there is no core for a text and these numbers, the plan first, then the workers, then the limit
-abbrev pub Refuses : RunError → List ℕ → ℕ → ℕ → Type 0
-Refuses (x.Plan fault) text workers limit = (fault_of_text text ≡ Some fault) ⊎ (fault ≡ out_of_memory)
-Refuses x.Workers text workers limit = (plan : PlanTree) × TextWrites text plan × (IsWorkerCount workers → ⊥)
-Refuses x.Limit text workers limit = (plan : PlanTree) × TextWrites text plan × IsWorkerCount workers × (limit ≡ 0)
-Refuses x.Memory text workers limit = (plan : PlanTree) × TextWrites text plan
-Refuses _ text workers limit = ⊥
+abbrev pub RefusesToRun : RunError → List ℕ → ℕ → ℕ → Type 0
+RefusesToRun (x.Plan fault) text workers limit = (fault_of_text text ≡ Some fault) ⊎ (fault ≡ out_of_memory)
+RefusesToRun x.Workers text workers limit = (plan : PlanTree) × TextWrites text plan × (IsWorkerCount workers → ⊥)
+RefusesToRun x.Limit text workers limit = (plan : PlanTree) × TextWrites text plan × IsWorkerCount workers × (limit ≡ 0)
+RefusesToRun x.Memory text workers limit = (plan : PlanTree) × TextWrites text plan
+RefusesToRun _ text workers limit = ⊥
 
 -- what a run did: it refused, with nothing read or written, or it ran over the calls of the plan that the text writes
 abbrev pub Ran : Result Report RunError → List ℕ → ℕ → ℕ → Option (List ℕ) → Option (List ℕ) → Option (List ℕ) → Option (List ℕ) → Type 0
-Ran (Err (x.Plan fault)) text workers limit input left old new = Refuses (x.Plan fault) text workers limit × IsUntouched input left old new
-Ran (Err x.Workers) text workers limit input left old new = Refuses x.Workers text workers limit × IsUntouched input left old new
-Ran (Err x.Limit) text workers limit input left old new = Refuses x.Limit text workers limit × IsUntouched input left old new
+Ran (Err (x.Plan fault)) text workers limit input left old new = RefusesToRun (x.Plan fault) text workers limit × IsUntouched input left old new
+Ran (Err x.Workers) text workers limit input left old new = RefusesToRun x.Workers text workers limit × IsUntouched input left old new
+Ran (Err x.Limit) text workers limit input left old new = RefusesToRun x.Limit text workers limit × IsUntouched input left old new
 Ran (Err x.Memory) text workers limit input left old new =
-    (Refuses x.Memory text workers limit × IsUntouched input left old new)
+    (RefusesToRun x.Memory text workers limit × IsUntouched input left old new)
     ⊎ ((calls : List Planned) × IsAccepted text calls workers limit × Runs (Err x.Memory) calls workers limit input left old new)
 Ran result text workers limit input left old new =
     (calls : List Planned) × IsAccepted text calls workers limit × Runs result calls workers limit input left old new

@@ -1,9 +1,9 @@
 //! The answering: events in, the text of the lines that answer them out. It knows of no reader.
 ghost use Rattle.std.specs.Prelude.{◌≡◌, ◌≤◌, [], IfErr, IfOk, IsTrue, drop, vec_capacity};
-ghost use Rattle.executor_core.specs.Machine.{Machine};
+ghost use Rattle.executor_core.specs.CoreView.{CoreView};
 ghost use Rattle.sched_engine.specs.Inputs.{IsRefused};
 ghost use Rattle.sched_engine.specs.Running.{CountsWriter};
-ghost use Rattle.sched_engine.specs.own.Turns.{IsAnswered, IsCut, IsPieceEnd, IsStanding, WantsRoom};
+ghost use Rattle.sched_engine.specs.own.Turns.{IsAnswered, IsCut, IsPieceEnd, StandsAfterEvents, WantsRoom};
 
 use crate::draft::Draft;
 use crate::ends::Sink;
@@ -59,7 +59,7 @@ pub fn answer_events<A: Allocator, W: Sink>(
     draft: &mut Draft<A>,
     writer: &mut W,
 ) -> Result<Answered, RunError>
-    requires { IsStanding core.old }
+    requires { StandsAfterEvents core.old }
     ensures answered { IfOk result (λ a. IsAnswered core.old core.new held.now a.bytes (record { contents = W.contents writer.old; text = draft.old }) (record { contents = W.contents writer.new; text = draft.new }) a.lines) }
     ensures within { IfOk result (λ _. core.new.taken ≤ core.new.limit) }
     ensures end { IfOk result (λ a. IsPieceEnd a.end core.new (drop a.bytes held.now)) }
@@ -96,7 +96,7 @@ pub fn answer_events<A: Allocator, W: Sink>(
 #[cold]
 fn end_of(rest: &[u8]) -> PieceEnd
     requires { IsRefused rest.now }
-    ensures { (core : Machine) → IsPieceEnd result core rest.now }
+    ensures { (core : CoreView) → IsPieceEnd result core rest.now }
 {
     match front_event(rest) {
         Front::Event(..) => unreachable!(),

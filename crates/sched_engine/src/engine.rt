@@ -1,9 +1,9 @@
 //! The engine: it reads a piece, answers it and writes the answers, turn by turn.
 ghost use Rattle.std.specs.Prelude.{◌≡◌, ℕ, ◌+◌, ◌^◌, ◌<◌, ◌≤◌, List, [], Option, IfOk, IfErr, MatchResult, OnOk, length};
-ghost use Rattle.sched_engine.specs.Running.{Refuses, Ran, CountsReader, CountsWriter};
+ghost use Rattle.sched_engine.specs.Running.{RefusesToRun, Ran, CountsReader, CountsWriter};
 ghost use Rattle.sched_engine.specs.CodeTexts.{RefusesText};
 ghost use Rattle.sched_engine.specs.own.CodeTexts.{IsCodeOfText};
-ghost use Rattle.sched_engine.specs.own.Turns.{Done, IsBetweenTurns, IsCut, IsPieceEnd, IsStanding, Opens, Progress, Setting, Turns};
+ghost use Rattle.sched_engine.specs.own.Turns.{Done, IsBetweenTurns, IsCut, IsPieceEnd, StandsAfterEvents, Opens, Progress, Setting, Turns};
 ghost use Rattle.sched_engine.specs.declared.engine.Turn.TheVariants as t;
 
 use crate::answering::{PieceEnd, answer_events};
@@ -13,7 +13,7 @@ use crate::held::{Filled, Held};
 use crate::report::{Report, RunError};
 use executor_core::{Core, CoreError, Line};
 use plan_compile::{CompileFault, compile};
-use plan_read::{Room, read_plan};
+use plan_read::{HeapAllocator, read_plan};
 use queue_code::Code;
 use std::alloc::Allocator;
 
@@ -31,7 +31,7 @@ use std::alloc::Allocator;
 /// text of some of the first events, and on [`RunError::Write`] a front of such a text. At most
 /// one piece was read behind the last event that was taken. A fault of an end is answered at
 /// once, and nothing is tried again.
-pub fn run<A: Room, S: Source, W: Sink>(
+pub fn run<A: HeapAllocator, S: Source, W: Sink>(
     alloc: A,
     plan_text: &[u8],
     workers: u8,
@@ -52,7 +52,7 @@ pub fn run<A: Room, S: Source, W: Sink>(
 }
 
 /// The code of the plan that a text writes.
-pub(crate) fn code_of<A: Room>(alloc: A, plan_text: &[u8]) -> Result<Code<A>, RunError>
+pub(crate) fn code_of<A: HeapAllocator>(alloc: A, plan_text: &[u8]) -> Result<Code<A>, RunError>
     ensures code { IfOk result (IsCodeOfText plan_text.now) }
     ensures refuses { IfErr result (RefusesText plan_text.now) }
 {
@@ -67,14 +67,14 @@ pub(crate) fn code_of<A: Room>(alloc: A, plan_text: &[u8]) -> Result<Code<A>, Ru
 }
 
 /// The core of the plan that a text writes.
-fn core_of<A: Room>(
+fn core_of<A: HeapAllocator>(
     alloc: A,
     plan_text: &[u8],
     workers: u8,
     limit: u32,
 ) -> Result<Core<A>, RunError>
     ensures opens { IfOk result (λ core. Opens core plan_text.now workers limit) }
-    ensures refuses { IfErr result (λ e. Refuses e plan_text.now workers limit) }
+    ensures refuses { IfErr result (λ e. RefusesToRun e plan_text.now workers limit) }
 {
     let code = code_of(alloc, plan_text)?;
     match Core::new(alloc, code, workers, limit) {
@@ -112,12 +112,12 @@ impl<A: Allocator> Engine<A> {
     /// A run of the plan that a text writes, before anything was read.
     pub fn open(alloc: A, plan_text: &[u8], workers: u8, limit: u32) -> Result<Engine<A>, RunError>
     where
-        A: Room,
+        A: HeapAllocator,
         ensures opens { IfOk result (λ engine. Opens engine.core plan_text.now workers limit) }
         ensures held { IfOk result (λ engine. engine.held ≡ []) }
         ensures text { IfOk result (λ engine. engine.draft ≡ []) }
         ensures count { IfOk result (λ engine. engine.count ≡ 0) }
-        ensures refuses { IfErr result (λ e. Refuses e plan_text.now workers limit) }
+        ensures refuses { IfErr result (λ e. RefusesToRun e plan_text.now workers limit) }
     {
         Ok(Engine {
             core: core_of(alloc, plan_text, workers, limit)?,
@@ -164,7 +164,7 @@ impl<A: Allocator> Engine<A> {
     /// Answers each event line that is held, and lets go of these lines. What of the text does not
     /// fit into the draft is written; an `Err` is a fault of that.
     fn answer_held<W: Sink>(&mut self, writer: &mut W) -> Result<PieceEnd, RunError>
-        requires standing { IsStanding self.old.core }
+        requires standing { StandsAfterEvents self.old.core }
         requires few { self.old.count < 2 ^ 34 }
         ensures done { OnOk result ((run : Setting) (left : Option (List ℕ)) →
             Done run (record { left = left; held = self.old.held; text = self.old.draft; contents = W.contents writer.old; core = self.old.core; count = self.old.count }) →

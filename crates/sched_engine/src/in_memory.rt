@@ -6,7 +6,7 @@ use crate::held::PIECE;
 use crate::memory::Pieces;
 use crate::report::{Report, RunError};
 use crate::writers::Writing;
-use plan_read::Room;
+use plan_read::HeapAllocator;
 
 /// Runs a plan over the event lines `input`, and gives what [`run`] answers and the trace that it
 /// wrote, in memory of `alloc`.
@@ -14,7 +14,7 @@ use plan_read::Room;
 /// The numbers and the errors are those of [`run`], but [`RunError::Read`] can't come, and
 /// [`RunError::Write`] is want of memory for the trace. After an error the trace is that of the
 /// events before, or a front of it, as [`run`] says.
-pub fn run_in_memory<A: Room>(
+pub fn run_in_memory<A: HeapAllocator>(
     alloc: A,
     plan_text: &[u8],
     workers: u8,

@@ -79,7 +79,7 @@ pub use in_memory::run_in_memory;
 pub use laws::{events_are_one, front_is_one, report_equality_tells, run_error_equality_tells};
 pub use listing::write_listing;
 pub use memory::Pieces;
-pub use plan_read::Room;
+pub use plan_read::HeapAllocator;
 pub use readers::Reading;
 pub use report::{Report, RunError};
 pub use writers::Writing;

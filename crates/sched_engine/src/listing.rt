@@ -6,7 +6,7 @@ ghost use Rattle.sched_engine.specs.Running.{CountsWriter};
 use crate::ends::{Sink, write_text};
 use crate::engine::code_of;
 use crate::report::RunError;
-use plan_read::Room;
+use plan_read::HeapAllocator;
 use queue_code::listing;
 
 /// Writes the listing of a plan's queue code: a line for each instruction, its index in front.
@@ -14,7 +14,7 @@ use queue_code::listing;
 /// `plan_text` is the plan's TOML, at most 1,048,576 bytes. On [`RunError::Plan`] and [`RunError::Memory`]
 /// nothing is written, on [`RunError::Write`] a front of the listing. No other error comes. Times in the
 /// listing are nanoseconds. Nothing is flushed.
-pub fn write_listing<A: Room, W: Sink>(
+pub fn write_listing<A: HeapAllocator, W: Sink>(
     alloc: A,
     plan_text: &[u8],
     writer: &mut W,
@@ -31,7 +31,7 @@ pub fn write_listing<A: Room, W: Sink>(
 }
 
 /// The listing of the code of the plan that a text writes.
-fn listing_of<A: Room>(alloc: A, plan_text: &[u8]) -> Result<String<A>, RunError>
+fn listing_of<A: HeapAllocator>(alloc: A, plan_text: &[u8]) -> Result<String<A>, RunError>
     ensures listing { IfOk result (λ text. IsListingOfText plan_text.now (string_bytes text)) }
     ensures refuses { IfErr result (RefusesText plan_text.now) }
 {

@@ -4,7 +4,7 @@ ghost use Rattle.std.specs.Prelude.{◌≡◌, ◌+◌, ◌<◌, ◌≤◌, [], 
 ghost use Rattle.queue_code.specs.Calls.{IsOrderly};
 ghost use Rattle.executor_core.specs.Flows.{part_of};
 ghost use Rattle.executor_core.specs.Histories.{MayFrom, is_call};
-ghost use Rattle.executor_core.specs.Machine.{IsCounted, Steps, room_of};
+ghost use Rattle.executor_core.specs.CoreView.{IsCounted, Steps, room_of};
 ghost use Rattle.sched_engine.specs.Ends.{CountsTry};
 ghost use Rattle.sched_engine.specs.own.Turns.{CutsSteps, GivesSteps, TakesEvent, answers_to};
 

@@ -15,7 +15,7 @@ use Rattle.task_word.specs.Rule.{word_of_value, word_at, Matches, flag, taken_by
 use Rattle.task_word.specs.Steps.{CoreTells}
 use Rattle.task_word.specs.own.Steps.{Holder, AtTask, CoreIs, Submitted, Exchanged, CoreMeets, CoreCancelled, CoreLooked}
 use Rattle.task_word.specs.declared.phases.Phase.TheVariants.{Vacant}
-use Rattle.task_word.specs.declared.views.CoreView.{CoreView}
+use Rattle.task_word.specs.declared.views.CoreSeatView.{CoreSeatView}
 use Rattle.task_word.specs.declared.views.View.{View}
 use Rattle.task_word.specs.declared.views.View.TheVariants.{Core, Handle, Spent}
 use Rattle.task_word.proofs.WordNumbers.{reads_back, marked_word, meets, reads_word, reads_number, or_marks}
@@ -25,7 +25,7 @@ use Rattle.task_word.proofs.Writes.{Becomes, becomes, becomes_same, exchanges, v
 use Rattle.task_word.proofs.WordChanges.{won_still, met_after, once_after, none_after, entries_after, and_if_same, and_if_other, times_append, wins_count}
 
 -- the view that a core's view is
-pub core_same : (v w : CoreView) → some (Core v) ≡ some (Core w) → v ≡ w
+pub core_same : (v w : CoreSeatView) → some (Core v) ≡ some (Core w) → v ≡ w
 core_same v w e = ap core_of (some-injective _ _ e)
 
 -- a seat whose view is the core's is the core's
@@ -35,20 +35,20 @@ is_core (Handle h) = false
 is_core Spent = false
 
 -- a view that is not the core's is no core's view
-pub not_core : (v : View) (w : CoreView) → is_core v ≡ false → v ≢ Core w
+pub not_core : (v : View) (w : CoreSeatView) → is_core v ≡ false → v ≢ Core w
 not_core v w e same = let f : true ≡ false = sym (ap is_core same) ∙ e in grind (arith)
 
 -- what the rule says of the core's entries
-pub fits : (n : ℕ) (words : List ℕ) (views : List View) (v : CoreView) → IsWellFormedTable n words views → get_elem? views 0 ≡ some (Core v) → EntriesFit n words v.entries
-fits n words views v kept at = subst (λ (u : CoreView). EntriesFit n words u.entries) (core_same _ _ (sym kept.core.1 ∙ at)) kept.core.2
+pub fits : (n : ℕ) (words : List ℕ) (views : List View) (v : CoreSeatView) → IsWellFormedTable n words views → get_elem? views 0 ≡ some (Core v) → EntriesFit n words v.entries
+fits n words views v kept at = subst (λ (u : CoreSeatView). EntriesFit n words u.entries) (core_same _ _ (sym kept.core.1 ∙ at)) kept.core.2
 
 -- the core counts the handles that are out
-pub out_is : (n : ℕ) (words : List ℕ) (views : List View) (v : CoreView) → IsWellFormedTable n words views → get_elem? views 0 ≡ some (Core v) → v.out ≡ handles views
-out_is n words views v kept at = subst (λ (u : CoreView). u.out ≡ handles views) (core_same _ _ (sym kept.core.1 ∙ at)) kept.core.3
+pub out_is : (n : ℕ) (words : List ℕ) (views : List View) (v : CoreSeatView) → IsWellFormedTable n words views → get_elem? views 0 ≡ some (Core v) → v.out ≡ handles views
+out_is n words views v kept at = subst (λ (u : CoreSeatView). u.out ≡ handles views) (core_same _ _ (sym kept.core.1 ∙ at)) kept.core.3
 
 -- the handles that are out are at most `most_handles`
-pub out_most : (n : ℕ) (words : List ℕ) (views : List View) (v : CoreView) → IsWellFormedTable n words views → get_elem? views 0 ≡ some (Core v) → v.out ≤ most_handles
-out_most n words views v kept at = subst (λ (u : CoreView). u.out ≤ most_handles) (core_same _ _ (sym kept.core.1 ∙ at)) kept.core.4
+pub out_most : (n : ℕ) (words : List ℕ) (views : List View) (v : CoreSeatView) → IsWellFormedTable n words views → get_elem? views 0 ≡ some (Core v) → v.out ≤ most_handles
+out_most n words views v kept at = subst (λ (u : CoreSeatView). u.out ≤ most_handles) (core_same _ _ (sym kept.core.1 ∙ at)) kept.core.4
 
 -- there is a first view
 pub in_views : (views : List View) (v : View) → get_elem? views 0 ≡ some v → 0 < length views
@@ -56,14 +56,14 @@ in_views [] v at = absurd (some-ne-none v (sym at))
 in_views (u ∷ us) v at = omega arith
 
 -- a step of the core keeps the rule: the word of the task k becomes x, its entry e, and the core's own list becoming along
-pub core_keeps : (n k x : ℕ) (words : List ℕ) (views : List View) (v : CoreView) (e : Parts) (own : List ℕ) → IsWellFormedTable n words views → get_elem? views 0 ≡ some (Core v) → k < n
+pub core_keeps : (n k x : ℕ) (words : List ℕ) (views : List View) (v : CoreSeatView) (e : Parts) (own : List ℕ) → IsWellFormedTable n words views → get_elem? views 0 ≡ some (Core v) → k < n
     → IsWord e → Matches x e
     → times k own + flag (is_cancelled (word_at words k)) ≡ times k v.own + flag (is_cancelled (word_of_value x))
     → ((j : ℕ) → j ≢ k → times j own ≡ times j v.own)
     → Becomes (word_at words k) (word_of_value x)
     → IsWellFormedTable n (set words k x) (set views 0 (Core record { entries = set v.entries k e; own = own; joined = v.joined; ranks = v.ranks; out = v.out }))
 core_keeps n k x words views v e own kept at in_n is fit here there becoming =
-    let w : CoreView = record { entries = set v.entries k e; own = own; joined = v.joined; ranks = v.ranks; out = v.out } in
+    let w : CoreSeatView = record { entries = set v.entries k e; own = own; joined = v.joined; ranks = v.ranks; out = v.out } in
     let lt : k < length words = omega (arith, kept.count) in
     let met : HasMet n words (Core v) = kept.met 0 (Core v) at in
     let taken : (j : ℕ) → j ≢ k → times j (taken_by (Core w)) ≡ times j (taken_by (Core v)) = (λ j other. let t = there j other in omega (arith, times_append j own v.joined, times_append j v.own v.joined, t)) in
@@ -115,7 +115,7 @@ submits n slots id k me zero_id core in_n phase =
       at_task k (λ j. CoreIs (with_entry (core_of me.0) j (new_in 0)) (Core (core_of me.0), me.1) (Core (with_entry (core_of me.0) k (new_in 0)), me.1)) refl,
     )))
   where
-    submit_keeps : (n k : ℕ) (words : List ℕ) (views : List View) (v : CoreView) → IsWellFormedTable n words views → get_elem? views 0 ≡ some (Core v) → k < n → (entry v k).phase ≡ Vacant
+    submit_keeps : (n k : ℕ) (words : List ℕ) (views : List View) (v : CoreSeatView) → IsWellFormedTable n words views → get_elem? views 0 ≡ some (Core v) → k < n → (entry v k).phase ≡ Vacant
         → IsWellFormedTable n (set words k (value (new_in 0))) (set views 0 (Core (with_entry v k (new_in 0))))
     submit_keeps n k words views v kept at in_n phase =
         let f = fits n words views v kept at in
@@ -133,7 +133,7 @@ submits n slots id k me zero_id core in_n phase =
         (becomes submit w _ (was, read))
 
 -- the exchange that finds what it expected keeps the rule
-exchange_keeps : (n k new : ℕ) (next : Parts) (words : List ℕ) (views : List View) (v : CoreView) → IsWellFormedTable n words views → get_elem? views 0 ≡ some (Core v) → k < n
+exchange_keeps : (n k new : ℕ) (next : Parts) (words : List ℕ) (views : List View) (v : CoreSeatView) → IsWellFormedTable n words views → get_elem? views 0 ≡ some (Core v) → k < n
     → Exchanges (entry v k) next → slice_index words k ≡ value (entry v k) → new ≡ value next → (IsWord (entry v k) → IsWord next)
     → IsWellFormedTable n (set words k new) (set views 0 (Core (with_entry v k (word_of_value new))))
 exchange_keeps n k new next words views v kept at in_n step found is_new word =
@@ -149,14 +149,14 @@ exchange_keeps n k new next words views v kept at in_n step found is_new word =
     (becomes written.0 _ _ written.2)
 
 -- a load of the core's keeps the rule, whatever word of the entry's it takes over
-load_keeps : (n k : ℕ) (words : List ℕ) (views : List View) (v : CoreView) (e : Parts) → IsWellFormedTable n words views → get_elem? views 0 ≡ some (Core v) → k < n
+load_keeps : (n k : ℕ) (words : List ℕ) (views : List View) (v : CoreSeatView) (e : Parts) → IsWellFormedTable n words views → get_elem? views 0 ≡ some (Core v) → k < n
     → IsWord e → Matches (slice_index words k) e
     → IsWellFormedTable n (set words k (slice_index words k)) (set views 0 (Core (with_entry v k e)))
 load_keeps n k words views v e kept at in_n is fit =
     core_keeps n k (slice_index words k) words views v e v.own kept at in_n is fit refl (λ j other. refl) (becomes_same (word_at words k))
 
 -- while no handle is out, what is taken is the core's
-none_taken : (k : ℕ) (views : List View) → handles views ≡ 0 → ((id : ℕ) (u : CoreView) → get_elem? views id ≢ some (Core u)) → taken_in_all k views ≡ 0
+none_taken : (k : ℕ) (views : List View) → handles views ≡ 0 → ((id : ℕ) (u : CoreSeatView) → get_elem? views id ≢ some (Core u)) → taken_in_all k views ≡ 0
 none_taken k [] none others = refl
 none_taken k (Core u ∷ us) none others = absurd (others 0 u refl)
 none_taken k (Handle h ∷ us) none others = absurd (omega (arith, none, sum_by-cons is_handle (Handle h) us))
@@ -164,7 +164,7 @@ none_taken k (Spent ∷ us) none others =
     let rest = none_taken k us (omega (arith, none, sum_by-cons is_handle Spent us)) (λ id u e. others (suc id) u e) in
     omega (arith, sum_by-cons (λ v. times k (taken_by v)) Spent us, rest)
 
-alone_taken : (k : ℕ) (views : List View) (v : CoreView) → get_elem? views 0 ≡ some (Core v) → handles views ≡ 0 → ((id : ℕ) (u : CoreView) → get_elem? views id ≡ some (Core u) → id ≡ 0)
+alone_taken : (k : ℕ) (views : List View) (v : CoreSeatView) → get_elem? views 0 ≡ some (Core v) → handles views ≡ 0 → ((id : ℕ) (u : CoreSeatView) → get_elem? views id ≡ some (Core u) → id ≡ 0)
     → taken_in_all k views ≡ times k (taken_by (Core v))
 alone_taken k [] v at none only = absurd (some-ne-none _ (sym at))
 alone_taken k (u ∷ us) v at none only =
@@ -173,7 +173,7 @@ alone_taken k (u ∷ us) v at none only =
     omega (arith, sum_by-cons (λ w. times k (taken_by w)) u us, rest, ap (λ w. times k (taken_by w)) same)
 
 -- what the rule tells the core of a word that it met
-pub tells : (n k : ℕ) (words : List ℕ) (views : List View) (v : CoreView) → IsWellFormedTable n words views → get_elem? views 0 ≡ some (Core v) → k < n → CoreTells v k (word_at words k)
+pub tells : (n k : ℕ) (words : List ℕ) (views : List View) (v : CoreSeatView) → IsWellFormedTable n words views → get_elem? views 0 ≡ some (Core v) → k < n → CoreTells v k (word_at words k)
 tells n k words views v kept at in_n =
     let all = kept.once k in_n in
     let both = times_append k v.own v.joined in
@@ -184,7 +184,7 @@ tells n k words views v kept at in_n =
       still = λ some_won. (kept.met 0 (Core v) at).still k in_n (inr some_won);
     }
 
-core_meets : (n k : ℕ) (words : List ℕ) (views : List View) (v : CoreView) → IsWellFormedTable n words views → get_elem? views 0 ≡ some (Core v) → k < n → CoreMeets v k (slice_index words k)
+core_meets : (n k : ℕ) (words : List ℕ) (views : List View) (v : CoreSeatView) → IsWellFormedTable n words views → get_elem? views 0 ≡ some (Core v) → k < n → CoreMeets v k (slice_index words k)
 core_meets n k words views v kept at in_n =
     let f = fits n words views v kept at in
     let is = f.word k in_n in
@@ -200,7 +200,7 @@ met_bit : (x : ℕ) (e : Parts) → Matches x e → x ≢ value e → x ≡ valu
 met_bit x e (inl same) other = absurd (other same)
 met_bit x e (inr cut) other = cut
 
-move_either : (n slots k old new : ℕ) (next : Parts) (v : CoreView) (xs : List (ℕ × Unit {0})) → k < n
+move_either : (n slots k old new : ℕ) (next : Parts) (v : CoreSeatView) (xs : List (ℕ × Unit {0})) → k < n
     → Exchanges (entry v k) next → old ≡ value (entry v k) → new ≡ value next → (IsWord (entry v k) → IsWord next)
     → Allows {S = Unit {0}} (Rule n) slots 0 (Core v, xs) (k + 1) (λ x. either (x == old) new x) (Exchanged (k + 1) old new (Core v, xs))
 move_either n slots k old new next v xs in_n step is_old is_new word =
@@ -235,7 +235,7 @@ pub core_looks : (n slots id k : ℕ) (me : Holder) → id ≡ 0 → me.0 ≡ Co
 core_looks n slots id k me zero_id core in_n =
     seat_is (λ i m. Allows {S = Unit {0}} (Rule n) slots i m (k + 1) (λ x. x) (CoreLooked (k + 1) m)) id me zero_id core
     (allows n slots 0 k (Core (core_of me.0), me.1) (λ x. x) (CoreLooked (k + 1) (Core (core_of me.0), me.1)) (λ words views kept at.
-    let v : CoreView = core_of me.0 in
+    let v : CoreSeatView = core_of me.0 in
     let x : ℕ = slice_index words k in
     let m : CoreMeets v k x = core_meets n k words views v kept at in_n in (
       Core (with_entry v k (word_of_value x)),
@@ -244,7 +244,7 @@ core_looks n slots id k me zero_id core in_n =
     )))
 
 -- the setting of the bit by the core keeps the rule
-bit_keeps : (n k : ℕ) (words : List ℕ) (views : List View) (v : CoreView) → IsWellFormedTable n words views → get_elem? views 0 ≡ some (Core v) → k < n
+bit_keeps : (n k : ℕ) (words : List ℕ) (views : List View) (v : CoreSeatView) → IsWellFormedTable n words views → get_elem? views 0 ≡ some (Core v) → k < n
     → IsWellFormedTable n (set words k (bit_or (slice_index words k) bit)) (set views 0 (Core (core_cancelled v k (word_at words k))))
 bit_keeps n k words views v kept at in_n =
     let f = fits n words views v kept at in
@@ -266,7 +266,7 @@ pub core_cancels : (n slots id k : ℕ) (me : Holder) → id ≡ 0 → me.0 ≡ 
 core_cancels n slots id k me zero_id core in_n =
     seat_is (λ i m. Allows {S = Unit {0}} (Rule n) slots i m (k + 1) (λ x. bit_or x bit) (CoreCancelled (k + 1) m)) id me zero_id core
     (allows n slots 0 k (Core (core_of me.0), me.1) (λ x. bit_or x bit) (CoreCancelled (k + 1) (Core (core_of me.0), me.1)) (λ words views kept at.
-    let v : CoreView = core_of me.0 in
+    let v : CoreSeatView = core_of me.0 in
     let x : ℕ = slice_index words k in
     let m : CoreMeets v k x = core_meets n k words views v kept at in_n in (
       Core (core_cancelled v k (word_of_value x)),

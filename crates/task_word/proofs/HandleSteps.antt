@@ -11,7 +11,7 @@ use Rattle.task_word.specs.Views.{times, wins, handle_looked, handle_cancelled, 
 use Rattle.task_word.specs.own.Views.{handle_of}
 use Rattle.task_word.specs.Rule.{word_of_value, word_at, Matches, flag, is_handle, HasMet, IsWellFormedTable}
 use Rattle.task_word.specs.own.Steps.{Holder, HandleIs, HandleCancelled, HandleLooked}
-use Rattle.task_word.specs.declared.views.HandleView.{HandleView}
+use Rattle.task_word.specs.declared.views.HandleSeatView.{HandleSeatView}
 use Rattle.task_word.specs.declared.views.View.{View}
 use Rattle.task_word.specs.declared.views.View.TheVariants.{Core, Handle}
 use Rattle.task_word.proofs.WordNumbers.{reads_back, marked_word, reads_word, reads_number, or_marks}
@@ -42,20 +42,20 @@ some_entry : (n k : ℕ) (words : List ℕ) (views : List View) → IsWellFormed
 some_entry n k words views kept in_n = (_, kept.core.2.word k in_n, kept.core.2.each k in_n)
 
 -- the seat of a handle is not the first
-not_first : (n id : ℕ) (words : List ℕ) (views : List View) (h : HandleView) → IsWellFormedTable n words views → get_elem? views id ≡ some (Handle h) → id ≢ 0
+not_first : (n id : ℕ) (words : List ℕ) (views : List View) (h : HandleSeatView) → IsWellFormedTable n words views → get_elem? views id ≡ some (Handle h) → id ≢ 0
 not_first n id words views h kept at zero_id =
     let here : get_elem? views 0 ≡ some (Handle h) = subst (λ (i : ℕ). get_elem? views i ≡ some (Handle h)) zero_id at in
     not_core (Handle h) kept.core.0 refl (some-injective _ _ (sym here ∙ kept.core.1))
 
 -- what a step that met the word w of the task k changes of a handle's view
-record Meets (k : ℕ) (w : Parts) (h h' : HandleView) : Type 0 where
+record Meets (k : ℕ) (w : Parts) (h h' : HandleSeatView) : Type 0 where
   pub ranks : h'.ranks ≡ set h.ranks k (rank w)
   pub seen : h'.seen ≡ set h.seen k (is_cancelled w)
   pub last : h'.last ≡ (k, w)
   pub won : (j : ℕ) → j ≢ k → times j h'.won ≡ times j h.won
 
 -- what a handle met stays so where it meets one word more
-met_more : (n k : ℕ) (words : List ℕ) (h h' : HandleView) (w : Parts) → k < n → k < length h.ranks → w ≡ word_at words k → Meets k w h h'
+met_more : (n k : ℕ) (words : List ℕ) (h h' : HandleSeatView) (w : Parts) → k < n → k < length h.ranks → w ≡ word_at words k → Meets k w h h'
     → HasMet n words (Handle h) → HasMet n words (Handle h')
 met_more n k words h h' w in_n room is new met =
     record {
@@ -81,7 +81,7 @@ met_more n k words h h' w in_n room is new met =
     ]
 
 -- a step of a handle keeps the rule: the word of the task k becomes x, and what the handle won becoming along
-handle_keeps : (n k x id : ℕ) (words : List ℕ) (views : List View) (h h' : HandleView) → IsWellFormedTable n words views → get_elem? views id ≡ some (Handle h) → k < n
+handle_keeps : (n k x id : ℕ) (words : List ℕ) (views : List View) (h h' : HandleSeatView) → IsWellFormedTable n words views → get_elem? views id ≡ some (Handle h) → k < n
     → ((e : Parts) → IsWord e → Matches (slice_index words k) e → Matches x e)
     → times k h'.won + flag (is_cancelled (word_at words k)) ≡ times k h.won + flag (is_cancelled (word_of_value x))
     → k < length h.ranks → Becomes (word_at words k) (word_of_value x) → rank (word_at words k) ≡ rank (word_of_value x) → Meets k (word_at words k) h h'
@@ -113,7 +113,7 @@ handle_is : (P : Holder → Type 0) (me : Holder) → me.0 ≡ Handle (handle_of
 handle_is P me handle p = subst P (λ i. (sym handle i, me.1)) p
 
 -- what a handle meets
-handle_meets : (n k id : ℕ) (words : List ℕ) (views : List View) (h : HandleView) → IsWellFormedTable n words views → get_elem? views id ≡ some (Handle h) → k < n → MeetsHandle h k (word_at words k)
+handle_meets : (n k id : ℕ) (words : List ℕ) (views : List View) (h : HandleSeatView) → IsWellFormedTable n words views → get_elem? views id ≡ some (Handle h) → k < n → MeetsHandle h k (word_at words k)
 handle_meets n k id words views h kept at in_n =
     let e = some_entry n k words views kept in_n in
     let met : HasMet n words (Handle h) = kept.met id (Handle h) at in
@@ -135,16 +135,16 @@ pub handle_looks : (n slots id k : ℕ) (me : Holder) → me.0 ≡ Handle (handl
 handle_looks n slots id k me handle in_n room =
     handle_is (λ m. Allows {S = Unit {0}} (Rule n) slots id m (k + 1) (λ x. x) (HandleLooked (k + 1) m)) me handle
     (allows n slots id k (Handle (handle_of me.0), me.1) (λ x. x) (HandleLooked (k + 1) (Handle (handle_of me.0), me.1)) (λ words views kept at.
-    let h : HandleView = handle_of me.0 in
+    let h : HandleSeatView = handle_of me.0 in
     let x : ℕ = slice_index words k in
-    let h' : HandleView = handle_looked h k (word_of_value x) in (
+    let h' : HandleSeatView = handle_looked h k (word_of_value x) in (
       Handle h',
       handle_keeps n k x id words views h h' kept at in_n (λ e is m. m) refl room (becomes_same (word_of_value x)) refl (record { ranks = refl; seen = refl; last = refl; won = λ j other. refl }),
       at_task k (λ j. MeetsHandle h j (word_of_value x) × (value (word_of_value x) ≡ x) × HandleIs (handle_looked h j (word_of_value x)) (Handle h, me.1) (Handle h', me.1)) (handle_meets n k id words views h kept at in_n, read_number n k words views kept in_n, refl),
     )))
 
 -- the setting of the bit by a handle keeps the rule
-bit_keeps : (n k id : ℕ) (words : List ℕ) (views : List View) (h : HandleView) → IsWellFormedTable n words views → get_elem? views id ≡ some (Handle h) → k < n → k < length h.ranks
+bit_keeps : (n k id : ℕ) (words : List ℕ) (views : List View) (h : HandleSeatView) → IsWellFormedTable n words views → get_elem? views id ≡ some (Handle h) → k < n → k < length h.ranks
     → IsWellFormedTable n (set words k (bit_or (slice_index words k) bit)) (set views id (Handle (handle_cancelled h k (word_at words k))))
 bit_keeps n k id words views h kept at in_n room =
     let x : ℕ = slice_index words k in
@@ -167,9 +167,9 @@ pub handle_cancels : (n slots id k : ℕ) (me : Holder) → me.0 ≡ Handle (han
 handle_cancels n slots id k me handle in_n room =
     handle_is (λ m. Allows {S = Unit {0}} (Rule n) slots id m (k + 1) (λ x. bit_or x bit) (HandleCancelled (k + 1) m)) me handle
     (allows n slots id k (Handle (handle_of me.0), me.1) (λ x. bit_or x bit) (HandleCancelled (k + 1) (Handle (handle_of me.0), me.1)) (λ words views kept at.
-    let h : HandleView = handle_of me.0 in
+    let h : HandleSeatView = handle_of me.0 in
     let x : ℕ = slice_index words k in
-    let h' : HandleView = handle_cancelled h k (word_of_value x) in (
+    let h' : HandleSeatView = handle_cancelled h k (word_of_value x) in (
       Handle h',
       bit_keeps n k id words views h kept at in_n room,
       at_task k (λ j. MeetsHandle h j (word_of_value x) × (value (word_of_value x) ≡ x) × HandleIs (handle_cancelled h j (word_of_value x)) (Handle h, me.1) (Handle h', me.1)) (handle_meets n k id words views h kept at in_n, read_number n k words views kept in_n, refl),

@@ -8,7 +8,7 @@ use Rattle.task_word.specs.Views.{new_core}
 use Rattle.task_word.specs.own.Views.{first_view}
 use Rattle.task_word.specs.Rule.{word_at, HasMet, IsWellFormedTable}
 use Rattle.task_word.specs.own.Rule.{task_words}
-use Rattle.task_word.specs.declared.views.CoreView.{CoreView}
+use Rattle.task_word.specs.declared.views.CoreSeatView.{CoreSeatView}
 use Rattle.task_word.specs.declared.views.View.{View}
 use Rattle.task_word.specs.declared.views.View.TheVariants.{Core}
 use Rattle.task_word.proofs.SeatSplits.{zeros}
@@ -54,7 +54,7 @@ opens n words is =
       met = met;
     }
   where
-    only : (id : ℕ) (v : CoreView) → get_elem? (first_view n ∷ []) id ≡ some (Core v) → id ≡ 0
+    only : (id : ℕ) (v : CoreSeatView) → get_elem? (first_view n ∷ []) id ≡ some (Core v) → id ≡ 0
     only zero v e = refl
     only (suc id) v e = absurd (some-ne-none _ (sym e))
 

@@ -10,8 +10,8 @@ use Rattle.task_word.specs.Views.{most_handles, with_entry, wins}
 use Rattle.task_word.specs.own.Views.{core_of, handle_of}
 use Rattle.task_word.specs.Rule.{word_of_value}
 use Rattle.task_word.specs.own.Steps.{Holder, Exchanged}
-use Rattle.task_word.specs.declared.views.CoreView.{CoreView}
-use Rattle.task_word.specs.declared.views.HandleView.{HandleView}
+use Rattle.task_word.specs.declared.views.CoreSeatView.{CoreSeatView}
+use Rattle.task_word.specs.declared.views.HandleSeatView.{HandleSeatView}
 use Rattle.task_word.specs.declared.views.View.TheVariants.{Core, Handle}
 
 -- the core's seat: it is the first, and its data are what it knows
@@ -20,7 +20,7 @@ CoreSits table id me entries out =
     (id ≡ 0) × (me.0 ≡ Core (core_of me.0)) × (entries ≡ (core_of me.0).entries) × (out ≡ (core_of me.0).out) × (out ≤ most_handles) × (length entries + 1 ≡ table.words)
 
 -- a step that sets one entry keeps this
-pub core_sits : (table table' : TableId) (id id' : ℕ) (me me' : Holder) (entries : List Parts) (out k : ℕ) (e : Parts) (w : CoreView) → table' ≡ table → id' ≡ id → me' ≡ (Core w, me.1)
+pub core_sits : (table table' : TableId) (id id' : ℕ) (me me' : Holder) (entries : List Parts) (out k : ℕ) (e : Parts) (w : CoreSeatView) → table' ≡ table → id' ≡ id → me' ≡ (Core w, me.1)
     → w.entries ≡ set (core_of me.0).entries k e → w.out ≡ (core_of me.0).out → CoreSits table id me entries out → CoreSits table' id' me' (set entries k e) out
 core_sits table table' id id' me me' entries out k e w same_table same_id is set_one same_out sits = (
   same_id ∙ sits.0,
@@ -46,7 +46,7 @@ HandleSits table me =
     (me.0 ≡ Handle (handle_of me.0)) × (me.1 ≡ []) × (length (handle_of me.0).ranks + 1 ≡ table.words) × (length (handle_of me.0).seen + 1 ≡ table.words)
 
 -- a step that keeps the lengths of its lists keeps this
-pub handle_sits : (table table' : TableId) (me me' : Holder) (h : HandleView) → table' ≡ table → me' ≡ (Handle h, me.1)
+pub handle_sits : (table table' : TableId) (me me' : Holder) (h : HandleSeatView) → table' ≡ table → me' ≡ (Handle h, me.1)
     → length h.ranks ≡ length (handle_of me.0).ranks → length h.seen ≡ length (handle_of me.0).seen → HandleSits table me → HandleSits table' me'
 handle_sits table table' me me' h same_table is ranks seen sits =
     let words = ap (λ t. t.words) same_table in (
@@ -57,7 +57,7 @@ handle_sits table table' me me' h same_table is ranks seen sits =
     )
 
 -- what is set is kept
-pub keeps_met : (h h' : HandleView) (k : ℕ) (w : Parts) → k < length h.ranks → k < length h.seen → h'.ranks ≡ set h.ranks k (rank w) → h'.seen ≡ set h.seen k (is_cancelled w) → HandleKeeps h' k w
+pub keeps_met : (h h' : HandleSeatView) (k : ℕ) (w : Parts) → k < length h.ranks → k < length h.seen → h'.ranks ≡ set h.ranks k (rank w) → h'.seen ≡ set h.seen k (is_cancelled w) → HandleKeeps h' k w
 keeps_met h h' k w ranks seen set_rank set_seen = (
   ap (λ xs. slice_index xs k) set_rank ∙ get_or-set_same h.ranks k (rank w) 0 ranks,
   ap (λ xs. slice_index_or xs k false) set_seen ∙ get_or-set_same h.seen k (is_cancelled w) false seen,

@@ -10,8 +10,8 @@ use Rattle.task_word.specs.Views.{most_handles, times, new_handle, one_out, join
 use Rattle.task_word.specs.own.Views.{core_of, handle_of, lender, lent, together, spent}
 use Rattle.task_word.specs.Rule.{word_at, taken_by, is_handle, HasMet, IsWellFormedTable}
 use Rattle.task_word.specs.own.Rule.{task_words}
-use Rattle.task_word.specs.declared.views.CoreView.{CoreView}
-use Rattle.task_word.specs.declared.views.HandleView.{HandleView}
+use Rattle.task_word.specs.declared.views.CoreSeatView.{CoreSeatView}
+use Rattle.task_word.specs.declared.views.HandleSeatView.{HandleSeatView}
 use Rattle.task_word.specs.declared.views.View.{View}
 use Rattle.task_word.specs.declared.views.View.TheVariants.{Core, Handle, Spent}
 use Rattle.task_word.proofs.ViewLists.{sum_set, sum_last, greater_below}
@@ -41,7 +41,7 @@ met_nothing n m words =
       ended = λ h e. absurd (let f : false ≡ true = e in grind (arith));
     }
 
-split_keeps : (n : ℕ) (words : List ℕ) (views : List View) (v : CoreView) → IsWellFormedTable n words views → get_elem? views 0 ≡ some (Core v) → v.out < most_handles
+split_keeps : (n : ℕ) (words : List ℕ) (views : List View) (v : CoreSeatView) → IsWellFormedTable n words views → get_elem? views 0 ≡ some (Core v) → v.out < most_handles
     → IsWellFormedTable n words (set views 0 (Core (one_out v)) ++ Handle (new_handle (length v.entries)) ∷ [])
 split_keeps n words views v kept at room =
     let w : View = Core (one_out v) in
@@ -96,7 +96,7 @@ met_none n words =
     }
 
 -- what the core and a handle met, the core met once the handle is back
-met_both : (n : ℕ) (words : List ℕ) (v : CoreView) (h : HandleView) → HasMet n words (Core v) → HasMet n words (Handle h) → HasMet n words (Core (joined_with v h))
+met_both : (n : ℕ) (words : List ℕ) (v : CoreSeatView) (h : HandleSeatView) → HasMet n words (Core v) → HasMet n words (Handle h) → HasMet n words (Core (joined_with v h))
 met_both n words v h met met_h =
     record {
       ranks = below;
@@ -120,7 +120,7 @@ met_both n words v h met met_h =
       | inr g ↦ omega (arith, below k lt, met_h.still k lt (inr g), greater_right v.ranks h.ranks k)
     ]
 
-join_keeps : (n other : ℕ) (words : List ℕ) (views : List View) (v : CoreView) (h : HandleView) → IsWellFormedTable n words views → get_elem? views 0 ≡ some (Core v) → other ≢ 0
+join_keeps : (n other : ℕ) (words : List ℕ) (views : List View) (v : CoreSeatView) (h : HandleSeatView) → IsWellFormedTable n words views → get_elem? views 0 ≡ some (Core v) → other ≢ 0
     → get_elem? (set views 0 (Core (joined_with v h))) other ≡ some (Handle h)
     → IsWellFormedTable n words (set (set views 0 (Core (joined_with v h))) other Spent)
 join_keeps n other words views v h kept at apart there =

@@ -1,7 +1,7 @@
 -- What each write of a word does to it.
 use Rattle.std.proofs.Common.{◌≡◌, ℕ, ◌+◌, ◌<◌, ◌≤◌, Bool, true, false, ◌&&◌, refl, sym, ap, ◌∙◌, arith}
 use Rattle.task_word.specs.Words.{Parts, marked, is_live, is_ended_phase, is_cancelled, rank, rank_in, started, rearmed, ended_well, ended_badly}
-use Rattle.task_word.specs.Writes.{Kind, submit, start, done, fail, rearm, core_cancel, handle_cancel, plain, Writes, is_cancel}
+use Rattle.task_word.specs.Writes.{Kind, submit, start, done, fail, rearm, core_cancel, handle_cancel, unmarked, ChangesWord, sets_bit}
 use Rattle.task_word.specs.own.Writes.{Exchanges}
 use Rattle.task_word.specs.declared.phases.Phase.{Phase}
 use Rattle.task_word.specs.declared.phases.Phase.TheVariants.{Vacant, New, Running, Done, Failed}
@@ -11,27 +11,27 @@ no_bit : (w : Parts) (p : Phase) → w.phase ≡ p → is_live p ≡ true → is
 no_bit w p phase live free = let e : is_live w.phase ≡ true = ap is_live phase ∙ live in sym (ap (λ b. b && w.marked) e) ∙ free
 
 -- it is its phase and its run
-plain_word : (w : Parts) (p : Phase) → w.phase ≡ p → is_live p ≡ true → is_cancelled w ≡ false → w ≡ plain p w.run
+plain_word : (w : Parts) (p : Phase) → w.phase ≡ p → is_live p ≡ true → is_cancelled w ≡ false → w ≡ unmarked p w.run
 plain_word w p phase live free = let m = no_bit w p phase live free in λ i. record { phase = phase i; run = w.run; marked = m i }
 
 -- the bit that a word has not is the same in the word that a move makes of it
-with_no_bit : (p : Phase) (n : ℕ) (b : Bool) → b ≡ false → (record { phase = p; run = n; marked = b }) ≡ plain p n
+with_no_bit : (p : Phase) (n : ℕ) (b : Bool) → b ≡ false → (record { phase = p; run = n; marked = b }) ≡ unmarked p n
 with_no_bit p n b none = λ i. record { phase = p; run = n; marked = none i }
 
 -- a run that begins is the write of a start
-pub starts : (w : Parts) → w.phase ≡ New → is_cancelled w ≡ false → Writes start w (started w)
+pub starts : (w : Parts) → w.phase ≡ New → is_cancelled w ≡ false → ChangesWord start w (started w)
 starts w phase free = (w.run, plain_word w New phase refl free, with_no_bit Running w.run w.marked (no_bit w New phase refl free))
 
 -- a run after which the task waits again is the write of a re-arm
-pub rearms : (w : Parts) → w.phase ≡ Running → is_cancelled w ≡ false → Writes rearm w (rearmed w)
+pub rearms : (w : Parts) → w.phase ≡ Running → is_cancelled w ≡ false → ChangesWord rearm w (rearmed w)
 rearms w phase free = (w.run, plain_word w Running phase refl free, with_no_bit New (w.run + 1) w.marked (no_bit w Running phase refl free))
 
 -- a last run that ends well is the write of an end
-pub ends_well : (w : Parts) → w.phase ≡ Running → is_cancelled w ≡ false → Writes done w (ended_well w)
+pub ends_well : (w : Parts) → w.phase ≡ Running → is_cancelled w ≡ false → ChangesWord done w (ended_well w)
 ends_well w phase free = (w.run, plain_word w Running phase refl free, with_no_bit Done w.run w.marked (no_bit w Running phase refl free))
 
 -- a run that fails is the write of a failure
-pub ends_badly : (w : Parts) → w.phase ≡ Running → is_cancelled w ≡ false → Writes fail w (ended_badly w)
+pub ends_badly : (w : Parts) → w.phase ≡ Running → is_cancelled w ≡ false → ChangesWord fail w (ended_badly w)
 ends_badly w phase free = (w.run, plain_word w Running phase refl free, with_no_bit Failed w.run w.marked (no_bit w Running phase refl free))
 
 -- what a word is that an exchange takes to another: live, not cancelled, and of no higher rank; nor is the other cancelled
@@ -42,7 +42,7 @@ pub record Exchanged (w u : Parts) : Type 0 where
   pub still : is_cancelled u ≡ false
 
 -- an exchange between two words without the bit, whose phases are known
-exchanged : (w u : Parts) (p q : Phase) (n m : ℕ) → w ≡ plain p n → u ≡ plain q m → is_live p ≡ true → rank_in p n < rank_in q m → is_live q && false ≡ false → Exchanged w u
+exchanged : (w u : Parts) (p q : Phase) (n m : ℕ) → w ≡ unmarked p n → u ≡ unmarked q m → is_live p ≡ true → rank_in p n < rank_in q m → is_live q && false ≡ false → Exchanged w u
 exchanged w u p q n m from to live up still =
     let a : rank w ≡ rank_in p n = ap rank from in
     let b : rank u ≡ rank_in q m = ap rank to in
@@ -116,11 +116,11 @@ live_lasts Failed e = absurd (let f : false ≡ true = e in grind (arith))
 becomes_exchanged : (w u : Parts) → Exchanged w u → Becomes w u
 becomes_exchanged w u x = becomes_on w u x.free (live_lasts w.phase x.live) (omega (arith, x.up))
 
-submit_rises : (w u : Parts) → Writes submit w u → rank w < rank u
+submit_rises : (w u : Parts) → ChangesWord submit w u → rank w < rank u
 submit_rises w u t = let low = vacant_rank w t.0 in let one : rank u ≡ 1 = ap rank t.1 in omega (arith, low, one)
 
 -- what a write makes of a word
-pub becomes : (kind : Kind) (w u : Parts) → Writes kind w u → Becomes w u
+pub becomes : (kind : Kind) (w u : Parts) → ChangesWord kind w u → Becomes w u
 becomes submit w u t = becomes_on w u (vacant_free w t.0) (ap is_ended_phase t.0) (let r = submit_rises w u t in omega (arith, r))
 becomes start w u t = becomes_exchanged w u (exchanges w u (start, refl, t))
 becomes done w u t = becomes_exchanged w u (exchanges w u (done, refl, t))
@@ -130,7 +130,7 @@ becomes core_cancel w u t = becomes_marked w u t
 becomes handle_cancel w u t = becomes_marked w u t
 
 -- a write that is no cancel raises the rank
-pub rises : (kind : Kind) (w u : Parts) → is_cancel kind ≡ false → Writes kind w u → rank w < rank u
+pub rises : (kind : Kind) (w u : Parts) → sets_bit kind ≡ false → ChangesWord kind w u → rank w < rank u
 rises submit w u e t = submit_rises w u t
 rises start w u e t = (exchanges w u (start, refl, t)).up
 rises done w u e t = (exchanges w u (done, refl, t)).up
@@ -150,7 +150,7 @@ not_cancelled : (w u : Parts) → Exchanged w u → is_cancelled w ≡ true → 
 not_cancelled w u x e = absurd (let f : true ≡ false = sym e ∙ x.free in grind (arith))
 
 -- a write leaves a cancelled word as it is
-pub cancelled_same : (kind : Kind) (w u : Parts) → Writes kind w u → is_cancelled w ≡ true → u ≡ w
+pub cancelled_same : (kind : Kind) (w u : Parts) → ChangesWord kind w u → is_cancelled w ≡ true → u ≡ w
 cancelled_same submit w u t e = absurd (let f : true ≡ false = sym e ∙ vacant_free w t.0 in grind (arith))
 cancelled_same start w u t e = not_cancelled w u (exchanges w u (start, refl, t)) e
 cancelled_same done w u t e = not_cancelled w u (exchanges w u (done, refl, t)) e

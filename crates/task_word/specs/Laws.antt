@@ -3,7 +3,7 @@ use Rattle.std.specs.Prelude.{◌≡◌, ◌≢◌, ℕ, ◌<◌, ◌≤◌, tru
 use mathlib.Core.Option.{some}
 use lib.ListN.{get_elem?}
 use Rattle.task_word.specs.Words.{Parts, rank, is_ended_phase, is_cancelled, submitted, started, rearmed, ended_well, ended_badly, marked}
-use Rattle.task_word.specs.Writes.{Kind, submit, start, done, fail, rearm, core_cancel, handle_cancel, Writes, is_cancel}
+use Rattle.task_word.specs.Writes.{Kind, submit, start, done, fail, rearm, core_cancel, handle_cancel, ChangesWord, sets_bit}
 use Rattle.task_word.specs.declared.phases.Phase.TheVariants.{Vacant, New, Running}
 use Rattle.task_word.specs.Views.{times}
 use Rattle.task_word.specs.Rule.{IsWellFormedTable, word_at, taken_by}
@@ -32,13 +32,13 @@ OneWinner = (n : ℕ) (words : List ℕ) (views : List View) → IsWellFormedTab
 
 -- what each move makes of a word is what its kind of write makes of it, where the move may be made; and so for the bit
 pub record MovesWrite (w : Parts) : Type 0 where
-  pub submitted : w.phase ≡ Vacant → Writes submit w (submitted w)
-  pub started : w.phase ≡ New → is_cancelled w ≡ false → Writes start w (started w)
-  pub ended_well : w.phase ≡ Running → is_cancelled w ≡ false → Writes done w (ended_well w)
-  pub ended_badly : w.phase ≡ Running → is_cancelled w ≡ false → Writes fail w (ended_badly w)
-  pub rearmed : w.phase ≡ Running → is_cancelled w ≡ false → Writes rearm w (rearmed w)
-  pub core_cancelled : Writes core_cancel w (marked w)
-  pub handle_cancelled : Writes handle_cancel w (marked w)
+  pub submitted : w.phase ≡ Vacant → ChangesWord submit w (submitted w)
+  pub started : w.phase ≡ New → is_cancelled w ≡ false → ChangesWord start w (started w)
+  pub ended_well : w.phase ≡ Running → is_cancelled w ≡ false → ChangesWord done w (ended_well w)
+  pub ended_badly : w.phase ≡ Running → is_cancelled w ≡ false → ChangesWord fail w (ended_badly w)
+  pub rearmed : w.phase ≡ Running → is_cancelled w ≡ false → ChangesWord rearm w (rearmed w)
+  pub core_cancelled : ChangesWord core_cancel w (marked w)
+  pub handle_cancelled : ChangesWord handle_cancel w (marked w)
 
 -- this is so of every word
 abbrev pub MovesAreWrites : Type 0
@@ -46,16 +46,16 @@ MovesAreWrites = (w : Parts) → MovesWrite w
 
 -- no write lowers the rank
 abbrev pub NoWriteLowersRank : Type 0
-NoWriteLowersRank = (kind : Kind) (w u : Parts) → Writes kind w u → rank w ≤ rank u
+NoWriteLowersRank = (kind : Kind) (w u : Parts) → ChangesWord kind w u → rank w ≤ rank u
 
 -- each write but a cancel raises the rank
 abbrev pub MovesRaiseRank : Type 0
-MovesRaiseRank = (kind : Kind) (w u : Parts) → is_cancel kind ≡ false → Writes kind w u → rank w < rank u
+MovesRaiseRank = (kind : Kind) (w u : Parts) → sets_bit kind ≡ false → ChangesWord kind w u → rank w < rank u
 
 -- no write changes a cancelled word
 abbrev pub CancelledWordStands : Type 0
-CancelledWordStands = (kind : Kind) (w u : Parts) → Writes kind w u → is_cancelled w ≡ true → u ≡ w
+CancelledWordStands = (kind : Kind) (w u : Parts) → ChangesWord kind w u → is_cancelled w ≡ true → u ≡ w
 
 -- no write changes the phase or the run of an ended word
 abbrev pub EndedWordStands : Type 0
-EndedWordStands = (kind : Kind) (w u : Parts) → Writes kind w u → is_ended_phase w.phase ≡ true → (u.phase ≡ w.phase) × (u.run ≡ w.run)
+EndedWordStands = (kind : Kind) (w u : Parts) → ChangesWord kind w u → is_ended_phase w.phase ≡ true → (u.phase ≡ w.phase) × (u.run ≡ w.run)

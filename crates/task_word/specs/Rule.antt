@@ -8,7 +8,7 @@ use Rattle.task_word.specs.Words.{Parts, IsWord, bit, value, vacant_word, marked
 use Rattle.task_word.specs.Views.{times, most_handles}
 use Rattle.task_word.specs.declared.phases.Phase.{Phase}
 use Rattle.task_word.specs.declared.phases.Phase.TheVariants.{Vacant, New, Running, Done, Failed}
-use Rattle.task_word.specs.declared.views.CoreView.{CoreView}
+use Rattle.task_word.specs.declared.views.CoreSeatView.{CoreSeatView}
 use Rattle.task_word.specs.declared.views.View.{View}
 use Rattle.task_word.specs.declared.views.View.TheVariants.{Core, Handle, Spent}
 
@@ -99,8 +99,8 @@ pub record IsWellFormedTable (n : ℕ) (words : List ℕ) (views : List View) : 
   -- one word for each task
   pub count : length words ≡ n
   -- the first seat is the core's, and no other
-  pub core : (v : CoreView) × (get_elem? views 0 ≡ some (Core v)) × EntriesFit n words v.entries × (v.out ≡ handles views) × (v.out ≤ most_handles)
-  pub only : (id : ℕ) (v : CoreView) → get_elem? views id ≡ some (Core v) → id ≡ 0
+  pub core : (v : CoreSeatView) × (get_elem? views 0 ≡ some (Core v)) × EntriesFit n words v.entries × (v.out ≡ handles views) × (v.out ≤ most_handles)
+  pub only : (id : ℕ) (v : CoreSeatView) → get_elem? views id ≡ some (Core v) → id ≡ 0
   -- each cancelled task stands in what one seat took, once, and no other task stands in any
   pub once : (k : ℕ) → k < n → taken_in_all k views ≡ flag (is_cancelled (word_at words k))
   -- what is no task of the table was taken by none

@@ -3,10 +3,10 @@ use Rattle.std.specs.Prelude.{◌≡◌, ℕ, ◌+◌, ◌<◌, ◌≤◌, slice
 use Rattle.task_word.specs.Words.{Parts, is_cancelled, rank}
 use Rattle.task_word.specs.Views.{times}
 use Rattle.task_word.specs.Rule.{flag}
-use Rattle.task_word.specs.declared.views.CoreView.{CoreView}
+use Rattle.task_word.specs.declared.views.CoreSeatView.{CoreSeatView}
 
 -- what the core's own list and the joined handles' say of a task whose word is w
-pub record CoreTells (v : CoreView) (k : ℕ) (w : Parts) : Type 0 where
+pub record CoreTells (v : CoreSeatView) (k : ℕ) (w : Parts) : Type 0 where
   -- a task stands in them once at most, and only where it is cancelled
   pub once : times k v.own + times k v.joined ≤ flag (is_cancelled w)
   -- while no handle is out, each cancelled task stands in them

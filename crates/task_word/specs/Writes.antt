@@ -16,8 +16,8 @@ pub data Kind : Type 0 where
   handle_cancel : Kind
 
 -- the word without the bit
-abbrev pub plain : Phase → ℕ → Parts
-plain p n = record { phase = p; run = n; marked = false }
+abbrev pub unmarked : Phase → ℕ → Parts
+unmarked p n = record { phase = p; run = n; marked = false }
 
 -- a write of the kind takes the word w to the word u:
 -- submit: a vacant word, with the bit or without, to new in run 0;
@@ -25,21 +25,21 @@ plain p n = record { phase = p; run = n; marked = false }
 -- done, fail: running in run n to done, to failed in run n;
 -- rearm: running in run n to new in run n + 1;
 -- core_cancel, handle_cancel: any word to the same with the bit
-abbrev pub Writes : Kind → Parts → Parts → Type 0
-Writes submit w u = (w.phase ≡ Vacant) × (u ≡ plain New 0)
-Writes start w u = (n : ℕ) × (w ≡ plain New n) × (u ≡ plain Running n)
-Writes done w u = (n : ℕ) × (w ≡ plain Running n) × (u ≡ plain Done n)
-Writes fail w u = (n : ℕ) × (w ≡ plain Running n) × (u ≡ plain Failed n)
-Writes rearm w u = (n : ℕ) × (w ≡ plain Running n) × (u ≡ plain New (n + 1))
-Writes core_cancel w u = u ≡ marked w
-Writes handle_cancel w u = u ≡ marked w
+abbrev pub ChangesWord : Kind → Parts → Parts → Type 0
+ChangesWord submit w u = (w.phase ≡ Vacant) × (u ≡ unmarked New 0)
+ChangesWord start w u = (n : ℕ) × (w ≡ unmarked New n) × (u ≡ unmarked Running n)
+ChangesWord done w u = (n : ℕ) × (w ≡ unmarked Running n) × (u ≡ unmarked Done n)
+ChangesWord fail w u = (n : ℕ) × (w ≡ unmarked Running n) × (u ≡ unmarked Failed n)
+ChangesWord rearm w u = (n : ℕ) × (w ≡ unmarked Running n) × (u ≡ unmarked New (n + 1))
+ChangesWord core_cancel w u = u ≡ marked w
+ChangesWord handle_cancel w u = u ≡ marked w
 
 -- the write is a cancel, which sets the bit and nothing else
-abbrev pub is_cancel : Kind → Bool
-is_cancel submit = false
-is_cancel start = false
-is_cancel done = false
-is_cancel fail = false
-is_cancel rearm = false
-is_cancel core_cancel = true
-is_cancel handle_cancel = true
+abbrev pub sets_bit : Kind → Bool
+sets_bit submit = false
+sets_bit start = false
+sets_bit done = false
+sets_bit fail = false
+sets_bit rearm = false
+sets_bit core_cancel = true
+sets_bit handle_cancel = true

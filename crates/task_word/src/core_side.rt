@@ -57,7 +57,7 @@ impl<A: Allocator> CoreSeat<A> {
         requires phase { (entry self.old.view k).phase ≡ Vacant }
         ensures table { self.new.table ≡ self.old.table }
         ensures view { self.new.view ≡ with_entry self.old.view k (new_in 0) }
-        ensures write { write.Writes write.submit (entry self.old.view k) (entry self.new.view k) }
+        ensures write { write.ChangesWord write.submit (entry self.old.view k) (entry self.new.view k) }
     {
         let next = self.known(words, k).submitted();
         words
@@ -244,7 +244,7 @@ impl<A: Allocator> CoreSeat<A> {
         ensures table { self.new.table ≡ self.old.table }
         ensures view { self.new.view ≡ after_move self.old.view k result next }
         ensures met { MoveMeets self.old.view k result }
-        ensures write { (kind : write.Kind) → write.Writes kind (entry self.old.view k) next → MoveWrites kind (entry self.old.view k) result (entry self.new.view k) }
+        ensures write { (kind : write.Kind) → write.ChangesWord kind (entry self.old.view k) next → MoveWrites kind (entry self.old.view k) result (entry self.new.view k) }
     {
         let word = self.known(words, k);
         let old = word.value();

@@ -2,7 +2,7 @@ use crate::values::Word;
 use std::collections::LinkedList;
 
 /// What the core's seat knows. No value of it is made.
-pub struct CoreView {
+pub struct CoreSeatView {
     /// The word of each task as the core knows it.
     pub entries: LinkedList<Word>,
     /// The tasks that the core cancelled.
@@ -16,7 +16,7 @@ pub struct CoreView {
 }
 
 /// What a handle's seat knows. No value of it is made.
-pub struct HandleView {
+pub struct HandleSeatView {
     /// The tasks that the handle cancelled.
     pub won: LinkedList<u64>,
     /// For each task the greatest rank that the handle met.
@@ -29,7 +29,7 @@ pub struct HandleView {
 
 /// What a seat knows: the core's, a handle's, or one that was joined and is gone. No value of it is made.
 pub enum View {
-    Core(CoreView),
-    Handle(HandleView),
+    Core(CoreSeatView),
+    Handle(HandleSeatView),
     Spent,
 }

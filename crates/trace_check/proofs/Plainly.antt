@@ -1,4 +1,4 @@
--- A happening and the plain one of its line are answered alike, and leave the same view.
+-- A happening and the representative of its line are answered alike, and leave the same view.
 use Rattle.std.proofs.Common.{◌≡◌, ℕ, ◌+◌, ◌-◌, ◌^◌, ◌<◌, ◌≤◌, zero, suc, Bool, true, false, cond, nat_lt, nat_le, List, length, Option, Some, None, refl, sym, ap, ◌∙◌, arith, inl, inr}
 use Rattle.std.specs.Prelude.{slice_get, max, not}
 use Rattle.std.specs.List.{range_with_len, find}
@@ -19,32 +19,32 @@ use Rattle.executor_core.specs.declared.types.Refusal.TheVariants as refusal
 use Rattle.executor_core.specs.declared.types.Answer.TheVariants as a
 use Rattle.queue_code.specs.Calls.{Planned, terms_of, due_at, numbers, task_count}
 use Rattle.executor_core.specs.View.{View, first_enabled}
-use Rattle.executor_core.specs.Answers.{Reply, plain, kind_of, called, started, finished, outcome_in, stops_periodic, due_next, effect_on, swept, is_accepted, moment_after, reply}
+use Rattle.executor_core.specs.Answers.{Reply, bare, kind_of, called, start_answer, finish_answer, outcome_in, stops_periodic, due_next, effect_on, swept, is_accepted, moment_after, reply}
 use Rattle.executor_core.specs.Histories.{is_call, MayFrom}
 use Rattle.executor_core.specs.declared.types.Line.{Line}
-use Rattle.trace_check.specs.Plain.{is_busy, plain_error, plain_ending, plain_answer}
+use Rattle.trace_check.specs.Representatives.{is_busy, representative_of_error, representative_ending, representative_of}
 
--- a happening that the line of another one's reply names as its plain one, with what both have in common
+-- a happening that the line of another one's reply names as its representative, with what both have in common
 pub record Plainly (calls : List Planned) (workers : ℕ) (v : View) (lines : List Line) (y : Happening) (r : Reply) : Type 0 where
   pub happening : Happening
-  pub plain : plain_answer workers lines (moment_after v.moment (slice_get calls v.made) y) r.answer ≡ Some happening
+  pub representative : representative_of workers lines (moment_after v.moment (slice_get calls v.made) y) r.answer ≡ Some happening
   pub replies : reply calls workers v happening ≡ r
   pub call : is_call happening ≡ is_call y
   pub moment : moment_after v.moment (slice_get calls v.made) happening ≡ moment_after v.moment (slice_get calls v.made) y
   pub comes : MayFrom calls v.made v.moment happening
 
--- a happening that is its own plain one
+-- a happening that is its own representative
 own : (calls : List Planned) (workers : ℕ) (v : View) (lines : List Line) (y : Happening) → MayFrom calls v.made v.moment y →
-    plain_answer workers lines (moment_after v.moment (slice_get calls v.made) y) (reply calls workers v y).answer ≡ Some y → Plainly calls workers v lines y (reply calls workers v y)
-own calls workers v lines y may is = record { happening = y; plain = is; replies = refl; call = refl; moment = refl; comes = may }
+    representative_of workers lines (moment_after v.moment (slice_get calls v.made) y) (reply calls workers v y).answer ≡ Some y → Plainly calls workers v lines y (reply calls workers v y)
+own calls workers v lines y may is = record { happening = y; representative = is; replies = refl; call = refl; moment = refl; comes = may }
 
--- an event that gets an error, and the plain one that gets it
-erring : (calls : List Planned) (workers : ℕ) (v : View) (lines : List Line) (y g : Happening) (error : EventError) → reply calls workers v y ≡ plain (a.Error error) →
-    plain_error workers lines error ≡ Some g → reply calls workers v g ≡ plain (a.Error error) → is_call g ≡ is_call y →
+-- an event that gets an error, and the representative that gets it
+erring : (calls : List Planned) (workers : ℕ) (v : View) (lines : List Line) (y g : Happening) (error : EventError) → reply calls workers v y ≡ bare (a.Error error) →
+    representative_of_error workers lines error ≡ Some g → reply calls workers v g ≡ bare (a.Error error) → is_call g ≡ is_call y →
     moment_after v.moment (slice_get calls v.made) g ≡ moment_after v.moment (slice_get calls v.made) y → MayFrom calls v.made v.moment g → Plainly calls workers v lines y (reply calls workers v y)
 erring calls workers v lines y g error is names gives call moment may = record {
   happening = g;
-  plain = ap (λ (r : Reply). plain_answer workers lines (moment_after v.moment (slice_get calls v.made) y) r.answer) is ∙ names;
+  representative = ap (λ (r : Reply). representative_of workers lines (moment_after v.moment (slice_get calls v.made) y) r.answer) is ∙ names;
   replies = gives ∙ sym is;
   call = call;
   moment = moment;
@@ -54,10 +54,10 @@ erring calls workers v lines y g error is names gives call moment may = record {
 -- ---- calls
 
 call_is_plain : (calls : List Planned) (workers : ℕ) (v : View) (lines : List Line) (moment : ℕ) (call : CodeCall) →
-    plain_answer workers lines moment (called calls v call).answer ≡ Some h.Call
+    representative_of workers lines moment (called calls v call).answer ≡ Some h.Call
 call_is_plain calls workers v lines moment (c.Submit task timing delay) = by v.shut
   where
-    by : (b : Bool) → plain_answer workers lines moment (cond b (a.Refuse task refusal.Rejected) (a.Submit task (kind_of timing) (due_at (terms_of calls task) 0 None))) ≡ Some h.Call
+    by : (b : Bool) → representative_of workers lines moment (cond b (a.Refuse task refusal.Rejected) (a.Submit task (kind_of timing) (due_at (terms_of calls task) 0 None))) ≡ Some h.Call
     by true = refl
     by false = refl
 call_is_plain calls workers v lines moment (c.Illegal task) = refl
@@ -65,7 +65,7 @@ call_is_plain calls workers v lines moment (c.Cancel task) = refl
 call_is_plain calls workers v lines moment (c.SetPolicy which value) = refl
 call_is_plain calls workers v lines moment c.Shutdown = by v.shut
   where
-    by : (b : Bool) → plain_answer workers lines moment (cond b (plain a.ShutdownAgain) (record { answer = a.Shutdown; ends = swept calls v v.policies })).answer ≡ Some h.Call
+    by : (b : Bool) → representative_of workers lines moment (cond b (bare a.ShutdownAgain) (record { answer = a.Shutdown; ends = swept calls v v.policies })).answer ≡ Some h.Call
     by true = refl
     by false = refl
 call_is_plain calls workers v lines moment c.Ask = refl
@@ -74,7 +74,7 @@ calls_plainly : (calls : List Planned) (workers : ℕ) (v : View) (lines : List 
 calls_plainly calls workers v lines may =
     let now = moment_after v.moment (slice_get calls v.made) h.Call in
     let pick : (o : Option Planned) → slice_get calls v.made ≡ o →
-    plain_answer workers lines now (option_map_or (λ (p : Planned). called calls (record v { moment = max v.moment p.0 }) p.1) o (plain a.Clock)).answer ≡ Some h.Call =
+    representative_of workers lines now (option_map_or (λ (p : Planned). called calls (record v { moment = max v.moment p.0 }) p.1) o (bare a.Clock)).answer ≡ Some h.Call =
     elim [
       | None ↦ λ is. elim (slice_get_cases calls v.made).1 [
         | inl there ↦ absurd (none-some there.0 (sym is ∙ there.2))
@@ -96,8 +96,8 @@ clocks_plainly : (calls : List Planned) (workers : ℕ) (v : View) (lines : List
     Plainly calls workers v lines (h.Clock t) (reply calls workers v (h.Clock t))
 clocks_plainly calls workers v lines t within may =
     let now = v.moment in
-    let one = plain_answer workers lines (moment_after now (slice_get calls v.made) (h.Clock t)) in
-    let after = λ (b d : Bool). plain (cond b (a.Error x.Backward) (cond d (a.Error x.TooFar) a.Clock)) in
+    let one = representative_of workers lines (moment_after now (slice_get calls v.made) (h.Clock t)) in
+    let after = λ (b d : Bool). bare (cond b (a.Error x.Backward) (cond d (a.Error x.TooFar) a.Clock)) in
     let backward : nat_lt t now ≡ true → Plainly calls workers v lines (h.Clock t) (reply calls workers v (h.Clock t)) = λ back.
     let less = ltb-true t now back in
     let plain_one = refused calls v 0 (and_left (nat_le now 0) (nat_le 0 (2 ^ 62)) (lt-leb now 0 (omega arith))) in
@@ -142,11 +142,11 @@ first_there test a (suc n) v low high is =
     above : (a v : ℕ) → a ≤ v → (a ≡ v → ⊥) → a + 1 ≤ v
     above a v low other = omega (arith, other)
 
-no_worker : (calls : List Planned) (workers : ℕ) (v : View) → workers ≤ 64 → reply calls workers v (h.Start 255) ≡ plain (a.Error x.NoWorker)
+no_worker : (calls : List Planned) (workers : ℕ) (v : View) → workers ≤ 64 → reply calls workers v (h.Start 255) ≡ bare (a.Error x.NoWorker)
 no_worker calls workers v few =
-    ap (λ b. plain (cond b (option_map_or (λ _. a.Error x.Busy) (v.work 255) (started v 255 (first_enabled v (numbers calls)))) (a.Error x.NoWorker))) (le-ltb 255 workers (omega arith))
+    ap (λ b. bare (cond b (option_map_or (λ _. a.Error x.Busy) (v.work 255) (start_answer v 255 (first_enabled v (numbers calls)))) (a.Error x.NoWorker))) (le-ltb 255 workers (omega arith))
 
-started_plain : (workers : ℕ) (v : View) (lines : List Line) (moment w : ℕ) (o : Option ℕ) → plain_answer workers lines moment (started v w o) ≡ Some (h.Start w)
+started_plain : (workers : ℕ) (v : View) (lines : List Line) (moment w : ℕ) (o : Option ℕ) → representative_of workers lines moment (start_answer v w o) ≡ Some (h.Start w)
 started_plain workers v lines moment w None = refl
 started_plain workers v lines moment w (Some k) = refl
 
@@ -155,15 +155,15 @@ starts_plainly : (calls : List Planned) (workers : ℕ) (v : View) (lines : List
 starts_plainly calls workers v lines w few busy =
     let now = moment_after v.moment (slice_get calls v.made) (h.Start w) in
     let first = first_enabled v (numbers calls) in
-    let says = λ (u : ℕ) (b : Bool) (o : Option ℕ). plain (cond b (option_map_or (λ _. a.Error x.Busy) o (started v u first)) (a.Error x.NoWorker)) in
+    let says = λ (u : ℕ) (b : Bool) (o : Option ℕ). bare (cond b (option_map_or (λ _. a.Error x.Busy) o (start_answer v u first)) (a.Error x.NoWorker)) in
     let pick : (b : Bool) (o : Option ℕ) → nat_lt w workers ≡ b → v.work w ≡ o → Plainly calls workers v lines (h.Start w) (reply calls workers v (h.Start w)) =
     elim [
       | true ↦ elim [
-        | None ↦ λ is free. own calls workers v lines (h.Start w) tt ((λ i. plain_answer workers lines now (says w (is i) (free i)).answer) ∙ started_plain workers v lines now w first)
+        | None ↦ λ is free. own calls workers v lines (h.Start w) tt ((λ i. representative_of workers lines now (says w (is i) (free i)).answer) ∙ started_plain workers v lines now w first)
         | Some k ↦ λ is work.
             let there = first_there (is_busy lines) 0 workers w (omega arith) (omega (arith, ltb-true w workers is)) (busy w ∙ ap is_some work) in
             let u = there.0 in
-            let has : (o : Option ℕ) → v.work u ≡ o → reply calls workers v (h.Start u) ≡ plain (a.Error x.Busy) =
+            let has : (o : Option ℕ) → v.work u ≡ o → reply calls workers v (h.Start u) ≡ bare (a.Error x.Busy) =
             elim [
               | None ↦ λ free. absurd (false≢true (ap is_some (sym free) ∙ (sym (busy u) ∙ there.2)))
               | Some j ↦ λ taken. λ i. says u (lt-ltb u workers (omega (arith, there.3)) i) (taken i)
@@ -178,7 +178,7 @@ starts_plainly calls workers v lines w few busy =
 
 -- a run that ends as its outcome tells has this outcome
 outcome_plain : (cancelled stops : Bool) (timing : Timing) (due : ℕ) (ending : Ending) →
-    outcome_in cancelled stops timing due (plain_ending (outcome_in cancelled stops timing due ending)) ≡ outcome_in cancelled stops timing due ending
+    outcome_in cancelled stops timing due (representative_ending (outcome_in cancelled stops timing due ending)) ≡ outcome_in cancelled stops timing due ending
 outcome_plain true stops timing due ending = refl
 outcome_plain false stops timing due (e.Fault code) = refl
 outcome_plain false stops t.Once due (e.Value value) = refl
@@ -191,14 +191,14 @@ finishes_plainly : (calls : List Planned) (workers : ℕ) (v : View) (lines : Li
     Plainly calls workers v lines (h.Finish w ending) (reply calls workers v (h.Finish w ending))
 finishes_plainly calls workers v lines w ending few busy =
     let now = moment_after v.moment (slice_get calls v.made) (h.Finish w ending) in
-    let says = λ (u : ℕ) (ending : Ending) (b : Bool) (o : Option ℕ). plain (cond b (finished calls v u ending o) (a.Error x.NoWorker)) in
+    let says = λ (u : ℕ) (ending : Ending) (b : Bool) (o : Option ℕ). bare (cond b (finish_answer calls v u ending o) (a.Error x.NoWorker)) in
     let pick : (b : Bool) (o : Option ℕ) → nat_lt w workers ≡ b → v.work w ≡ o → Plainly calls workers v lines (h.Finish w ending) (reply calls workers v (h.Finish w ending)) =
     elim [
       | true ↦ elim [
         | None ↦ λ is free.
             let there = first_there (λ u. not (is_busy lines u)) 0 workers w (omega arith) (omega (arith, ltb-true w workers is)) (not_from_false (is_busy lines w) (busy w ∙ ap is_some free)) in
             let u = there.0 in
-            let has : (o : Option ℕ) → v.work u ≡ o → reply calls workers v (h.Finish u (e.Value 0)) ≡ plain (a.Error x.NotRunning) =
+            let has : (o : Option ℕ) → v.work u ≡ o → reply calls workers v (h.Finish u (e.Value 0)) ≡ bare (a.Error x.NotRunning) =
             elim [
               | None ↦ λ free. λ i. says u (e.Value 0) (lt-ltb u workers (omega (arith, there.3)) i) (free i)
               | Some j ↦ λ taken. absurd (false≢true (sym (not-true (is_busy lines u) there.2) ∙ (busy u ∙ ap is_some taken)))
@@ -210,10 +210,10 @@ finishes_plainly calls workers v lines w ending few busy =
             let stops = stops_periodic v.shut v.policies in
             let outcome = outcome_in (v.fate k).cancelled stops timing (due_next calls v k) ending in
             record {
-              happening = h.Finish w (plain_ending outcome);
-              plain = λ i. plain_answer workers lines now (says w ending (is i) (work i)).answer;
-              replies = (λ i. says w (plain_ending outcome) (is i) (work i))
-                  ∙ (ap (λ o. plain (a.Finish w k ((v.fate k).starts - 1) o)) (outcome_plain (v.fate k).cancelled stops timing (due_next calls v k) ending) ∙ (λ i. says w ending (sym is i) (sym work i)));
+              happening = h.Finish w (representative_ending outcome);
+              representative = λ i. representative_of workers lines now (says w ending (is i) (work i)).answer;
+              replies = (λ i. says w (representative_ending outcome) (is i) (work i))
+                  ∙ (ap (λ o. bare (a.Finish w k ((v.fate k).starts - 1) o)) (outcome_plain (v.fate k).cancelled stops timing (due_next calls v k) ending) ∙ (λ i. says w ending (sym is i) (sym work i)));
               call = refl;
               moment = refl;
               comes = tt;
@@ -229,10 +229,10 @@ finishes_plainly calls workers v lines w ending few busy =
 cancels_plainly : (calls : List Planned) (workers : ℕ) (v : View) (lines : List Line) (k : ℕ) → task_count calls ≤ 65536 → Plainly calls workers v lines (h.Cancel k) (reply calls workers v (h.Cancel k))
 cancels_plainly calls workers v lines k few =
     let now = moment_after v.moment (slice_get calls v.made) (h.Cancel k) in
-    let says = λ (j : ℕ) (b : Bool). plain (cond b (a.Outside j (effect_on (v.fate j))) (a.Error x.NoTask)) in
+    let says = λ (j : ℕ) (b : Bool). bare (cond b (a.Outside j (effect_on (v.fate j))) (a.Error x.NoTask)) in
     let pick : (b : Bool) → nat_lt k (task_count calls) ≡ b → Plainly calls workers v lines (h.Cancel k) (reply calls workers v (h.Cancel k)) =
     elim [
-      | true ↦ λ is. own calls workers v lines (h.Cancel k) tt (ap (λ b. plain_answer workers lines now (says k b).answer) is)
+      | true ↦ λ is. own calls workers v lines (h.Cancel k) tt (ap (λ b. representative_of workers lines now (says k b).answer) is)
       | false ↦ λ is. erring calls workers v lines (h.Cancel k) (h.Cancel 4294967295) x.NoTask (ap (says k) is) refl (ap (says 4294967295) (le-ltb 4294967295 (task_count calls) (omega arith))) refl refl tt
     ]
     in

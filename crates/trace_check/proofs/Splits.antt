@@ -11,7 +11,7 @@ use Rattle.queue_code.specs.Calls.{Planned, how_many}
 use Rattle.executor_core.specs.Histories.{HistoryEntry, entry_of, happenings, now_of, answer, IsHistoryOf}
 use Rattle.executor_core.specs.Flows.{answer_line, end_line, lines_at, lines_of, reply_in}
 use Rattle.executor_core.proofs.Flowing.{how_many-append, one_answer}
-use Rattle.trace_check.specs.Plain.{ArePlain}
+use Rattle.trace_check.specs.Representatives.{AreRepresentatives}
 use Rattle.trace_check.specs.Going.{Goes, IsNextAnswer, StandsNext}
 use Rattle.trace_check.specs.Laws.{GoesLineByLine, GoesOnlyOneWay, FrontsGo}
 
@@ -65,12 +65,12 @@ mains_trace calls (e ∷ past) =
       mains_ends (now_of calls (happenings (e ∷ past))) e.ends,
     )
 
-mains_plain : (workers : ℕ) (lines : List Line) (happened : List Happening) → ArePlain workers lines happened → mains lines ≡ length happened
+mains_plain : (workers : ℕ) (lines : List Line) (happened : List Happening) → AreRepresentatives workers lines happened → mains lines ≡ length happened
 mains_plain workers [] happened p = ap length (sym p)
 mains_plain workers (line ∷ before) happened p = by (λ rest q. mains_plain workers before rest q) line.message happened p
   where
-    by : ((rest : List Happening) → ArePlain workers before rest → mains before ≡ length rest) → (message : Message) (happened : List Happening) →
-        ArePlain workers (record { moment = line.moment; message = message } ∷ before) happened → mains (record { moment = line.moment; message = message } ∷ before) ≡ length happened
+    by : ((rest : List Happening) → AreRepresentatives workers before rest → mains before ≡ length rest) → (message : Message) (happened : List Happening) →
+        AreRepresentatives workers (record { moment = line.moment; message = message } ∷ before) happened → mains (record { moment = line.moment; message = message } ∷ before) ≡ length happened
     by again (m.End task) happened p = again happened p
     by again (m.Answer answer) [] p = absurd p
     by again (m.Answer answer) (happening ∷ happened) p = omega (arith, again happened p.1)
@@ -84,14 +84,14 @@ mains_turned (line ∷ before) = ap mains (turned line before) ∙ (how_many-app
     by again false = omega (arith, again)
 
 -- the lines and the history have as many answers
-even : (calls : List Planned) (workers : ℕ) (lines : List Line) (past : List HistoryEntry) → ArePlain workers lines (happenings past) → mains (lines_of calls past) ≡ mains (reverse lines)
-even calls workers lines past plain =
-    omega (arith, mains_trace calls past, mains_plain workers lines (happenings past) plain, mains_turned lines, length-map past (λ (e : HistoryEntry). e.happening))
+even : (calls : List Planned) (workers : ℕ) (lines : List Line) (past : List HistoryEntry) → AreRepresentatives workers lines (happenings past) → mains (lines_of calls past) ≡ mains (reverse lines)
+even calls workers lines past representative =
+    omega (arith, mains_trace calls past, mains_plain workers lines (happenings past) representative, mains_turned lines, length-map past (λ (e : HistoryEntry). e.happening))
 
 -- so what is owed ends tasks
 pub owed_ends : (calls : List Planned) (workers : ℕ) (lines : List Line) (g : Goes calls workers lines) → mains g.owed ≡ 0
 owed_ends calls workers lines g =
-    omega (arith, even calls workers lines g.past g.plain, ap mains g.front, how_many-append is_answered (reverse lines) g.owed)
+    omega (arith, even calls workers lines g.past g.representative, ap mains g.front, how_many-append is_answered (reverse lines) g.owed)
 
 -- where two lists are cut at an answer, with as many answers before it, they are cut at one place
 split : (xs ys es os : List Line) (m k : Line) → xs ++ m ∷ es ≡ ys ++ k ∷ os → mains xs ≡ mains ys → is_answered m ≡ true → is_answered k ≡ true →
@@ -125,7 +125,7 @@ goes_owed calls workers lines g due rest is =
       | m.End task ↦ λ is. record {
         past = g.past;
         means = g.means;
-        plain = g.plain;
+        representative = g.representative;
         owed = rest;
         front = g.front ∙ (ap (λ o. reverse lines ++ o) is ∙ sym (turned_before (end_line moment task) lines rest));
       }
@@ -143,7 +143,7 @@ goes_answered calls workers lines g moment said none next =
     record {
       past = entry_of next.happening r ∷ g.past;
       means = (g.means, next.comes, refl, refl);
-      plain = (next.plain, g.plain);
+      representative = (next.representative, g.representative);
       owed = ends_at now r.ends;
       front = (λ i. before i ++ answer_line (sym next.now i) (sym next.answered i) ∷ ends_at now r.ends)
           ∙ sym (turned_before (answer_line moment said) lines (ends_at now r.ends));
@@ -161,19 +161,19 @@ pub same_said : (t u : ℕ) (one other : Answer) → answer_line t one ≡ answe
 same_said t u one other same = let said : m.Answer one ≡ m.Answer other = ap (λ (line : Line). line.message) same in cc
 
 before_answered : (calls : List Planned) (workers : ℕ) (lines : List Line) (moment : ℕ) (said : Answer) (past : List HistoryEntry) (owed : List Line) → IsHistoryOf calls workers past →
-    ArePlain workers (answer_line moment said ∷ lines) (happenings past) → lines_of calls past ≡ reverse (answer_line moment said ∷ lines) ++ owed → Before calls workers lines (answer_line moment said)
-before_answered calls workers lines moment said [] owed means plain front = absurd plain
-before_answered calls workers lines moment said (e ∷ past) owed means plain front =
+    AreRepresentatives workers (answer_line moment said ∷ lines) (happenings past) → lines_of calls past ≡ reverse (answer_line moment said ∷ lines) ++ owed → Before calls workers lines (answer_line moment said)
+before_answered calls workers lines moment said [] owed means representative front = absurd representative
+before_answered calls workers lines moment said (e ∷ past) owed means representative front =
     let now = now_of calls (happenings (e ∷ past)) in
     let cut = split (lines_of calls past) (reverse lines) (ends_at now e.ends) owed (answer_line now e.answer) (answer_line moment said) (front ∙ turned_before (answer_line moment said) lines owed)
-    (even calls workers lines past plain.1) refl refl in
+    (even calls workers lines past representative.1) refl refl in
     let same : answer_line now e.answer ≡ answer_line moment said = cut.1 in
     let same_answer : e.answer ≡ said = same_said now moment e.answer said same in
     record {
-      goes = record { past = past; means = means.0; plain = plain.1; owed = []; front = cut.0 ∙ sym (append-nil (reverse lines)) };
+      goes = record { past = past; means = means.0; representative = representative.1; owed = []; front = cut.0 ∙ sym (append-nil (reverse lines)) };
       next = record {
         happening = e.happening;
-        plain = plain.0;
+        representative = representative.0;
         comes = means.1;
         now = ap (λ (x : Line). x.moment) (sym same);
         answered = sym same_answer ∙ means.2;
@@ -184,9 +184,9 @@ before_line : (calls : List Planned) (workers : ℕ) (lines : List Line) (line :
 before_line calls workers lines line g = by line.moment line.message g
   where
     by : (moment : ℕ) (message : Message) → Goes calls workers (record { moment = moment; message = message } ∷ lines) → Before calls workers lines (record { moment = moment; message = message })
-    by moment (m.Answer said) g = before_answered calls workers lines moment said g.past g.owed g.means g.plain g.front
+    by moment (m.Answer said) g = before_answered calls workers lines moment said g.past g.owed g.means g.representative g.front
     by moment (m.End task) g = record {
-      goes = record { past = g.past; means = g.means; plain = g.plain; owed = end_line moment task ∷ g.owed; front = g.front ∙ turned_before (end_line moment task) lines g.owed };
+      goes = record { past = g.past; means = g.means; representative = g.representative; owed = end_line moment task ∷ g.owed; front = g.front ∙ turned_before (end_line moment task) lines g.owed };
       next = refl;
     }
 
@@ -196,12 +196,12 @@ fronts_go calls workers lines line g = (before_line calls workers lines line g).
 
 -- ---- one way
 
-one_plain : (workers : ℕ) (lines : List Line) (some other : List Happening) → ArePlain workers lines some → ArePlain workers lines other → some ≡ other
+one_plain : (workers : ℕ) (lines : List Line) (some other : List Happening) → AreRepresentatives workers lines some → AreRepresentatives workers lines other → some ≡ other
 one_plain workers [] some other p q = p ∙ sym q
 one_plain workers (line ∷ before) some other p q = by (λ some other p q. one_plain workers before some other p q) line.message some other p q
   where
-    by : ((some other : List Happening) → ArePlain workers before some → ArePlain workers before other → some ≡ other) → (message : Message) (some other : List Happening) →
-        ArePlain workers (record { moment = line.moment; message = message } ∷ before) some → ArePlain workers (record { moment = line.moment; message = message } ∷ before) other → some ≡ other
+    by : ((some other : List Happening) → AreRepresentatives workers before some → AreRepresentatives workers before other → some ≡ other) → (message : Message) (some other : List Happening) →
+        AreRepresentatives workers (record { moment = line.moment; message = message } ∷ before) some → AreRepresentatives workers (record { moment = line.moment; message = message } ∷ before) other → some ≡ other
     by again (m.End task) some other p q = again some other p q
     by again (m.Answer answer) [] other p q = absurd p
     by again (m.Answer answer) (h ∷ some) [] p q = absurd q
@@ -213,7 +213,7 @@ one_plain workers (line ∷ before) some other p q = by (λ some other p q. one_
 -- lines go in one way at most
 pub goes_only_one_way : GoesOnlyOneWay
 goes_only_one_way calls workers lines one other =
-    let past : one.past ≡ other.past = one_answer calls workers one.past other.past one.means other.means (one_plain workers lines (happenings one.past) (happenings other.past) one.plain other.plain) in
+    let past : one.past ≡ other.past = one_answer calls workers one.past other.past one.means other.means (one_plain workers lines (happenings one.past) (happenings other.past) one.representative other.representative) in
     (past, append_cancel_left (reverse lines) one.owed other.owed (sym one.front ∙ (ap (lines_of calls) past ∙ other.front)))
 
 -- ---- line by line

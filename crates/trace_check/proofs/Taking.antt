@@ -14,9 +14,9 @@ use Rattle.executor_core.specs.Answers.{Reply, reply, moment_after}
 use Rattle.executor_core.specs.Histories.{happenings, view_of_history, now_of, answer, MayFrom}
 use Rattle.executor_core.specs.State.{State, view_of_state, next, reply_of}
 use Rattle.executor_core.specs.Flows.{answer_line, end_line, lines_at}
-use Rattle.executor_core.specs.Machine.{Machine, workers_of, state_of, Counts, Steps, IsOpening}
+use Rattle.executor_core.specs.CoreView.{CoreView, workers_of, state_of, Counts, Steps, IsOpening}
 use Rattle.executor_core.proofs.Agree.{after_agrees}
-use Rattle.trace_check.specs.Plain.{busy_by, plain_answer}
+use Rattle.trace_check.specs.Representatives.{busy_by, representative_of}
 use Rattle.trace_check.specs.Going.{Goes, IsNextAnswer, StandsNext}
 use Rattle.trace_check.specs.own.Standing.{IsAt, IsStanding, TellBusy, most_named}
 use Rattle.trace_check.proofs.Splits.{ends_at, mains, owed_ends, same_said, goes_owed, goes_answered, goes_line_by_line}
@@ -63,7 +63,7 @@ refuses_end calls workers s moment task lines flags at more = next_is calls work
 -- an answer that goes, as the state tells it
 record FromState (calls : List Planned) (workers : ℕ) (s : State) (lines : List Line) (moment : ℕ) (said : Answer) : Type 0 where
   pub happening : Happening
-  pub plain : plain_answer workers lines moment said ≡ Some happening
+  pub representative : representative_of workers lines moment said ≡ Some happening
   pub comes : MayFrom calls s.made s.moment happening
   pub now : moment ≡ (next calls workers s happening).moment
   pub answered : said ≡ (reply_of calls workers s happening).answer
@@ -76,7 +76,7 @@ from_state calls workers s lines flags moment said at more =
     let is = sym (seen_is calls workers s [] lines flags at) in
     record {
       happening = h;
-      plain = stands.plain;
+      representative = stands.representative;
       comes = subst (λ (v : View). MayFrom calls v.made v.moment h) is stands.comes;
       now = stands.now ∙ ap (λ (v : View). moment_after v.moment (slice_get calls v.made) h) is;
       answered = stands.answered ∙ ap (λ (v : View). (reply calls workers v h).answer) is;
@@ -85,33 +85,33 @@ from_state calls workers s lines flags moment said at more =
 same_some : (h g : Happening) → Some h ≡ Some g → h ≡ g
 same_some h g is = cc
 
--- an answer without a plain happening is refused
+-- an answer without a representative is refused
 pub refuses_plain : (calls : List Planned) (workers : ℕ) (s : State) (lines : List Line) (flags : List Bool) (moment : ℕ) (said : Answer) → IsAt calls workers s [] flags lines →
-    ((h : Happening) → plain_answer workers lines moment said ≡ Some h → ⊥) → Goes calls workers (answer_line moment said ∷ lines) → ⊥
-refuses_plain calls workers s lines flags moment said at none more = let f = from_state calls workers s lines flags moment said at more in none f.happening f.plain
+    ((h : Happening) → representative_of workers lines moment said ≡ Some h → ⊥) → Goes calls workers (answer_line moment said ∷ lines) → ⊥
+refuses_plain calls workers s lines flags moment said at none more = let f = from_state calls workers s lines flags moment said at more in none f.happening f.representative
 
--- one whose plain happening may not come is refused
+-- one whose representative may not come is refused
 pub refuses_coming : (calls : List Planned) (workers : ℕ) (s : State) (lines : List Line) (flags : List Bool) (moment : ℕ) (said : Answer) (h : Happening) → IsAt calls workers s [] flags lines →
-    Some h ≡ plain_answer workers lines moment said → (MayFrom calls s.made s.moment h → ⊥) → Goes calls workers (answer_line moment said ∷ lines) → ⊥
-refuses_coming calls workers s lines flags moment said h at plain never more =
+    Some h ≡ representative_of workers lines moment said → (MayFrom calls s.made s.moment h → ⊥) → Goes calls workers (answer_line moment said ∷ lines) → ⊥
+refuses_coming calls workers s lines flags moment said h at representative never more =
     let f = from_state calls workers s lines flags moment said at more in
-    never (subst (MayFrom calls s.made s.moment) (same_some f.happening h (sym (plain ∙ f.plain))) f.comes)
+    never (subst (MayFrom calls s.made s.moment) (same_some f.happening h (sym (representative ∙ f.representative))) f.comes)
 
--- one that the plain happening does not get is refused
+-- one that the representative does not get is refused
 pub refuses_line : (calls : List Planned) (workers : ℕ) (s : State) (lines : List Line) (flags : List Bool) (moment : ℕ) (said : Answer) (h : Happening) → IsAt calls workers s [] flags lines →
-    Some h ≡ plain_answer workers lines moment said → (answer_line (next calls workers s h).moment (reply_of calls workers s h).answer ≡ answer_line moment said → ⊥) →
+    Some h ≡ representative_of workers lines moment said → (answer_line (next calls workers s h).moment (reply_of calls workers s h).answer ≡ answer_line moment said → ⊥) →
     Goes calls workers (answer_line moment said ∷ lines) → ⊥
-refuses_line calls workers s lines flags moment said h at plain other more =
+refuses_line calls workers s lines flags moment said h at representative other more =
     let f = from_state calls workers s lines flags moment said at more in
-    let same = same_some f.happening h (sym (plain ∙ f.plain)) in
+    let same = same_some f.happening h (sym (representative ∙ f.representative)) in
     other (λ i. answer_line (sym (f.now ∙ ap (λ g. (next calls workers s g).moment) same) i) (sym (f.answered ∙ ap (λ g. (reply_of calls workers s g).answer) same) i))
 
--- one that the plain happening gets is taken
+-- one that the representative gets is taken
 pub takes_answer : (calls : List Planned) (workers : ℕ) (s : State) (lines : List Line) (flags after_flags : List Bool) (moment : ℕ) (said : Answer) (h : Happening) → IsAt calls workers s [] flags lines →
-    Some h ≡ plain_answer workers lines moment said → MayFrom calls s.made s.moment h → answer_line (next calls workers s h).moment (reply_of calls workers s h).answer ≡ answer_line moment said →
+    Some h ≡ representative_of workers lines moment said → MayFrom calls s.made s.moment h → answer_line (next calls workers s h).moment (reply_of calls workers s h).answer ≡ answer_line moment said →
     ((w : ℕ) → w < most_named → slice_index_or after_flags w false ≡ busy_by w said (slice_index_or flags w false)) →
     IsAt calls workers (next calls workers s h) (ends_at (next calls workers s h).moment (reply_of calls workers s h).ends) after_flags (answer_line moment said ∷ lines)
-takes_answer calls workers s lines flags after_flags moment said h at plain may same flags_are =
+takes_answer calls workers s lines flags after_flags moment said h at representative may same flags_are =
     let is = seen_is calls workers s [] lines flags at in
     let r = answer calls workers at.goes.past h in
     let now = now_of calls (h ∷ happenings at.goes.past) in
@@ -120,7 +120,7 @@ takes_answer calls workers s lines flags after_flags moment said h at plain may 
     let same_answer : (reply_of calls workers s h).answer ≡ said = same_said (next calls workers s h).moment moment (reply_of calls workers s h).answer said same in
     let stands : IsNextAnswer calls workers lines at.goes.past moment said = record {
       happening = h;
-      plain = sym plain;
+      representative = sym representative;
       comes = subst (λ (v : View). MayFrom calls v.made v.moment h) is may;
       now = ap (λ (x : Line). x.moment) (sym same) ∙ same_now;
       answered = sym same_answer ∙ ap (λ (x : Reply). x.answer) same_reply;
@@ -146,20 +146,20 @@ owed_none out met past = drop_of_length-le out past
 -- ---- the same of a core
 
 -- a core took the step of a happening, and these are its lines
-pub record Took (m n : Machine) (happening : Happening) (out : List Line) : Type 0 where
+pub record Took (m n : CoreView) (happening : Happening) (out : List Line) : Type 0 where
   pub calls : n.calls ≡ m.calls
   pub workers : workers_of n ≡ workers_of m
   pub state : state_of n ≡ next m.calls (workers_of m) (state_of m) happening
   pub lines : out ≡ lines_at (next m.calls (workers_of m) (state_of m) happening).moment (reply_of m.calls (workers_of m) (state_of m) happening)
 
 -- it did where it counted the happening before
-pub took : (m counted n : Machine) (happening : Happening) (before out : List Line) → Counts m counted → before ≡ [] → Steps counted n before out (happening ∷ []) → Took m n happening out
+pub took : (m counted n : CoreView) (happening : Happening) (before out : List Line) → Counts m counted → before ≡ [] → Steps counted n before out (happening ∷ []) → Took m n happening out
 took m counted n happening before out counts none steps =
     let s = subst (λ x. Steps x n before out (happening ∷ [])) counts steps in
     record { calls = s.calls; workers = s.workers; state = s.state; lines = s.lines ∙ ap (λ ls. ls ++ lines_at (next m.calls (workers_of m) (state_of m) happening).moment (reply_of m.calls (workers_of m) (state_of m) happening)) none }
 
 -- the first line is that of the answer
-pub first_line : (m n : Machine) (happening : Happening) (out : List Line) (d : Line) → Took m n happening out →
+pub first_line : (m n : CoreView) (happening : Happening) (out : List Line) (d : Line) → Took m n happening out →
     get_or out 0 d ≡ answer_line (next m.calls (workers_of m) (state_of m) happening).moment (reply_of m.calls (workers_of m) (state_of m) happening).answer
 first_line m n happening out d t = ap (λ ls. get_or ls 0 d) t.lines
 
@@ -169,18 +169,18 @@ moved_at calls other workers count s t due rest flags lines a b c d at =
     subst (λ x. IsAt x count t rest flags lines) a (subst (λ x. IsAt calls x t rest flags lines) b (subst (λ x. IsAt calls workers x rest flags lines) c (subst (λ x. IsAt calls workers s x flags lines) d at)))
 
 -- an answer that the core gave is taken
-pub takes_said : (m n : Machine) (out lines : List Line) (flags after_flags : List Bool) (moment : ℕ) (said : Answer) (h : Happening) (d : Line) → IsStanding m [] flags lines →
-    Some h ≡ plain_answer (workers_of m) lines moment said → MayFrom m.calls m.made m.moment h → Took m n h out → get_or out 0 d ≡ answer_line moment said →
+pub takes_said : (m n : CoreView) (out lines : List Line) (flags after_flags : List Bool) (moment : ℕ) (said : Answer) (h : Happening) (d : Line) → IsStanding m [] flags lines →
+    Some h ≡ representative_of (workers_of m) lines moment said → MayFrom m.calls m.made m.moment h → Took m n h out → get_or out 0 d ≡ answer_line moment said →
     ((w : ℕ) → w < most_named → slice_index_or after_flags w false ≡ busy_by w said (slice_index_or flags w false)) → IsStanding n (drop 1 out) after_flags (answer_line moment said ∷ lines)
-takes_said m n out lines flags after_flags moment said h d at plain may t same flags_are =
+takes_said m n out lines flags after_flags moment said h d at representative may t same flags_are =
     let s = next m.calls (workers_of m) (state_of m) h in
     let r = reply_of m.calls (workers_of m) (state_of m) h in
     moved_at m.calls n.calls (workers_of m) (workers_of n) s (state_of n) (ends_at s.moment r.ends) (drop 1 out) after_flags (answer_line moment said ∷ lines) (sym t.calls) (sym t.workers) (sym t.state)
     (sym (ap (drop 1) t.lines))
-    (takes_answer m.calls (workers_of m) (state_of m) lines flags after_flags moment said h at plain may (sym (first_line m n h out d t) ∙ same) flags_are)
+    (takes_answer m.calls (workers_of m) (state_of m) lines flags after_flags moment said h at representative may (sym (first_line m n h out d t) ∙ same) flags_are)
 
 -- before any line a check stands with the core before anything happened
-pub opens : (m : Machine) (planned : List Planned) (workers most : ℕ) (due : List Line) (flags : List Bool) → IsOpening m planned workers most → due ≡ [] → TellBusy flags [] → IsStanding m due flags []
+pub opens : (m : CoreView) (planned : List Planned) (workers most : ℕ) (due : List Line) (flags : List Bool) → IsOpening m planned workers most → due ≡ [] → TellBusy flags [] → IsStanding m due flags []
 opens m planned workers most due flags opening none free =
     subst (λ d. IsStanding m d flags []) (sym none)
-    (record { goes = record { past = []; means = tt; plain = refl; owed = []; front = refl }; stands = opening.stands; owed = refl; busy = free })
+    (record { goes = record { past = []; means = tt; representative = refl; owed = []; front = refl }; stands = opening.stands; owed = refl; busy = free })

@@ -7,14 +7,14 @@ use Rattle.executor_core.specs.declared.types.Happening.{Happening}
 use Rattle.executor_core.specs.declared.types.Line.{Line}
 use Rattle.executor_core.specs.declared.types.Answer.{Answer}
 use Rattle.executor_core.specs.declared.types.Answer.TheVariants as a
-use Rattle.queue_code.specs.Calls.{Planned, IsOrderly, task_count, is_submission}
+use Rattle.queue_code.specs.Calls.{Planned, IsOrderly, task_count, submits_task}
 use Rattle.executor_core.specs.View.{View}
 use Rattle.executor_core.specs.Answers.{Reply, reply, moment_after}
 use Rattle.executor_core.specs.Histories.{HistoryEntry, entry_of, happenings, is_call, view_of_history, now_of, answer, work_of, work_after, policies_after, is_shutdown, IsHistoryOf, MayFrom}
 use Rattle.executor_core.proofs.Flowing.{how_many-le}
 use Rattle.executor_core.proofs.Views.{view_after, fate_after, look_moves}
 use Rattle.executor_core.proofs.Within.{now_within}
-use Rattle.trace_check.specs.Plain.{is_busy, busy_by}
+use Rattle.trace_check.specs.Representatives.{is_busy, busy_by}
 use Rattle.executor_core.specs.Flows.{answer_line, end_line, lines_at, lines_of}
 use Rattle.trace_check.specs.Going.{Goes, AreWhole, IsNextAnswer}
 use Rattle.trace_check.specs.Laws.{TracesGo}
@@ -103,7 +103,7 @@ one_more calls workers past y few tasks within may alike =
     let same_now : now_of calls (h ∷ happenings g.past) ≡ now = ap (λ (u : View). moment_after u.moment (slice_get calls u.made) h) alike.seen ∙ as_plain.moment in
     let next : IsNextAnswer calls workers alike.lines g.past now r.answer = record {
       happening = h;
-      plain = as_plain.plain;
+      representative = as_plain.representative;
       comes = subst (λ (u : View). MayFrom calls u.made u.moment h) (sym alike.seen) as_plain.comes;
       now = sym same_now;
       answered = ap (λ (s : Reply). s.answer) (sym same_reply);
@@ -128,14 +128,14 @@ one_more calls workers past y few tasks within may alike =
 alike : (calls : List Planned) (workers : ℕ) (past : List HistoryEntry) → IsOrderly calls → workers ≤ 64 → IsHistoryOf calls workers past → Alike calls workers past
 alike calls workers [] orderly few means = record {
   lines = [];
-  goes = record { past = []; means = tt; plain = refl; owed = []; front = refl };
+  goes = record { past = []; means = tt; representative = refl; owed = []; front = refl };
   whole = refl;
   order = refl;
   seen = refl;
   busy = λ w. refl;
 }
 alike calls workers (e ∷ past) orderly few means =
-    let tasks : task_count calls ≤ 65536 = omega (arith, how_many-le (λ (p : Planned). is_submission p.1) calls, orderly.0) in
+    let tasks : task_count calls ≤ 65536 = omega (arith, how_many-le (λ (p : Planned). submits_task p.1) calls, orderly.0) in
     subst (λ x. Alike calls workers (x ∷ past)) (λ i. record { happening = e.happening; answer = sym means.2 i; ends = sym means.3 i })
     (one_more calls workers past e.happening few tasks (now_within calls (happenings past) orderly) means.1 (alike calls workers past orderly few means.0))
 

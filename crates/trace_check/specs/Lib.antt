@@ -1,4 +1,4 @@
-pub mod Plain
+pub mod Representatives
 pub mod Going
 pub mod Laws
 pub mod Standing

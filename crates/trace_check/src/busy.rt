@@ -1,7 +1,7 @@
-//! Which workers are busy by the lines of a trace, and the plain happening of a line.
+//! Which workers are busy by the lines of a trace, and the representative of a line.
 ghost use Rattle.std.specs.Prelude.{◌≡◌, ℕ, ◌<◌, Bool, true, false, not, if◌then◌else◌, slice_index_or, List};
 ghost use Rattle.std.specs.List.{range_with_len, find};
-ghost use Rattle.trace_check.specs.Plain.{busy_by, plain_answer, plain_error, plain_ending};
+ghost use Rattle.trace_check.specs.Representatives.{busy_by, representative_of, representative_of_error, representative_ending};
 ghost use Rattle.trace_check.specs.own.Standing.{TellBusy, most_named};
 ghost use Rattle.executor_core.specs.declared.types.Line.{Line as Said};
 
@@ -58,8 +58,8 @@ impl Busy {
     }
 
     /// A happening that gets this answer at this moment.
-    pub fn plain(&self, moment: u64, answer: &Answer) -> Option<Happening>
-        ensures { (lines : List Said) → TellBusy self.now.flags lines → result ≡ plain_answer self.now.workers lines moment answer.now }
+    pub fn representative(&self, moment: u64, answer: &Answer) -> Option<Happening>
+        ensures { (lines : List Said) → TellBusy self.now.flags lines → result ≡ representative_of self.now.workers lines moment answer.now }
     {
         match answer {
             Answer::Submit { .. }
@@ -78,14 +78,14 @@ impl Busy {
                 worker,
                 outcome,
                 ..
-            } => Some(Happening::Finish(*worker, plain_ending(*outcome))),
-            Answer::Error(error) => self.plain_error(*error),
+            } => Some(Happening::Finish(*worker, representative_ending(*outcome))),
+            Answer::Error(error) => self.representative_of_error(*error),
         }
     }
 
     /// An event that gets this error.
-    fn plain_error(&self, error: EventError) -> Option<Happening>
-        ensures { (lines : List Said) → TellBusy self.now.flags lines → result ≡ plain_error self.now.workers lines error }
+    fn representative_of_error(&self, error: EventError) -> Option<Happening>
+        ensures { (lines : List Said) → TellBusy self.now.flags lines → result ≡ representative_of_error self.now.workers lines error }
     {
         match error {
             EventError::Backward => Some(Happening::Clock(0)),
@@ -102,8 +102,8 @@ impl Busy {
 }
 
 /// An ending of a run that leads to this outcome.
-fn plain_ending(outcome: Outcome) -> Ending
-    ensures { result ≡ plain_ending outcome }
+fn representative_ending(outcome: Outcome) -> Ending
+    ensures { result ≡ representative_ending outcome }
 {
     match outcome {
         Outcome::Done(value) => Ending::Value(value),

@@ -1,8 +1,8 @@
 //! A check of a text, line by line.
 ghost use Rattle.std.specs.Prelude.{◌≡◌, ℕ, ◌+◌, ◌<◌, ◌≤◌, ◌∷◌, ◌↔◌, List, [], false, drop, length, IsTrue, IfOk, IsErrOf, vec_capacity};
-ghost use Rattle.plan_compile.specs.PlanCalls.{calls_of};
+ghost use Rattle.plan_compile.specs.PlanCalls.{calls_of_plan};
 ghost use Rattle.executor_core.specs.Counts.{IsWorkerCount};
-ghost use Rattle.executor_core.specs.Machine.{workers_of, IsOpening};
+ghost use Rattle.executor_core.specs.CoreView.{workers_of, IsOpening};
 ghost use Rattle.executor_core.specs.Flows.{answer_line};
 ghost use Rattle.executor_core.specs.declared.types.Line.{Line as Said};
 ghost use Rattle.trace_check.specs.Going.{Goes};
@@ -46,7 +46,7 @@ pub fn check<A: Allocator + Copy, B: Allocator>(
 ) -> Result<Finding, CheckError>
     requires { length text.now ≤ most_bytes }
     ensures workers { IsErrOf result CheckError.Workers ↔ ¬ IsWorkerCount workers }
-    ensures finds { IfOk result (λ f. Finds (calls_of plan.now) workers text.now f) }
+    ensures finds { IfOk result (λ f. Finds (calls_of_plan plan.now) workers text.now f) }
 {
     let mut checker = Checker::new(alloc, plan, workers)?;
     Ok(checker.run(text))
@@ -58,7 +58,7 @@ impl<A: Allocator> Checker<A> {
     where
         A: Copy,
         ensures workers { IsErrOf result CheckError.Workers ↔ ¬ IsWorkerCount workers }
-        ensures core { IfOk result (λ c. IsOpening c.core (calls_of plan.now) workers most_events) }
+        ensures core { IfOk result (λ c. IsOpening c.core (calls_of_plan plan.now) workers most_events) }
         ensures ready { IfOk result (λ c. IsReady c.core c.busy.workers (vec_capacity c.out)) }
         ensures owed { IfOk result (λ c. drop c.met c.out.items ≡ []) }
         ensures busy { IfOk result (λ c. TellBusy c.busy.flags []) }
@@ -141,7 +141,7 @@ impl<A: Allocator> Checker<A> {
         ensures limit { self.new.core.limit ≡ self.old.core.limit }
         ensures taken { self.new.core.taken ≤ self.old.core.taken + 1 }
     {
-        let Some(happening) = self.busy.plain(moment, said) else {
+        let Some(happening) = self.busy.representative(moment, said) else {
             return false;
         };
         if !self.core.may_come(happening) {
@@ -177,7 +177,7 @@ fn core_of<A: Allocator + Copy, B: Allocator>(
     workers: u8,
 ) -> Result<Core<A>, CheckError>
     ensures workers { IsErrOf result CheckError.Workers ↔ ¬ IsWorkerCount workers }
-    ensures core { IfOk result (λ core. IsOpening core (calls_of plan.now) workers most_events) }
+    ensures core { IfOk result (λ core. IsOpening core (calls_of_plan plan.now) workers most_events) }
 {
     if workers == 0 || workers > MOST_WORKERS {
         return Err(CheckError::Workers);

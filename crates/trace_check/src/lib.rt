@@ -19,9 +19,9 @@
 //! happenings between them. [`traces_conform`] is this law.
 //!
 //! A line tells the happening that it answers, or all that matters of it. Where it leaves something open, any event
-//! that gets the line will do, and one of them, the *plain* one, is tried:
+//! that gets the line will do, and one of them, the *representative*, is tried:
 //!
-//! | Line, behind its moment M | Plain happening |
+//! | Line, behind its moment M | Representative |
 //! |---|---|
 //! | of a submission, a refusal, `cancel`, `policy`, `shutdown`, `shutdown again`, `ask` | the next call of the plan |
 //! | `clock` | the clock shows M |
@@ -34,7 +34,7 @@
 //! | `error not running` | the worker of least number that is not busy has run its task, with the value 0 |
 //!
 //! Where there is no such worker the line has none. A line `end K` has none either: it belongs to the answer before it.
-//! Lines *go* where their plain happenings have a history, and they are a front of its lines.
+//! Lines *go* where their representatives have a history, and they are a front of its lines.
 //!
 //! # Order and ties
 //!

@@ -3,18 +3,18 @@
 use Rattle.std.specs.Prelude.{◌≡◌, ◌≢◌, ℕ, ◌<◌, ◌≤◌, true, false, if◌then◌else◌, List, length, map, take, Option, Some, None, slice_index_or}
 use Rattle.sched_time.specs.Times.{longest}
 use Rattle.sched_time.specs.declared.timing.Timing.TheVariants as t
-use Rattle.executor_core.specs.declared.task.Phase.{Phase}
-use Rattle.executor_core.specs.declared.task.Phase.TheVariants as ph
+use Rattle.executor_core.specs.declared.task.Stage.{Stage}
+use Rattle.executor_core.specs.declared.task.Stage.TheVariants as ph
 use Rattle.executor_core.specs.declared.task.Task.{Task}
 use Rattle.queue_code.specs.Calls.{Planned, IsOrderly, task_count, terms_of, due_at}
 use Rattle.executor_core.specs.Counts.{most_workers}
 use Rattle.executor_core.specs.View.{View}
 use Rattle.executor_core.specs.State.{State, view_of_state, vacant}
 use Rattle.executor_core.specs.own.Sought.{Sought, AreNoted, OnlyThese}
-use Rattle.executor_core.specs.Machine.{Machine, workers_of, state_of}
+use Rattle.executor_core.specs.CoreView.{CoreView, workers_of, state_of}
 
 -- the due moment of a task that waits for a run
-abbrev pub queued_phase : Phase → ℕ → Option ℕ
+abbrev pub queued_phase : Stage → ℕ → Option ℕ
 queued_phase ph.Waiting due = Some due
 queued_phase _ due = None
 
@@ -54,7 +54,7 @@ pub record RunsBelow (count : ℕ) (tasks : List Task) : Type 0 where
   pub begun : (k : ℕ) → (slice_index_or tasks k vacant).phase ≡ ph.Running → (slice_index_or tasks k vacant).run < count
 
 -- what stays true of a core, with the entries of its two queues by task number, and what sweeps have looked for
-pub record IsWellFormedCore (m : Machine) (entries kept : List (Option ℕ)) (sought : Sought) : Type 0 where
+pub record IsWellFormedCore (m : CoreView) (entries kept : List (Option ℕ)) (sought : Sought) : Type 0 where
   pub orderly : IsOrderly m.calls
   pub made : m.made ≤ length m.calls
   pub some : 0 < workers_of m

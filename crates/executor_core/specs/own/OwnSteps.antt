@@ -10,20 +10,20 @@ use Rattle.executor_core.specs.declared.types.Outcome.TheVariants as o
 use Rattle.executor_core.specs.declared.task.Task.{Task}
 use Rattle.delay_queue.specs.declared.entry.Entry.{Entry}
 use Rattle.delay_queue.specs.Queues.{comes_before}
-use Rattle.executor_core.specs.Answers.{plain, is_swept, swept}
+use Rattle.executor_core.specs.Answers.{bare, is_swept, swept}
 use Rattle.executor_core.specs.Histories.{is_ended}
 use Rattle.executor_core.specs.State.{view_of_state, vacant, end_task, next, reply_of}
 use Rattle.executor_core.specs.Flows.{end_line}
-use Rattle.executor_core.specs.Machine.{Machine, workers_of, state_of}
+use Rattle.executor_core.specs.CoreView.{CoreView, workers_of, state_of}
 
 -- the core took the step of one happening, and this is its answer, which ends no task
-pub record Takes (old new : Machine) (happening : Happening) (answer : Answer) : Type 0 where
+pub record Takes (old new : CoreView) (happening : Happening) (answer : Answer) : Type 0 where
   pub calls : new.calls ≡ old.calls
   pub limit : new.limit ≡ old.limit
   pub taken : new.taken ≡ old.taken
   pub workers : workers_of new ≡ workers_of old
   pub state : state_of new ≡ next old.calls (workers_of old) (state_of old) happening
-  pub said : reply_of old.calls (workers_of old) (state_of old) happening ≡ plain answer
+  pub said : reply_of old.calls (workers_of old) (state_of old) happening ≡ bare answer
 
 -- a start at the moment `now` that gets this entry of the queue, or none, meets a kept task k that is due at `due`
 abbrev pub is_met : ℕ → Option Entry → ℕ → ℕ → Bool
@@ -37,7 +37,7 @@ pub record LeavesMet (now : ℕ) (first : Option Entry) (old new : List Task) : 
       ≡ record (slice_index_or old k vacant) { kept = (slice_index_or old k vacant).kept && not (is_met now first (slice_index_or old k vacant).due k) }
 
 -- the tasks below some number that a sweep in this state ends are cancelled, a line for each, and nothing else changed
-pub record Ends (old new : Machine) (before after_lines : List Line) (count : ℕ) : Type 0 where
+pub record Ends (old new : CoreView) (before after_lines : List Line) (count : ℕ) : Type 0 where
   pub rest : new ≡ record old { tasks = new.tasks }
   pub size : length new.tasks ≡ length old.tasks
   pub each : (k : ℕ) → slice_index_or new.tasks k vacant
@@ -45,14 +45,14 @@ pub record Ends (old new : Machine) (before after_lines : List Line) (count : �
   pub lines : after_lines ≡ before ++ map (end_line old.moment) (filter (is_swept old.calls (view_of_state old.calls (state_of old)) old.policies) (range_with_len 0 count))
 
 -- no task is kept any more, and nothing else changed
-pub record Drops (old new : Machine) : Type 0 where
+pub record Drops (old new : CoreView) : Type 0 where
   pub rest : new ≡ record old { tasks = new.tasks }
   pub size : length new.tasks ≡ length old.tasks
   pub each : (k : ℕ) → slice_index_or new.tasks k vacant ≡ record (slice_index_or old.tasks k vacant) { kept = false }
 
 -- the tasks that a sweep in this state ends are cancelled, a line for each, no task is kept any more, and nothing else
 -- changed
-pub record Sweeps (old new : Machine) (before after_lines : List Line) : Type 0 where
+pub record Sweeps (old new : CoreView) (before after_lines : List Line) : Type 0 where
   pub rest : new ≡ record old { tasks = new.tasks }
   pub size : length new.tasks ≡ length old.tasks
   pub each : (k : ℕ) → slice_index_or new.tasks k vacant

@@ -7,15 +7,15 @@ use Rattle.task_word.specs.Words.{Parts}
 use Rattle.task_word.specs.declared.phases.Phase.{Phase as WordPhase}
 use Rattle.task_word.specs.declared.phases.Phase.TheVariants as w
 use Rattle.queue_code.specs.Calls.{how_many}
-use Rattle.executor_core.specs.declared.task.Phase.{Phase}
-use Rattle.executor_core.specs.declared.task.Phase.TheVariants as ph
+use Rattle.executor_core.specs.declared.task.Stage.{Stage}
+use Rattle.executor_core.specs.declared.task.Stage.TheVariants as ph
 use Rattle.executor_core.specs.declared.task.Task.{Task}
 use Rattle.executor_core.specs.declared.tasks.Detail.{Detail}
 use Rattle.executor_core.specs.declared.tallies.Tallies.{Tallies}
 use Rattle.executor_core.specs.Tasks.{uncancelled_in}
 
 -- the phase of a task whose word has this one, and whose run was maybe dropped
-abbrev pub phase_in : WordPhase → Bool → Phase
+abbrev pub phase_in : WordPhase → Bool → Stage
 phase_in w.Vacant over = ph.Vacant
 phase_in w.New over = ph.Waiting
 phase_in w.Running true = ph.Dropped
@@ -28,13 +28,13 @@ abbrev pub task_of : Parts → Detail → Task
 task_of word detail = record { phase = phase_in word.phase detail.over; run = word.run; due = detail.due; timing = detail.timing; cancelled = word.marked; kept = detail.kept }
 
 -- the tasks of two tables
-abbrev pub tasks_of : List Parts → List Detail → List Task
-tasks_of [] details = []
-tasks_of (word ∷ words) [] = []
-tasks_of (word ∷ words) (detail ∷ details) = task_of word detail ∷ tasks_of words details
+abbrev pub tasks_in_tables : List Parts → List Detail → List Task
+tasks_in_tables [] details = []
+tasks_in_tables (word ∷ words) [] = []
+tasks_in_tables (word ∷ words) (detail ∷ details) = task_of word detail ∷ tasks_in_tables words details
 
 -- a run is under way
-abbrev pub is_running_phase : Phase → Bool
+abbrev pub is_running_phase : Stage → Bool
 is_running_phase ph.Running = true
 is_running_phase _ = false
 
@@ -43,7 +43,7 @@ abbrev pub running_in : List Task → ℕ
 running_in tasks = how_many (λ t. is_running_phase t.phase) tasks
 
 -- a task in this phase waits for a run, or did when it was cancelled
-abbrev pub is_waiting_phase : Phase → Bool
+abbrev pub is_waiting_phase : Stage → Bool
 is_waiting_phase ph.Waiting = true
 is_waiting_phase _ = false
 
@@ -66,7 +66,7 @@ abbrev pub cancelled_task : Bool → Task → Task
 cancelled_task removes task = record task { cancelled = true; kept = task.kept || (is_waiting_phase task.phase && not removes) }
 
 -- a task in this phase waits for a run, or has one under way
-abbrev pub is_live_phase : Phase → Bool
+abbrev pub is_live_phase : Stage → Bool
 is_live_phase ph.Waiting = true
 is_live_phase ph.Running = true
 is_live_phase _ = false
@@ -100,7 +100,7 @@ IsRecount old new before after = (new.uncancelled + one (not before.cancelled) �
     × (new.periodic + one (waits_again before) ≡ old.periodic + one (waits_again after))
 
 -- what is so of the two tables of some tasks, and of their numbers: a task has a number below 2^32
-pub record AreTables (words : List Parts) (details : List Detail) (tallies : Tallies) : Type 0 where
+pub record TablesAgree (words : List Parts) (details : List Detail) (tallies : Tallies) : Type 0 where
   pub paired : length words ≡ length details
   pub few : length words ≤ 2 ^ 32
-  pub counted : AreTallies tallies (tasks_of words details)
+  pub counted : AreTallies tallies (tasks_in_tables words details)

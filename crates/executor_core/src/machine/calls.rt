@@ -15,7 +15,7 @@ use sched_time::Timing;
 use std::alloc::Allocator;
 
 impl<A: Allocator> Core<A> {
-    ghost use Rattle.executor_core.specs.Machine.{Steps, ContinuesAny, Leaves, GivesRoom, IsCounted, room_of};
+    ghost use Rattle.executor_core.specs.CoreView.{Steps, ContinuesAny, Leaves, GivesRoom, IsCounted, room_of};
     ghost use Rattle.executor_core.specs.own.OwnSteps.{Takes};
 
     /// The next call with its moment, and none after the last one.

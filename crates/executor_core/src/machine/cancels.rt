@@ -3,7 +3,7 @@ ghost use Rattle.std.specs.Prelude.{◌≡◌, ◌≢◌, ◌+◌, ◌-◌, ◌<
 ghost use Rattle.executor_core.specs.declared.types.Happening.TheVariants as happening;
 ghost use Rattle.executor_core.specs.declared.types.Answer.TheVariants as answer;
 ghost use Rattle.executor_core.specs.declared.types.CancelEffect.TheVariants as effect;
-ghost use Rattle.executor_core.specs.declared.task.Phase.TheVariants as ph;
+ghost use Rattle.executor_core.specs.declared.task.Stage.TheVariants as ph;
 ghost use Rattle.queue_code.specs.Calls.{Terms, terms_of};
 ghost use Rattle.executor_core.specs.State.{vacant, seen_task, reply_of};
 ghost use Rattle.executor_core.specs.Answers.{effect_on};
@@ -11,13 +11,13 @@ ghost use Rattle.executor_core.specs.Tasks.{uncancelled_in};
 ghost use Rattle.executor_core.specs.own.Tables.{cancelled_task};
 
 use super::Core;
-use crate::task::{Phase, Task};
+use crate::task::{Stage, Task};
 use crate::types::{Answer, CancelEffect, EventError, Line, Message};
 use delay_queue::Entry;
 use std::alloc::Allocator;
 
 impl<A: Allocator> Core<A> {
-    ghost use Rattle.executor_core.specs.Machine.{Steps, ContinuesAny, Leaves, GivesRoom, IsCounted, room_of, workers_of, state_of};
+    ghost use Rattle.executor_core.specs.CoreView.{Steps, ContinuesAny, Leaves, GivesRoom, IsCounted, room_of, workers_of, state_of};
     ghost use Rattle.executor_core.specs.own.OwnSteps.{Takes};
 
     /// A task is cancelled from outside the plan. The line is added, for which `out` has room.
@@ -78,7 +78,7 @@ impl<A: Allocator> Core<A> {
         let before = self.tasks.get(place);
         self.tasks.cancel(place);
         self.queue.remove(task);
-        if before.phase == Phase::Waiting && !self.policies.removes {
+        if before.phase == Stage::Waiting && !self.policies.removes {
             self.tasks.keep(place, true);
             self.kept.insert(Entry {
                 due: before.due,
@@ -94,14 +94,14 @@ pub(super) fn effect_on(task: Task) -> CancelEffect
     ensures { (terms : Terms) → result ≡ effect_on (seen_task terms task) }
 {
     match task.phase {
-        Phase::Vacant => CancelEffect::Absent,
-        Phase::Waiting | Phase::Running => {
+        Stage::Vacant => CancelEffect::Absent,
+        Stage::Waiting | Stage::Running => {
             if task.cancelled {
                 CancelEffect::No
             } else {
                 CancelEffect::Yes
             }
         }
-        Phase::Done | Phase::Failed | Phase::Dropped => CancelEffect::No,
+        Stage::Done | Stage::Failed | Stage::Dropped => CancelEffect::No,
     }
 }

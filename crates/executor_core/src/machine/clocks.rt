@@ -2,7 +2,7 @@
 ghost use Rattle.std.specs.Prelude.{◌≡◌, ◌+◌, ◌≤◌, ◌↔◌, [], ◌∷◌, true, length, None, IfSome, vec_len, vec_capacity};
 ghost use Rattle.executor_core.specs.declared.types.Happening.TheVariants as happening;
 ghost use Rattle.executor_core.specs.declared.types.Answer.TheVariants as answer;
-ghost use Rattle.executor_core.specs.Answers.{is_accepted, plain};
+ghost use Rattle.executor_core.specs.Answers.{is_accepted, bare};
 ghost use Rattle.sched_time.specs.Times.{longest};
 ghost use Rattle.queue_code.specs.Calls.{IsOrderly};
 ghost use Rattle.executor_core.specs.Histories.{AreMade};
@@ -14,7 +14,7 @@ use sched_time::LONGEST;
 use std::alloc::Allocator;
 
 impl<A: Allocator> Core<A> {
-    ghost use Rattle.executor_core.specs.Machine.{Steps, ContinuesAny, Leaves, room_of, workers_of, state_of};
+    ghost use Rattle.executor_core.specs.CoreView.{Steps, ContinuesAny, Leaves, room_of, workers_of, state_of};
     ghost use Rattle.executor_core.specs.own.OwnSteps.{Takes};
 
     /// The clock shows a moment, in nanoseconds: it is moved there, unless it would go back or pass 2^62. Its line is
@@ -42,7 +42,7 @@ impl<A: Allocator> Core<A> {
         ensures accepted { (result ≡ None) ↔ (is_accepted self.now.moment moment ≡ true) }
         ensures orderly { IsOrderly self.now.calls }
         ensures within { result ≡ None → (self.now.moment ≤ moment) × (moment ≤ longest) }
-        ensures error { IfSome result (λ error. reply_of self.now.calls (workers_of self.now) (state_of self.now) (happening.Clock moment) ≡ plain (answer.Error error)) }
+        ensures error { IfSome result (λ error. reply_of self.now.calls (workers_of self.now) (state_of self.now) (happening.Clock moment) ≡ bare (answer.Error error)) }
     {
         if moment < self.moment {
             return Some(EventError::Backward);

@@ -9,7 +9,7 @@ use crate::types::{Event, Happening, Line, Need};
 use std::alloc::Allocator;
 
 impl<A: Allocator> Core<A> {
-    ghost use Rattle.executor_core.specs.Machine.{Steps, ContinuesAny, Leaves, GivesRoom, IsCounted, room_of, workers_of, state_of};
+    ghost use Rattle.executor_core.specs.CoreView.{Steps, ContinuesAny, Leaves, GivesRoom, IsCounted, room_of, workers_of, state_of};
 
     /// Whether a happening may come: a call where one is left, a clock unless it is accepted and reaches a call that is not
     /// made yet, and each other one.

@@ -19,7 +19,7 @@ use sched_time::{Ending, next_due};
 use std::alloc::Allocator;
 
 impl<A: Allocator> Core<A> {
-    ghost use Rattle.executor_core.specs.Machine.{workers_of, state_of};
+    ghost use Rattle.executor_core.specs.CoreView.{workers_of, state_of};
 
     /// The word moves of the next call, where one with a moment of at most this one, in nanoseconds, is left, and `None`
     /// where none is.

@@ -12,13 +12,13 @@ ghost use Rattle.executor_core.specs.own.Tables.{waits_with};
 
 use super::Core;
 use crate::policies::Policies;
-use crate::task::{Phase, Task};
+use crate::task::{Stage, Task};
 use crate::types::{Answer, Line, Message};
 use sched_time::{Timing, Which};
 use std::alloc::Allocator;
 
 impl<A: Allocator> Core<A> {
-    ghost use Rattle.executor_core.specs.Machine.{Steps, room_of, state_of};
+    ghost use Rattle.executor_core.specs.CoreView.{Steps, room_of, state_of};
     ghost use Rattle.executor_core.specs.own.OwnSteps.{Sweeps, Ends, Drops};
 
     /// The next call sets a policy.
@@ -225,7 +225,7 @@ pub(super) fn setting_sweeps(shut: bool, which: Which, value: bool) -> bool
 fn waits(task: &Task) -> bool
     ensures { result ≡ waits_with task.now }
 {
-    matches!(task.phase, Phase::Waiting) && !task.cancelled
+    matches!(task.phase, Stage::Waiting) && !task.cancelled
 }
 
 /// Whether a sweep under these policies ends a task that waits, is timed so and due at `due`, at the moment `now`.

@@ -1,6 +1,6 @@
 //! Starts and finishes: what a core answers to its workers.
 ghost use Rattle.std.specs.Prelude.{◌≡◌, ◌≢◌, ℕ, ◌+◌, ◌^◌, ◌<◌, ◌≤◌, [], ◌∷◌, false, length, None, slice_set, slice_index_or, vec_len, vec_capacity};
-ghost use Rattle.executor_core.specs.declared.task.Phase.TheVariants as ph;
+ghost use Rattle.executor_core.specs.declared.task.Stage.TheVariants as ph;
 ghost use Rattle.executor_core.specs.declared.types.Outcome.TheVariants as o;
 ghost use Rattle.executor_core.specs.declared.types.Happening.TheVariants as happening;
 ghost use Rattle.sched_time.specs.Dues.{next_due};
@@ -18,7 +18,7 @@ use sched_time::{Ending, next_due};
 use std::alloc::Allocator;
 
 impl<A: Allocator> Core<A> {
-    ghost use Rattle.executor_core.specs.Machine.{Steps, ContinuesAny, Leaves, room_of, workers_of, state_of};
+    ghost use Rattle.executor_core.specs.CoreView.{Steps, ContinuesAny, Leaves, room_of, workers_of, state_of};
     ghost use Rattle.executor_core.specs.own.OwnSteps.{Takes, LeavesMet};
     ghost use Rattle.executor_core.specs.Needs.{RunsBelowTaken};
 

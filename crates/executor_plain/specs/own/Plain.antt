@@ -3,7 +3,7 @@
 use Rattle.std.specs.Prelude.{ℕ, List}
 use Rattle.queue_code.specs.Calls.{Planned, IsOrderlyFrom}
 use Rattle.executor_core.specs.Histories.{HistoryEntry}
-use Rattle.executor_core.specs.Within.{IsAnswered}
+use Rattle.executor_core.specs.Within.{IsAnsweredByTable}
 
 -- the calls are in order after some others
 abbrev pub IsOrderlyPart : List Planned → Type 0
@@ -11,4 +11,4 @@ IsOrderlyPart calls = (count : ℕ) × (moment : ℕ) × IsOrderlyFrom count mom
 
 -- each answer of a history is the table's, for some number of workers
 abbrev pub IsAnsweredBySome : List Planned → List HistoryEntry → Type 0
-IsAnsweredBySome calls past = (workers : ℕ) × IsAnswered calls workers past
+IsAnsweredBySome calls past = (workers : ℕ) × IsAnsweredByTable calls workers past

@@ -2,7 +2,7 @@
 -- All of it is this project's rule.
 use Rattle.std.specs.Prelude.{ℕ, ◌+◌, ◌≤◌, ◌<◌, List, [], ◌∷◌}
 use Rattle.sched_time.specs.Times.{longest}
-use Rattle.queue_code.specs.Calls.{most_calls}
+use Rattle.queue_code.specs.Calls.{most_calls_of_code}
 use Rattle.plan_read.specs.declared.plans.Call.{Call}
 use Rattle.plan_read.specs.declared.plans.Op.{Op}
 use Rattle.plan_read.specs.declared.plans.Op.TheVariants as ops
@@ -21,4 +21,4 @@ IsBelow firsts first limit ops.Ask = Unit {0}
 -- the numbers of some calls' instructions are in range: their offsets, and those of the targets of cancels
 abbrev pub AreInRange : List ℕ → ℕ → ℕ → List Call → Type 0
 AreInRange firsts first at [] = Unit {0}
-AreInRange firsts first at (c ∷ cs) = (at + c.at ≤ longest) × IsBelow firsts first most_calls c.op × AreInRange firsts first at cs
+AreInRange firsts first at (c ∷ cs) = (at + c.at ≤ longest) × IsBelow firsts first most_calls_of_code c.op × AreInRange firsts first at cs

@@ -8,7 +8,7 @@ use Rattle.queue_code.specs.declared.instr.Instr.{Instr}
 use Rattle.queue_code.specs.declared.instr.Instr.TheVariants.{Submit, CancelFixed, CancelHere, Loop, EndLoop, Halt}
 use Rattle.queue_code.specs.declared.progress.OpenLoop.{OpenLoop}
 use Rattle.queue_code.specs.declared.progress.Progress.{Progress}
-use Rattle.queue_code.specs.Calls.{most_calls}
+use Rattle.queue_code.specs.Calls.{most_calls_of_code}
 use Rattle.queue_code.specs.Codes.{tasks_by}
 use Rattle.queue_code.specs.Checks.{offset_of, makes_call, is_early_halt, first_failed, or_else}
 
@@ -112,10 +112,10 @@ walk_out_of_order p i = makes_call i && nat_lt (offset_of i) p.last
 -- TooMany: a loop that is not made 1 to 65,536 times; a call outside a loop, or the end of one, with more than 65,536
 -- calls so far
 abbrev pub walk_too_many : Progress → Instr → Bool
-walk_too_many p (Loop times every) = nat_lt times 1 || nat_lt most_calls times
+walk_too_many p (Loop times every) = nat_lt times 1 || nat_lt most_calls_of_code times
 walk_too_many p Halt = false
-walk_too_many p EndLoop = nat_lt most_calls (after_loop p p.open_loop).calls
-walk_too_many p i = nat_lt most_calls (walk_calls_after p.open_loop p.calls)
+walk_too_many p EndLoop = nat_lt most_calls_of_code (after_loop p p.open_loop).calls
+walk_too_many p i = nat_lt most_calls_of_code (walk_calls_after p.open_loop p.calls)
 
 -- the table of checks of an instruction, where `rest` comes behind it, in their order
 abbrev pub walk_checks : Progress → Instr → List Instr → List (CodeFault × Bool)

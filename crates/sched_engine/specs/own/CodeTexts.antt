@@ -5,7 +5,7 @@ use Rattle.queue_code.specs.declared.instr.Instr.{Instr}
 use Rattle.queue_code.specs.Codes.{calls_of as code_calls}
 use Rattle.plan_read.specs.Plans.{PlanTree}
 use Rattle.plan_read.specs.Texts.{TextWrites}
-use Rattle.plan_compile.specs.PlanCalls.{calls_of}
+use Rattle.plan_compile.specs.PlanCalls.{calls_of_plan}
 use Rattle.plan_compile.specs.PlanCode.{instrs_of}
 
 -- the text writes a plan, whose code this is, and which makes the plan's calls
@@ -13,4 +13,4 @@ pub record IsCodeOfText (text : List ℕ) (code : List Instr) : Type 0 where
   pub plan : PlanTree
   pub reads : TextWrites text plan
   pub instrs : code ≡ instrs_of plan
-  pub calls : code_calls code ≡ calls_of plan
+  pub calls : code_calls code ≡ calls_of_plan plan

@@ -8,7 +8,7 @@ use Rattle.executor_core.specs.declared.Line.{Line}
 use Rattle.queue_code.specs.Calls.{Planned, IsOrderly}
 use Rattle.executor_core.specs.Histories.{HistoryEntry, IsHistoryOf}
 use Rattle.executor_core.specs.Flows.{history_of, lines_from, lines_of, part_of}
-use Rattle.executor_core.specs.Machine.{Machine, room_of, state_of, workers_of, Stands, Steps, Continues}
+use Rattle.executor_core.specs.CoreView.{CoreView, room_of, state_of, workers_of, Stands, Steps, Continues}
 use Rattle.trace_text.specs.Spelling.{FitsEvent, IsLine, event_line, lines_text}
 use Rattle.trace_text.specs.declared.front.Front.TheVariants as front
 use Rattle.trace_text.specs.Reading.{IsFront, most_event_bytes}
@@ -24,23 +24,23 @@ use Rattle.sched_engine.specs.Running.{IsAccepted, Runs, text_of}
 -- ---- some happenings
 
 -- the lines that answer some happenings, which stand the newest first, from where the core is
-abbrev pub answers_to : Machine → List Happening → List Line
+abbrev pub answers_to : CoreView → List Happening → List Line
 answers_to m happened = lines_from m.calls (workers_of m) (state_of m) happened
 
 -- the core took the steps of some happenings, and the text of their lines was given out
-pub record GivesSteps (old new : Machine) (happened : List Happening) (before after : Output) (count : ℕ) : Type 0 where
+pub record GivesSteps (old new : CoreView) (happened : List Happening) (before after : Output) (count : ℕ) : Type 0 where
   pub steps : Steps old new [] (answers_to old happened) happened
   pub written : Gives before after (lines_text (answers_to old happened))
   pub counted : count ≡ length (answers_to old happened)
 
 -- of the text at hand, and of that of the lines of some happenings behind it, a front was written
-abbrev pub CutsSteps : Machine → List Happening → Output → Option (List ℕ) → Type 0
+abbrev pub CutsSteps : CoreView → List Happening → Output → Option (List ℕ) → Type 0
 CutsSteps old happened before contents = (n : ℕ) × Appends before.contents contents (take n (before.text ++ lines_text (answers_to old happened)))
 
 -- ---- one event, and the events of a piece
 
 -- the core took an event, and the text of the lines that answer it was given out
-pub record TakesEvent (old new : Machine) (event : Event) (before after : Output) (count : ℕ) : Type 0 where
+pub record TakesEvent (old new : CoreView) (event : Event) (before after : Output) (count : ℕ) : Type 0 where
   pub calls : new.calls ≡ old.calls
   pub limit : new.limit ≡ old.limit
   pub workers : workers_of new ≡ workers_of old
@@ -51,13 +51,13 @@ pub record TakesEvent (old new : Machine) (event : Event) (before after : Output
   pub counted : count ≡ length lines
 
 -- a core that took some events and then more: where it stands, and the text and the number of lines that it gave for the latter
-pub record Extends (calls : List Planned) (workers : ℕ) (core : Machine) (more events : List Event) (text : List ℕ) (count : ℕ) : Type 0 where
+pub record Extends (calls : List Planned) (workers : ℕ) (core : CoreView) (more events : List Event) (text : List ℕ) (count : ℕ) : Type 0 where
   pub stands : Stands core (history_of calls workers (more ++ events))
   pub says : text_of calls (history_of calls workers (more ++ events)) ≡ text_of calls (history_of calls workers events) ++ text
   pub counted : length (lines_of calls (history_of calls workers (more ++ events))) ≡ length (lines_of calls (history_of calls workers events)) + count
 
 -- the first bytes of those held are the lines of events, which were answered: `more` are the events, the newest first
-pub record IsAnswered (old new : Machine) (held : List ℕ) (taken : ℕ) (before after : Output) (count : ℕ) : Type 0 where
+pub record IsAnswered (old new : CoreView) (held : List ℕ) (taken : ℕ) (before after : Output) (count : ℕ) : Type 0 where
   pub more : List Event
   pub fit : AreEvents more
   pub front : take taken held ≡ input_of more
@@ -72,15 +72,15 @@ pub record IsAnswered (old new : Machine) (held : List ℕ) (taken : ℕ) (befor
       → Extends old.calls (workers_of old) new more events text count
 
 -- why the bytes that are held were not taken further
-abbrev pub IsPieceEnd : PieceEnd → Machine → List ℕ → Type 0
+abbrev pub IsPieceEnd : PieceEnd → CoreView → List ℕ → Type 0
 IsPieceEnd e.Part core rest = IsFront front.Part rest
 IsPieceEnd e.Refused core rest = IsFront front.Refused rest
 IsPieceEnd e.Full core rest = (core.taken ≡ core.limit) × BeginsWithEvent rest
 IsPieceEnd e.Memory core rest = (core.taken < core.limit) × BeginsWithEvent rest
 
 -- some events at the front of the bytes that are held were answered, and a further one may have more lines than this
-pub record WantsRoom (old : Machine) (held : List ℕ) (before : Output) (capacity : ℕ) : Type 0 where
-  pub core : Machine
+pub record WantsRoom (old : CoreView) (held : List ℕ) (before : Output) (capacity : ℕ) : Type 0 where
+  pub core : CoreView
   pub taken : ℕ
   pub after : Output
   pub count : ℕ
@@ -91,8 +91,8 @@ pub record WantsRoom (old : Machine) (held : List ℕ) (before : Output) (capaci
 
 -- some events at the front of the bytes that are held were answered, and of the text at hand then, and of that of the answer to
 -- a further one behind it, a front was written
-pub record IsCut (old : Machine) (held : List ℕ) (before : Output) (contents : Option (List ℕ)) : Type 0 where
-  pub core : Machine
+pub record IsCut (old : CoreView) (held : List ℕ) (before : Output) (contents : Option (List ℕ)) : Type 0 where
+  pub core : CoreView
   pub taken : ℕ
   pub after : Output
   pub count : ℕ
@@ -105,7 +105,7 @@ pub record IsCut (old : Machine) (held : List ℕ) (before : Output) (contents :
   pub front : CutsSteps core (part_of core.calls core.made core.moment event) after contents
 
 -- the core is where some events led it
-pub record IsStanding (core : Machine) : Type 0 where
+pub record StandsAfterEvents (core : CoreView) : Type 0 where
   pub events : List Event
   pub orderly : IsOrderly core.calls
   pub stands : Stands core (history_of core.calls (workers_of core) events)
@@ -130,7 +130,7 @@ pub record Progress : Type 0 where
   pub held : List ℕ
   pub text : List ℕ
   pub contents : Option (List ℕ)
-  pub core : Machine
+  pub core : CoreView
   pub count : ℕ
 
 -- so far these events were taken, and their trace was written but for the text at hand
@@ -169,7 +169,7 @@ Turns (Ok (t.Ended report)) run old new = Runs (Ok report) run.calls run.workers
 Turns (Err e) run old new = Runs (Err e) run.calls run.workers run.limit run.input new.left run.contents new.contents
 
 -- a core of the plan that the text writes, before anything happened
-pub record Opens (core : Machine) (text : List ℕ) (workers limit : ℕ) : Type 0 where
+pub record Opens (core : CoreView) (text : List ℕ) (workers limit : ℕ) : Type 0 where
   pub accepted : IsAccepted text core.calls workers limit
   pub count : workers_of core ≡ workers
   pub most : core.limit ≡ limit

@@ -5,8 +5,8 @@ use Rattle.task_word.specs.Words.{IsWord, value, marked, new_in}
 use Rattle.task_word.specs.Views.{entry, with_entry, core_cancelled, handle_looked, handle_cancelled, MeetsEntry, MeetsHandle}
 use Rattle.task_word.specs.own.Views.{core_of, handle_of}
 use Rattle.task_word.specs.Rule.{word_of_value}
-use Rattle.task_word.specs.declared.views.CoreView.{CoreView}
-use Rattle.task_word.specs.declared.views.HandleView.{HandleView}
+use Rattle.task_word.specs.declared.views.CoreSeatView.{CoreSeatView}
+use Rattle.task_word.specs.declared.views.HandleSeatView.{HandleSeatView}
 use Rattle.task_word.specs.declared.views.View.{View}
 use Rattle.task_word.specs.declared.views.View.TheVariants.{Core, Handle}
 use Rattle.task_word.specs.Steps.{CoreTells}
@@ -20,11 +20,11 @@ abbrev pub AtTask : ℕ → (ℕ → Type 0) → Type 0
 AtTask word about = (k : ℕ) → word ≡ k + 1 → about k
 
 -- the core's view has become v, and the rest is as it was
-abbrev pub CoreIs : CoreView → Holder → Holder → Type 0
+abbrev pub CoreIs : CoreSeatView → Holder → Holder → Type 0
 CoreIs v me next = next ≡ (Core v, me.1)
 
 -- the handle's view has become h, and the rest is as it was
-abbrev pub HandleIs : HandleView → Holder → Holder → Type 0
+abbrev pub HandleIs : HandleSeatView → Holder → Holder → Type 0
 HandleIs h me next = next ≡ (Handle h, me.1)
 
 -- the core's store: the core knows the word new in run 0
@@ -32,7 +32,7 @@ abbrev pub Submitted : ℕ → Holder → Holder → Type 0
 Submitted word me next = AtTask word (λ k. CoreIs (with_entry (core_of me.0) k (new_in 0)) me next)
 
 -- the core met the word w of the task k, which is its entry or has the bit besides
-pub record CoreMeets (v : CoreView) (k found : ℕ) : Type 0 where
+pub record CoreMeets (v : CoreSeatView) (k found : ℕ) : Type 0 where
   pub word : IsWord (word_of_value found)
   pub number : value (word_of_value found) ≡ found
   pub meets : MeetsEntry (entry v k) (word_of_value found)

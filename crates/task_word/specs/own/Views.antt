@@ -1,19 +1,19 @@
 -- Beside `specs/Views`: what only private contracts and proofs cite.
 use Rattle.std.specs.Prelude.{ℕ, length}
-use Rattle.task_word.specs.declared.views.CoreView.{CoreView}
-use Rattle.task_word.specs.declared.views.HandleView.{HandleView}
+use Rattle.task_word.specs.declared.views.CoreSeatView.{CoreSeatView}
+use Rattle.task_word.specs.declared.views.HandleSeatView.{HandleSeatView}
 use Rattle.task_word.specs.declared.views.View.{View}
 use Rattle.task_word.specs.declared.views.View.TheVariants.{Core, Handle, Spent}
 use Rattle.task_word.specs.Views.{new_core, new_handle, one_out, joined_with}
 
 -- what the core's seat knows
-abbrev pub core_of : View → CoreView
+abbrev pub core_of : View → CoreSeatView
 core_of (Core v) = v
 core_of (Handle h) = new_core 0
 core_of Spent = new_core 0
 
 -- what a handle's seat knows
-abbrev pub handle_of : View → HandleView
+abbrev pub handle_of : View → HandleSeatView
 handle_of (Core v) = new_handle 0
 handle_of (Handle h) = h
 handle_of Spent = new_handle 0

@@ -5,8 +5,8 @@ use Rattle.queue_code.specs.Calls.{Planned}
 use Rattle.executor_core.specs.declared.types.Line.{Line}
 use Rattle.executor_core.specs.Histories.{happenings}
 use Rattle.executor_core.specs.State.{State, after}
-use Rattle.executor_core.specs.Machine.{Machine, workers_of, state_of, room_of}
-use Rattle.trace_check.specs.Plain.{is_busy}
+use Rattle.executor_core.specs.CoreView.{CoreView, workers_of, state_of, room_of}
+use Rattle.trace_check.specs.Representatives.{is_busy}
 use Rattle.trace_check.specs.Going.{Goes}
 
 -- how many happenings the core of a check takes
@@ -21,7 +21,7 @@ most_named = 256
 abbrev pub TellBusy : List Bool → List Line → Type 0
 TellBusy flags lines = (w : ℕ) → w < most_named → slice_index_or flags w false ≡ is_busy lines w
 
--- the state is that of the plain happenings, `due` is what is owed, and the flags tell which workers are busy
+-- the state is that of the representatives, `due` is what is owed, and the flags tell which workers are busy
 pub record IsAt (calls : List Planned) (workers : ℕ) (state : State) (due : List Line) (flags : List Bool) (lines : List Line) : Type 0 where
   pub goes : Goes calls workers lines
   pub stands : state ≡ after calls workers (happenings goes.past)
@@ -29,10 +29,10 @@ pub record IsAt (calls : List Planned) (workers : ℕ) (state : State) (due : Li
   pub busy : TellBusy flags lines
 
 -- the same of a core
-abbrev pub IsStanding : Machine → List Line → List Bool → List Line → Type 0
+abbrev pub IsStanding : CoreView → List Line → List Bool → List Line → Type 0
 IsStanding m due flags lines = IsAt m.calls (workers_of m) (state_of m) due flags lines
 
 -- a check can go on: it has flags of its core's workers, and room for the lines of each answer
-pub record IsReady (m : Machine) (workers capacity : ℕ) : Type 0 where
+pub record IsReady (m : CoreView) (workers capacity : ℕ) : Type 0 where
   pub count : workers ≡ workers_of m
   pub room : room_of m ≤ capacity

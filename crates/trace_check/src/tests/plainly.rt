@@ -1,5 +1,5 @@
 //! What is found of a text by a slow program, which follows the definitions word by word: the text is cut at its newlines,
-//! and for each number of its lines all plain happenings are answered from the beginning, by the plain executor.
+//! and for each number of its lines all representatives are answered from the beginning, by the plain executor.
 ghost use Rattle.queue_code.specs.Calls.{IsOrderly};
 
 use crate::Finding;
@@ -69,7 +69,7 @@ fn owed_after(
     Ok(trace.strip_prefix(lines).map(|rest| rest.len()))
 }
 
-/// Adds the plain happenings of lines, and answers whether each line that needs one has one, which may come.
+/// Adds the representatives of lines, and answers whether each line that needs one has one, which may come.
 fn happen_plainly(
     calls: &[(u64, CodeCall)],
     workers: u8,
@@ -91,7 +91,7 @@ fn happen_plainly(
     Ok(true)
 }
 
-/// The plain happening of an answer at a moment, behind these lines.
+/// The representative of an answer at a moment, behind these lines.
 fn plain_happening(workers: u8, before: &[Line], moment: u64, answer: Answer) -> Option<Happening> {
     Some(match answer {
         Answer::Submit { .. } | Answer::Refuse { .. } | Answer::Cancel { .. } => Happening::Call,
@@ -116,7 +116,7 @@ fn plain_happening(workers: u8, before: &[Line], moment: u64, answer: Answer) ->
     })
 }
 
-/// The ending of a run in the plain happening of its line.
+/// The ending of a run in the representative of its line.
 fn ending_of(outcome: Outcome) -> Ending {
     match outcome {
         Outcome::Done(value) => Ending::Value(value),

@@ -2,7 +2,7 @@
 use Rattle.std.proofs.Common.{◌≡◌, ℕ, ◌+◌, ◌-◌, ◌*◌, ◌/◌, ◌<◌, ◌≢◌, Bool, List, cond, eqb, length, set, arith, ap, subst, subst₂, sym, ◌∙◌, refl, eq-eqb, ne_eqb, get_or-set_same}
 use Rattle.std.specs.Prelude.{slice_index_or}
 use Rattle.delay_queue.specs.Queues.{binary_digits}
-use Rattle.delay_queue.specs.Heaps.{entry_at, parent, IsOrdered, IsHeap}
+use Rattle.delay_queue.specs.Heaps.{entry_at, parent, IsInHeapOrder, IsHeap}
 use Rattle.delay_queue.specs.own.Heaps.{IsHeapAround, IsAboveChildren}
 use Rattle.delay_queue.specs.declared.entry.Entry.{Entry}
 use Rattle.delay_queue.proofs.Digits.{digits_within, digits_below}
@@ -26,7 +26,7 @@ loop-hole-preserved c =
     let below : 0 < i = omega (arith, c.loop-hole-test.true) in
     let inside : i < length h = c.loop-hole.invariant.inside in
     let after = c.put.ensures.heap in
-    let order : IsOrdered c.args.entry (entry_at h up) = sym c.is_before.ensures ∙ c.if-is_before.false in
+    let order : IsInHeapOrder c.args.entry (entry_at h up) = sym c.is_before.ensures ∙ c.if-is_before.false in
     record {
       inside = omega (arith, c.put.auto.heap);
       around = subst (λ (l : List Entry). IsHeapAround l up) (sym after) (around_up h i up inside below refl c.loop-hole.invariant.around);
@@ -46,7 +46,7 @@ pub returns-clause-heap : goal.returns-clause-heap
 returns-clause-heap c =
     let h = c.loop-hole.heap in
     let i = c.loop-hole.hole in
-    let last : 0 < i → IsOrdered (entry_at h (parent i)) c.args.entry =
+    let last : 0 < i → IsInHeapOrder (entry_at h (parent i)) c.args.entry =
     elim c.loop-hole-test.branch [
       | else-loop-hole-test w ↦ λ some. absurd (omega arith)
       | then-loop-hole-test+then-is_before w ↦ λ some. ordered_from_before (entry_at h (parent i)) c.args.entry (sym w.is_before.ensures ∙ w.if-is_before.true)

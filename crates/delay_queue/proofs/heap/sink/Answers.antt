@@ -2,7 +2,7 @@
 use Rattle.std.proofs.Common.{◌≡◌, ℕ, ◌+◌, ◌*◌, ◌<◌, ◌≤◌, ◌⊎◌, ⊎_elim, inl, inr, true, false, Bool, List, length, set, arith, subst, sym, ap, ◌∙◌, rules}
 use mir.Val.{bool_byte}
 use Rattle.delay_queue.specs.Queues.{comes_before}
-use Rattle.delay_queue.specs.Heaps.{entry_at, parent, IsOrdered}
+use Rattle.delay_queue.specs.Heaps.{entry_at, parent, IsInHeapOrder}
 use Rattle.delay_queue.specs.own.Heaps.{IsHeapAround}
 use Rattle.delay_queue.specs.declared.entry.Entry.{Entry}
 use Rattle.delay_queue.proofs.Digits.{digits_within, digits_below}
@@ -20,14 +20,14 @@ overflow_add-touches c =
 -- the second of two entries is the lesser exactly when it comes before the first
 which : (heap : List Entry) (hole more : ℕ) (b : Bool) → more ≡ bool_byte b
     → b ≡ comes_before (entry_at heap (2 * hole + 1 + 1)).due (entry_at heap (2 * hole + 1 + 1)).task (entry_at heap (2 * hole + 1)).due (entry_at heap (2 * hole + 1)).task
-    → ((2 * hole + 1 + more ≡ 2 * hole + 2) × IsOrdered (entry_at heap (2 * hole + 2)) (entry_at heap (2 * hole + 1)))
-    ⊎ ((2 * hole + 1 + more ≡ 2 * hole + 1) × IsOrdered (entry_at heap (2 * hole + 1)) (entry_at heap (2 * hole + 2)))
+    → ((2 * hole + 1 + more ≡ 2 * hole + 2) × IsInHeapOrder (entry_at heap (2 * hole + 2)) (entry_at heap (2 * hole + 1)))
+    ⊎ ((2 * hole + 1 + more ≡ 2 * hole + 1) × IsInHeapOrder (entry_at heap (2 * hole + 1)) (entry_at heap (2 * hole + 2)))
 which heap hole more true is test =
     let right : 2 * hole + 1 + 1 ≡ 2 * hole + 2 = omega arith in
-    inl (omega (arith, is), subst (λ (n : ℕ). IsOrdered (entry_at heap n) (entry_at heap (2 * hole + 1))) right (ordered_from_before (entry_at heap (2 * hole + 1 + 1)) (entry_at heap (2 * hole + 1)) (sym test)))
+    inl (omega (arith, is), subst (λ (n : ℕ). IsInHeapOrder (entry_at heap n) (entry_at heap (2 * hole + 1))) right (ordered_from_before (entry_at heap (2 * hole + 1 + 1)) (entry_at heap (2 * hole + 1)) (sym test)))
 which heap hole more false is test =
     let right : 2 * hole + 1 + 1 ≡ 2 * hole + 2 = omega arith in
-    inr (omega (arith, is), subst (λ (n : ℕ). IsOrdered (entry_at heap (2 * hole + 1)) (entry_at heap n)) right (sym test))
+    inr (omega (arith, is), subst (λ (n : ℕ). IsInHeapOrder (entry_at heap (2 * hole + 1)) (entry_at heap n)) right (sym test))
 
 pub loop-hole-preserved : goal.loop-hole-preserved
 loop-hole-preserved c =
@@ -110,4 +110,4 @@ returns-then-only-heap-clause-around c =
     let only : ℕ = 2 * i + 1 in
     subst (λ (l : List Entry). IsHeapAround l only) (sym c.put-then-only-heap.ensures.heap)
     (around_down h i only c.if-only-heap.true (omega arith) (omega arith) c.loop-hole.invariant.around
-    (λ k some short same. let is : k ≡ only = omega arith in subst (λ (n : ℕ). IsOrdered (entry_at h only) (entry_at h n)) (sym is) (ordered_self (entry_at h only))))
+    (λ k some short same. let is : k ≡ only = omega arith in subst (λ (n : ℕ). IsInHeapOrder (entry_at h only) (entry_at h n)) (sym is) (ordered_self (entry_at h only))))

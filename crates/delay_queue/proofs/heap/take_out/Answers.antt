@@ -1,7 +1,7 @@
 -- The last entry comes into the place of the one that is taken out.
 use Rattle.std.proofs.Common.{◌≡◌, ◌≢◌, ℕ, ◌<◌, length, arith, List, [], ◌∷◌, ◌++◌, take, drop, sym, ap, subst, ◌∙◌, take_at, length-append}
 use Rattle.std.proofs.lemmas.List.{get_or_append_left}
-use Rattle.delay_queue.specs.Heaps.{no_entry, entry_at, IsPlaced, due_of}
+use Rattle.delay_queue.specs.Heaps.{no_entry, entry_at, IsPlaced, due_in_heap}
 use Rattle.delay_queue.specs.own.Heaps.{IsPlacedWith, due_with}
 use Rattle.delay_queue.specs.declared.entry.Entry.{Entry}
 use Rattle.delay_queue.proofs.Digits.{digits_more}
@@ -25,10 +25,10 @@ replace-requires-clause-placed g c =
 
 -- when a task is due after the last entry came into the place, by the heap that was lent
 due_after : (front lent heap : List Entry) (places places' : List ℕ) (place n task : ℕ) (last : Entry) → n ≡ length front → lent ≡ front → length heap ≡ length lent
-    → ((task : ℕ) → due_of heap places' task ≡ due_with lent places place last task)
-    → due_of (take n (heap ++ drop (length heap) front)) places' task ≡ due_with front places place last task
+    → ((task : ℕ) → due_in_heap heap places' task ≡ due_with lent places place last task)
+    → due_in_heap (take n (heap ++ drop (length heap) front)) places' task ≡ due_with front places place last task
 due_after front lent heap places places' place n task last size same long dues =
-    ap (λ (l : List Entry). due_of l places' task) (take_at heap (drop (length heap) front) n (long ∙ ap length same ∙ sym size))
+    ap (λ (l : List Entry). due_in_heap l places' task) (take_at heap (drop (length heap) front) n (long ∙ ap length same ∙ sym size))
     ∙ dues task ∙ ap (λ (l : List Entry). due_with l places place last task) same
 
 pub returns-clause-taken : goal.returns-clause-taken
@@ -56,7 +56,7 @@ returns-clause-others g c task other =
     due_after v.items c.deref_mut.result.now c.replace.new.heap c.args.places.now c.replace.new.places place v.len task last v.ok.0 c.deref_mut.ensures.value c.replace.ensures.heap_length
     c.replace.ensures.dues
     ∙ due_of_kept v.items c.args.places.now place last task inside p (λ same. other (same ∙ ap (λ (e : Entry). e.task) (sym there)))
-    ∙ ap (λ (l : List Entry). due_of l c.args.places.now task) (sym c.take_last-last.ensures.items)
+    ∙ ap (λ (l : List Entry). due_in_heap l c.args.places.now task) (sym c.take_last-last.ensures.items)
 
 pub returns-clause-few : goal.returns-clause-few
 returns-clause-few g c =

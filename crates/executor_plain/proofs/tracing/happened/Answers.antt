@@ -1,14 +1,14 @@
 use Rattle.executor_core.specs.declared.types.Happening.TheVariants as h
 use Rattle.std.proofs.Common.{[], take, sym, subst}
 use Rattle.std.specs.Prelude.{reverse}
-use Rattle.executor_core.specs.Within.{IsAnswered}
+use Rattle.executor_core.specs.Within.{IsAnsweredByTable}
 use Rattle.executor_core.proofs.Within.{answered_from}
 use Rattle.executor_plain.proofs.Plains.{one_happening}
 use Rattle.executor_plain.proofs.tracing.happened.Goals as goal
 
 pub happen-requires-clause-answered : goal.happen-requires-clause-answered
 happen-requires-clause-answered g c =
-    subst (IsAnswered c.args.calls.now c.args.workers) (sym c.loop-happening.invariant)
+    subst (IsAnsweredByTable c.args.calls.now c.args.workers) (sym c.loop-happening.invariant)
     (answered_from c.args.calls.now c.args.workers [] (reverse (take c.loop-happening.happening-index c.args.happenings.now)) tt)
 
 pub loop-happening-preserved : goal.loop-happening-preserved

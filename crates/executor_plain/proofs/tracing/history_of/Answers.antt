@@ -2,14 +2,14 @@ use Rattle.executor_core.specs.declared.types.Event.TheVariants as v
 use Rattle.std.proofs.Common.{[], take, sym, subst}
 use Rattle.std.specs.Prelude.{reverse}
 use Rattle.executor_core.specs.Flows.{flow}
-use Rattle.executor_core.specs.Within.{IsAnswered}
+use Rattle.executor_core.specs.Within.{IsAnsweredByTable}
 use Rattle.executor_core.proofs.Within.{answered_from}
 use Rattle.executor_plain.proofs.Plains.{one_event}
 use Rattle.executor_plain.proofs.tracing.history_of.Goals as goal
 
 pub take_event-requires-clause-answered : goal.take_event-requires-clause-answered
 take_event-requires-clause-answered g c =
-    subst (IsAnswered c.args.calls.now c.args.workers) (sym c.loop-event.invariant)
+    subst (IsAnsweredByTable c.args.calls.now c.args.workers) (sym c.loop-event.invariant)
     (answered_from c.args.calls.now c.args.workers [] (flow c.args.calls.now (reverse (take c.loop-event.event-index c.args.events.now))) tt)
 
 pub loop-event-preserved : goal.loop-event-preserved

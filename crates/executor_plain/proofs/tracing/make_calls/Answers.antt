@@ -1,14 +1,14 @@
 use Rattle.std.proofs.Common.{sym, subst}
 use Rattle.std.specs.Prelude.{replicate}
 use Rattle.executor_core.specs.declared.types.Happening.TheVariants as h
-use Rattle.executor_core.specs.Within.{IsAnswered}
+use Rattle.executor_core.specs.Within.{IsAnsweredByTable}
 use Rattle.executor_core.proofs.Within.{answered_from}
 use Rattle.executor_plain.proofs.Plains.{one_call}
 use Rattle.executor_plain.proofs.tracing.make_calls.Goals as goal
 
 pub happen-requires-clause-answered : goal.happen-requires-clause-answered
 happen-requires-clause-answered g c =
-    subst (IsAnswered c.args.calls.now c.args.workers) (sym c.loop-made.invariant)
+    subst (IsAnsweredByTable c.args.calls.now c.args.workers) (sym c.loop-made.invariant)
     (answered_from c.args.calls.now c.args.workers c.args.past.now.items (replicate c.loop-made._made h.Call) c.requires.answered)
 
 pub loop-made-preserved : goal.loop-made-preserved

@@ -2,14 +2,14 @@ use Rattle.std.proofs.Common.{◌≡◌, ℕ, [], ◌∷◌, sym, ap, ◌∙◌,
 use Rattle.std.specs.Prelude.{OnOk, replicate}
 use Rattle.executor_core.specs.declared.types.Happening.TheVariants as h
 use Rattle.executor_core.specs.Flows.{history_from}
-use Rattle.executor_core.specs.Within.{IsAnswered}
+use Rattle.executor_core.specs.Within.{IsAnsweredByTable}
 use Rattle.executor_core.proofs.Within.{answered_from}
 use Rattle.executor_plain.proofs.Plains.{count_before}
 use Rattle.executor_plain.proofs.tracing.take_event.Goals as goal
 
 pub happen-requires-clause-answered : goal.happen-requires-clause-answered
 happen-requires-clause-answered g c =
-    subst (IsAnswered c.args.calls.now c.args.workers) (sym c.in_ok-make_calls.ensures)
+    subst (IsAnsweredByTable c.args.calls.now c.args.workers) (sym c.in_ok-make_calls.ensures)
     (answered_from c.args.calls.now c.args.workers c.args.past.now.items (replicate c.calls_before-count.result h.Call) c.requires.answered)
 
 pub returns : goal.returns

@@ -4,7 +4,7 @@ use Rattle.std.proofs.lemmas.Bool.{false≢true}
 use Rattle.trace_text.specs.Spelling.{event_line}
 use Rattle.sched_engine.specs.Inputs.{BeginsWithEvent}
 use Rattle.sched_engine.specs.own.Pieces.{Output}
-use Rattle.executor_core.specs.Machine.{Machine}
+use Rattle.executor_core.specs.CoreView.{CoreView}
 use Rattle.sched_engine.specs.declared.answering.PieceEnd.{PieceEnd}
 use Rattle.sched_engine.specs.declared.answering.PieceEnd.TheVariants as e
 use Rattle.sched_engine.specs.own.Turns.{IsAnswered, IsPieceEnd}
@@ -90,9 +90,9 @@ not_full : (end : PieceEnd) → end ≡ e.Full → end ≡ e.Memory → ⊥
 not_full end full memory = cc
 
 -- no event follows bytes that do not begin with one
-not_memory : (end : PieceEnd) (m : Machine) (rest : List ℕ) → ((core : Machine) → IsPieceEnd end core rest) → end ≡ e.Memory → ⊥
+not_memory : (end : PieceEnd) (m : CoreView) (rest : List ℕ) → ((core : CoreView) → IsPieceEnd end core rest) → end ≡ e.Memory → ⊥
 not_memory end m rest is memory =
-    let none : Machine = record m { taken = 0; limit = 0 } in
+    let none : CoreView = record m { taken = 0; limit = 0 } in
     let begins = subst (λ (end : PieceEnd). IsPieceEnd end none rest) memory (is none) in
     omega (arith, begins.0)
 

@@ -2,7 +2,7 @@ use Rattle.std.proofs.Common.{◌≡◌, ◌+◌, ◌≤◌, ◌++◌, List, [],
 use Rattle.executor_core.specs.declared.Happening.{Happening}
 use Rattle.executor_core.specs.declared.Happening.TheVariants as h
 use Rattle.executor_core.specs.Flows.{happening_of}
-use Rattle.executor_core.specs.Machine.{Machine, room_of}
+use Rattle.executor_core.specs.CoreView.{CoreView, room_of}
 use Rattle.executor_core.proofs.Parts.{all_happened, left_after, none_happened, part_from}
 use Rattle.sched_engine.specs.own.Pieces.{Output}
 use Rattle.sched_engine.specs.own.Turns.{CutsSteps, GivesSteps, answers_to}
@@ -24,7 +24,7 @@ loop-core-init g c =
       capacity = refl;
       taken = refl;
       counted = c.count.ensures.runs;
-      room = subst (λ (m : Machine). 0 + room_of m ≤ room_of old) (sym c.count.ensures.same) (omega arith);
+      room = subst (λ (m : CoreView). 0 + room_of m ≤ room_of old) (sym c.count.ensures.same) (omega arith);
       steps = ([], gives_nothing old counted first c.count.ensures.same, none_happened old counted c.args.event c.count.ensures.same);
       counts = (refl, refl);
     }

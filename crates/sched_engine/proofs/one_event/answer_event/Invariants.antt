@@ -1,7 +1,7 @@
 use Rattle.std.proofs.Common.{◌≡◌, ◌+◌, ◌-◌, ◌≤◌, ◌++◌, List, [], length}
 use Rattle.std.specs.Prelude.{vec_capacity}
 use Rattle.executor_core.specs.declared.Happening.{Happening}
-use Rattle.executor_core.specs.Machine.{IsCounted, room_of}
+use Rattle.executor_core.specs.CoreView.{IsCounted, room_of}
 use Rattle.executor_core.proofs.Parts.{part_from}
 use Rattle.sched_engine.specs.Ends.{NoneMore}
 use Rattle.sched_engine.specs.own.Turns.{GivesSteps}

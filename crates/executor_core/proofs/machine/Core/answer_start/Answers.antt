@@ -2,7 +2,7 @@ use Rattle.std.proofs.Common.{◌≡◌, ◌<◌, length, None, ◌∙◌, sym, 
 use Rattle.std.specs.Prelude.{slice_index_or}
 use Rattle.executor_core.specs.declared.task.Task.{Task}
 use Rattle.executor_core.specs.declared.types.Happening.TheVariants as h
-use Rattle.executor_core.specs.Machine.{Machine, workers_of, state_of}
+use Rattle.executor_core.specs.CoreView.{CoreView, workers_of, state_of}
 use Rattle.executor_core.specs.Needs.{RunsBelowTaken, need_of}
 use Rattle.executor_core.proofs.Tables.{read_at, none_of}
 use Rattle.executor_core.proofs.RunSteps.{Gets, of_view, start_idles, start_needs, start_takes, start_keeps}
@@ -25,7 +25,7 @@ invariant_of-self-2 g c =
     let free : slice_index_or m.work.items c.args.worker None ≡ None = sym read ∙ none_of c.index.result.now c.if-is_some.ensures in
     let poll = c.in-Some.ensures in
     let gets : Gets _ m.queue.entries c.args.worker c.in-Some.entry = record { worker = l; free = free; least = poll.least; due = poll.due } in
-    let low = subst (λ (x : Machine). RunsBelowTaken x (need_of x.calls (workers_of x) (state_of x) (h.Start c.args.worker))) (sym c.self.view_is) c.requires in
+    let low = subst (λ (x : CoreView). RunsBelowTaken x (need_of x.calls (workers_of x) (state_of x) (h.Start c.args.worker))) (sym c.self.view_is) c.requires in
     let counted = low c.in-Some.entry.task (start_needs _ m.queue.entries m.kept.entries m.sought c.args.worker c.in-Some.entry c.self.invariant gets) in
     start_keeps _ m.queue.entries m.kept.entries c.poll.new.self.entries m.sought c.args.worker c.in-Some.entry c.start.new.self c.self.invariant gets
     counted c.start.ensures poll.removed

@@ -4,7 +4,7 @@ use Rattle.queue_code.specs.Calls.{task_count}
 use Rattle.executor_core.specs.Flows.{answer_line}
 use Rattle.executor_core.specs.Answers.{Reply}
 use Rattle.executor_core.specs.State.{State}
-use Rattle.executor_core.specs.Machine.{Machine}
+use Rattle.executor_core.specs.CoreView.{CoreView}
 use Rattle.executor_core.proofs.Events.{one_step}
 use Rattle.executor_core.proofs.Flowing.{step_continues}
 use Rattle.executor_core.proofs.Rooms.{room_stays}
@@ -14,7 +14,7 @@ use Rattle.executor_core.proofs.machine.Core.cancel.Goals as goal
 pub returns-clause-steps : goal.returns-clause-steps
 returns-clause-steps g c =
     one_step c.args.self.now c.answer_cancel-answer.new.self c.args.out.now.items c.push_reserved.new.self.items (h.Cancel c.args.task) c.answer_cancel-answer.result c.answer_cancel-answer.ensures.step
-    (c.push_reserved.ensures.items ∙ ap (λ (m : Machine). c.args.out.now.items ++ answer_line m.moment c.answer_cancel-answer.result ∷ []) c.self.view_is)
+    (c.push_reserved.ensures.items ∙ ap (λ (m : CoreView). c.args.out.now.items ++ answer_line m.moment c.answer_cancel-answer.result ∷ []) c.self.view_is)
 
 pub returns-clause-history : goal.returns-clause-history
 returns-clause-history g c = step_continues c.args.self.now _ c.args.out.now.items c.push_reserved.new.self.items (h.Cancel c.args.task) (returns-clause-steps g c)
@@ -22,7 +22,7 @@ returns-clause-history g c = step_continues c.args.self.now _ c.args.out.now.ite
 pub returns-clause-leaves : goal.returns-clause-leaves
 returns-clause-leaves g c = record {
   taken = c.answer_cancel-answer.ensures.step.taken;
-  tasks = subst (λ (m : Machine). length m.tasks ≡ task_count m.calls) c.self.view_is c.self.invariant.count;
+  tasks = subst (λ (m : CoreView). length m.tasks ≡ task_count m.calls) c.self.view_is c.self.invariant.count;
   room = room_stays c.args.self.now c.answer_cancel-answer.new.self c.args.out.now.items c.push_reserved.new.self.items (h.Cancel c.args.task) (returns-clause-steps g c) c.answer_cancel-answer.ensures.size;
   few = omega (arith, c.push_reserved.ensures.len);
 }

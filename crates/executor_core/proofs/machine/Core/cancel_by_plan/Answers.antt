@@ -2,7 +2,7 @@ use Rattle.std.proofs.Common.{◌≡◌, ◌<◌, length, Some, max, refl, ap, s
 use Rattle.std.specs.Prelude.{slice_get}
 use Rattle.queue_code.specs.declared.call.CodeCall.TheVariants as call
 use Rattle.executor_core.specs.Tasks.{uncancelled_in}
-use Rattle.executor_core.specs.Machine.{Machine, state_of}
+use Rattle.executor_core.specs.CoreView.{CoreView, state_of}
 use Rattle.executor_core.specs.own.Invariants.{IsSound}
 use Rattle.executor_core.proofs.Calling.{passed_kept}
 use Rattle.executor_core.proofs.Cancels.{names_a_task, plan_steps, is_cancelled_so, cancelled_fewer}
@@ -13,7 +13,7 @@ cancel_task-effect-requires g c =
     let m = c.self.inside in
     let is : slice_get m.calls.items m.calls.made ≡ Some (c.requires.0, call.Cancel c.args.task) = ap (λ x. slice_get x.calls x.made) c.self.view_is ∙ c.requires.1 in
     let low : c.args.task < length m.tasks = omega (arith, names_a_task m.calls.items 0 0 m.calls.made c.requires.0 c.args.task c.self.invariant.orderly.1 is, c.self.invariant.count) in
-    subst (λ (x : Machine). c.args.task < length x.tasks) c.self.view_is low
+    subst (λ (x : CoreView). c.args.task < length x.tasks) c.self.view_is low
 
 pub invariant_of-self : goal.invariant_of-self
 invariant_of-self g c =
@@ -21,7 +21,7 @@ invariant_of-self g c =
     let did = c.cancel_task-effect.ensures in
     let same = c.self-2.view_is ∙ is_cancelled_so old c.cancel_task-effect.new.self c.args.task c.cancel_task-effect.result did.yes did.no in
     let is = ap (λ x. slice_get x.calls x.made) same ∙ c.requires.1 in
-    let moment = ap (λ (x : Machine). x.moment) c.self.view_is ∙ sym (ap (λ (x : Machine). x.moment) same) in
+    let moment = ap (λ (x : CoreView). x.moment) c.self.view_is ∙ sym (ap (λ (x : CoreView). x.moment) same) in
     rw c.pass-self-inside.ensures.passed (passed_kept _ c.self-2.inside.queue.entries c.self-2.inside.kept.entries c.self-2.inside.sought c.pass-self-inside.result c.requires.0 (call.Cancel c.args.task) c.self-2.invariant is
     (c.pass-self-inside.ensures.moment (c.requires.0, call.Cancel c.args.task) is ∙ ap (λ n. max n c.requires.0) moment))
 
@@ -33,9 +33,9 @@ returns-clause-step g c =
     let is : slice_get m.calls.items m.calls.made ≡ Some (c.requires.0, call.Cancel c.args.task) = ap (λ x. slice_get x.calls x.made) c.self.view_is ∙ c.requires.1 in
     let low : c.args.task < length m.tasks = omega (arith, names_a_task m.calls.items 0 0 m.calls.made c.requires.0 c.args.task c.self.invariant.orderly.1 is, c.self.invariant.count) in
     let same = c.self-2.view_is ∙ is_cancelled_so old c.cancel_task-effect.new.self c.args.task c.cancel_task-effect.result did.yes did.no in
-    let moment = c.pass-self-inside.ensures.moment (c.requires.0, call.Cancel c.args.task) (ap (λ x. slice_get x.calls x.made) same ∙ c.requires.1) ∙ ap (λ (x : Machine). max x.moment c.requires.0) c.self.view_is in
-    rw c.pass-self-inside.ensures.passed (plan_steps old old _ c.pass-self-inside.result c.requires.0 c.args.task c.cancel_task-effect.result (subst (λ (x : Machine). IsSound (state_of x)) c.self.view_is c.self.invariant.sound) c.requires.1
-    moment (subst (λ (x : Machine). c.args.task < length x.tasks) c.self.view_is low) did.effect same refl)
+    let moment = c.pass-self-inside.ensures.moment (c.requires.0, call.Cancel c.args.task) (ap (λ x. slice_get x.calls x.made) same ∙ c.requires.1) ∙ ap (λ (x : CoreView). max x.moment c.requires.0) c.self.view_is in
+    rw c.pass-self-inside.ensures.passed (plan_steps old old _ c.pass-self-inside.result c.requires.0 c.args.task c.cancel_task-effect.result (subst (λ (x : CoreView). IsSound (state_of x)) c.self.view_is c.self.invariant.sound) c.requires.1
+    moment (subst (λ (x : CoreView). c.args.task < length x.tasks) c.self.view_is low) did.effect same refl)
 
 pub returns-clause-uncancelled : goal.returns-clause-uncancelled
 returns-clause-uncancelled g c =
@@ -45,4 +45,4 @@ returns-clause-uncancelled g c =
     let is : slice_get m.calls.items m.calls.made ≡ Some (c.requires.0, call.Cancel c.args.task) = ap (λ x. slice_get x.calls x.made) c.self.view_is ∙ c.requires.1 in
     let low : c.args.task < length m.tasks = omega (arith, names_a_task m.calls.items 0 0 m.calls.made c.requires.0 c.args.task c.self.invariant.orderly.1 is, c.self.invariant.count) in
     let same = c.self-2.view_is ∙ is_cancelled_so old c.cancel_task-effect.new.self c.args.task c.cancel_task-effect.result did.yes did.no in
-    omega (arith, ap (λ (x : Machine). uncancelled_in x.tasks) same, cancelled_fewer old.policies.removes old.tasks c.args.task c.cancel_task-effect.result (subst (λ (x : Machine). c.args.task < length x.tasks) c.self.view_is low))
+    omega (arith, ap (λ (x : CoreView). uncancelled_in x.tasks) same, cancelled_fewer old.policies.removes old.tasks c.args.task c.cancel_task-effect.result (subst (λ (x : CoreView). c.args.task < length x.tasks) c.self.view_is low))

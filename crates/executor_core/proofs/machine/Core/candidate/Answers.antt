@@ -1,5 +1,5 @@
 use Rattle.std.proofs.Common.{◌≡◌, ◌⊎◌, inl, inr, true, false, sym, ◌∙◌, subst}
-use Rattle.executor_core.specs.Machine.{Machine}
+use Rattle.executor_core.specs.CoreView.{CoreView}
 use Rattle.executor_core.proofs.Sweeping.{sweeps_at}
 use Rattle.executor_core.proofs.Noting.{passed_over, unnoted_stays}
 use Rattle.executor_core.proofs.machine.Core.candidate.Goals as goal
@@ -15,6 +15,6 @@ returns-then-delayed-clause-passed g c =
     ]
     in
     λ k above below.
-    subst (λ (x : Machine). sweeps_at x k ≡ false) c.self.view_is
+    subst (λ (x : CoreView). sweeps_at x k ≡ false) c.self.view_is
     (unnoted_stays _ m.queue.entries m.kept.entries m.sought c.self.invariant looked delayed k
     (passed_over m.sought.going c.first_from.result c.args.from c.len.result c.unwrap_or.result c.unwrap_or.ensures c.first_from.ensures.first c.first_from.ensures.none k above below))

@@ -1,7 +1,7 @@
 use Rattle.std.proofs.Common.{◌≡◌, true, false, ap, ◌∙◌, sym, subst, rules}
 use Rattle.std.specs.Prelude.{slice_index_or, slice_set}
 use Rattle.executor_core.specs.State.{vacant}
-use Rattle.executor_core.specs.Machine.{Machine}
+use Rattle.executor_core.specs.CoreView.{CoreView}
 use Rattle.executor_core.specs.own.Invariants.{IsWellFormedCore}
 use Rattle.executor_core.specs.own.OwnSteps.{LeavesMet, is_met}
 use Rattle.executor_core.proofs.Meeting.{Meeting, fewer_keeps, meet_one, none_left, rest_unmet}
@@ -20,7 +20,7 @@ returns-then-not-is_met-clause-tasks g c =
     let i = c.loop-entry.self-inside in
     let e = c.in-Some.entry in
     let unmet : is_met m.moment c.args.first e.due e.task ≡ false = ap (λ n. is_met n c.args.first e.due e.task) (sym (ap (λ x. x.moment) c.loop-entry.invariant.rest)) ∙ (sym c.is_met.ensures ∙ search rules) in
-    subst (λ (n : Machine). LeavesMet n.moment c.args.first n.tasks i.tasks) c.self.view_is
+    subst (λ (n : CoreView). LeavesMet n.moment c.args.first n.tasks i.tasks) c.self.view_is
     (rest_unmet m.moment c.args.first m.tasks i.tasks i.kept.entries e.due e.task c.loop-entry.invariant.meeting c.in-Some.ensures.least unmet)
 
 pub loop-entry-preserved : goal.loop-entry-preserved
@@ -47,5 +47,5 @@ pub returns-clause-tasks : goal.returns-clause-tasks
 returns-clause-tasks g c =
     let m = c.self.inside in
     let i = c.loop-entry.self-inside in
-    subst (λ (n : Machine). LeavesMet n.moment c.args.first n.tasks i.tasks) c.self.view_is
+    subst (λ (n : CoreView). LeavesMet n.moment c.args.first n.tasks i.tasks) c.self.view_is
     (none_left m.moment c.args.first m.tasks i.tasks i.kept.entries c.loop-entry.invariant.meeting c.in_default.ensures.empty)

@@ -4,7 +4,7 @@ use Rattle.queue_code.specs.Calls.{task_count}
 use Rattle.executor_core.specs.declared.types.Happening.{Happening}
 use Rattle.executor_core.specs.declared.types.Happening.TheVariants as h
 use Rattle.executor_core.specs.Flows.{happening_of}
-use Rattle.executor_core.specs.Machine.{Machine, Steps, room_of}
+use Rattle.executor_core.specs.CoreView.{CoreView, Steps, room_of}
 use Rattle.executor_core.proofs.Errors.{error_only_counts}
 use Rattle.executor_core.proofs.Events.{counted_once, event_continues, uncounted}
 use Rattle.executor_core.proofs.Flowing.{no_steps, steps_then}
@@ -21,7 +21,7 @@ loop-self-init g c =
       taken = refl;
       counted = c.count.ensures.runs;
       capacity = refl;
-      room = subst (λ (m : Machine). vec_len c.make_room.new.out + room_of m ≤ vec_capacity c.make_room.new.out) (sym c.count.ensures.same) fits;
+      room = subst (λ (m : CoreView). vec_len c.make_room.new.out + room_of m ≤ vec_capacity c.make_room.new.out) (sym c.count.ensures.same) fits;
       steps = (
         [],
         subst (λ l. Steps old counted l lines []) c.make_room.ensures.items (uncounted old counted counted lines lines [] c.count.ensures.same (no_steps counted lines)),
@@ -71,6 +71,6 @@ returns-clause-errors g c =
     let old = c.args.self.now in
     let new = c.happen-2.new.self in
     let steps = returns-clause-steps g c in
-    let count = λ (m : Machine). length m.tasks ≡ task_count m.calls in
+    let count = λ (m : CoreView). length m.tasks ≡ task_count m.calls in
     error_only_counts old new c.args.out.now.items c.happen-2.new.out.items c.args.event steps (counted_once old c.count.new.self new c.count.ensures.same (did.leaves.taken ∙ c.loop-self.invariant.taken))
     (did.leaves.tasks ∙ (ap task_count steps.calls ∙ sym (subst count c.self.view_is c.self.invariant.count)))

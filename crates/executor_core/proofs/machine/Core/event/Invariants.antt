@@ -1,7 +1,7 @@
 use Rattle.std.proofs.Common.{◌≡◌, ◌+◌, ◌-◌, ◌≤◌, ◌++◌, List, length}
 use Rattle.std.specs.Prelude.{vec_len, vec_capacity}
 use Rattle.executor_core.specs.declared.types.Happening.{Happening}
-use Rattle.executor_core.specs.Machine.{IsCounted, Steps, room_of}
+use Rattle.executor_core.specs.CoreView.{IsCounted, Steps, room_of}
 use Rattle.executor_core.proofs.Parts.{part_from}
 use Rattle.executor_core.proofs.machine.Core.event.Given as goal
 

@@ -2,7 +2,7 @@ use Rattle.std.proofs.Common.{◌≡◌, [], ◌∷◌, ◌++◌, sym, ap, ◌�
 use Rattle.executor_core.specs.declared.types.Happening.TheVariants as happening
 use Rattle.executor_core.specs.declared.types.Answer.{Answer}
 use Rattle.executor_core.specs.Flows.{answer_line}
-use Rattle.executor_core.specs.Machine.{Machine}
+use Rattle.executor_core.specs.CoreView.{CoreView}
 use Rattle.executor_core.specs.own.OwnSteps.{Takes}
 use Rattle.executor_core.proofs.Events.{one_step}
 use Rattle.executor_core.proofs.Flowing.{step_continues}
@@ -11,7 +11,7 @@ use Rattle.executor_core.proofs.machine.Core.make_call.Goals as goal
 use Rattle.executor_core.proofs.machine.Core.make_call.Goals.{in-Submit, in-Illegal, in-Cancel, in-Ask}
 
 -- what a call did, as the core and the answer are named after it
-takes_so : (old made new : Machine) (said answer : Answer) → new ≡ made → answer ≡ said → Takes old made happening.Call said → Takes old new happening.Call answer
+takes_so : (old made new : CoreView) (said answer : Answer) → new ≡ made → answer ≡ said → Takes old made happening.Call said → Takes old new happening.Call answer
 takes_so old made new said answer same is takes = subst (λ m. Takes old m happening.Call answer) (sym same) (subst (Takes old made happening.Call) (sym is) takes)
 
 pub returns-clause-steps : goal.returns-clause-steps
@@ -27,7 +27,7 @@ returns-clause-steps g c =
     ]
     in
     one_step old new c.args.out.now.items c.push_reserved.new.self.items happening.Call answer takes
-    (c.push_reserved.ensures.items ∙ ap (λ (m : Machine). c.args.out.now.items ++ answer_line m.moment answer ∷ []) c.self-2.view_is)
+    (c.push_reserved.ensures.items ∙ ap (λ (m : CoreView). c.args.out.now.items ++ answer_line m.moment answer ∷ []) c.self-2.view_is)
 
 pub returns-clause-history : goal.returns-clause-history
 returns-clause-history g c = step_continues c.args.self.now _ c.args.out.now.items c.push_reserved.new.self.items happening.Call (returns-clause-steps g c)
@@ -49,10 +49,10 @@ returns-clause-counted g c =
     let old = c.args.self.now in
     let new = c.match-call.self in
     let same : new.taken ≡ old.taken = elim c.match-call.branch [
-      | in-Submit w ↦ ap (λ (m : Machine). m.taken) w.self-is ∙ w.submit-answer.ensures.step.taken
-      | in-Illegal w ↦ ap (λ (m : Machine). m.taken) w.self-is ∙ w.refuse-answer.ensures.step.taken
-      | in-Cancel w ↦ ap (λ (m : Machine). m.taken) w.self-is ∙ w.cancel_by_plan-answer.ensures.step.taken
-      | in-Ask w ↦ ap (λ (m : Machine). m.taken) w.self-is ∙ w.ask-answer.ensures.step.taken
+      | in-Submit w ↦ ap (λ (m : CoreView). m.taken) w.self-is ∙ w.submit-answer.ensures.step.taken
+      | in-Illegal w ↦ ap (λ (m : CoreView). m.taken) w.self-is ∙ w.refuse-answer.ensures.step.taken
+      | in-Cancel w ↦ ap (λ (m : CoreView). m.taken) w.self-is ∙ w.cancel_by_plan-answer.ensures.step.taken
+      | in-Ask w ↦ ap (λ (m : CoreView). m.taken) w.self-is ∙ w.ask-answer.ensures.step.taken
     ]
     in
     call_counted old new c.args.out.now.items c.push_reserved.new.self.items same (returns-clause-steps g c)

@@ -1,7 +1,7 @@
 use Rattle.std.proofs.Common.{◌≡◌, ℕ, nat_lt, ◌⊎◌, inl, inr, true, false, sym, ◌∙◌, arith, subst}
 use Rattle.std.proofs.lemmas.Bool.Decides.{nat_tests}
 use Rattle.executor_core.specs.own.Tables.{periodic_in}
-use Rattle.executor_core.specs.Machine.{Machine}
+use Rattle.executor_core.specs.CoreView.{CoreView}
 use Rattle.executor_core.proofs.Sweeping.{sweeps_at, none_swept, not_false}
 use Rattle.executor_core.proofs.machine.Core.may_end.Goals as goal
 use Rattle.executor_core.proofs.machine.Core.may_end.Goals.{then-not-self, else-not-self}
@@ -17,7 +17,7 @@ returns-then-not-self-2-clause-none g c = λ sought.
       | else-not-self w ↦ inl w.if-not-self.false
     ]
     in
-    subst (λ (x : Machine). (k : ℕ) → sweeps_at x k ≡ false) c.self.view_is
+    subst (λ (x : CoreView). (k : ℕ) → sweeps_at x k ≡ false) c.self.view_is
     (none_swept _ m.queue.entries m.kept.entries m.sought c.self.invariant periodic (inr (sym c.delayed.ensures ∙ not_false c.delayed.result sought)))
 
 pub returns-else-not-self-2-clause-none : goal.returns-else-not-self-2-clause-none
@@ -28,5 +28,5 @@ returns-else-not-self-2-clause-none g c = λ runs.
       | else-not-self w ↦ inl w.if-not-self.false
     ]
     in
-    subst (λ (x : Machine). (k : ℕ) → sweeps_at x k ≡ false) c.self.view_is
+    subst (λ (x : CoreView). (k : ℕ) → sweeps_at x k ≡ false) c.self.view_is
     (none_swept _ m.queue.entries m.kept.entries m.sought c.self.invariant periodic (inl c.if-not-self-2.false))

@@ -1,5 +1,5 @@
 use Rattle.std.proofs.Common.{◌≡◌, ℕ, false, ap, sym, ◌∙◌, subst}
-use Rattle.executor_core.specs.Machine.{Machine}
+use Rattle.executor_core.specs.CoreView.{CoreView}
 use Rattle.executor_core.proofs.Sweeping.{sweeps_at, none_delayed, delayed_is_noted}
 use Rattle.executor_core.proofs.machine.Core.note_delayed.Goals as goal
 
@@ -7,8 +7,8 @@ pub invariant_of-self : goal.invariant_of-self
 invariant_of-self g c =
     let m = c.self.inside in
     let is = sym c.self.view_is in
-    let shut = ap (λ (x : Machine). x.shut) c.self.view_is ∙ c.requires.shut in
-    let off = ap (λ (x : Machine). x.policies.executes) c.self.view_is ∙ c.requires.policy in
-    let swept = subst (λ (x : Machine). (k : ℕ) → sweeps_at x k ≡ false) is c.requires.swept in
+    let shut = ap (λ (x : CoreView). x.shut) c.self.view_is ∙ c.requires.shut in
+    let off = ap (λ (x : CoreView). x.policies.executes) c.self.view_is ∙ c.requires.policy in
+    let swept = subst (λ (x : CoreView). (k : ℕ) → sweeps_at x k ≡ false) is c.requires.swept in
     let none = none_delayed _ m.queue.entries m.kept.entries m.sought c.self.invariant off swept in
     delayed_is_noted _ m.queue.entries m.kept.entries m.sought c.note_delayed.new.self c.self.invariant shut none c.note_delayed.ensures

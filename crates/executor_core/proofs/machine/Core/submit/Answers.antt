@@ -2,7 +2,7 @@ use Rattle.std.proofs.Common.{◌≡◌, ◌+◌, ◌<◌, length, Some, None, a
 use Rattle.std.specs.Prelude.{slice_get, slice_index_or}
 use Rattle.std.proofs.lemmas.List.{length-map}
 use Rattle.queue_code.specs.declared.call.CodeCall.TheVariants as call
-use Rattle.executor_core.specs.Machine.{Machine}
+use Rattle.executor_core.specs.CoreView.{CoreView}
 use Rattle.executor_core.specs.own.Invariants.{queued}
 use Rattle.executor_core.proofs.Tables.{submission, queued_at}
 use Rattle.executor_core.proofs.Calling.{passed_kept}
@@ -62,7 +62,7 @@ pub returns-then-self-clause-step : goal.returns-then-self-clause-step
 returns-then-self-clause-step g c =
     let m = c.self.inside in
     let is : slice_get m.calls.items m.calls.made ≡ Some (c.args.moment, call.Submit c.args.task c.args.timing c.args.delay) = ap (λ x. slice_get x.calls x.made) c.self.view_is ∙ c.requires in
-    let view : Machine = record { calls = m.calls.items; limit = m.limit; taken = m.taken; made = m.calls.made; moment = m.moment; tasks = m.tasks; work = m.work.items; policies = m.policies; shut = m.shut } in
+    let view : CoreView = record { calls = m.calls.items; limit = m.limit; taken = m.taken; made = m.calls.made; moment = m.moment; tasks = m.tasks; work = m.work.items; policies = m.policies; shut = m.shut } in
     rw c.pass-self-inside.ensures.passed (refuse_steps view c.args.self.now c.pass-self-inside.result c.args.moment c.args.task (call.Submit c.args.task c.args.timing c.args.delay) refusal.Rejected is
     (shut_reply view c.args.moment c.args.task c.args.delay c.args.timing c.if-self.true) (c.pass-self-inside.ensures.moment (c.args.moment, call.Submit c.args.task c.args.timing c.args.delay) is) c.self.view_is)
 

@@ -1,14 +1,14 @@
 use Rattle.std.proofs.Common.{◌≡◌, ℕ, ◌+◌, ◌≤◌, false, length, ap, sym, ◌∙◌, refl, arith, subst}
 use Rattle.std.specs.Prelude.{vec_len}
 use Rattle.executor_core.specs.Tasks.{uncancelled_in}
-use Rattle.executor_core.specs.Machine.{Machine}
+use Rattle.executor_core.specs.CoreView.{CoreView}
 use Rattle.executor_core.specs.own.OwnSteps.{Ends}
 use Rattle.executor_core.proofs.Sweeping.{all_ended, ends_nothing, sweeps_all, drops_count}
 use Rattle.executor_core.proofs.machine.Core.sweep.Goals as goal
 use Rattle.executor_core.proofs.machine.Core.sweep.Goals.{then-may_end, else-may_end}
 
 pub note_search-requires-clause-shut : goal.note_search-requires-clause-shut
-note_search-requires-clause-shut g c = ap (λ (x : Machine). x.shut) c.end_tasks.ensures.ends.rest ∙ c.requires.shut
+note_search-requires-clause-shut g c = ap (λ (x : CoreView). x.shut) c.end_tasks.ensures.ends.rest ∙ c.requires.shut
 
 pub note_search-requires-clause-swept : goal.note_search-requires-clause-swept
 note_search-requires-clause-swept g c = all_ended c.args.self.now c.end_tasks.new.self c.args.out.now.items c.end_tasks.new.out.items c.end_tasks.ensures.ends
@@ -32,10 +32,10 @@ returns-clause-room g c =
     let ended : vec_len c.if-may_end.out + uncancelled_in c.if-may_end.self.tasks ≤ vec_len c.args.out.now + uncancelled_in old.tasks = elim c.if-may_end.branch [
       | then-may_end w ↦
           let len : vec_len c.if-may_end.out ≡ vec_len w.end_tasks.new.out = λ i. vec_len (w.out-is i) in
-          omega (arith, w.end_tasks.ensures.room, len, ap (λ (x : Machine). uncancelled_in x.tasks) (w.self-is ∙ w.note_search.ensures))
+          omega (arith, w.end_tasks.ensures.room, len, ap (λ (x : CoreView). uncancelled_in x.tasks) (w.self-is ∙ w.note_search.ensures))
       | else-may_end w ↦
           let len : vec_len c.if-may_end.out ≡ vec_len c.args.out.now = λ i. vec_len (w.out-is i) in
-          omega (arith, len, ap (λ (x : Machine). uncancelled_in x.tasks) w.self-is)
+          omega (arith, len, ap (λ (x : CoreView). uncancelled_in x.tasks) w.self-is)
     ]
     in
     omega (arith, ended, drops_count c.if-may_end.self c.drop_kept.new.self c.drop_kept.ensures)

@@ -1,5 +1,5 @@
 use Rattle.std.proofs.Common.{◌≡◌, ap, arith, sym, ◌∙◌}
-use Rattle.executor_core.specs.declared.task.Phase.TheVariants as ph
+use Rattle.executor_core.specs.declared.task.Stage.TheVariants as ph
 use Rattle.executor_core.specs.declared.task.Task.{Task}
 use Rattle.executor_core.proofs.Pairs.{is_in, word_runs, word_marked, word_run, unmarked, ended_done, ended_failed, ended_again, ended_over, both_sets, end_over, word_there, detail_past}
 use Rattle.executor_core.proofs.tasks.Tasks.finish.Goals as goal

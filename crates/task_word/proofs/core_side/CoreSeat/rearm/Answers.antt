@@ -8,4 +8,4 @@ use Rattle.task_word.proofs.core_side.CoreSeat.rearm.Goals as goal
 pub advance-requires-clause-exchange : goal.advance-requires-clause-exchange
 advance-requires-clause-exchange g c =
     let e = entry c.args.self.now.view c.args.k in
-    (write.rearm, refl, subst (write.Writes write.rearm e) (sym (c.rearmed-next.ensures ∙ ap rearmed c.known.ensures)) (rearms e c.requires.phase c.requires.live))
+    (write.rearm, refl, subst (write.ChangesWord write.rearm e) (sym (c.rearmed-next.ensures ∙ ap rearmed c.known.ensures)) (rearms e c.requires.phase c.requires.live))

@@ -1,6 +1,6 @@
 use Rattle.std.proofs.Common.{◌+◌, ◌<◌, [], ◌∷◌, drop, length, arith, refl, sym, ap, ◌∙◌}
 use Rattle.std.proofs.lemmas.List.{length-drop}
-use Rattle.executor_core.specs.Machine.{workers_of, state_of}
+use Rattle.executor_core.specs.CoreView.{workers_of, state_of}
 use Rattle.trace_text.proofs.LineTexts.{first_line, line_ended}
 use Rattle.trace_check.specs.Findings.{Conforms, Breaks}
 use Rattle.trace_check.specs.own.Standing.{IsAt}

@@ -1,6 +1,6 @@
 use Rattle.std.proofs.Common.{◌≡◌, ◌+◌, ◌≤◌, length, drop}
 use Rattle.std.specs.Prelude.{vec_capacity}
-use Rattle.executor_core.specs.Machine.{workers_of, state_of}
+use Rattle.executor_core.specs.CoreView.{workers_of, state_of}
 use Rattle.trace_check.specs.own.Standing.{IsReady}
 use Rattle.trace_check.proofs.Texts.{HasCome}
 use Rattle.trace_check.proofs.checking.Checker.run.Given as goal

@@ -1,7 +1,7 @@
 use Rattle.std.proofs.Common.{◌∷◌, ◌+◌, arith, sym, subst, drop}
 use Rattle.std.specs.Prelude.{IsTrue}
 use Rattle.std.proofs.lemmas.Bool.{false≢true}
-use Rattle.executor_core.specs.Machine.{workers_of, state_of}
+use Rattle.executor_core.specs.CoreView.{workers_of, state_of}
 use Rattle.trace_check.specs.Going.{Goes}
 use Rattle.trace_check.specs.own.Standing.{IsStanding}
 use Rattle.trace_check.proofs.Taking.{takes_owed, refuses_owed, refuses_end, owed_here, owed_none}

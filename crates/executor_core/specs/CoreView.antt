@@ -16,7 +16,7 @@ use Rattle.executor_core.specs.Tasks.{uncancelled_in}
 
 -- what contracts see of a core: its plan's calls, how many of them it made, the moment, its two tables, its policies,
 -- and whether it is shut
-pub record Machine : Type 0 where
+pub record CoreView : Type 0 where
   pub calls : List Planned
   -- how many events it takes, and how many it took
   pub limit : ℕ
@@ -31,11 +31,11 @@ pub record Machine : Type 0 where
   pub shut : Bool
 
 -- how many workers a core has
-abbrev pub workers_of : Machine → ℕ
+abbrev pub workers_of : CoreView → ℕ
 workers_of m = length m.work
 
 -- the state of a core: what its tables say; past their ends a task is vacant, and a worker has no work
-abbrev pub state_of : Machine → State
+abbrev pub state_of : CoreView → State
 state_of m = record {
   made = m.made;
   moment = m.moment;
@@ -47,15 +47,15 @@ state_of m = record {
 
 -- how many lines an event adds at most: one of its own, one of each call that is left, and one of each task that
 -- is not cancelled, which the event may end
-abbrev pub room_of : Machine → ℕ
+abbrev pub room_of : CoreView → ℕ
 room_of m = 1 + (length m.calls - m.made) + uncancelled_in m.tasks
 
 -- the core is where the happenings of a history lead
-abbrev pub Stands : Machine → List HistoryEntry → Type 0
+abbrev pub Stands : CoreView → List HistoryEntry → Type 0
 Stands m past = state_of m ≡ after m.calls (workers_of m) (happenings past)
 
 -- the core of some calls before anything happened
-pub record IsOpening (m : Machine) (planned : List Planned) (workers most : ℕ) : Type 0 where
+pub record IsOpening (m : CoreView) (planned : List Planned) (workers most : ℕ) : Type 0 where
   pub calls : m.calls ≡ planned
   pub limit : m.limit ≡ most
   pub taken : m.taken ≡ 0
@@ -63,7 +63,7 @@ pub record IsOpening (m : Machine) (planned : List Planned) (workers most : ℕ)
   pub stands : Stands m []
 
 -- the core took the steps of some happenings, the newest first, and gave their lines
-pub record Steps (old new : Machine) (before after_lines : List Line) (happened : List Happening) : Type 0 where
+pub record Steps (old new : CoreView) (before after_lines : List Line) (happened : List Happening) : Type 0 where
   pub calls : new.calls ≡ old.calls
   pub limit : new.limit ≡ old.limit
   pub workers : workers_of new ≡ workers_of old
@@ -71,19 +71,19 @@ pub record Steps (old new : Machine) (before after_lines : List Line) (happened 
   pub lines : after_lines ≡ before ++ lines_from old.calls (workers_of old) (state_of old) happened
 
 -- the core counted an event, and nothing else changed
-abbrev pub Counts : Machine → Machine → Type 0
+abbrev pub Counts : CoreView → CoreView → Type 0
 Counts old new = new ≡ record old { taken = old.taken + 1 }
 
 -- where an event is answered by an error, its line is added, and nothing changes but the number of events taken
 -- (this project's rule)
-abbrev pub ErrorOnlyCounts : Machine → Machine → List Line → List Line → Event → Type 0
+abbrev pub ErrorOnlyCounts : CoreView → CoreView → List Line → List Line → Event → Type 0
 ErrorOnlyCounts old new before after_lines event =
     (error : EventError) → (reply_of old.calls (workers_of old) (state_of old) (happening_of event)).answer ≡ a.Error error
     → Counts old new × (after_lines ≡ before ++ answer_line old.moment (a.Error error) ∷ [])
 
 -- after a history in which the core stood, what happened then, the newest first, is answered as the equations say, and
 -- its lines are added
-pub record ContinuesWith (old new : Machine) (before after_lines : List Line) (happened : List Happening) (past : List HistoryEntry) : Type 0 where
+pub record ContinuesWith (old new : CoreView) (before after_lines : List Line) (happened : List Happening) (past : List HistoryEntry) : Type 0 where
   pub means : IsHistoryOf old.calls (workers_of old) (history_from old.calls (workers_of old) past happened)
   pub stands : Stands new (history_from old.calls (workers_of old) past happened)
   pub added : List Line
@@ -91,27 +91,27 @@ pub record ContinuesWith (old new : Machine) (before after_lines : List Line) (h
   pub spoken : lines_of old.calls (history_from old.calls (workers_of old) past happened) ≡ lines_of old.calls past ++ added
 
 -- the same of the event's part of the flow
-abbrev pub Continues : Machine → Machine → List Line → List Line → Event → List HistoryEntry → Type 0
+abbrev pub Continues : CoreView → CoreView → List Line → List Line → Event → List HistoryEntry → Type 0
 Continues old new before after_lines event past = ContinuesWith old new before after_lines (part_of old.calls old.made old.moment event) past
 
 -- after any history in which the core stood, and after which this may happen, it is answered as the equations say
-abbrev pub ContinuesAny : Machine → Machine → List Line → List Line → Happening → Type 0
+abbrev pub ContinuesAny : CoreView → CoreView → List Line → List Line → Happening → Type 0
 ContinuesAny old new before after_lines happening = (past : List HistoryEntry) → IsHistoryOf old.calls (workers_of old) past → Stands old past
     → MayCome old.calls (happenings past) happening → ContinuesWith old new before after_lines (happening ∷ []) past
 
 -- what each single happening leaves: the count of events taken, one task for each submission, and no more lines to come than
 -- before, within which its own lines are
-pub record Leaves (old new : Machine) (lines_before lines_after : ℕ) : Type 0 where
+pub record Leaves (old new : CoreView) (lines_before lines_after : ℕ) : Type 0 where
   pub taken : new.taken ≡ old.taken
   pub tasks : length new.tasks ≡ task_count new.calls
   pub room : room_of new ≤ room_of old
   pub few : lines_after ≤ lines_before + room_of old
 
 -- lines were added within the room that is given up for them, of which the happening itself takes one
-pub record GivesRoom (old new : Machine) (lines_before lines_after : ℕ) : Type 0 where
+pub record GivesRoom (old new : CoreView) (lines_before lines_after : ℕ) : Type 0 where
   pub lines : lines_after + room_of new ≤ lines_before + room_of old
   pub less : room_of new + 1 ≤ room_of old
 
 -- the number of each run is below the number of events taken, as it is once an event is counted
-abbrev pub IsCounted : Machine → Type 0
+abbrev pub IsCounted : CoreView → Type 0
 IsCounted m = (k : ℕ) → (slice_index_or m.tasks k vacant).run < m.taken

@@ -1,12 +1,12 @@
 use std::alloc::{Allocator, Global};
 
 /// An allocator that also gives the heap, which is all that the TOML crate takes.
-pub trait Room: Allocator + Copy {
+pub trait HeapAllocator: Allocator + Copy {
     /// The heap.
     fn heap(&self) -> Global;
 }
 
-impl Room for Global {
+impl HeapAllocator for Global {
     fn heap(&self) -> Global {
         *self
     }
