@@ -177,6 +177,8 @@ abbrev pub was_failed : ℕ → List HistoryEntry → Bool
 was_failed k past = list_any (λ e. is_finish_with is_failed k e.answer) past
 
 -- the task that a worker started and has not finished
+-- (the law `work_is_the_last_start` says it as a sentence: the task of the worker's last start, where no finish by it came
+-- after; and `starts_exceed_finishes`, that a worker works exactly where it started once more than it finished)
 abbrev pub work_of : ℕ → List HistoryEntry → Option ℕ
 work_of w [] = None
 work_of w (e ∷ past) = work_after w e.answer (work_of w past)
@@ -219,6 +221,9 @@ view_with calls past kept = record {
 }
 
 -- task k was cancelled while it waited, and still stands in the queue
+-- (the law `kept_by_positions` says it as a sentence: at some position it was cancelled while it waited and the remove policy
+-- was false, and at no position since was there a sweep, or a start that was not refused, at or after the due moment that it
+-- had, that was idle or got a task after it in the order)
 abbrev pub is_kept : List Planned → List HistoryEntry → ℕ → Bool
 is_kept calls [] k = false
 is_kept calls (e ∷ past) k = kept_after (view_with calls past (λ j. is_kept calls past j)) k e.answer
@@ -248,6 +253,7 @@ abbrev pub MayCome : List Planned → List Happening → Happening → Type 0
 MayCome calls past happening = MayFrom calls (made past) (now_of calls past) happening
 
 -- the happenings are a flow of the calls, and each answer is the one that it has to be
+-- (the law `lines_are_in_range` gives the ranges of what its lines show)
 abbrev pub IsHistoryOf : List Planned → ℕ → List HistoryEntry → Type 0
 IsHistoryOf calls workers [] = Unit {0}
 IsHistoryOf calls workers (e ∷ past) = IsHistoryOf calls workers past × MayCome calls (happenings past) e.happening
