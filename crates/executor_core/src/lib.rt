@@ -25,30 +25,29 @@
 //!
 //! # Single happenings
 //!
-//! A layer that decides itself what happens next, as a pool of workers or a checker of traces, takes an event apart:
-//! [`count`](Core::count) takes it, unless the core is [`full`](Core::full), and [`make_call`](Core::make_call),
-//! [`move_clock`](Core::move_clock), [`start`](Core::start), [`finish`](Core::finish) and [`cancel`](Core::cancel) are one
-//! happening each. None of them fails or takes memory: the list has [`room`](Core::room) lines free. What has to hold
-//! before each can be asked.
+//! A layer that decides itself what happens next, as a pool of workers or a checker of traces, takes an event apart.
+//! [`count`](Core::count) takes it, unless the core is [`full`](Core::full). As long as the event
+//! [reaches a call](Core::reaches_call) of the plan that call comes next, and then the event itself; other happenings but events
+//! may stand between. [`happen`](Core::happen) makes any happening that [may come](Core::may_come), and takes no memory: the list
+//! has [`room`](Core::room) lines free.
 //!
 //! ```rust
+//! let event = Event::Clock(9);
 //! lines.reserve(core.room())?;
-//! assert!(rt; core.call_need(9).is_some());
-//! core.make_call(&mut lines);
-//! assert!(rt; !core.full());
 //! core.count();
-//! lines.reserve(core.room())?;
-//! assert!(rt; core.call_need(9).is_none());
-//! core.move_clock(9, &mut lines);
+//! while core.reaches_call(event) {
+//!     core.happen(Happening::Call, &mut lines);
+//! }
+//! core.happen(event.happening(), &mut lines);
 //! // Whether the due moment of a task is reached, and what a start would move of the words.
 //! assert!(rt; core.ripe());
-//! assert_eq!(rt; core.start_need(0), Need::Start(0));
+//! assert_eq!(rt; core.need(Happening::Start(0)), Need::Start(0));
 //! ```
 //!
-//! [`call_need`](Core::call_need), [`start_need`](Core::start_need) and [`finish_need`](Core::finish_need) name what the step
-//! that would follow moves of the [`words`](Core::words), so that a layer can move words of its own first;
-//! [`sweeps`](Core::sweeps) tells whom a sweep would end. A cancel moves the word of its task exactly where it is answered by
-//! [`CancelEffect::Yes`].
+//! [`need`](Core::need) names what the step that would follow moves of the [`words`](Core::words), so that a layer can move words
+//! of its own first; [`sweeps`](Core::sweeps) tells whom a sweep would end. Each kind of happening has a step of its own as well
+//! ([`make_call`](Core::make_call), [`move_clock`](Core::move_clock), [`start`](Core::start), [`finish`](Core::finish),
+//! [`cancel`](Core::cancel)), and a need.
 //!
 //! # Behaviour
 //!
@@ -91,6 +90,10 @@
 //! which goes over them once more to note those that run. Each other sweep looks at no more tasks than there are workers,
 //! those that were noted, and finds each by a binary search; where it has nothing to end it costs nothing but the kept
 //! tasks that leave.
+//!
+//! # Tests
+//!
+//! They stand in `executor_plain`, under `src/tests/cores`, beside the plain program.
 #![tactic(auto)]
 
 mod agenda;
