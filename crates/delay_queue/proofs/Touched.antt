@@ -1,5 +1,5 @@
 -- How the touches of a heap add up while its hole sinks or rises.
-use Rattle.std.proofs.Common.{◌≡◌, ◌≢◌, ⊎_elim, ℕ, zero, suc, ◌+◌, ◌-◌, ◌*◌, ◌<◌, ◌≤◌, Bool, true, false, cond, eqb, ltb, List, [], ◌∷◌, ◌++◌, take, length, set, refl, sym, ap, subst, ◌∙◌, arith, eq-eqb, ne_eqb, length-set, length-append, take_at}
+use Rattle.std.proofs.Common.{◌≡◌, ◌≢◌, ℕ, zero, suc, ◌+◌, ◌-◌, ◌*◌, ◌<◌, ◌≤◌, Bool, true, false, cond, eqb, ltb, List, [], ◌∷◌, ◌++◌, take, length, set, refl, sym, ap, ◌∙◌, arith, eq-eqb, ne_eqb, length-set, length-append, take_at}
 use Rattle.std.proofs.lemmas.List.{get_or_push}
 use Rattle.std.proofs.lemmas.Bool.Decides.{nat_tests}
 use mir.Val.{bool_byte}
@@ -118,12 +118,6 @@ lesser_is heap hole more b is test =
     let right : 2 * hole + 1 + 1 ≡ 2 * hole + 2 = omega arith in
     let by : (b : Bool) → more ≡ bool_byte b → 2 * hole + 1 + more ≡ cond b (2 * hole + 2) (2 * hole + 1) = elim [ true ↦ λ one. omega (arith, one) | false ↦ λ none. omega (arith, none) ] in
     by b is ∙ ap (λ (b : Bool). cond b (2 * hole + 2) (2 * hole + 1)) (test ∙ ap (λ (k : ℕ). is_before (entry_at heap k) (entry_at heap (2 * hole + 1))) right)
-
--- nothing is touched where the last entry is taken out
-pub take_last_touches : (heap front : List Entry) (last : Entry) (place : ℕ) → heap ≡ front ++ last ∷ [] → place ≡ length front → 0 ≡ take_touches heap place
-take_last_touches heap front last place is at_end =
-    let size : length heap - 1 ≡ length front = omega (arith, ap length is, length-append front (last ∷ [])) in
-    sym (ap (λ (b : Bool). cond b 0 (replace_touches (take (length heap - 1) heap) place (entry_at heap (length heap - 1)))) (eq-eqb place (length heap - 1) (at_end ∙ sym size)))
 
 -- where another one is, the last one comes into its place
 pub take_other_touches : (heap front : List Entry) (last : Entry) (place : ℕ) → heap ≡ front ++ last ∷ [] → place ≢ length front → replace_touches front place last ≡ take_touches heap place

@@ -73,12 +73,16 @@ pub record IsHeapOf (heap : List Entry) (entries : List (Option ℕ)) : Type 0 w
 
 -- A call counted as many touches as it makes of a heap of the queue's entries, up to the greatest count. Which heap of these
 -- it is depends on the calls before.
-pub record CountsTouches (before : Queue) (after : ℕ) (Makes : List Entry → ℕ → Type 0) : Type 0 where
+pub record Counting (before : Queue) (after : ℕ) (Makes : List Entry → ℕ → Type 0) : Type 0 where
   pub heap : List Entry
   pub is : IsHeapOf heap before.entries
   pub times : ℕ
   pub makes : Makes heap times
   pub counted : after ≡ min (before.touched + times) greatest_count
+
+-- the same as contracts state it: a proof unfolds it where it wants the parts
+unfoldable pub CountsTouches : Queue → ℕ → (List Entry → ℕ → Type 0) → Type 0
+CountsTouches before after Makes = Counting before after Makes
 
 -- the touches of a removal of a task's entry, wherever it stands
 pub record RemovalMakes (task : ℕ) (heap : List Entry) (times : ℕ) : Type 0 where

@@ -9,7 +9,7 @@ use Rattle.delay_queue.proofs.Digits.{digits_within, digits_below}
 use Rattle.delay_queue.proofs.Order.{ordered_from_before, ordered_self}
 use Rattle.delay_queue.proofs.Holes.{around_down, lesser_is_least}
 use Rattle.delay_queue.proofs.Places.{beside, moves_on}
-use Rattle.delay_queue.specs.Touches.{Moving, moving, lesser}
+use Rattle.delay_queue.specs.Touches.{Moving, moving}
 use Rattle.delay_queue.proofs.Touched.{Sinks, sinks_first, sinks_on, sinks_one, sinks_end, lesser_is}
 use Rattle.delay_queue.proofs.heap.sink.Goals as goal
 

@@ -7,7 +7,7 @@ use Rattle.delay_queue.specs.declared.entry.Entry.{Entry}
 use Rattle.delay_queue.proofs.Digits.{digits_more}
 use Rattle.delay_queue.proofs.Places.{beside_cut, placed_from_beside, due_of_cut, due_of_kept}
 use Rattle.delay_queue.specs.Touches.{replace_touches}
-use Rattle.delay_queue.proofs.Touched.{take_last_touches, take_other_touches}
+use Rattle.delay_queue.proofs.Touched.{take_other_touches}
 use Rattle.delay_queue.proofs.heap.take_out.Goals as goal
 
 -- the place is not the last one

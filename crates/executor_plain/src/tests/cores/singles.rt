@@ -40,13 +40,14 @@ fn short_words(alloc: Global, words: &[Word]) -> Result<String, Fail> {
     Ok(text)
 }
 
-/// What a core needs for a happening; nothing is told of a cancel.
-fn need_for<A: Allocator>(core: &Core<A>, happening: Happening) -> Option<Need> {
+/// What a core needs for a happening, by the call that is asked for its kind.
+fn need_for<A: Allocator>(core: &Core<A>, happening: Happening) -> Need {
     match happening {
-        Happening::Call => core.call_need(u64::MAX),
-        Happening::Start(worker) => Some(core.start_need(worker)),
-        Happening::Finish(worker, ending) => Some(core.finish_need(worker, ending)),
-        Happening::Clock(_) | Happening::Cancel(_) => None,
+        Happening::Call => core.call_need(u64::MAX).unwrap_or(Need::Nothing),
+        Happening::Start(worker) => core.start_need(worker),
+        Happening::Finish(worker, ending) => core.finish_need(worker, ending),
+        Happening::Clock(_) => Need::Nothing,
+        Happening::Cancel(task) => core.cancel_need(task),
     }
 }
 
@@ -60,19 +61,8 @@ fn take<A: Allocator, B: Allocator>(
     assert!(rt; !core.full());
     core.count();
     out.reserve(core.room())?;
-    match happening {
-        Happening::Call => {
-            assert!(rt; core.call_need(u64::MAX).is_some());
-            core.make_call(out);
-        }
-        Happening::Clock(moment) => {
-            assert!(rt; core.call_need(moment).is_none());
-            core.move_clock(moment, out);
-        }
-        Happening::Start(worker) => core.start(worker, out),
-        Happening::Finish(worker, ending) => core.finish(worker, ending, out),
-        Happening::Cancel(task) => core.cancel(task, out),
-    }
+    assert!(rt; core.may_come(happening));
+    core.happen(happening, out);
     Ok(())
 }
 
@@ -81,9 +71,10 @@ fn need_is<A: Allocator>(
     rt: &impl Abort,
     core: &Core<A>,
     happening: Happening,
-    need: Option<Need>,
+    need: Need,
 ) {
     assert_eq!(rt; need_for(core, happening), need, "of {happening:?}");
+    assert_eq!(rt; core.need(happening), need, "of {happening:?}");
 }
 
 /// Checks what words say in short after a happening.
@@ -102,7 +93,7 @@ fn short_words_are(
 fn need_says<A: Allocator, B: Allocator>(
     rt: &(impl AllocGlobal + Abort),
     core: &mut Core<A>,
-    step: &(Happening, Option<Need>, &str),
+    step: &(Happening, Need, &str),
     out: &mut Vec<Line, B>,
 ) -> Result<(), Fail> {
     let (happening, need, words) = *step;
@@ -115,7 +106,7 @@ fn need_says<A: Allocator, B: Allocator>(
 fn needs_say<A: Allocator>(
     rt: &(impl AllocGlobal + Abort),
     core: &mut Core<A>,
-    steps: &[(Happening, Option<Need>, &str)],
+    steps: &[(Happening, Need, &str)],
 ) -> Result<(), Fail> {
     let mut out = Vec::new(rt.alloc());
     for step in steps {
@@ -151,69 +142,69 @@ fn all_calls() -> Result<[Instr; 15], Fail> {
 }
 
 /// What happens before the first clock: the calls at moment 0.
-fn first_steps() -> [(Happening, Option<Need>, &'static str); 11] {
+fn first_steps() -> [(Happening, Need, &'static str); 11] {
     let call = Happening::Call;
-    let none = Some(Need::Nothing);
+    let none = Need::Nothing;
     [
-        (call, Some(Need::Submit(0)), " n0 v0 v0 v0 v0 v0 v0 v0"),
-        (call, Some(Need::Submit(1)), " n0 n0 v0 v0 v0 v0 v0 v0"),
-        (call, Some(Need::Submit(2)), " n0 n0 n0 v0 v0 v0 v0 v0"),
-        (call, Some(Need::Submit(3)), " n0 n0 n0 n0 v0 v0 v0 v0"),
-        (call, Some(Need::Submit(4)), " n0 n0 n0 n0 n0 v0 v0 v0"),
-        (call, Some(Need::Submit(5)), " n0 n0 n0 n0 n0 n0 v0 v0"),
+        (call, Need::Submit(0), " n0 v0 v0 v0 v0 v0 v0 v0"),
+        (call, Need::Submit(1), " n0 n0 v0 v0 v0 v0 v0 v0"),
+        (call, Need::Submit(2), " n0 n0 n0 v0 v0 v0 v0 v0"),
+        (call, Need::Submit(3), " n0 n0 n0 n0 v0 v0 v0 v0"),
+        (call, Need::Submit(4), " n0 n0 n0 n0 n0 v0 v0 v0"),
+        (call, Need::Submit(5), " n0 n0 n0 n0 n0 n0 v0 v0"),
         (call, none, " n0 n0 n0 n0 n0 n0 v0 v0"),
-        (call, Some(Need::Cancel(3)), " n0 n0 n0 n0! n0 n0 v0 v0"),
+        (call, Need::Cancel(3), " n0 n0 n0 n0! n0 n0 v0 v0"),
         (call, none, " n0 n0 n0 n0! n0 n0 v0 v0"),
         (call, none, " n0 n0 n0 n0! n0 n0 v0 v0"),
-        (Happening::Clock(0), None, " n0 n0 n0 n0! n0 n0 v0 v0"),
+        (Happening::Clock(0), none, " n0 n0 n0 n0! n0 n0 v0 v0"),
     ]
 }
 
 /// Runs that end with a value, the first of them of a periodic task; before them a start and an end that change nothing.
-fn value_steps() -> [(Happening, Option<Need>, &'static str); 7] {
+fn value_steps() -> [(Happening, Need, &'static str); 7] {
     let start = Happening::Start(0);
     let end = Happening::Finish(0, Ending::Value(1));
-    let none = Some(Need::Nothing);
+    let none = Need::Nothing;
     [
         (Happening::Start(1), none, " n0 n0 n0 n0! n0 n0 v0 v0"),
         (end, none, " n0 n0 n0 n0! n0 n0 v0 v0"),
-        (start, Some(Need::Start(0)), " r0 n0 n0 n0! n0 n0 v0 v0"),
+        (start, Need::Start(0), " r0 n0 n0 n0! n0 n0 v0 v0"),
         (start, none, " r0 n0 n0 n0! n0 n0 v0 v0"),
-        (end, Some(Need::Rearm(0)), " n1 n0 n0 n0! n0 n0 v0 v0"),
-        (start, Some(Need::Start(1)), " n1 r0 n0 n0! n0 n0 v0 v0"),
-        (end, Some(Need::Done(1)), " n1 d0 n0 n0! n0 n0 v0 v0"),
+        (end, Need::Rearm(0), " n1 n0 n0 n0! n0 n0 v0 v0"),
+        (start, Need::Start(1), " n1 r0 n0 n0! n0 n0 v0 v0"),
+        (end, Need::Done(1), " n1 d0 n0 n0! n0 n0 v0 v0"),
     ]
 }
 
 /// Runs that fail, the second of them of a cancelled task, and then that of a periodic task, which is left under way.
-fn fault_steps() -> [(Happening, Option<Need>, &'static str); 6] {
+fn fault_steps() -> [(Happening, Need, &'static str); 6] {
     let start = Happening::Start(0);
     let fail = Happening::Finish(0, Ending::Fault(3));
     [
-        (start, Some(Need::Start(2)), " n1 d0 r0 n0! n0 n0 v0 v0"),
-        (fail, Some(Need::Fail(2)), " n1 d0 f0 n0! n0 n0 v0 v0"),
-        (start, Some(Need::Start(4)), " n1 d0 f0 n0! r0 n0 v0 v0"),
-        (Happening::Cancel(4), None, " n1 d0 f0 n0! r0! n0 v0 v0"),
-        (fail, Some(Need::Nothing), " n1 d0 f0 n0! r0! n0 v0 v0"),
-        (start, Some(Need::Start(5)), " n1 d0 f0 n0! r0! r0 v0 v0"),
+        (start, Need::Start(2), " n1 d0 r0 n0! n0 n0 v0 v0"),
+        (fail, Need::Fail(2), " n1 d0 f0 n0! n0 n0 v0 v0"),
+        (start, Need::Start(4), " n1 d0 f0 n0! r0 n0 v0 v0"),
+        (Happening::Cancel(4), Need::Cancel(4), " n1 d0 f0 n0! r0! n0 v0 v0"),
+        (fail, Need::Nothing, " n1 d0 f0 n0! r0! n0 v0 v0"),
+        (start, Need::Start(5), " n1 d0 f0 n0! r0! r0 v0 v0"),
     ]
 }
 
 /// The other calls, with two sweeps, and the end of the run that is under way.
-fn last_steps() -> [(Happening, Option<Need>, &'static str); 8] {
+fn last_steps() -> [(Happening, Need, &'static str); 8] {
     let call = Happening::Call;
     let start = Happening::Start(0);
     let end = Happening::Finish(0, Ending::Value(1));
-    let none = Some(Need::Nothing);
+    let none = Need::Nothing;
     [
         (call, none, " n1 d0 f0 n0! r0! r0 v0 v0"),
-        (call, Some(Need::Sweep), " n1! d0 f0 n0! r0! r0 v0 v0"),
+        (call, Need::Sweep, " n1! d0 f0 n0! r0! r0 v0 v0"),
         (call, none, " n1! d0 f0 n0! r0! r0 v0 v0"),
         (call, none, " n1! d0 f0 n0! r0! r0 v0 v0"),
-        (call, Some(Need::Sweep), " n1! d0 f0 n0! r0! r0 v0 v0"),
-        (end, Some(Need::Cancel(5)), " n1! d0 f0 n0! r0! r0! v0 v0"),
+        (call, Need::Sweep, " n1! d0 f0 n0! r0! r0 v0 v0"),
+        (end, Need::Cancel(5), " n1! d0 f0 n0! r0! r0! v0 v0"),
         (start, none, " n1! d0 f0 n0! r0! r0! v0 v0"),
-        (Happening::Clock(9), None, " n1! d0 f0 n0! r0! r0! v0 v0"),
+        (Happening::Clock(9), none, " n1! d0 f0 n0! r0! r0! v0 v0"),
     ]
 }
 

@@ -11,7 +11,7 @@ use Rattle.delay_queue.proofs.Tables.{length-table}
 use Rattle.delay_queue.proofs.Counts.{count_placed, room_left}
 use Rattle.delay_queue.proofs.Calls.{entries_of, beside_pushed, inserted_lent}
 use Rattle.delay_queue.proofs.Places.{placed_from_beside}
-use Rattle.delay_queue.specs.Touches.{moving, risen}
+use Rattle.delay_queue.specs.Touches.{moving, risen, CountsTouches}
 use Rattle.delay_queue.proofs.queue.DelayQueue.insert.Goals as goal
 
 pub push_reserved-requires : goal.push_reserved-requires
@@ -89,6 +89,7 @@ returns-clause-touched g c =
     }
 
 pub returns-clause-counted : goal.returns-clause-counted
+unfolding CountsTouches
 returns-clause-counted g c =
     let q = c.self.inside in
     let e = c.args.entry in

@@ -5,6 +5,7 @@ use Rattle.delay_queue.specs.Queues.{Queue, IsLeast, NoneIsDue, entry_count, mos
 use Rattle.delay_queue.specs.declared.entry.Entry.{Entry}
 use Rattle.delay_queue.proofs.Counts.{count_placed, count_within, some_touched}
 use Rattle.delay_queue.proofs.Calls.{entries_of, least, empty, nothing_first, none_due, first_read, removed_lent}
+use Rattle.delay_queue.specs.Touches.{CountsTouches}
 use Rattle.delay_queue.proofs.queue.DelayQueue.poll.Goals as goal
 
 pub returns-in_err-least-clause-none_due : goal.returns-in_err-least-clause-none_due
@@ -56,6 +57,7 @@ returns-clause-touched g c =
     }
 
 pub returns-clause-counted : goal.returns-clause-counted
+unfolding CountsTouches
 returns-clause-counted g c =
     let q = c.self.inside in
     record {

@@ -4,6 +4,7 @@ use Rattle.std.proofs.lemmas.Option.{none-some}
 use Rattle.delay_queue.specs.Queues.{Queue, IsLeast, entry_count, most_touches, greatest_count}
 use Rattle.delay_queue.proofs.Counts.{count_placed, count_within, some_touched}
 use Rattle.delay_queue.proofs.Calls.{entries_of, least_place, place_found, place_missing, nothing_there, removed_lent}
+use Rattle.delay_queue.specs.Touches.{CountsTouches}
 use Rattle.delay_queue.proofs.queue.DelayQueue.remove.Goals as goal
 
 pub returns-in_default-clause-there : goal.returns-in_default-clause-there
@@ -79,6 +80,7 @@ returns-clause-least g c due h =
     }
 
 pub returns-clause-counted : goal.returns-clause-counted
+unfolding CountsTouches
 returns-clause-counted g c there =
     let q = c.self.inside in
     let f = place_found q.heap.items c.deref.result.now q.places.items c.args.self.now.entries c.args.task c.in-Some.place (ap entries_of c.self.view_is) c.self.invariant.placed
