@@ -715,6 +715,44 @@ fn reads_as_many_names_as_fit(rt: HostRuntime) -> Result<(), Fail> {
     reads_sizes(&rt, text.as_str(), 108, 256)
 }
 
+/// What a plan of 65,536 calls asks in each but the last.
+const ASK: &str = "{op=\"ask\"},";
+
+/// A plan of 256 blocks with 256 calls in each, in a text of exactly 1,048,576 bytes: what it is short of is a comment.
+/// The last call is a shutdown.
+fn longest_plan(rt: &impl AllocGlobal) -> Result<String, Fail> {
+    let asks = ASK.repeat(rt.alloc(), 255)?;
+    let mut text = String::from_str(rt.alloc(), "version=1\n")?;
+    for _ in 0u32..255 {
+        write!(text, "[[block]]\ncall=[{asks}{ASK}]\n")?;
+    }
+    write!(text, "[[block]]\ncall=[{asks}{{op=\"shutdown\"}}]\n#")?;
+    let padding = " ".repeat(rt.alloc(), 1_048_576usize.saturating_sub(text.len()))?;
+    text.push_str(padding.as_str())?;
+    Ok(text)
+}
+
+/// Whether the last call of a plan is a shutdown.
+fn ends_with_shutdown(plan: &Plan<Global>) -> bool {
+    matches!(
+        plan.blocks().last().and_then(|block| block.calls().last()),
+        Some(Call {
+            at: 0,
+            op: Op::Shutdown
+        })
+    )
+}
+
+#[test]
+fn reads_the_longest_text_with_the_most_blocks_and_calls(rt: HostRuntime) -> Result<(), Fail> {
+    let text = longest_plan(&rt)?;
+    assert_eq!(rt; text.len(), 1_048_576);
+    let plan = read(rt.alloc(), text.as_bytes())?;
+    assert!(rt; has_sizes(&plan, 256, 256));
+    assert!(rt; ends_with_shutdown(&plan));
+    Ok(())
+}
+
 #[test]
 fn spells_each_fault(rt: HostRuntime) -> Result<(), Fail> {
     for (kind, line) in [
