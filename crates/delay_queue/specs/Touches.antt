@@ -35,15 +35,15 @@ sunk (suc turns) m =
     if nat_lt (2 * m.hole + 2) (length m.heap) then sunk turns (moved m (lesser m.heap m.hole) 2)
     else (if nat_lt (2 * m.hole + 1) (length m.heap) then moved m (2 * m.hole + 1) 1 else m)
 
--- The hole rises, this many places at most: it is compared with the one above whether the entry that is put into it comes
--- first, and if so that one moves down.
+-- The hole rises, this many places at most: the entry that is to be put there is compared with the one above the hole, and if
+-- it comes first, that one moves down.
 unfoldable pub risen : ℕ → Entry → Moving → Moving
 risen zero e m = m
 risen (suc turns) e m =
     if m.hole == 0 then m
     else (if is_before (entry_at m.heap (parent m.hole)) e then moving m.heap m.hole (m.touches + 1) else risen turns e (moved m (parent m.hole) 2))
 
--- how often an entry touches a heap that rises in it from its end
+-- how often a heap is touched by an entry that comes behind its last one and rises from there
 abbrev pub insert_touches : List Entry → Entry → ℕ
 insert_touches heap e = (risen (length heap) e (moving (heap ++ e ∷ []) (length heap) 0)).touches
 
@@ -51,7 +51,7 @@ insert_touches heap e = (risen (length heap) e (moving (heap ++ e ∷ []) (lengt
 abbrev pub sunk_from : List Entry → ℕ → Moving
 sunk_from heap place = sunk (length heap) (moving heap place 0)
 
--- how often an entry touches a heap that comes into it for the one at a place: the hole sinks, the entry rises from there,
+-- how often a heap is touched by an entry that comes in for the one at a place: the hole sinks, the entry rises from there,
 -- and its own index changes
 abbrev pub replace_touches : List Entry → ℕ → Entry → ℕ
 replace_touches heap place e =

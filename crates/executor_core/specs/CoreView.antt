@@ -1,9 +1,10 @@
 -- What contracts see of an executor's core, and the state and history in which it stands.
 -- All of it is this project's rule.
-use Rattle.std.specs.Prelude.{◌≡◌, ℕ, ◌+◌, ◌-◌, ◌<◌, ◌≤◌, Bool, List, [], ◌∷◌, ◌++◌, length, Option, None, slice_index_or}
+use Rattle.std.specs.Prelude.{◌≡◌, ℕ, ◌+◌, ◌-◌, ◌<◌, ◌≤◌, Bool, true, false, List, [], ◌∷◌, ◌++◌, length, Option, None, slice_index_or}
 use Rattle.executor_core.specs.declared.policies.Policies.{Policies}
 use Rattle.executor_core.specs.declared.types.Event.{Event}
 use Rattle.executor_core.specs.declared.types.Happening.{Happening}
+use Rattle.executor_core.specs.declared.types.Happening.TheVariants as h
 use Rattle.executor_core.specs.declared.types.Line.{Line}
 use Rattle.executor_core.specs.declared.types.EventError.{EventError}
 use Rattle.executor_core.specs.declared.types.Answer.TheVariants as a
@@ -98,6 +99,12 @@ Continues old new before after_lines event past = ContinuesWith old new before a
 abbrev pub ContinuesAny : CoreView → CoreView → List Line → List Line → Happening → Type 0
 ContinuesAny old new before after_lines happening = (past : List HistoryEntry) → IsHistoryOf old.calls (workers_of old) past → Stands old past
     → MayCome old.calls (happenings past) happening → ContinuesWith old new before after_lines (happening ∷ []) past
+
+-- a call or a cancel, which may come before the happening of an event that was counted
+abbrev pub comes_before_event : Happening → Bool
+comes_before_event h.Call = true
+comes_before_event (h.Cancel k) = true
+comes_before_event _ = false
 
 -- what each single happening leaves: the count of events taken, one task for each submission, and no more lines to come than
 -- before, within which its own lines are

@@ -27,12 +27,13 @@
 //!
 //! A layer that decides itself what happens next, as a pool of workers or a checker of traces, takes an event apart.
 //! [`count`](Core::count) takes it, unless the core is [`full`](Core::full). As long as the event
-//! [reaches a call](Core::reaches_call) of the plan that call comes next, and then the event itself; other happenings but events
+//! [reaches a call](Core::reaches_call) of the plan that call comes next, and then the event itself; cancels that a layer notes
 //! may stand between. [`happen`](Core::happen) makes any happening that [may come](Core::may_come), and takes no memory: the list
 //! has [`room`](Core::room) lines free.
 //!
 //! ```rust
 //! let event = Event::Clock(9);
+//! assert!(rt; !core.full());
 //! lines.reserve(core.room())?;
 //! core.count();
 //! while core.reaches_call(event) {
@@ -47,7 +48,7 @@
 //! [`need`](Core::need) names what the step that would follow moves of the [`words`](Core::words), so that a layer can move words
 //! of its own first; [`sweeps`](Core::sweeps) tells whom a sweep would end. Each kind of happening has a step of its own as well
 //! ([`make_call`](Core::make_call), [`move_clock`](Core::move_clock), [`start`](Core::start), [`finish`](Core::finish),
-//! [`cancel`](Core::cancel)), and a need.
+//! [`cancel`](Core::cancel)), and a need of its own but for a clock, which moves no word.
 //!
 //! # Behaviour
 //!

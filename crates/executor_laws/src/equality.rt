@@ -11,8 +11,8 @@ pub fn core_error_equality_tells()
     ensures { (a b : CoreError) → (⟦<CoreError as PartialEq>⟧.eq a b ≡ true) ↔ (a ≡ b) }
 {}
 
-/// Two phases compare as equal exactly when they are the same.
-pub fn phase_equality_tells()
+/// Two stages compare as equal exactly when they are the same.
+pub fn stage_equality_tells()
     ensures { (a b : Stage) → (⟦<Stage as PartialEq>⟧.eq a b ≡ true) ↔ (a ≡ b) }
 {}
 

@@ -44,7 +44,7 @@ pub use equality::{
     answer_equality_tells, cancel_effect_equality_tells, core_error_equality_tells,
     event_equality_tells, event_error_equality_tells, happening_equality_tells,
     kind_equality_tells, line_equality_tells, message_equality_tells, need_equality_tells,
-    outcome_equality_tells, phase_equality_tells, policies_equality_tells, refusal_equality_tells,
+    outcome_equality_tells, policies_equality_tells, refusal_equality_tells, stage_equality_tells,
     task_equality_tells,
 };
 pub use laws::{

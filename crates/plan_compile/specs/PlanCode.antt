@@ -59,7 +59,7 @@ instrs_from firsts first (b ∷ bs) =
 abbrev pub instrs_of : PlanTree → List Instr
 instrs_of blocks = instrs_from [] 0 blocks
 
--- a period, or a fixed delay, is 1 nanosecond at least: a task that runs again waits between its runs
+-- a period, or a fixed delay, is 1 nanosecond at least: no run is due at the very moment at which the one before was due, or ended
 abbrev pub IsPositive : Timing → Type 0
 IsPositive t.Once = Unit {0}
 IsPositive (t.Rate period) = 1 ≤ period

@@ -36,7 +36,7 @@
 //! No period and no fixed delay of a code is 0.
 //!
 //! Contracts have this list as `instrs_of` (`specs/PlanCode.antt`), and the calls of a plan, each iteration written
-//! out, as `calls_of` (`specs/PlanCalls.antt`). [`compile`] ensures both: the code is that list, and its calls are
+//! out, as `calls_of_plan` (`specs/PlanCalls.antt`). [`compile`] ensures both: the code is that list, and its calls are
 //! the plan's.
 //!
 //! # Order and ties

@@ -1,5 +1,4 @@
--- What a reading function answers, and what its map from names to submissions holds.
--- Of these a caller sees `out_of_memory` alone; the others say what the functions within `read_plan` answer.
+-- What `read_plan` answers where memory ran out.
 use Rattle.plan_read.specs.declared.faults.PlanFault.{PlanFault}
 use Rattle.plan_read.specs.declared.faults.PlanFaultKind.TheVariants.{Memory}
 

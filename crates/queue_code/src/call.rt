@@ -7,7 +7,7 @@ pub enum CodeCall {
     Submit {
         /// The number of the task: submissions are numbered 0, 1, .. in their order.
         task: u32,
-        /// How often it runs. With a period or a fixed delay of 0 it never waits between its runs.
+        /// How often it runs. With a period or a fixed delay of 0 each run may start as soon as the one before has ended.
         timing: Timing,
         /// From the call's moment to its first run, 0 to 2^62 nanoseconds.
         delay: u64,

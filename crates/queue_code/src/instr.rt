@@ -13,8 +13,8 @@ use std::fmt;
 #[derive(Clone, Copy, Debug, PartialEq, Eq)]
 pub enum Instr {
     /// Submits a task, which gets the next number. Behind the offset stand how often the task runs, and the
-    /// delay from the call to its first run, in nanoseconds. With a period or a fixed delay of 0 the task never waits
-    /// between its runs.
+    /// delay from the call to its first run, in nanoseconds. With a period or a fixed delay of 0 each run
+    /// of the task may start as soon as the one before has ended.
     Submit(u64, Timing, u64),
     /// Submits a task with a period, or a fixed delay, that is zero or negative. It gets the next number too.
     Illegal(u64),

@@ -61,7 +61,7 @@
 //! | `TooMany` | a loop that is not made 1 to 65,536 times; at a call outside a loop, or at an `EndLoop`, more than 65,536 calls so far |
 //!
 //! A period, or a fixed delay, of 0 is no fault: the next run of such a task is due at the very moment at which the one
-//! before was due, or ended, so that the task never waits between its runs. A code that was compiled from a plan has
+//! before was due, or ended, so that it may start at once. A code that was compiled from a plan has
 //! none.
 //!
 //! `Memory` says nothing of the instructions but that they have no other fault. A list that is refused is dropped, and

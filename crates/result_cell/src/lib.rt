@@ -26,8 +26,7 @@
 //! cell that know a verdict know the same one, whichever threads had them ([`same`]). A note that knows nothing says
 //! nothing of the cell, which may be set already.
 //!
-//! A caller with a cell and a note for each task keeps the notes in a `Vec`. Its contracts say with `AreNotesOf` that
-//! the note at each place is of the cell at that place, and with `known_at` what it knows (`specs/Cells.antt`).
+//! A caller with a cell and a note for each task keeps the notes in a `Vec`.
 //!
 //! A note goes to another thread, and is not shared by two.
 //!

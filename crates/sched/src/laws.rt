@@ -1,10 +1,10 @@
 //! Laws of the program's types.
 
-ghost use Rattle.std.specs.Prelude.{◌≡◌, true};
+ghost use Rattle.std.specs.Prelude.{◌≡◌, ◌↔◌, true};
 
 use crate::error::ProgramError;
 
-/// Two errors that compare as equal are the same.
+/// Two errors compare as equal exactly when they are the same.
 pub fn program_error_equality_tells()
-    ensures { (a b : ProgramError) → ⟦<ProgramError as PartialEq>⟧.eq a b ≡ true → a ≡ b }
+    ensures { (a b : ProgramError) → (⟦<ProgramError as PartialEq>⟧.eq a b ≡ true) ↔ (a ≡ b) }
 {}

@@ -1,5 +1,5 @@
 //! Laws of the traces of runs. The functions do nothing: what they ensure is the law.
-ghost use Rattle.std.specs.Prelude.{◌≡◌, true};
+ghost use Rattle.std.specs.Prelude.{◌≡◌, ◌↔◌, true};
 ghost use Rattle.sched_audit.specs.Laws.{LinesFit, RunsConform};
 
 use crate::error::AuditError;
@@ -14,7 +14,7 @@ pub fn runs_conform()
     ensures { RunsConform }
 {}
 
-/// Errors that compare equal are the same.
+/// Two errors compare as equal exactly when they are the same.
 pub fn audit_error_equality_tells()
-    ensures { (a b : AuditError) → ⟦<AuditError as PartialEq>⟧.eq a b ≡ true → a ≡ b }
+    ensures { (a b : AuditError) → (⟦<AuditError as PartialEq>⟧.eq a b ≡ true) ↔ (a ≡ b) }
 {}

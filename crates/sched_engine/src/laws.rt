@@ -1,5 +1,5 @@
 //! What holds of each input and of each comparison, over the definitions alone.
-ghost use Rattle.std.specs.Prelude.{◌≡◌, true};
+ghost use Rattle.std.specs.Prelude.{◌≡◌, ◌↔◌, true};
 ghost use Rattle.sched_engine.specs.Inputs.{EventsAreOne, FrontIsOne};
 ghost use Rattle.sched_engine.specs.Running.{piece};
 
@@ -24,27 +24,27 @@ pub(crate) fn piece_is_the_limit()
     ensures { PIECE ≡ piece }
 {}
 
-/// Reports that compare equal are equal.
+/// Two reports compare as equal exactly when they are the same.
 pub fn report_equality_tells()
-    ensures { (a b : Report) → ⟦<Report as PartialEq>⟧.eq a b ≡ true → a ≡ b }
+    ensures { (a b : Report) → (⟦<Report as PartialEq>⟧.eq a b ≡ true) ↔ (a ≡ b) }
 {}
 
-/// Errors of a run that compare equal are equal.
+/// Two errors of a run compare as equal exactly when they are the same.
 pub fn run_error_equality_tells()
-    ensures { (a b : RunError) → ⟦<RunError as PartialEq>⟧.eq a b ≡ true → a ≡ b }
+    ensures { (a b : RunError) → (⟦<RunError as PartialEq>⟧.eq a b ≡ true) ↔ (a ≡ b) }
 {}
 
-/// What refills brought is equal where it compares equal.
+/// What two refills brought compares as equal exactly when it is the same.
 pub fn filled_equality_tells()
-    ensures { (a b : Filled) → ⟦<Filled as PartialEq>⟧.eq a b ≡ true → a ≡ b }
+    ensures { (a b : Filled) → (⟦<Filled as PartialEq>⟧.eq a b ≡ true) ↔ (a ≡ b) }
 {}
 
-/// Ends of pieces that compare equal are equal.
+/// Two ends of pieces compare as equal exactly when they are the same.
 pub fn piece_end_equality_tells()
-    ensures { (a b : PieceEnd) → ⟦<PieceEnd as PartialEq>⟧.eq a b ≡ true → a ≡ b }
+    ensures { (a b : PieceEnd) → (⟦<PieceEnd as PartialEq>⟧.eq a b ≡ true) ↔ (a ≡ b) }
 {}
 
-/// What was answered of pieces is equal where it compares equal.
+/// What was answered of two pieces compares as equal exactly when it is the same.
 pub fn answered_equality_tells()
-    ensures { (a b : Answered) → ⟦<Answered as PartialEq>⟧.eq a b ≡ true → a ≡ b }
+    ensures { (a b : Answered) → (⟦<Answered as PartialEq>⟧.eq a b ≡ true) ↔ (a ≡ b) }
 {}

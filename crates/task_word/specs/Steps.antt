@@ -1,4 +1,4 @@
--- What each kind of step on the word of a task tells the seat that makes it. This project's rule.
+-- What the core's seat tells of the word that a look met. This project's rule.
 use Rattle.std.specs.Prelude.{◌≡◌, ℕ, ◌+◌, ◌<◌, ◌≤◌, slice_index}
 use Rattle.task_word.specs.Words.{Parts, is_cancelled, rank}
 use Rattle.task_word.specs.Views.{times}

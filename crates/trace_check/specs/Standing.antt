@@ -1,4 +1,4 @@
--- Where a check stands after some lines that go. Lines stand the newest first. All of it is this project's rule.
+-- How long a text may be. It is this project's rule.
 use Rattle.std.specs.Prelude.{ℕ}
 
 -- the greatest number of bytes of a text (this project's limit)

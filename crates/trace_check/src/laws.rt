@@ -1,7 +1,7 @@
 //! Laws of the lines that go, and of what is found of a text. The functions do nothing: what they ensure is the law.
 ghost use Rattle.trace_check.specs.Laws.{GoesLineByLine, GoesOnlyOneWay, FrontsGo, TracesGo, TracesConform, FindingsAreOne, BreaksOrConforms};
 ghost use Rattle.trace_check.specs.Standing.{most_bytes};
-ghost use Rattle.std.specs.Prelude.{◌≡◌, true};
+ghost use Rattle.std.specs.Prelude.{◌≡◌, ◌↔◌, true};
 
 use crate::checking::MOST_BYTES;
 use crate::error::CheckError;
@@ -42,14 +42,14 @@ pub fn breaks_or_conforms()
     ensures { BreaksOrConforms }
 {}
 
-/// Findings that compare equal are the same.
+/// Two findings compare as equal exactly when they are the same.
 pub fn finding_equality_tells()
-    ensures { (a b : Finding) → ⟦<Finding as PartialEq>⟧.eq a b ≡ true → a ≡ b }
+    ensures { (a b : Finding) → (⟦<Finding as PartialEq>⟧.eq a b ≡ true) ↔ (a ≡ b) }
 {}
 
-/// Errors that compare equal are the same.
+/// Two errors compare as equal exactly when they are the same.
 pub fn check_error_equality_tells()
-    ensures { (a b : CheckError) → ⟦<CheckError as PartialEq>⟧.eq a b ≡ true → a ≡ b }
+    ensures { (a b : CheckError) → (⟦<CheckError as PartialEq>⟧.eq a b ≡ true) ↔ (a ≡ b) }
 {}
 
 /// [`MOST_BYTES`](crate::MOST_BYTES) is the limit of which the contract of `check` speaks.

@@ -40,7 +40,7 @@
 //!
 //! [`Finding::Breaks`] has the least number n such that the text does not begin with n lines that go: line n is not a line, or has
 //! no newline, or lines 1 to n do not go. Where all lines go and one that ends a task is still to come, n is the number of
-//! lines plus 1. Lines are counted from 1. Of a text exactly one thing is found ([`findings_are_one`]).
+//! lines plus 1. Lines are counted from 1. Of a text one thing at most is found ([`findings_are_one`]), and one is ([`breaks_or_conforms`]).
 //!
 //! # Errors
 //!

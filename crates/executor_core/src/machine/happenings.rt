@@ -1,15 +1,20 @@
 //! One happening of any kind: whether it may come, what it moves of the words, and its step.
-ghost use Rattle.std.specs.Prelude.{◌≡◌, ◌+◌, ◌≤◌, ◌↔◌, [], ◌∷◌, true, false, IsTrue, vec_len, vec_capacity};
+ghost use Rattle.std.specs.Prelude.{◌≡◌, ℕ, ◌+◌, ◌≤◌, ◌↔◌, [], ◌∷◌, true, false, IsTrue, vec_len, vec_capacity};
 ghost use Rattle.executor_core.specs.Flows.{happening_of, CallComes, EventComes};
 ghost use Rattle.executor_core.specs.Histories.{MayFrom, is_call};
 ghost use Rattle.executor_core.specs.Needs.{need_of};
+ghost use Rattle.executor_core.specs.State.{reply_of};
+ghost use Rattle.executor_core.specs.declared.types.Happening.TheVariants as h;
+ghost use Rattle.executor_core.specs.declared.types.Answer.TheVariants as answer;
+ghost use Rattle.executor_core.specs.declared.types.CancelEffect.TheVariants as effect;
 
 use super::Core;
 use crate::types::{Event, Happening, Line, Need};
 use std::alloc::Allocator;
 
 impl<A: Allocator> Core<A> {
-    ghost use Rattle.executor_core.specs.CoreView.{Steps, ContinuesAny, Leaves, GivesRoom, IsCounted, room_of, workers_of, state_of};
+    ghost use Rattle.executor_core.specs.CoreView.{Steps, ContinuesAny, Leaves, GivesRoom, IsCounted, comes_before_event, room_of, workers_of, state_of};
+    ghost use Rattle.executor_core.specs.Needs.{RunsBelowTaken};
 
     /// Whether a happening may come: a call where one is left, a clock unless it is accepted and reaches a call that is not
     /// made yet, and each other one.
@@ -27,7 +32,7 @@ impl<A: Allocator> Core<A> {
     /// Whether a call of the plan comes next, before this event: it is a clock that is accepted, and reaches a call that is not
     /// made yet. Where none does, the event itself [may come](Core::may_come).
     ///
-    /// So an event's part is this, and other happenings but events may come between two of it:
+    /// So an event's part is this, and cancels of its own that a layer notes may stand between two happenings of it:
     ///
     /// ```rust
     /// core.count();
@@ -69,17 +74,21 @@ impl<A: Allocator> Core<A> {
 
     /// A happening comes: its line is added, and one for each task that it ends, for which `out` has room.
     ///
-    /// It [may come](Core::may_come), and each event so far was [counted](Core::count), this one too where it is an event.
+    /// It [may come](Core::may_come), and where it is a start, the task that it gets, which [`need`](Core::need) names, has in
+    /// [`words`](Core::words) a run below [`taken`](Core::taken), as each task has once the event is [counted](Core::count).
     #[inline(always)]
     pub fn happen<B: Allocator>(&mut self, happening: Happening, out: &mut Vec<Line, B>)
         requires comes { MayFrom self.old.calls self.old.made self.old.moment happening }
-        requires counted { IsCounted self.old }
+        requires counted { RunsBelowTaken self.old (need_of self.old.calls (workers_of self.old) (state_of self.old) happening) }
         requires room { vec_len out.old + room_of self.old ≤ vec_capacity out.old }
         ensures steps { Steps self.old self.new out.old.items out.new.items (happening ∷ []) }
         ensures history { ContinuesAny self.old self.new out.old.items out.new.items happening }
         ensures leaves { Leaves self.old self.new (vec_len out.old) (vec_len out.new) }
         ensures call { is_call happening ≡ true → GivesRoom self.old self.new (vec_len out.old) (vec_len out.new) }
-        ensures counted { is_call happening ≡ true → IsCounted self.new }
+        ensures effective { (task : ℕ) → happening ≡ h.Cancel task
+            → (reply_of self.old.calls (workers_of self.old) (state_of self.old) happening).answer ≡ answer.Outside task effect.Yes
+            → GivesRoom self.old self.new (vec_len out.old) (vec_len out.new) }
+        ensures counted { comes_before_event happening ≡ true → IsCounted self.old → IsCounted self.new }
         ensures capacity { vec_capacity out.new ≡ vec_capacity out.old }
     {
         match happening {

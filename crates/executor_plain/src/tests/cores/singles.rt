@@ -67,12 +67,7 @@ fn take<A: Allocator, B: Allocator>(
 }
 
 /// Checks what a core needs for a happening.
-fn need_is<A: Allocator>(
-    rt: &impl Abort,
-    core: &Core<A>,
-    happening: Happening,
-    need: Need,
-) {
+fn need_is<A: Allocator>(rt: &impl Abort, core: &Core<A>, happening: Happening, need: Need) {
     assert_eq!(rt; need_for(core, happening), need, "of {happening:?}");
     assert_eq!(rt; core.need(happening), need, "of {happening:?}");
 }
@@ -184,7 +179,11 @@ fn fault_steps() -> [(Happening, Need, &'static str); 6] {
         (start, Need::Start(2), " n1 d0 r0 n0! n0 n0 v0 v0"),
         (fail, Need::Fail(2), " n1 d0 f0 n0! n0 n0 v0 v0"),
         (start, Need::Start(4), " n1 d0 f0 n0! r0 n0 v0 v0"),
-        (Happening::Cancel(4), Need::Cancel(4), " n1 d0 f0 n0! r0! n0 v0 v0"),
+        (
+            Happening::Cancel(4),
+            Need::Cancel(4),
+            " n1 d0 f0 n0! r0! n0 v0 v0",
+        ),
         (fail, Need::Nothing, " n1 d0 f0 n0! r0! n0 v0 v0"),
         (start, Need::Start(5), " n1 d0 f0 n0! r0! r0 v0 v0"),
     ]

@@ -39,7 +39,7 @@ loop-self-preserved g c =
     let hs = kept.steps.0 in
     record {
       taken = did.leaves.taken ∙ kept.taken;
-      counted = did.counted refl;
+      counted = did.counted refl kept.counted;
       capacity = did.capacity ∙ kept.capacity;
       room = omega (arith, kept.room, (did.call refl).lines, did.capacity);
       steps = (

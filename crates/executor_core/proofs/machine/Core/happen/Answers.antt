@@ -1,5 +1,15 @@
+use Rattle.std.proofs.Common.{◌≡◌, ℕ, sym, ap, subst, ◌∙◌}
+use Rattle.executor_core.specs.declared.types.Happening.{Happening}
+use Rattle.executor_core.specs.declared.types.Happening.TheVariants as h
+use Rattle.executor_core.specs.declared.types.Answer.TheVariants as a
+use Rattle.executor_core.specs.declared.types.CancelEffect.TheVariants as f
+use Rattle.executor_core.specs.State.{reply_of}
+use Rattle.executor_core.specs.CoreView.{workers_of, state_of}
 use Rattle.executor_core.proofs.Flowing.{step_continues}
 use Rattle.executor_core.proofs.machine.Core.happen.Goals as goal
+
+one_task : (k task : ℕ) → h.Cancel k ≡ h.Cancel task → k ≡ task
+one_task k task same = cc
 
 pub returns-in-Call-clause-steps : goal.returns-in-Call-clause-steps
 returns-in-Call-clause-steps g c = rw c.in-Call.is c.make_call.ensures.steps
@@ -30,3 +40,11 @@ returns-in-Cancel-clause-steps g c = rw c.in-Cancel.is c.cancel.ensures.steps
 
 pub returns-in-Cancel-clause-history : goal.returns-in-Cancel-clause-history
 returns-in-Cancel-clause-history g c = step_continues c.args.self.now c.cancel.new.self c.args.out.now.items c.cancel.new.out.items c.args.happening (returns-in-Cancel-clause-steps g c)
+
+pub returns-in-Cancel-clause-effective : goal.returns-in-Cancel-clause-effective
+returns-in-Cancel-clause-effective g c = λ task same said.
+    let k = c.in-Cancel.task in
+    let named : k ≡ task = one_task k task (sym c.in-Cancel.is ∙ same) in
+    let old = c.args.self.now in
+    c.cancel.ensures.effective
+    (subst (λ (x : Happening). (reply_of old.calls (workers_of old) (state_of old) x).answer ≡ a.Outside k f.Yes) c.in-Cancel.is (said ∙ ap (λ n. a.Outside n f.Yes) (sym named)))
