@@ -13,7 +13,7 @@ use Rattle.executor_core.specs.Histories.{HistoryEntry, IsHistoryOf, view_of_his
 use Rattle.executor_core.specs.State.{after}
 use Rattle.executor_laws.specs.Policies.{KeptSince, KeptByPositions}
 use Rattle.executor_core.proofs.Agree.{after_agrees, answers_alike}
-use Rattle.executor_laws.proofs.TaskWords.{Meets as MeetsTask, meets as meets_task}
+use Rattle.executor_laws.proofs.WordAnswers.{Meets as MeetsTask, meets as meets_task}
 
 -- what is so where a task is kept after an answer
 record StaysKept (v : View) (k : ℕ) (answer : Answer) : Type 0 where

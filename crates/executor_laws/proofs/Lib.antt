@@ -6,6 +6,10 @@ pub mod Reading
 pub mod Waiting
 pub mod Repeats
 pub mod Endings
+pub mod WordAnswers
+pub mod LiveWords
+pub mod WordRanks
+pub mod CancelledWords
 pub mod TaskWords
 pub mod Policies
 pub mod Refusals
@@ -13,5 +17,10 @@ pub mod Termination
 pub mod Kept
 pub mod Asks
 pub mod Lines
+pub mod WordWrites
 pub mod WordMoves
+pub mod CancelWords
+pub mod CancelledTasks
+pub mod CancelAnswers
+pub mod CancelNeeds
 pub mod CancelSteps

@@ -4,6 +4,9 @@ pub mod Moves
 pub mod Making
 pub mod Passing
 pub mod Totals
+pub mod ClosedLoops
+pub mod MetInFront
+pub mod ChecksAgree
 pub mod Faults
 pub mod Soundness
 pub mod Sizes

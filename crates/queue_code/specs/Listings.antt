@@ -1,10 +1,8 @@
 -- The text of a code: a line for each instruction, its index in front (this project's rule).
 -- Numbers are decimals with no leading zero, and one space stands between two words.
-use Rattle.std.specs.Prelude.{ℕ, ◌+◌, Bool, true, false, List, [], ◌∷◌, ◌++◌, codes}
+use Rattle.std.specs.Prelude.{ℕ, ◌+◌, List, [], ◌∷◌, ◌++◌, codes}
 use Rattle.std.specs.Fmt.{decimal}
 use Rattle.sched_time.specs.Policies.{policy_text, truth_text}
-use Rattle.sched_time.specs.declared.policies.Which.{Which}
-use Rattle.sched_time.specs.declared.policies.Which.TheVariants as which
 use Rattle.sched_time.specs.declared.timing.Timing.{Timing}
 use Rattle.sched_time.specs.declared.timing.Timing.TheVariants as timing
 use Rattle.queue_code.specs.declared.instr.Instr.{Instr}

@@ -74,7 +74,7 @@
 //! same whatever the code: a cursor is six numbers, and no list of calls is ever made, however often a loop is
 //! repeated.
 //!
-//! The tests stand in `src/code_tests.rt`, and those of the largest codes in `src/size_tests.rt`.
+//! The tests stand in `src/code_tests`, and those of the largest codes in `src/size_tests.rt`.
 #![tactic(auto)]
 
 mod call;
