@@ -28,7 +28,8 @@ use Rattle.executor_core.specs.CoreView.{CoreView, workers_of, state_of}
 use Rattle.executor_core.specs.own.Invariants.{IsSound, IsDue, TimingsAgree, NoneDelayed, IsWellFormedCore}
 use Rattle.executor_core.specs.own.Sought.{Sought, OnlyThese}
 use Rattle.executor_core.proofs.Views.{seen_moves, look_moves, view_after, due_next_state}
-use Rattle.executor_core.proofs.Sound.{Finds, IsPeriodicAgain, reply_finds, fits_all, sound_stays, later}
+use Rattle.executor_core.proofs.Sound.{Finds, IsPeriodicAgain, reply_finds, fits_all}
+use Rattle.executor_core.proofs.SoundSteps.{sound_stays, later}
 use Rattle.executor_core.specs.own.Tables.{goes_on, is_live_phase, is_periodic}
 use Rattle.executor_core.proofs.Tables.{goes_parts, goes_from}
 

@@ -3,6 +3,7 @@ pub mod Keeping
 pub mod Moves
 pub mod Views
 pub mod Sound
+pub mod SoundSteps
 pub mod Agree
 pub mod First
 pub mod Starting
@@ -26,5 +27,7 @@ pub mod RunNumbers
 pub mod Errors
 pub mod Within
 pub mod Sweeping
+pub mod Quieting
+pub mod WholeSweeps
 pub mod Noting
 pub mod SweepSteps

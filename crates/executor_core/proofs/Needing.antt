@@ -207,7 +207,15 @@ none_ripe m old entries keeps sought same kept none unkept ripe =
 
 -- ---- which tasks a call ends
 
--- a task is one of those that a sweep ends where it waits and the policies do not let it run
+-- a sweep ends a task where it waits and the policies do not let it run
+pub tests_so : (m old : CoreView) (entries keeps : List (Option ℕ)) (sought : Sought) (k now : ℕ) (policies : Policies) (b : Bool) → m ≡ old → IsWellFormedCore m entries keeps sought →
+    b ≡ (waits_with (slice_index_or m.tasks k vacant) && is_ended_by policies now (slice_index_or m.tasks k vacant).timing (slice_index_or m.tasks k vacant).due) →
+    b ≡ is_swept old.calls (record (view_of_state old.calls (state_of old)) { moment = now }) policies k
+tests_so m old entries keeps sought k now policies b same kept is =
+    is ∙ (sym (swept_under (terms_of m.calls k) (slice_index_or m.tasks k vacant) policies now (kept.sound.over k) (kept.timing k))
+    ∙ ap (λ (x : CoreView). is_swept x.calls (record (view_of_state x.calls (state_of x)) { moment = now }) policies k) same)
+
+-- and then it is one of those that the sweep ends
 pub ends_so : (m old : CoreView) (entries keeps : List (Option ℕ)) (sought : Sought) (k now : ℕ) (policies : Policies) (b : Bool) → m ≡ old → IsWellFormedCore m entries keeps sought →
     b ≡ (waits_with (slice_index_or m.tasks k vacant) && is_ended_by policies now (slice_index_or m.tasks k vacant).timing (slice_index_or m.tasks k vacant).due) →
     b ≡ is_end k (swept old.calls (record (view_of_state old.calls (state_of old)) { moment = now }) policies)

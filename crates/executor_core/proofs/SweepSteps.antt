@@ -25,7 +25,8 @@ use Rattle.executor_core.specs.own.OwnSteps.{Sweeps, Takes}
 use Rattle.executor_core.proofs.Keeping.{kept_stays, kept_swept}
 use Rattle.executor_core.proofs.Calling.{view_at, called_state, call_state, call_reply, passed, passed_steps}
 use Rattle.executor_core.proofs.Events.{one_step}
-use Rattle.executor_core.proofs.Sweeping.{and_left, sweeps_at, past_unswept, ends_are}
+use Rattle.executor_core.proofs.Sweeping.{and_left, sweeps_at, ends_are}
+use Rattle.executor_core.proofs.WholeSweeps.{past_unswept}
 
 -- the steps of the calls that sweep
 

@@ -17,17 +17,6 @@ pub(crate) struct Tallies {
 }
 
 impl Tallies {
-    /// The numbers of `count` vacant tasks.
-    pub(crate) fn of_vacant(count: usize) -> Tallies
-        ensures { result ≡ record { uncancelled = count; running = 0; periodic = 0 } }
-    {
-        Tallies {
-            uncancelled: count,
-            running: 0,
-            periodic: 0,
-        }
-    }
-
     /// The numbers once the task `after` stands for `before`.
     pub(crate) fn recount(self, before: Task, after: Task) -> Tallies
         requires { Count self before }

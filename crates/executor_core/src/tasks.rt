@@ -63,7 +63,11 @@ impl<A: Allocator> Tasks<A> {
         Ok(Tasks {
             words: Vec::from_elem(alloc, Word::vacant(), count as usize)?,
             details: Vec::from_elem(alloc, detail, count as usize)?,
-            tallies: Tallies::of_vacant(count as usize),
+            tallies: Tallies {
+                uncancelled: count as usize,
+                running: 0,
+                periodic: 0,
+            },
         })
     }
 

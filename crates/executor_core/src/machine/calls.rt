@@ -1,11 +1,10 @@
 //! The calls of the plan, as a core makes them.
-ghost use Rattle.std.specs.Prelude.{◌≡◌, ℕ, ◌+◌, ◌<◌, ◌≤◌, [], ◌∷◌, length, Some, slice_get, IsTrue, false, vec_len, vec_capacity};
+ghost use Rattle.std.specs.Prelude.{◌≡◌, ℕ, ◌+◌, ◌<◌, ◌≤◌, [], ◌∷◌, length, Some, slice_get, vec_len, vec_capacity};
 ghost use Rattle.executor_core.specs.declared.types.Happening.TheVariants as happening;
 ghost use Rattle.queue_code.specs.declared.call.CodeCall.TheVariants as call;
 ghost use Rattle.queue_code.specs.Calls.{IsOrderly};
 ghost use Rattle.executor_core.specs.Answers.{kind_of};
 ghost use Rattle.executor_core.specs.Tasks.{uncancelled_in};
-ghost use Rattle.executor_core.specs.Flows.{reached, ReachesNext};
 
 use super::Core;
 use crate::types::{Answer, Kind, Line, Message, Refusal};
@@ -24,17 +23,6 @@ impl<A: Allocator> Core<A> {
         ensures orderly { IsOrderly self.now.calls }
     {
         self.calls.next()
-    }
-
-    /// Whether the next call has a moment of at most this one.
-    pub(super) fn reaches(&self, moment: u64) -> bool
-        ensures next { IsTrue result → ReachesNext self.now.calls self.now.made moment }
-        ensures none { result ≡ false → reached self.now.calls self.now.made moment ≡ 0 }
-    {
-        match self.calls.next() {
-            Some((next, _)) => next <= moment,
-            None => false,
-        }
     }
 
     /// Makes the next call: its line is added, and one for each task that it ends, for which `out` has room.

@@ -53,7 +53,10 @@ impl<A: Allocator> Core<A> {
         if self.refuses_clock(moment).is_some() {
             return false;
         }
-        self.reaches(moment)
+        match self.next_call() {
+            Some((at, _)) => at <= moment,
+            None => false,
+        }
     }
 
     /// The word moves of a happening; of a call where none is left, `Nothing`.

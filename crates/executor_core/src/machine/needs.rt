@@ -6,16 +6,15 @@ ghost use Rattle.delay_queue.specs.Queues.{IsLeast, NoneIsDue};
 ghost use Rattle.executor_core.specs.Flows.{ReachesNext, reached};
 ghost use Rattle.executor_core.specs.Histories.{AreMade, is_end};
 ghost use Rattle.executor_core.specs.State.{reply_of, vacant, view_of_state};
-ghost use Rattle.executor_core.specs.Needs.{need_of, need_of_cancel, need_of_finish, IsRipe};
+ghost use Rattle.executor_core.specs.Needs.{need_of, need_of_finish, IsRipe};
 
 use super::Core;
 use super::cancels::effect_on;
 use super::sweeps::setting_sweeps;
-use super::workers::outcome_in;
 use crate::types::{CancelEffect, Need, Outcome};
 use delay_queue::{DelayQueue, Entry};
 use queue_code::CodeCall;
-use sched_time::{Ending, next_due};
+use sched_time::Ending;
 use std::alloc::Allocator;
 
 impl<A: Allocator> Core<A> {
@@ -51,9 +50,7 @@ impl<A: Allocator> Core<A> {
                     Need::Submit(task)
                 }
             }
-            CodeCall::Cancel { task } => {
-                need_of_cancel(task, effect_on(self.tasks.get(task as usize)))
-            }
+            CodeCall::Cancel { task } => self.cancel_need(task),
             CodeCall::SetPolicy { which, value } => {
                 if setting_sweeps(self.shut, which, value) {
                     Need::Sweep
@@ -82,8 +79,8 @@ impl<A: Allocator> Core<A> {
         let now = self.moment.max(at);
         match call {
             CodeCall::SetPolicy { which, value } => setting_sweeps(self.shut, which, value)
-                && self.ends_under(task, self.policies.with(which, value), now),
-            CodeCall::Shutdown => !self.shut && self.ends_under(task, self.policies, now),
+                && self.ends_under(task as usize, self.policies.with(which, value), now),
+            CodeCall::Shutdown => !self.shut && self.ends_under(task as usize, self.policies, now),
             CodeCall::Submit { .. }
             | CodeCall::Illegal { .. }
             | CodeCall::Cancel { .. }
@@ -120,9 +117,8 @@ impl<A: Allocator> Core<A> {
             return Need::Nothing;
         };
         let task = self.tasks.get(number as usize);
-        let next = next_due(task.timing, task.due, self.moment);
-        let stops = self.shut && !self.policies.continues;
-        need_of_finish(number, outcome_in(task.cancelled, stops, next, ending))
+        let (outcome, _) = self.end_of_run(task, ending);
+        need_of_finish(number, outcome)
     }
 
     /// The word moves of a cancel of this task from outside the plan.
@@ -132,7 +128,11 @@ impl<A: Allocator> Core<A> {
         if !self.tasks.has(task) {
             return Need::Nothing;
         }
-        need_of_cancel(task, effect_on(self.tasks.get(task as usize)))
+        match effect_on(self.tasks.get(task as usize)) {
+            CancelEffect::Yes => Need::Cancel(task),
+            CancelEffect::No => Need::Nothing,
+            CancelEffect::Absent => Need::Nothing,
+        }
     }
 
     /// Whether a task was cancelled: by the plan, from outside, by a sweep or at the end of its last run. One that the plan has
@@ -163,16 +163,6 @@ fn first_due<A: Allocator>(queue: &DelayQueue<A>, now: u64) -> Option<Entry>
         return None;
     }
     Some(entry)
-}
-
-/// The word moves of a cancel of a task that has this effect.
-fn need_of_cancel(task: u32, effect: CancelEffect) -> Need
-    ensures { result ≡ need_of_cancel task effect }
-{
-    match effect {
-        CancelEffect::Yes => Need::Cancel(task),
-        CancelEffect::No | CancelEffect::Absent => Need::Nothing,
-    }
 }
 
 /// The word moves of the end of a run of a task with this outcome.

@@ -110,7 +110,7 @@ impl<A: Allocator> Core<A> {
     {
         let mut task = self.candidate(0);
         while task < self.tasks.len() {
-            if self.is_swept(task) {
+            if self.ends_under(task, self.policies, self.moment) {
                 self.end(task, out);
             }
             task = self.candidate(task + 1);
@@ -165,23 +165,15 @@ impl<A: Allocator> Core<A> {
         self.sought.note_periodic(&self.tasks);
     }
 
-    /// Whether a sweep ends a task.
-    fn is_swept(&self, task: usize) -> bool
-        requires { task < length self.now.tasks }
-        ensures { result ≡ is_swept self.now.calls (view_of_state self.now.calls (state_of self.now)) self.now.policies task }
-    {
-        let task = self.tasks.get(task);
-        waits(&task) && is_ended_by(self.policies, self.moment, task.timing, task.due)
-    }
-
     /// Whether a sweep under these policies, at the moment `now`, ends a task.
-    pub(super) fn ends_under(&self, task: u32, policies: Policies, now: u64) -> bool
-        ensures { result ≡ is_end task (swept self.now.calls (record (view_of_state self.now.calls (state_of self.now)) { moment = now }) policies) }
+    pub(super) fn ends_under(&self, task: usize, policies: Policies, now: u64) -> bool
+        ensures test { result ≡ is_swept self.now.calls (record (view_of_state self.now.calls (state_of self.now)) { moment = now }) policies task }
+        ensures end { result ≡ is_end task (swept self.now.calls (record (view_of_state self.now.calls (state_of self.now)) { moment = now }) policies) }
     {
-        if !self.tasks.has(task) {
+        if task >= self.tasks.len() {
             return false;
         }
-        let task = self.tasks.get(task as usize);
+        let task = self.tasks.get(task);
         waits(&task) && is_ended_by(policies, now, task.timing, task.due)
     }
 

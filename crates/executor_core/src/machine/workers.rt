@@ -4,13 +4,15 @@ ghost use Rattle.executor_core.specs.declared.task.Stage.TheVariants as ph;
 ghost use Rattle.executor_core.specs.declared.types.Outcome.TheVariants as o;
 ghost use Rattle.executor_core.specs.declared.types.Happening.TheVariants as happening;
 ghost use Rattle.sched_time.specs.Dues.{next_due};
+ghost use Rattle.sched_time.specs.Times.{longest};
 ghost use Rattle.executor_core.specs.Needs.{need_of};
 ghost use Rattle.executor_core.specs.State.{due_past, vacant};
 ghost use Rattle.executor_core.specs.own.OwnSteps.{finished_task, queued_again, is_met};
 ghost use Rattle.sched_time.specs.declared.timing.Timing.{Timing};
-ghost use Rattle.executor_core.specs.Answers.{outcome_in};
+ghost use Rattle.executor_core.specs.Answers.{outcome_in, stops_periodic};
 
 use super::Core;
+use crate::task::Task;
 use crate::tasks::Tasks;
 use crate::types::{Answer, EventError, Line, Message, Outcome};
 use delay_queue::{DelayQueue, Entry};
@@ -116,25 +118,36 @@ impl<A: Allocator> Core<A> {
             return Answer::Error(EventError::NotRunning);
         };
         let task = self.tasks.get(number as usize);
-        let next = next_due(task.timing, task.due, self.moment);
-        let stops = self.shut && !self.policies.continues;
-        let outcome = outcome_in(task.cancelled, stops, next, ending);
-        let due = next.unwrap_or(task.due);
+        let run = u64::from(task.run);
+        let (outcome, due) = self.end_of_run(task, ending);
         end_run(&mut self.tasks, number as usize, outcome, due);
         self.work[place] = None;
         queue_if_again(&mut self.queue, number, outcome);
         Answer::Finish {
             worker,
             task: number,
-            run: u64::from(task.run),
+            run,
             outcome,
         }
+    }
+
+    /// What the end of the run of a task leads to, and the due moment that the task holds from then on: that of the run after
+    /// it, where one would come.
+    pub(super) fn end_of_run(&self, task: Task, ending: Ending) -> (Outcome, u64)
+        requires { task.due ≤ longest }
+        ensures outcome { result.0 ≡ outcome_in task.cancelled (stops_periodic self.now.shut self.now.policies) task.timing (due_past task.timing task.due self.now.moment) ending }
+        ensures due { result.1 ≡ due_past task.timing task.due self.now.moment }
+    {
+        let next = next_due(task.timing, task.due, self.moment);
+        let stops = self.shut && !self.policies.continues;
+        let outcome = outcome_in(task.cancelled, stops, next, ending);
+        (outcome, next.unwrap_or(task.due))
     }
 }
 
 /// What the end of a run leads to, where the run after it would be due at `next`, and periodic tasks maybe do not go
 /// on: of a task that was cancelled the outcome does not count.
-pub(super) fn outcome_in(cancelled: bool, stops: bool, next: Option<u64>, ending: Ending) -> Outcome
+fn outcome_in(cancelled: bool, stops: bool, next: Option<u64>, ending: Ending) -> Outcome
     ensures { (timing : Timing) (due now : ℕ) → next ≡ next_due timing due now → result ≡ outcome_in cancelled stops timing (due_past timing due now) ending }
 {
     match (ending, next) {

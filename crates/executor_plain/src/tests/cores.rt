@@ -1,12 +1,13 @@
 //! Cores by themselves, as their callers see them.
 mod heap;
 mod loops;
+mod needs;
 mod singles;
 mod sizes;
 mod sweeps;
 mod words;
 
-use executor_core::{Core, CoreError, Event, Line};
+use executor_core::{Core, CoreError, Event, Happening, Line};
 use queue_code::{Code, Instr};
 use sched_time::{Ending, Span, Timing, Unit, span};
 use std::alloc::{AllocGlobal, Allocator, Global};
@@ -66,6 +67,27 @@ fn refusal_of<A: Allocator, B: Allocator>(
     out: &mut Vec<Line, B>,
 ) -> Option<CoreError> {
     core.event(event, out).err()
+}
+
+/// Counts an event, and has one thing happen to a core.
+fn take<A: Allocator, B: Allocator>(
+    rt: &impl Abort,
+    core: &mut Core<A>,
+    happening: Happening,
+    out: &mut Vec<Line, B>,
+) -> Result<(), Fail> {
+    assert!(rt; !core.full());
+    core.count();
+    out.reserve(core.room())?;
+    assert!(rt; core.may_come(happening));
+    core.happen(happening, out);
+    Ok(())
+}
+
+/// A core of two tasks, due at 5 and at 9, of which a call at 2 cancels the first.
+fn two_timers<A: Allocator + Copy>(alloc: A) -> Result<Core<A>, Fail> {
+    let calls = [submission(0, 5), submission(0, 9), Instr::CancelFixed(2, 0)];
+    core_of(alloc, &calls, 1, 100)
 }
 
 /// The lines with which a core answers these events, which it takes.

@@ -1,7 +1,7 @@
 use Rattle.std.proofs.Common.{◌<◌, length, ap, sym, ◌∙◌}
 use Rattle.std.specs.Prelude.{slice_index_or, None}
 use Rattle.executor_core.proofs.Meeting.{held_within}
-use Rattle.executor_core.proofs.Sweeping.{dropped_more, unheld, dropped_kept, drops}
+use Rattle.executor_core.proofs.Quieting.{dropped_more, unheld, dropped_kept, drops}
 use Rattle.executor_core.proofs.machine.Core.drop_kept.Goals as goal
 
 pub loop-entry-preserved : goal.loop-entry-preserved

@@ -1,7 +1,7 @@
 use Rattle.std.proofs.Common.{◌≡◌, map}
 use Rattle.delay_queue.specs.Queues.{entry_count}
 use Rattle.executor_core.specs.own.Invariants.{held}
-use Rattle.executor_core.proofs.Sweeping.{AreDropped}
+use Rattle.executor_core.proofs.Quieting.{AreDropped}
 use Rattle.executor_core.proofs.machine.Core.drop_kept.Given as goal
 
 abbrev pub invariant-loop-entry : goal.invariant-loop-entry

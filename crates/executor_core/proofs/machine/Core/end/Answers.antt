@@ -3,7 +3,8 @@ use Rattle.std.specs.Prelude.{slice_index_or}
 use Rattle.executor_core.specs.State.{vacant}
 use Rattle.executor_core.specs.own.Tables.{waits_with}
 use Rattle.executor_core.specs.CoreView.{CoreView}
-use Rattle.executor_core.proofs.Sweeping.{few_tasks, end_kept}
+use Rattle.executor_core.proofs.Sweeping.{few_tasks}
+use Rattle.executor_core.proofs.Quieting.{end_kept}
 use Rattle.executor_core.proofs.machine.Core.end.Goals as goal
 
 pub overflow_cast-task : goal.overflow_cast-task

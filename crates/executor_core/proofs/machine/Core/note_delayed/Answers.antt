@@ -1,6 +1,7 @@
 use Rattle.std.proofs.Common.{◌≡◌, ℕ, false, ap, sym, ◌∙◌, subst}
 use Rattle.executor_core.specs.CoreView.{CoreView}
-use Rattle.executor_core.proofs.Sweeping.{sweeps_at, none_delayed, delayed_is_noted}
+use Rattle.executor_core.proofs.Sweeping.{sweeps_at}
+use Rattle.executor_core.proofs.WholeSweeps.{none_delayed, delayed_is_noted}
 use Rattle.executor_core.proofs.machine.Core.note_delayed.Goals as goal
 
 pub invariant_of-self : goal.invariant_of-self

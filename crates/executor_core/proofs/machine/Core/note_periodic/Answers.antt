@@ -1,6 +1,7 @@
 use Rattle.std.proofs.Common.{◌≡◌, ℕ, false, arith, ap, sym, ◌∙◌, subst}
 use Rattle.executor_core.specs.CoreView.{CoreView}
-use Rattle.executor_core.proofs.Sweeping.{few_tasks, sweeps_at, none_again}
+use Rattle.executor_core.proofs.Sweeping.{few_tasks, sweeps_at}
+use Rattle.executor_core.proofs.WholeSweeps.{none_again}
 use Rattle.executor_core.proofs.Noting.{going_few, going_kept}
 use Rattle.executor_core.proofs.machine.Core.note_periodic.Goals as goal
 

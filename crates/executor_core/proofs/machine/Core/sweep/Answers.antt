@@ -3,7 +3,7 @@ use Rattle.std.specs.Prelude.{vec_len}
 use Rattle.executor_core.specs.Tasks.{uncancelled_in}
 use Rattle.executor_core.specs.CoreView.{CoreView}
 use Rattle.executor_core.specs.own.OwnSteps.{Ends}
-use Rattle.executor_core.proofs.Sweeping.{all_ended, ends_nothing, sweeps_all, drops_count}
+use Rattle.executor_core.proofs.WholeSweeps.{all_ended, ends_nothing, sweeps_all, drops_count}
 use Rattle.executor_core.proofs.machine.Core.sweep.Goals as goal
 use Rattle.executor_core.proofs.machine.Core.sweep.Goals.{then-may_end, else-may_end}
 
