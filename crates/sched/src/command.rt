@@ -20,9 +20,11 @@ Exit status:
 /// What the help of `run` says below the options: what a plan, an event and a trace look like, and
 /// the exit statuses.
 const FORMS: &str = "\
-The plan is a TOML file of at most 1,048,576 bytes: 'version = 1', and at most
-256 [[block]], each with a [[block.call]] for each call that is made, at most
-256. A block may have
+The plan is a file of TOML, version 1.1, as the kit's crate 'toml' reads it, of
+at most 1,048,576 bytes. Its integers have 64 bits, its arrays and inline tables
+are nested at most 80 deep, and its keys have at most 80 parts. It has
+'version = 1', and at most 256 [[block]], each with a [[block.call]] for each
+call that is made, at most 256. A block may have
   at      the moment from which its calls are counted, 0 where it is left out
   unit    of all its times: \"ns\", \"us\", \"ms\" or \"s\", and \"ns\" where it is left
           out

@@ -1,4 +1,6 @@
 //! Lines of events by hand.
+mod changes;
+
 use crate::event::read_event;
 use executor_core::Event;
 use sched_time::Ending;

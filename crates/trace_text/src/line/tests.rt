@@ -105,3 +105,12 @@ fn gives_what_follows_a_line(rt: HostRuntime) {
         "{rest:?}"
     );
 }
+
+#[test]
+fn reads_no_line_of_one_byte(rt: HostRuntime) {
+    for byte in 0..=255u8 {
+        let alone = read_line(&[byte]);
+        let line = read_line(&[byte, b'\n']);
+        assert!(rt; alone.is_none() && line.is_none(), "{byte}");
+    }
+}

@@ -1,0 +1,122 @@
+//! Faults of calls: each by itself, two at once, and those of a later call.
+use super::*;
+
+/// Faults of a call.
+const CALLS: &str = r#"WrongType block 1 call 1 | op = 1
+WrongType block 1 call 1 | op = "rates"
+Missing block 1 call 1 | op = "schedule"
+Missing block 1 call 1 | op = "schedule" / name = "a"
+Missing block 1 call 1 | op = "rate" / name = "a" / first = 1
+Missing block 1 call 1 | op = "rate" / name = "a" / period = 1
+Missing block 1 call 1 | op = "rate" / first = 1 / period = 1
+Missing block 1 call 1 | op = "fixed" / name = "a" / first = 1
+Missing block 1 call 1 | op = "fixed" / name = "a" / delay = 1
+Missing block 1 call 1 | op = "fixed" / first = 1 / delay = 1
+Missing block 1 call 1 | op = "cancel"
+UnknownKey block 1 call 1 | op = "schedule" / name = "a" / delay = 1 / first = 1
+UnknownKey block 1 call 1 | op = "rate" / name = "a" / first = 1 / delay = 1
+UnknownKey block 1 call 1 | op = "fixed" / name = "a" / first = 1 / period = 1
+UnknownKey block 1 call 1 | op = "cancel" / name = "a" / value = true
+WrongType block 1 call 1 | op = "schedule" / name = "a" / delay = 1.5
+WrongType block 1 call 1 | op = "schedule" / name = 1 / delay = 1
+WrongType block 1 call 1 | op = "rate" / name = "a" / first = "1" / period = 1
+WrongType block 1 call 1 | op = "rate" / name = "a" / first = 1 / period = "1"
+WrongType block 1 call 1 | op = "fixed" / name = "a" / first = 1 / delay = 1.0
+WrongType block 1 call 1 | op = "cancel" / name = 1
+WrongType block 1 call 1 | op = "cancel" / name = "a" / at = "0"
+BadName block 1 call 1 | op = "schedule" / name = "a b" / delay = 1
+BadName block 1 call 1 | op = "schedule" / name = "é" / delay = 1
+BadName block 1 call 1 | op = "rate" / name = "" / first = 1 / period = 1
+BadName block 1 call 1 | op = "fixed" / name = "" / first = 1 / delay = 1
+Negative block 1 call 1 | op = "schedule" / name = "a" / delay = 1 / at = -1
+TooLarge block 1 call 1 | op = "schedule" / name = "a" / delay = 1 / at = 4611686018427387905
+TooLarge block 1 call 1 | op = "rate" / name = "a" / first = 4611686018427387905 / period = 1
+TooLarge block 1 call 1 | op = "rate" / name = "a" / first = 1 / period = 4611686018427387905
+TooLarge block 1 call 1 | op = "fixed" / name = "a" / first = 4611686018427387905 / delay = 1
+TooLarge block 1 call 1 | op = "fixed" / name = "a" / first = 1 / delay = 9223372036854775807"#;
+
+#[test]
+fn refuses_at_a_call(rt: HostRuntime) -> Result<(), Fail> {
+    tells_each(&rt, CALL, CALLS)
+}
+
+/// Faults of a policy, a shutdown and a question.
+const OTHER_CALLS: &str = r#"WrongType block 1 call 1 | op = "Policy"
+WrongType block 1 call 1 | op = "shutdown_now"
+Missing block 1 call 1 | op = "policy"
+Missing block 1 call 1 | op = "policy" / which = "remove"
+Missing block 1 call 1 | op = "policy" / value = true
+UnknownKey block 1 call 1 | op = "policy" / which = "remove" / value = true / name = "a"
+UnknownKey block 1 call 1 | op = "shutdown" / name = "a"
+UnknownKey block 1 call 1 | op = "shutdown" / value = true
+UnknownKey block 1 call 1 | op = "ask" / which = "remove"
+UnknownKey block 1 call 1 | op = "ask" / delay = 1
+WrongType block 1 call 1 | op = "policy" / which = "" / value = true
+WrongType block 1 call 1 | op = "policy" / which = "Remove" / value = true
+WrongType block 1 call 1 | op = "policy" / which = true / value = true
+WrongType block 1 call 1 | op = "policy" / which = "remove" / value = 1
+WrongType block 1 call 1 | op = "policy" / which = "remove" / value = "true"
+WrongType block 1 call 1 | op = "policy" / which = "remove" / value = true / at = "0"
+WrongType block 1 call 1 | op = "shutdown" / at = 0.5
+WrongType block 1 call 1 | op = "ask" / at = true
+Negative block 1 call 1 | op = "policy" / which = "remove" / value = true / at = -1
+Negative block 1 call 1 | op = "shutdown" / at = -1
+Negative block 1 call 1 | op = "ask" / at = -9223372036854775808
+TooLarge block 1 call 1 | op = "policy" / which = "remove" / value = true / at = 4611686018427387905
+TooLarge block 1 call 1 | op = "shutdown" / at = 4611686018427387905
+TooLarge block 1 call 1 | op = "ask" / at = 9223372036854775807"#;
+
+#[test]
+fn refuses_a_policy_a_shutdown_and_a_question(rt: HostRuntime) -> Result<(), Fail> {
+    tells_each(&rt, CALL, OTHER_CALLS)
+}
+
+/// Calls with two faults, each in both orders.
+const CALLS_OF_TWO_FAULTS: &str = r#"Missing block 1 call 1 | x = 1 / name = 1
+Missing block 1 call 1 | name = 1 / x = 1
+WrongType block 1 call 1 | op = "run" / x = 1
+WrongType block 1 call 1 | x = 1 / op = "run"
+UnknownKey block 1 call 1 | op = "schedule" / x = 1 / delay = 1
+UnknownKey block 1 call 1 | delay = 1 / op = "schedule" / x = 1
+Missing block 1 call 1 | op = "schedule" / delay = "1"
+Missing block 1 call 1 | delay = "1" / op = "schedule"
+WrongType block 1 call 1 | op = "schedule" / name = "" / delay = "1"
+WrongType block 1 call 1 | delay = "1" / op = "schedule" / name = ""
+BadName block 1 call 1 | op = "cancel" / name = "" / at = -1
+BadName block 1 call 1 | at = -1 / op = "cancel" / name = ""
+UnknownName block 1 call 1 | op = "cancel" / name = "a" / at = -1
+UnknownName block 1 call 1 | at = -1 / op = "cancel" / name = "a"
+Negative block 1 call 1 | op = "schedule" / name = "a" / at = -1 / delay = 4611686018427387905
+Negative block 1 call 1 | delay = 4611686018427387905 / op = "schedule" / name = "a" / at = -1
+UnknownKey block 1 call 1 | op = "policy" / x = 1 / which = 1
+UnknownKey block 1 call 1 | which = 1 / op = "policy" / x = 1
+Missing block 1 call 1 | op = "policy" / which = "x"
+Missing block 1 call 1 | which = "x" / op = "policy"
+WrongType block 1 call 1 | op = "policy" / which = "x" / value = true / at = -1
+WrongType block 1 call 1 | value = true / at = -1 / op = "policy" / which = "x"
+UnknownKey block 1 call 1 | op = "shutdown" / name = "" / at = -1
+UnknownKey block 1 call 1 | at = -1 / op = "shutdown" / name = ""
+WrongType block 1 call 1 | op = "ask" / at = "-1"
+WrongType block 1 call 1 | at = "-1" / op = "ask""#;
+
+#[test]
+fn tells_the_first_fault_of_a_call(rt: HostRuntime) -> Result<(), Fail> {
+    tells_each(&rt, CALL, CALLS_OF_TWO_FAULTS)
+}
+
+/// Faults of a second call.
+const LATER_CALLS: &str =
+    r#"DuplicateName block 1 call 2 | call = [{ op = "schedule", name = "a", delay = 1, at = 2 }, { op = "schedule", name = "a", delay = 1, at = -1 }]
+DuplicateName block 1 call 2 | call = [{ op = "schedule", name = "a", delay = 1, at = 2 }, { at = -1, delay = 1, name = "a", op = "schedule" }]
+UnknownName block 1 call 2 | call = [{ op = "schedule", name = "a", delay = 1, at = 2 }, { op = "cancel", name = "b", at = -1 }]
+Negative block 1 call 2 | call = [{ op = "schedule", name = "a", delay = 1, at = 2 }, { op = "cancel", name = "a", at = -1 }]
+TooLarge block 1 call 2 | call = [{ op = "schedule", name = "a", delay = 1, at = 2 }, { op = "cancel", name = "a", at = 4611686018427387905 }]
+OutOfOrder block 1 call 2 | call = [{ op = "schedule", name = "a", delay = 1, at = 2 }, { op = "cancel", name = "a", at = 1 }]
+OutOfOrder block 1 call 2 | call = [{ op = "schedule", name = "a", delay = 1, at = 2 }, { op = "cancel", name = "a" }]
+TooLarge block 1 call 2 | call = [{ op = "schedule", name = "a", delay = 1, at = 2 }, { op = "schedule", name = "b", delay = 4611686018427387905, at = 1 }]
+TooLarge block 1 call 2 | call = [{ op = "schedule", name = "a", delay = 1, at = 2 }, { op = "rate", name = "b", first = 0, period = 4611686018427387905, at = 1 }]"#;
+
+#[test]
+fn tells_the_first_fault_of_a_later_call(rt: HostRuntime) -> Result<(), Fail> {
+    tells_each(&rt, HEADER, LATER_CALLS)
+}
