@@ -4,8 +4,10 @@ pub mod OnePass
 pub mod Choice
 pub mod Clashes
 pub mod Parts
+pub mod LineWords
 pub mod LineForms
 pub mod LineTexts
+pub mod LineEnds
 pub mod Texts
 pub mod Fours
 pub mod EventTexts

@@ -63,8 +63,6 @@ pub fn split_message(bytes: &[u8]) -> Option<(Message, &[u8])>
 fn split_end(bytes: &[u8]) -> Option<(Message, &[u8])>
     ensures { MatchOption result (IsUnread message_text FitsMessage (codes " end " ++ bytes.now)) (λ r. IsRead message_text FitsMessage (codes " end " ++ bytes.now) r.0 r.1.now) }
 {
-    let Some((task, rest)) = code_before(bytes, b"\n") else {
-        return None;
-    };
+    let (task, rest) = code_before(bytes, b"\n")?;
     Some((Message::End(task), rest))
 }

@@ -137,15 +137,11 @@ pub fn split_whether<'a>(bytes: &'a [u8], word: &[u8]) -> Option<(bool, &'a [u8]
     ensures { MatchOption result (IsUnread (text_then whether_text word.now) Any bytes.now) (λ r. IsRead (text_then whether_text word.now) Any bytes.now r.0 r.1.now) }
 {
     if let Some(rest) = strip(bytes, b"yes") {
-        let Some(rest) = strip(rest, word) else {
-            return None;
-        };
+        let rest = strip(rest, word)?;
         return Some((true, rest));
     }
     if let Some(rest) = strip(bytes, b"no") {
-        let Some(rest) = strip(rest, word) else {
-            return None;
-        };
+        let rest = strip(rest, word)?;
         return Some((false, rest));
     }
     None

@@ -1,7 +1,8 @@
 use Rattle.std.proofs.Common.{◌+◌, ◌<◌, [], ◌∷◌, drop, length, arith, refl, sym, ap, ◌∙◌}
 use Rattle.std.proofs.lemmas.List.{length-drop}
 use Rattle.executor_core.specs.CoreView.{workers_of, state_of}
-use Rattle.trace_text.proofs.LineTexts.{first_line, line_ended}
+use Rattle.trace_text.proofs.LineTexts.{first_line}
+use Rattle.trace_text.proofs.LineEnds.{line_ended}
 use Rattle.trace_check.specs.Findings.{Conforms, Breaks}
 use Rattle.trace_check.specs.own.Standing.{IsAt}
 use Rattle.trace_check.proofs.Texts.{HasCome, stops_unread, stops_refused, stops_owing, ends_whole, comes_on, shorter, moved, some_left, none_left}
