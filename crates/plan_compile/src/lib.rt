@@ -56,8 +56,8 @@
 //! time follow the length of the plan's text, and not how often its blocks are repeated: each call of the text is met
 //! a few times, and a cancel looks its target's block up in the table of numbers.
 //!
-//! The tests stand in `src/code_tests.rt`, those of whole plans and of memory in `src/plan_tests.rt`, and that of the largest
-//! plan in `src/size_tests.rt`.
+//! The tests stand in `src/code_tests.rt`, those of plan texts in `src/plan_tests`, a file for each topic, and that of the
+//! largest plan in `src/size_tests.rt`.
 #![tactic(auto)]
 
 #[cfg(test)]

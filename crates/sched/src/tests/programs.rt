@@ -98,6 +98,26 @@ fn prints_the_code_of_the_plan(rt: HostRuntime) {
     ends_given(&rt, wrong, 1, "", "sched: plan: Version block 0 call 0\n");
 }
 
+#[test]
+fn runs_a_delay_far_below_zero_as_none(rt: HostRuntime) {
+    let plan = b"version = 1
+[[block]]
+unit = \"s\"
+[[block.call]]
+op = \"schedule\"
+name = \"a\"
+delay = -9223372036854775808
+";
+    let run = Given {
+        plan: file(plan),
+        ..given(
+            &[b"sched", b"run", b"plan.toml", b"--workers", b"1"],
+            "clock 0\n",
+        )
+    };
+    ends_given(&rt, run, 0, "0 submit 0 schedule due 0\n0 clock\n", "");
+}
+
 /// The command line of a check of `trace.txt`.
 const CHECK: [&[u8]; 6] = [
     b"sched",
