@@ -9,7 +9,7 @@ use std::io::ErrorKind;
 /// So many reads or writes in a row that fail by `Interrupted` are a fault.
 pub const MOST_FRUITLESS: u32 = 1_000;
 
-/// Where bytes come from, with its faults counted for contracts.
+/// Where bytes come from, with its faults counted for contracts. Each count stays at 2^64 - 1.
 pub trait Source {
     /// The bytes that are left, where they are known.
     ghost remaining: { Self → Option (List ℕ) };
@@ -17,7 +17,7 @@ pub trait Source {
     /// How many reads failed by a fault of another kind than `Interrupted`.
     ghost failed: { Self → ℕ };
 
-    /// How many reads failed by a fault of kind `Interrupted`.
+    /// How many reads were fruitless: they failed by a fault of kind `Interrupted`.
     ghost fruitless: { Self → ℕ };
 
     /// Reads into the front of `buf` once, as std's `Read::read`. 0 bytes at a
@@ -28,7 +28,7 @@ pub trait Source {
         ensures counts { CountsRead result (failed self.old) (fruitless self.old) (failed self.new) (fruitless self.new) };
 }
 
-/// Where bytes go, with its faults counted for contracts.
+/// Where bytes go, with its faults counted for contracts. Each count stays at 2^64 - 1.
 pub trait Sink {
     /// The bytes that it took so far, where they are known.
     ghost contents: { Self → Option (List ℕ) };
@@ -37,7 +37,7 @@ pub trait Sink {
     /// took nothing of a text that isn't empty.
     ghost failed: { Self → ℕ };
 
-    /// How many writes failed by a fault of kind `Interrupted`.
+    /// How many writes were fruitless: they failed by a fault of kind `Interrupted`.
     ghost fruitless: { Self → ℕ };
 
     /// Writes a front of `buf` once, as std's `Write::write`. An `Err` takes
