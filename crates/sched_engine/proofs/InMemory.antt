@@ -1,18 +1,11 @@
 -- InMemory: what a run says of bytes in memory.
-use Rattle.std.proofs.Common.{◌≡◌, ℕ, List, [], ◌++◌, Some, Result, Ok, Err, ap, ◌∙◌, sym, subst, arith, lit<, append-nil}
+use Rattle.std.proofs.Common.{◌≡◌, ℕ, List, [], ◌++◌, Some, Result, Ok, Err, ap, ◌∙◌, sym, subst, append-nil}
 use Rattle.sched_engine.specs.declared.report.Report.{Report}
 use Rattle.sched_engine.specs.declared.report.RunError.{RunError}
 use Rattle.sched_engine.specs.declared.report.RunError.TheVariants as x
-use Rattle.sched_engine.specs.Ends.{IsOneFault, OneMore}
 use Rattle.sched_engine.specs.Inputs.{input_of}
 use Rattle.sched_engine.specs.Running.{CountsReader, Ran, RanInMemory}
-
-no_more : OneMore 0 0 → ⊥
-no_more more = absurd (omega (arith, more.0 (lit< tt)))
-
--- a count that stays at 0 counts no fault
-no_fault : IsOneFault 0 0 0 0 → ⊥
-no_fault fault = no_more (fault.1.1 (λ is. no_more (fault.1.0 is).1)).0
+use Rattle.sched_engine.proofs.Tries.{no_bad}
 
 known : (result : Result Report RunError) (text : List ℕ) (workers limit : ℕ) (input left output : List ℕ) → CountsReader result 0 0 0 0 →
     Ran result text workers limit (Some input) (Some left) (Some []) (Some output) → RanInMemory result text workers limit input output
@@ -31,7 +24,7 @@ known (Ok report) text workers limit input left output counts ran =
       lines = sym taken.gives.1;
       within = taken.within;
     }
-known (Err x.Read) text workers limit input left output counts ran = absurd (no_fault counts)
+known (Err x.Read) text workers limit input left output counts ran = absurd (no_bad counts)
 known (Err (x.Plan fault)) text workers limit input left output counts ran = (left, ran)
 known (Err x.Workers) text workers limit input left output counts ran = (left, ran)
 known (Err x.Limit) text workers limit input left output counts ran = (left, ran)

@@ -7,4 +7,5 @@ pub mod Turns
 pub mod OneText
 pub mod Giving
 pub mod Stepping
+pub mod Tries
 pub mod InMemory

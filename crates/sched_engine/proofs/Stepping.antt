@@ -1,5 +1,5 @@
 -- Stepping: happenings one behind the other, each with its lines given out before the next.
-use Rattle.std.proofs.Common.{◌≡◌, ℕ, zero, suc, ◌+◌, ◌<◌, ◌≤◌, List, [], ◌∷◌, ◌++◌, ◌⊎◌, inl, inr, take, length, Option, refl, ap, ◌∙◌, sym, subst, arith, append-nil, length-append, take_all}
+use Rattle.std.proofs.Common.{◌≡◌, ℕ, ◌+◌, ◌<◌, ◌≤◌, List, [], ◌++◌, ◌⊎◌, inl, inr, take, length, Option, refl, ap, ◌∙◌, sym, subst, arith, append-nil, length-append, take_all}
 use Rattle.std.specs.Io.KnownBytes.{Appends}
 use Rattle.std.proofs.lemmas.Bool.{cases_lt}
 use Rattle.executor_core.specs.declared.Event.{Event}

@@ -9,6 +9,7 @@ use Rattle.plan_read.specs.Texts.{TextWrites, fault_of_text}
 use Rattle.plan_compile.specs.PlanCode.{instrs_of}
 use Rattle.sched_engine.specs.declared.report.RunError.{RunError}
 use Rattle.sched_engine.specs.declared.report.RunError.TheVariants as x
+use Rattle.sched_engine.specs.Ends.{AllGood, LastBad, NoneFailed}
 
 -- the text writes a plan, and the listing is that of the plan's code
 pub record IsListingOfText (text listing : List ℕ) : Type 0 where
@@ -27,3 +28,9 @@ abbrev pub Listed : Result (Unit {0}) RunError → List ℕ → Option (List ℕ
 Listed (Ok done) text old new = (listing : List ℕ) × IsListingOfText text listing × Appends old new listing
 Listed (Err x.Write) text old new = (listing : List ℕ) × IsListingOfText text listing × (n : ℕ) × Appends old new (take n listing)
 Listed (Err e) text old new = RefusesText text e × Keeps old new
+
+-- the calls of the writer of a listing: each of its tries was good, but for the last at `Write`; none where there is no code
+abbrev pub CountsListing : Result (Unit {0}) RunError → ℕ → ℕ → ℕ → ℕ → Type 0
+CountsListing (Ok done) failed fruitless failed' fruitless' = AllGood failed fruitless failed' fruitless'
+CountsListing (Err x.Write) failed fruitless failed' fruitless' = LastBad failed fruitless failed' fruitless'
+CountsListing (Err e) failed fruitless failed' fruitless' = NoneFailed 0 failed fruitless failed' fruitless'

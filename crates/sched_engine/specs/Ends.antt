@@ -1,6 +1,6 @@
--- Ends: how the faults of a source or a sink are counted, and what one try at either did.
+-- Ends: how the faults of a source or a sink are counted, and what tries at either did.
 -- The counting is this project's rule; the words on bytes are those of std's readers and writers.
-use Rattle.std.specs.Prelude.{◌≡◌, ◌≢◌, ℕ, ◌+◌, ◌-◌, ◌^◌, ◌<◌, ◌≤◌, List, Option, Some, None, Bool, true, false, take, length, Result, MatchResult}
+use Rattle.std.specs.Prelude.{◌≡◌, ◌≢◌, ℕ, ◌+◌, ◌-◌, ◌^◌, ◌<◌, ◌≤◌, ◌⊎◌, min, List, Option, Some, None, Bool, true, false, take, length, Result, MatchResult}
 use Rattle.std.specs.IoError.{error_kind}
 use Rattle.std.specs.Io.KnownBytes.{Consumes, Appends, Keeps, IsAtEnd}
 use Rattle.std.specs.declared.io.Error.{Error}
@@ -11,37 +11,45 @@ use Rattle.std.specs.declared.io.ErrorKind.TheVariants.{Interrupted}
 abbrev pub greatest : ℕ
 greatest = 2 ^ 64 - 1
 
--- a count grows by one, or stays where it stands at the greatest value (this project's rule)
-abbrev pub OneMore : ℕ → ℕ → Type 0
-OneMore count count' = (count < greatest → count' ≡ count + 1) × (greatest ≤ count → count' ≡ count)
+-- how many fruitless calls of an end in a row are a fault (this project's rule)
+abbrev pub most_fruitless : ℕ
+most_fruitless = 1000
 
--- no fault was counted
-abbrev pub NoneMore : ℕ → ℕ → ℕ → ℕ → Type 0
-NoneMore failed fruitless failed' fruitless' = (failed' ≡ failed) × (fruitless' ≡ fruitless)
+-- a count grows by n, but not past its greatest value (this project's rule)
+abbrev pub RisesBy : ℕ → ℕ → ℕ → Type 0
+RisesBy n count count' = count' ≡ count + min n (greatest - count)
+
+-- none of some calls of an end failed, and n of them were fruitless
+abbrev pub NoneFailed : ℕ → ℕ → ℕ → ℕ → ℕ → Type 0
+NoneFailed n failed fruitless failed' fruitless' = (failed' ≡ failed) × RisesBy n fruitless fruitless'
+
+-- one of some calls of an end failed, and n of them were fruitless
+abbrev pub OneFailed : ℕ → ℕ → ℕ → ℕ → ℕ → Type 0
+OneFailed n failed fruitless failed' fruitless' = RisesBy 1 failed failed' × RisesBy n fruitless fruitless'
+
+-- ---- one call of an end
 
 -- what a fault of this kind counts: one of kind Interrupted as fruitless, and each other one as failed (this project's rule)
 abbrev pub CountsFault : ErrorKind → ℕ → ℕ → ℕ → ℕ → Type 0
 CountsFault kind failed fruitless failed' fruitless' =
-    (kind ≡ Interrupted → (failed' ≡ failed) × OneMore fruitless fruitless')
-    × (kind ≢ Interrupted → OneMore failed failed' × (fruitless' ≡ fruitless))
-
--- one fault was counted, of some kind
-abbrev pub IsOneFault : ℕ → ℕ → ℕ → ℕ → Type 0
-IsOneFault failed fruitless failed' fruitless' = (kind : ErrorKind) × CountsFault kind failed fruitless failed' fruitless'
+    (kind ≡ Interrupted → NoneFailed 1 failed fruitless failed' fruitless')
+    × (kind ≢ Interrupted → OneFailed 0 failed fruitless failed' fruitless')
 
 -- what a read counts: its faults alone
 abbrev pub CountsRead : Result ℕ Error → ℕ → ℕ → ℕ → ℕ → Type 0
 CountsRead r failed fruitless failed' fruitless' = MatchResult r
-    (λ _. NoneMore failed fruitless failed' fruitless')
+    (λ _. NoneFailed 0 failed fruitless failed' fruitless')
     (λ e. CountsFault (error_kind e) failed fruitless failed' fruitless')
 
 -- what a write counts: its faults, and a write that took nothing of a text that isn't empty, as failed (this project's rule)
 abbrev pub CountsWrite : Result ℕ Error → List ℕ → ℕ → ℕ → ℕ → ℕ → Type 0
 CountsWrite r text failed fruitless failed' fruitless' = MatchResult r
-    (λ n. (0 < n → NoneMore failed fruitless failed' fruitless')
-    × (length text ≡ 0 → NoneMore failed fruitless failed' fruitless')
-    × (n ≡ 0 → 0 < length text → OneMore failed failed' × (fruitless' ≡ fruitless)))
+    (λ n. (0 < n → NoneFailed 0 failed fruitless failed' fruitless')
+    × (length text ≡ 0 → NoneFailed 0 failed fruitless failed' fruitless')
+    × (n ≡ 0 → 0 < length text → OneFailed 0 failed fruitless failed' fruitless'))
     (λ e. CountsFault (error_kind e) failed fruitless failed' fruitless')
+
+-- ---- one try: calls of an end up to the first that is not fruitless, and as many in a row as are a fault at most (this project's rule)
 
 -- `Some n`: n bytes came, and none only at the end or with no room for one; `None`: nothing was consumed
 abbrev pub ReadsSome : Option ℕ → Option (List ℕ) → Option (List ℕ) → List ℕ → Type 0
@@ -53,20 +61,44 @@ abbrev pub WritesSome : Option ℕ → Option (List ℕ) → Option (List ℕ) �
 WritesSome (Some n) old new text = (0 < n) × (n ≤ length text) × Appends old new (take n text)
 WritesSome None old new text = Keeps old new
 
--- `Some n` counts no fault, and `None` one
+-- the last call did something
+abbrev pub IsGoodTry : ℕ → ℕ → ℕ → ℕ → Type 0
+IsGoodTry failed fruitless failed' fruitless' = (n : ℕ) × (n < most_fruitless) × NoneFailed n failed fruitless failed' fruitless'
+
+-- the last call failed, or all were fruitless, and as many as are a fault
+abbrev pub IsBadTry : ℕ → ℕ → ℕ → ℕ → Type 0
+IsBadTry failed fruitless failed' fruitless' =
+    ((n : ℕ) × (n < most_fruitless) × OneFailed n failed fruitless failed' fruitless')
+    ⊎ NoneFailed most_fruitless failed fruitless failed' fruitless'
+
+-- `Some n` is a good try, and `None` a bad one
 abbrev pub CountsTry : Option ℕ → ℕ → ℕ → ℕ → ℕ → Type 0
-CountsTry (Some n) failed fruitless failed' fruitless' = NoneMore failed fruitless failed' fruitless'
-CountsTry None failed fruitless failed' fruitless' = IsOneFault failed fruitless failed' fruitless'
+CountsTry (Some n) failed fruitless failed' fruitless' = IsGoodTry failed fruitless failed' fruitless'
+CountsTry None failed fruitless failed' fruitless' = IsBadTry failed fruitless failed' fruitless'
+
+-- ---- tries one behind the other
+
+-- each of some tries was good
+abbrev pub AllGood : ℕ → ℕ → ℕ → ℕ → Type 0
+AllGood failed fruitless failed' fruitless' = (n : ℕ) × NoneFailed n failed fruitless failed' fruitless'
+
+-- the last of some tries was bad: a call failed, or at least as many were fruitless as are a fault
+abbrev pub LastBad : ℕ → ℕ → ℕ → ℕ → Type 0
+LastBad failed fruitless failed' fruitless' =
+    ((n : ℕ) × OneFailed n failed fruitless failed' fruitless')
+    ⊎ ((n : ℕ) × (most_fruitless ≤ n) × NoneFailed n failed fruitless failed' fruitless')
 
 -- `true`: the whole text was appended; `false`: a front of it
 abbrev pub WritesText : Bool → Option (List ℕ) → Option (List ℕ) → List ℕ → Type 0
 WritesText true old new text = Appends old new text
 WritesText false old new text = (n : ℕ) × (n ≤ length text) × Appends old new (take n text)
 
--- `true` counts no fault, and `false` one
-abbrev pub CountsText : Bool → ℕ → ℕ → ℕ → ℕ → Type 0
-CountsText true failed fruitless failed' fruitless' = NoneMore failed fruitless failed' fruitless'
-CountsText false failed fruitless failed' fruitless' = IsOneFault failed fruitless failed' fruitless'
+-- `true`: each try was good; `false`: the last was bad
+abbrev pub CountsTries : Bool → ℕ → ℕ → ℕ → ℕ → Type 0
+CountsTries true failed fruitless failed' fruitless' = AllGood failed fruitless failed' fruitless'
+CountsTries false failed fruitless failed' fruitless' = LastBad failed fruitless failed' fruitless'
+
+-- ---- what contracts see of ends
 
 -- what contracts see of a wrapper: the end within, and its two counts
 pub record Counted (E : Type 0) : Type 0 where

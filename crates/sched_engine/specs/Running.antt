@@ -10,7 +10,7 @@ use Rattle.executor_core.specs.Flows.{flow, lines_of}
 use Rattle.sched_engine.specs.declared.report.Report.{Report}
 use Rattle.sched_engine.specs.declared.report.RunError.{RunError}
 use Rattle.sched_engine.specs.declared.report.RunError.TheVariants as x
-use Rattle.sched_engine.specs.Ends.{IsOneFault, NoneMore}
+use Rattle.sched_engine.specs.Ends.{AllGood, LastBad, NoneFailed}
 use Rattle.sched_engine.specs.Inputs.{input_of, AreEvents, IsRefused, BeginsWithEvent}
 use Rattle.trace_text.specs.Spelling.{IsLine, lines_text}
 use Rattle.trace_text.specs.declared.front.Front.TheVariants as front
@@ -110,15 +110,21 @@ Ran (Err x.Memory) text workers limit input left old new =
 Ran result text workers limit input left old new =
     (calls : List Planned) × IsAccepted text calls workers limit × Runs result calls workers limit input left old new
 
--- the reader's faults: one more at `Read`, and else as many as before
+-- the calls of the reader: none where the plan or a number is refused; each of its tries was good, but for the last at `Read`
 abbrev pub CountsReader : {T : Type 0} → Result T RunError → ℕ → ℕ → ℕ → ℕ → Type 0
-CountsReader (Err x.Read) failed fruitless failed' fruitless' = IsOneFault failed fruitless failed' fruitless'
-CountsReader _ failed fruitless failed' fruitless' = NoneMore failed fruitless failed' fruitless'
+CountsReader (Err (x.Plan fault)) failed fruitless failed' fruitless' = NoneFailed 0 failed fruitless failed' fruitless'
+CountsReader (Err x.Workers) failed fruitless failed' fruitless' = NoneFailed 0 failed fruitless failed' fruitless'
+CountsReader (Err x.Limit) failed fruitless failed' fruitless' = NoneFailed 0 failed fruitless failed' fruitless'
+CountsReader (Err x.Read) failed fruitless failed' fruitless' = LastBad failed fruitless failed' fruitless'
+CountsReader _ failed fruitless failed' fruitless' = AllGood failed fruitless failed' fruitless'
 
--- the writer's faults: one more at `Write`, and else as many as before
+-- the calls of the writer: none where the plan or a number is refused; each of its tries was good, but for the last at `Write`
 abbrev pub CountsWriter : {T : Type 0} → Result T RunError → ℕ → ℕ → ℕ → ℕ → Type 0
-CountsWriter (Err x.Write) failed fruitless failed' fruitless' = IsOneFault failed fruitless failed' fruitless'
-CountsWriter _ failed fruitless failed' fruitless' = NoneMore failed fruitless failed' fruitless'
+CountsWriter (Err (x.Plan fault)) failed fruitless failed' fruitless' = NoneFailed 0 failed fruitless failed' fruitless'
+CountsWriter (Err x.Workers) failed fruitless failed' fruitless' = NoneFailed 0 failed fruitless failed' fruitless'
+CountsWriter (Err x.Limit) failed fruitless failed' fruitless' = NoneFailed 0 failed fruitless failed' fruitless'
+CountsWriter (Err x.Write) failed fruitless failed' fruitless' = LastBad failed fruitless failed' fruitless'
+CountsWriter _ failed fruitless failed' fruitless' = AllGood failed fruitless failed' fruitless'
 
 -- ---- a run over memory
 

@@ -1,7 +1,7 @@
 //! The text that answers events, until it is written.
 ghost use Rattle.std.specs.Prelude.{◌≡◌, ◌+◌, ◌≤◌, ◌↔◌, [], ◌++◌, length, IfOk, IsTrue};
 ghost use Rattle.trace_text.specs.Spelling.{line_text, lines_text};
-ghost use Rattle.sched_engine.specs.Ends.{CountsText, WritesText};
+ghost use Rattle.sched_engine.specs.Ends.{CountsTries, WritesText};
 ghost use Rattle.sched_engine.specs.own.Pieces.{GivesText, MakesRoom};
 
 use crate::ends::{Sink, write_text};
@@ -78,7 +78,7 @@ impl<A: Allocator> Draft<A> {
     fn flush<W: Sink>(&mut self, writer: &mut W) -> bool
         ensures bytes { WritesText result (W.contents writer.old) (W.contents writer.new) self.old }
         ensures clear { IsTrue result → self.new ≡ [] }
-        ensures counts { CountsText result (W.failed writer.old) (W.fruitless writer.old) (W.failed writer.new) (W.fruitless writer.new) }
+        ensures counts { CountsTries result (W.failed writer.old) (W.fruitless writer.old) (W.failed writer.new) (W.fruitless writer.new) }
     {
         if !write_text(writer, self.bytes()) {
             return false;
@@ -91,7 +91,7 @@ impl<A: Allocator> Draft<A> {
     #[inline(always)]
     fn make_room<W: Sink>(&mut self, writer: &mut W) -> bool
         ensures room { MakesRoom result (record { contents = W.contents writer.old; text = self.old }) (record { contents = W.contents writer.new; text = self.new }) }
-        ensures counts { CountsText result (W.failed writer.old) (W.fruitless writer.old) (W.failed writer.new) (W.fruitless writer.new) }
+        ensures counts { CountsTries result (W.failed writer.old) (W.fruitless writer.old) (W.failed writer.new) (W.fruitless writer.new) }
     {
         if self.has_room() {
             return true;
@@ -105,7 +105,7 @@ impl<A: Allocator> Draft<A> {
     #[inline(always)]
     pub fn give_lines<W: Sink>(&mut self, lines: &[Line], writer: &mut W) -> bool
         ensures text { GivesText result (record { contents = W.contents writer.old; text = self.old }) (record { contents = W.contents writer.new; text = self.new }) (lines_text lines.now) }
-        ensures counts { CountsText result (W.failed writer.old) (W.fruitless writer.old) (W.failed writer.new) (W.fruitless writer.new) }
+        ensures counts { CountsTries result (W.failed writer.old) (W.fruitless writer.old) (W.failed writer.new) (W.fruitless writer.new) }
     {
         for line in lines {
             if !self.make_room(writer) {

@@ -29,8 +29,11 @@ use std::alloc::Allocator;
 /// nothing is read or written. On [`RunError::EventLine`], [`RunError::Full`] and
 /// [`RunError::Read`] the text of all events before was written, on [`RunError::Memory`] the
 /// text of some of the first events, and on [`RunError::Write`] a front of such a text. At most
-/// one piece was read behind the last event that was taken. A fault of an end is answered at
-/// once, and nothing is tried again.
+/// one piece was read behind the last event that was taken.
+///
+/// A read or write that fails by `Interrupted` is tried again, up to the 1,000th in a row. That one,
+/// any other fault, and a write that takes nothing, is [`RunError::Read`] or [`RunError::Write`], and
+/// that end is not called again.
 pub fn run<A: HeapAllocator, S: Source, W: Sink>(
     alloc: A,
     plan_text: &[u8],

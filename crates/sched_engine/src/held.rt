@@ -67,7 +67,7 @@ impl<A: Allocator> Held<A> {
         self.from += n;
     }
 
-    /// Reads once, behind what is held. A fault changes nothing.
+    /// Reads once, by [`read_some`], behind what is held. A fault changes nothing.
     pub fn fill<S: Source>(&mut self, source: &mut S) -> Filled
         requires { length self.old < PIECE }
         ensures bytes { Fills result (S.remaining source.old) (S.remaining source.new) self.old self.new }

@@ -1,9 +1,11 @@
 //! What holds of each input and of each comparison, over the definitions alone.
 ghost use Rattle.std.specs.Prelude.{◌≡◌, ◌↔◌, true};
 ghost use Rattle.sched_engine.specs.Inputs.{EventsAreOne, FrontIsOne};
+ghost use Rattle.sched_engine.specs.Ends.{most_fruitless};
 ghost use Rattle.sched_engine.specs.Running.{piece};
 
 use crate::answering::{Answered, PieceEnd};
+use crate::ends::MOST_FRUITLESS;
 use crate::held::{Filled, PIECE};
 use crate::report::{Report, RunError};
 
@@ -22,6 +24,11 @@ pub fn front_is_one()
 /// The size of a piece is the limit of which the contracts speak.
 pub(crate) fn piece_is_the_limit()
     ensures { PIECE ≡ piece }
+{}
+
+/// That many fruitless calls in a row are the limit of which the contracts speak.
+pub(crate) fn most_fruitless_is_the_limit()
+    ensures { MOST_FRUITLESS ≡ most_fruitless }
 {}
 
 /// Two reports compare as equal exactly when they are the same.

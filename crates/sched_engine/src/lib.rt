@@ -36,15 +36,18 @@
 //! | [`RunError::Plan`], then [`RunError::Workers`], then [`RunError::Limit`] | before anything is read | nothing |
 //! | [`RunError::EventLine`] | that line is no event's, counted from 1 | the answers to all events before |
 //! | [`RunError::Full`] | a further event follows as many as the limit allows | the answers to these |
-//! | [`RunError::Read`] | the reader was at fault | the answers to all whole lines read |
-//! | [`RunError::Write`] | the writer was at fault, or took nothing | a front of some events' answers |
+//! | [`RunError::Read`] | the reader was at fault, or interrupted 1,000 times in a row | the answers to all whole lines read |
+//! | [`RunError::Write`] | the writer was at fault, took nothing, or was interrupted 1,000 times in a row | a front of some events' answers |
 //! | [`RunError::Memory`] | memory was refused | the answers to some of the first events |
 //!
 //! [`write_listing`] answers [`RunError::Plan`] and [`RunError::Memory`] with nothing written, and
 //! [`RunError::Write`] with a front of the listing written.
 //!
-//! A fault of an end is told at once, `Interrupted` too, and that end is not called again. At most
-//! one piece, 64 KiB, is read behind the last event that was taken.
+//! A read or write that fails by `Interrupted` did nothing, and is tried again. The 1,000th of them in
+//! a row is a fault of that end; one that does something sets the count back. Any other fault is told
+//! at once, and so is a write that takes nothing. An end at fault is not called again. [`read_some`]
+//! and [`write_some`] try so, [`write_text`] writes a whole text by them. At most one piece, 64 KiB, is
+//! read behind the last event that was taken.
 //!
 //! # Memory and cost
 //!
@@ -61,6 +64,7 @@ mod answering;
 mod draft;
 mod ends;
 mod engine;
+mod fault_counts;
 mod held;
 mod in_memory;
 mod laws;

@@ -1,7 +1,6 @@
 //! The listing of a plan's code.
 ghost use Rattle.std.specs.Prelude.{IfErr, IfOk, string_bytes};
-ghost use Rattle.sched_engine.specs.CodeTexts.{IsListingOfText, Listed, RefusesText};
-ghost use Rattle.sched_engine.specs.Running.{CountsWriter};
+ghost use Rattle.sched_engine.specs.CodeTexts.{CountsListing, IsListingOfText, Listed, RefusesText};
 
 use crate::ends::{Sink, write_text};
 use crate::engine::code_of;
@@ -12,15 +11,15 @@ use queue_code::listing;
 /// Writes the listing of a plan's queue code: a line for each instruction, its index in front.
 ///
 /// `plan_text` is the plan's TOML, at most 1,048,576 bytes. On [`RunError::Plan`] and [`RunError::Memory`]
-/// nothing is written, on [`RunError::Write`] a front of the listing. No other error comes. Times in the
-/// listing are nanoseconds. Nothing is flushed.
+/// nothing is written, on [`RunError::Write`] a front of the listing. No other error comes. A write is
+/// tried again as by [`run`](crate::run). Times in the listing are nanoseconds. Nothing is flushed.
 pub fn write_listing<A: HeapAllocator, W: Sink>(
     alloc: A,
     plan_text: &[u8],
     writer: &mut W,
 ) -> Result<(), RunError>
     ensures listed { Listed result plan_text.now (W.contents writer.old) (W.contents writer.new) }
-    ensures write { CountsWriter result (W.failed writer.old) (W.fruitless writer.old) (W.failed writer.new) (W.fruitless writer.new) }
+    ensures write { CountsListing result (W.failed writer.old) (W.fruitless writer.old) (W.failed writer.new) (W.fruitless writer.new) }
 {
     let text = listing_of(alloc, plan_text)?;
     if write_text(writer, text.as_bytes()) {

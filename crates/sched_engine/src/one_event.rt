@@ -5,7 +5,7 @@ ghost use Rattle.queue_code.specs.Calls.{IsOrderly};
 ghost use Rattle.executor_core.specs.Flows.{part_of};
 ghost use Rattle.executor_core.specs.Histories.{MayFrom, is_call};
 ghost use Rattle.executor_core.specs.CoreView.{IsCounted, Steps, room_of};
-ghost use Rattle.sched_engine.specs.Ends.{CountsTry};
+ghost use Rattle.sched_engine.specs.own.Pieces.{CountsLines};
 ghost use Rattle.sched_engine.specs.own.Turns.{CutsSteps, GivesSteps, TakesEvent, answers_to};
 
 use crate::draft::Draft;
@@ -34,7 +34,7 @@ pub fn answer_event<A: Allocator, W: Sink>(
     ensures takes { IfSome result (λ count. TakesEvent core.old core.new event (record { contents = W.contents writer.old; text = draft.old }) (record { contents = W.contents writer.new; text = draft.new }) count) }
     ensures cut { IfNone result (CutsSteps core.old (part_of core.old.calls core.old.made core.old.moment event) (record { contents = W.contents writer.old; text = draft.old }) (W.contents writer.new)) }
     ensures capacity { vec_capacity lines.new ≡ vec_capacity lines.old }
-    ensures counts { CountsTry result (W.failed writer.old) (W.fruitless writer.old) (W.failed writer.new) (W.fruitless writer.new) }
+    ensures counts { CountsLines result (W.failed writer.old) (W.fruitless writer.old) (W.failed writer.new) (W.fruitless writer.new) }
 {
     core.count();
     let mut count = 0;
@@ -68,7 +68,7 @@ fn give<A: Allocator, W: Sink>(
     ensures taken { core.new.taken ≡ core.old.taken }
     ensures clear { IfSome result (λ _. lines.new.items ≡ []) }
     ensures capacity { vec_capacity lines.new ≡ vec_capacity lines.old }
-    ensures counts { CountsTry result (W.failed writer.old) (W.fruitless writer.old) (W.failed writer.new) (W.fruitless writer.new) }
+    ensures counts { CountsLines result (W.failed writer.old) (W.fruitless writer.old) (W.failed writer.new) (W.fruitless writer.new) }
 {
     core.happen(happening, lines);
     if !draft.give_lines(lines, writer) {

@@ -1,16 +1,16 @@
 ghost use Rattle.std.specs.Prelude.{◌≡◌};
 
 use crate::ends::Source;
+use crate::fault_counts::FaultCounts;
 use std::io;
-use std::io::{ErrorKind, Read};
+use std::io::Read;
 use std::marker::Model;
 
 /// A source out of any reader. Contracts see the reader and the two counts.
 #[derive(Drop)]
 pub struct Reading<R: Read> {
     inner: R,
-    failed: u64,
-    fruitless: u64,
+    counts: FaultCounts,
 }
 
 impl<R: Read> Model for Reading<R> {
@@ -18,7 +18,7 @@ impl<R: Read> Model for Reading<R> {
 
     ghost Value = { Counted R };
 
-    ghost view = { λ s. record { end = s.inner; failed = s.failed; fruitless = s.fruitless } };
+    ghost view = { λ s. record { end = s.inner; failed = s.counts.failed; fruitless = s.counts.fruitless } };
 }
 
 impl<R: Read> Reading<R> {
@@ -28,8 +28,7 @@ impl<R: Read> Reading<R> {
     {
         Reading {
             inner,
-            failed: 0,
-            fruitless: 0,
+            counts: FaultCounts::new(),
         }
     }
 
@@ -50,12 +49,8 @@ impl<R: Read> Source for Reading<R> {
 
     fn read(&mut self, buf: &mut [u8]) -> io::Result<usize> {
         let outcome = self.inner.read(buf);
-        if let Err(e) = &outcome {
-            if e.kind() == ErrorKind::Interrupted {
-                self.fruitless = self.fruitless.saturating_add(1);
-            } else {
-                self.failed = self.failed.saturating_add(1);
-            }
+        if let Err(fault) = &outcome {
+            self.counts.count_fault(fault);
         }
         outcome
     }

@@ -29,10 +29,10 @@ pub enum RunError {
     /// A further event follows as many as the limit allows.
     #[error("full")]
     Full,
-    /// The reader was at fault.
+    /// The reader was at fault, or interrupted 1,000 times in a row.
     #[error("read fault")]
     Read,
-    /// The writer was at fault.
+    /// The writer was at fault, took nothing, or was interrupted 1,000 times in a row.
     #[error("write fault")]
     Write,
     /// Memory ran out.

@@ -17,7 +17,7 @@ mod listings;
 mod long_runs;
 mod periodic;
 mod policies;
-mod troubled;
+mod scripted;
 mod turns;
 
 /// The plan of one delayed task.

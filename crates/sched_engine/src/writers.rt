@@ -1,16 +1,16 @@
 ghost use Rattle.std.specs.Prelude.{◌≡◌};
 
 use crate::ends::Sink;
+use crate::fault_counts::FaultCounts;
 use std::io;
-use std::io::{ErrorKind, Write};
+use std::io::Write;
 use std::marker::Model;
 
 /// A sink out of any writer. Contracts see the writer and the two counts.
 #[derive(Drop)]
 pub struct Writing<W: Write> {
     inner: W,
-    failed: u64,
-    fruitless: u64,
+    counts: FaultCounts,
 }
 
 impl<W: Write> Model for Writing<W> {
@@ -18,7 +18,7 @@ impl<W: Write> Model for Writing<W> {
 
     ghost Value = { Counted W };
 
-    ghost view = { λ s. record { end = s.inner; failed = s.failed; fruitless = s.fruitless } };
+    ghost view = { λ s. record { end = s.inner; failed = s.counts.failed; fruitless = s.counts.fruitless } };
 }
 
 impl<W: Write> Writing<W> {
@@ -28,8 +28,7 @@ impl<W: Write> Writing<W> {
     {
         Writing {
             inner,
-            failed: 0,
-            fruitless: 0,
+            counts: FaultCounts::new(),
         }
     }
 
@@ -51,18 +50,9 @@ impl<W: Write> Sink for Writing<W> {
     fn write(&mut self, buf: &[u8]) -> io::Result<usize> {
         let outcome = self.inner.write(buf);
         match &outcome {
-            Ok(n) => {
-                if *n == 0 && !buf.is_empty() {
-                    self.failed = self.failed.saturating_add(1);
-                }
-            }
-            Err(e) => {
-                if e.kind() == ErrorKind::Interrupted {
-                    self.fruitless = self.fruitless.saturating_add(1);
-                } else {
-                    self.failed = self.failed.saturating_add(1);
-                }
-            }
+            Ok(0) if !buf.is_empty() => self.counts.count_failed(),
+            Ok(_) => {}
+            Err(fault) => self.counts.count_fault(fault),
         }
         outcome
     }

@@ -1,6 +1,6 @@
 ghost use Rattle.std.specs.Prelude.{◌≡◌, ◌≤◌, ◌++◌, ℕ, List, take, IfOk, IfSome};
 
-use crate::ends::{read_some, write_text};
+use crate::ends::{Sink, Source, read_some, write_text};
 use crate::held::{Filled, Held};
 use crate::memory::Pieces;
 use crate::readers::Reading;
@@ -91,22 +91,47 @@ fn passes_bytes(rt: HostRuntime) -> Result<(), Fail> {
     Ok(())
 }
 
+/// A wrapper calls its end once at each of its calls, also after a fault, and tells what it answered.
 #[test]
-fn answers_each_fault_at_once(rt: HostRuntime) -> Result<(), Fail> {
+fn wrappers_call_their_ends_once(rt: HostRuntime) {
     for kind in [ErrorKind::Interrupted, ErrorKind::Other] {
         let mut buf = [0u8; 4];
         let mut source = Reading::new(Faulty { calls: 0, kind });
+        assert!(rt; source.read(&mut buf).is_ok_and(|n| n == 2));
+        assert!(rt;
+            source
+                .read(&mut buf)
+                .is_err_and(|fault| fault.kind() == kind)
+        );
+        assert!(rt; source.read(&mut buf).is_ok_and(|n| n == 0));
+        assert_eq!(rt; source.into_inner().calls, 3);
+
+        let mut sink = Writing::new(Faulty { calls: 0, kind });
+        assert!(rt; sink.write(b"ab").is_ok_and(|n| n == 2));
+        assert!(rt; sink.write(b"ab").is_err_and(|fault| fault.kind() == kind));
+        assert!(rt; sink.write(b"ab").is_ok_and(|n| n == 0));
+        assert_eq!(rt; sink.into_inner().calls, 3);
+    }
+}
+
+/// A try is over with the first call that was not interrupted.
+#[test]
+fn tries_an_interrupt_again(rt: HostRuntime) {
+    for (kind, reads, calls) in [
+        (ErrorKind::Interrupted, Some(0usize), 3u32),
+        (ErrorKind::Other, None, 2),
+    ] {
+        let mut buf = [0u8; 4];
+        let mut source = Reading::new(Faulty { calls: 0, kind });
         assert_eq!(rt; read_some(&mut source, &mut buf), Some(2));
-        assert_eq!(rt; read_some(&mut source, &mut buf), None);
-        assert_eq!(rt; read_some(&mut source, &mut buf), Some(0));
+        assert_eq!(rt; read_some(&mut source, &mut buf), reads);
+        assert_eq!(rt; source.into_inner().calls, calls);
 
         let mut sink = Writing::new(Faulty { calls: 0, kind });
         assert!(rt; write_text(&mut sink, b"ab"));
-        assert!(rt; !write_text(&mut sink, b"ab"));
-        assert!(rt; !write_text(&mut sink, b"ab"));
-        assert!(rt; write_text(&mut sink, b"abcdef"));
+        assert!(rt; !write_text(&mut sink, b"abcd"));
+        assert_eq!(rt; sink.into_inner().calls, calls);
     }
-    Ok(())
 }
 
 /// Takes the event in front of what is held, and adds its size, or else holds more; answers whether none is left.

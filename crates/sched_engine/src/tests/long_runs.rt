@@ -1,5 +1,5 @@
 //! Long runs through [`Reading`] and [`Writing`], as the program has them.
-use super::troubled::{Trouble, TroubledRow, answers_in_trouble};
+use super::scripted::{Script, ScriptedRow, Trouble, plays};
 use super::*;
 use crate::in_memory::run_in_memory;
 
@@ -9,14 +9,14 @@ const EVENT: &str = "start 9\n";
 const ANSWER: &str = "0 error no worker\n";
 
 /// A run of an empty plan over 20,000 such events, with no trouble.
-fn long_run<'a>(events: &'a str, text: &'a str, most: usize) -> TroubledRow<'a> {
-    TroubledRow {
+fn long_run<'a>(events: &'a str, text: &'a str, most: usize) -> ScriptedRow<'a> {
+    ScriptedRow {
         plan: "version = 1",
+        limit: 4_294_967_295,
         events,
-        most,
-        read_trouble: 0,
-        write_trouble: 0,
-        trouble: Trouble::TakesNothing,
+        again: "",
+        reader: Script::smooth(most),
+        writer: Script::smooth(most),
         answer: Ok(Report {
             events: 20_000,
             lines: 20_000,
@@ -27,12 +27,30 @@ fn long_run<'a>(events: &'a str, text: &'a str, most: usize) -> TroubledRow<'a> 
     }
 }
 
+/// An end that gives or takes this many bytes a call, and is in trouble at one call.
+fn in_trouble(most: usize, trouble_at: u32, trouble: Trouble) -> Script {
+    Script {
+        trouble_at,
+        trouble,
+        ..Script::smooth(most)
+    }
+}
+
+/// An interrupt in mid-stream is none of their faults.
 #[test]
 fn long_runs_end_well(rt: HostRuntime) -> Result<(), Fail> {
     let events = EVENT.repeat(rt.alloc(), 20_000)?;
     let text = ANSWER.repeat(rt.alloc(), 20_000)?;
     for most in [5usize, 1_000, 65_536, 1_000_000] {
-        answers_in_trouble(&rt, &long_run(events.as_str(), text.as_str(), most));
+        let interrupted = in_trouble(most, 2, Trouble::Fails(ErrorKind::Interrupted));
+        plays(
+            &rt,
+            &ScriptedRow {
+                reader: interrupted,
+                writer: interrupted,
+                ..long_run(events.as_str(), text.as_str(), most)
+            },
+        );
     }
     Ok(())
 }
@@ -41,17 +59,12 @@ fn long_runs_end_well(rt: HostRuntime) -> Result<(), Fail> {
 fn a_fault_in_mid_stream_of_the_reader_is_told_at_once(rt: HostRuntime) -> Result<(), Fail> {
     let events = EVENT.repeat(rt.alloc(), 20_000)?;
     let text = ANSWER.repeat(rt.alloc(), 20_000)?;
-    for kind in [
-        ErrorKind::Interrupted,
-        ErrorKind::Other,
-        ErrorKind::WouldBlock,
-    ] {
+    for kind in [ErrorKind::Other, ErrorKind::WouldBlock] {
         // 5,000 bytes were read, which are 625 events
-        answers_in_trouble(
+        plays(
             &rt,
-            &TroubledRow {
-                read_trouble: 1_001,
-                trouble: Trouble::Fails(kind),
+            &ScriptedRow {
+                reader: in_trouble(5, 1_001, Trouble::Fails(kind)),
                 answer: Err(RunError::Read),
                 least: 11_250,
                 greatest: 11_250,
@@ -66,10 +79,10 @@ fn a_fault_in_mid_stream_of_the_reader_is_told_at_once(rt: HostRuntime) -> Resul
 fn an_end_in_mid_line_is_no_event(rt: HostRuntime) -> Result<(), Fail> {
     let events = EVENT.repeat(rt.alloc(), 20_000)?;
     let text = ANSWER.repeat(rt.alloc(), 20_000)?;
-    answers_in_trouble(
+    plays(
         &rt,
-        &TroubledRow {
-            read_trouble: 1_002,
+        &ScriptedRow {
+            reader: in_trouble(5, 1_002, Trouble::TakesNothing),
             answer: Err(RunError::EventLine(626)),
             least: 11_250,
             greatest: 11_250,
@@ -83,17 +96,12 @@ fn an_end_in_mid_line_is_no_event(rt: HostRuntime) -> Result<(), Fail> {
 fn a_fault_in_mid_stream_of_the_writer_is_told_at_once(rt: HostRuntime) -> Result<(), Fail> {
     let events = EVENT.repeat(rt.alloc(), 20_000)?;
     let text = ANSWER.repeat(rt.alloc(), 20_000)?;
-    for trouble in [
-        Trouble::Fails(ErrorKind::Interrupted),
-        Trouble::Fails(ErrorKind::BrokenPipe),
-        Trouble::TakesNothing,
-    ] {
+    for trouble in [Trouble::Fails(ErrorKind::BrokenPipe), Trouble::TakesNothing] {
         // what was given to the writer is answered whole, and 1,000 writes took 7 bytes at most
-        answers_in_trouble(
+        plays(
             &rt,
-            &TroubledRow {
-                write_trouble: 1_001,
-                trouble,
+            &ScriptedRow {
+                writer: in_trouble(7, 1_001, trouble),
                 answer: Err(RunError::Write),
                 least: 5_001,
                 greatest: 7_000,
@@ -162,8 +170,8 @@ fn many_lines(alloc: Global) -> Result<String, Fail> {
 }
 
 /// A run of one such event with no trouble.
-fn long_event(text: &str, most: usize) -> TroubledRow<'_> {
-    TroubledRow {
+fn long_event(text: &str, most: usize) -> ScriptedRow<'_> {
+    ScriptedRow {
         plan: MANY_TASKS,
         answer: Ok(Report {
             events: 1,
@@ -178,8 +186,8 @@ fn long_event(text: &str, most: usize) -> TroubledRow<'_> {
 #[test]
 fn the_text_of_a_long_event_is_written_as_it_comes(rt: HostRuntime) -> Result<(), Fail> {
     let text = many_lines(rt.alloc())?;
-    for most in [7usize, 1_000, 1_000_000] {
-        answers_in_trouble(&rt, &long_event(text.as_str(), most));
+    for most in [1usize, 1_000, 1_000_000] {
+        plays(&rt, &long_event(text.as_str(), most));
     }
     Ok(())
 }
@@ -188,10 +196,10 @@ fn the_text_of_a_long_event_is_written_as_it_comes(rt: HostRuntime) -> Result<()
 fn a_fault_of_the_writer_in_mid_event_is_told_at_once(rt: HostRuntime) -> Result<(), Fail> {
     let text = many_lines(rt.alloc())?;
     // two writes take what is held first, which lacks less than a line of 65,536 bytes
-    answers_in_trouble(
+    plays(
         &rt,
-        &TroubledRow {
-            write_trouble: 3,
+        &ScriptedRow {
+            writer: in_trouble(40_000, 3, Trouble::TakesNothing),
             answer: Err(RunError::Write),
             least: 65_408,
             greatest: 65_536,

@@ -10,6 +10,7 @@ use Rattle.sched_engine.specs.declared.answering.PieceEnd.TheVariants as e
 use Rattle.sched_engine.specs.own.Turns.{IsAnswered, IsPieceEnd}
 use Rattle.sched_engine.proofs.Inputs.{answered_none, answered_on, count_fits, fewer_left, left_more}
 use Rattle.sched_engine.proofs.Rooms.{still_kept, wanted}
+use Rattle.sched_engine.proofs.Tries.{good_then_bad, good_then_good, no_try}
 use Rattle.sched_engine.proofs.answering.answer_events.Goals as goal
 use Rattle.sched_engine.proofs.answering.answer_events.Goals.{in_default, in-Some+then-full, in-Some+else-full+then-not-make_room}
 
@@ -32,7 +33,7 @@ loop-event-init g c =
       bound = omega arith;
       within = c.requires.within;
       capacity = inl refl;
-      counts = (refl, refl);
+      counts = no_try (g.W.Sink.failed c.args.writer.now) (g.W.Sink.fruitless c.args.writer.now);
     }
 
 pub overflow_add-count : goal.overflow_add-count
@@ -74,7 +75,6 @@ loop-event-preserved g c =
     let takes = c.in-Some-answer_event.ensures.takes in
     let below = c.if-full.ensures.room refl in
     let begins = subst BeginsWithEvent kept.behind (event, next, fits, front) in
-    let none = c.in-Some-answer_event.ensures.counts in
     record {
       answered = answered_on old mid new held rest next out here there c.loop-event.count more event kept.answered kept.behind kept.bound fits front takes;
       behind = left_more event held rest next kept.behind kept.bound front;
@@ -82,8 +82,12 @@ loop-event-preserved g c =
       within = within_still mid.taken mid.limit new.taken new.limit below takes.taken takes.limit;
       capacity = still_kept old mid held out here (length held - length rest) c.loop-event.count (vec_capacity c.args.lines.now) (vec_capacity c.loop-event.lines) (vec_capacity c.answer_event.new.lines)
           kept.answered begins below (λ enough. c.in-Some-answer_event.ensures.capacity ∙ (c.if-not-make_room.ensures.enough (omega (arith, enough, c.room.ensures))).1) kept.capacity;
-      counts = (none.0 ∙ kept.counts.0, none.1 ∙ kept.counts.1);
+      counts = good_then_good _ _ _ _ _ _ kept.counts c.in-Some-answer_event.ensures.counts;
     }
+
+-- the last try was bad
+pub returns-in_default-answer_event-clause-write : goal.returns-in_default-answer_event-clause-write
+returns-in_default-answer_event-clause-write g c = good_then_bad _ _ _ _ _ _ c.loop-event.invariant.counts c.in_default-answer_event.ensures.counts
 
 -- why the events ended is one thing
 not_full : (end : PieceEnd) → end ≡ e.Full → end ≡ e.Memory → ⊥

@@ -1,10 +1,10 @@
 use Rattle.std.proofs.Common.{◌≡◌, ◌-◌, ◌≤◌, ◌⊎◌, drop, length}
 use Rattle.std.specs.Prelude.{vec_capacity}
-use Rattle.sched_engine.specs.Ends.{NoneMore}
+use Rattle.sched_engine.specs.Ends.{AllGood}
 use Rattle.sched_engine.specs.own.Turns.{IsAnswered, WantsRoom}
 use Rattle.sched_engine.proofs.answering.answer_events.Given as goal
 
--- the events in front of `rest` were answered, there is no less room for lines than there was, and no fault was counted
+-- the events in front of `rest` were answered, there is no less room for lines than there was, and each try was good
 abbrev pub invariant-loop-event : goal.invariant-loop-event
 invariant-loop-event g l = record {
   answered : IsAnswered l.fn.core l.core l.held (length l.held - length l.rest) (record { contents = g.W.Sink.contents l.fn.writer; text = l.fn.draft }) (record { contents = g.W.Sink.contents l.writer; text = l.draft }) l.count;
@@ -12,7 +12,7 @@ invariant-loop-event g l = record {
   bound : length l.rest ≤ length l.held;
   within : l.core.taken ≤ l.core.limit;
   capacity : (vec_capacity l.lines ≡ vec_capacity l.fn.lines) ⊎ WantsRoom l.fn.core l.held (record { contents = g.W.Sink.contents l.fn.writer; text = l.fn.draft }) (vec_capacity l.fn.lines);
-  counts : NoneMore (g.W.Sink.failed l.fn.writer) (g.W.Sink.fruitless l.fn.writer) (g.W.Sink.failed l.writer) (g.W.Sink.fruitless l.writer);
+  counts : AllGood (g.W.Sink.failed l.fn.writer) (g.W.Sink.fruitless l.fn.writer) (g.W.Sink.failed l.writer) (g.W.Sink.fruitless l.writer);
 }
 
 abbrev pub decreases-loop-event : goal.decreases-loop-event

@@ -1,12 +1,12 @@
-use Rattle.std.proofs.Common.{◌≡◌, ◌+◌, ◌≤◌, ◌++◌, List, [], ◌∷◌, Option, Some, None, IfNone, refl, ap, ◌∙◌, sym, subst, arith}
+use Rattle.std.proofs.Common.{◌≡◌, ◌+◌, ◌≤◌, ℕ, List, [], ◌∷◌, Option, Some, None, IfNone, refl, ap, ◌∙◌, sym, subst, arith, rules}
 use Rattle.executor_core.specs.declared.Happening.{Happening}
 use Rattle.executor_core.specs.declared.Happening.TheVariants as h
-use Rattle.executor_core.specs.Flows.{happening_of}
 use Rattle.executor_core.specs.CoreView.{CoreView, room_of}
 use Rattle.executor_core.proofs.Parts.{all_happened, left_after, none_happened, part_from}
-use Rattle.sched_engine.specs.own.Pieces.{Output}
+use Rattle.sched_engine.specs.own.Pieces.{CountsLines, Output}
 use Rattle.sched_engine.specs.own.Turns.{CutsSteps, GivesSteps, answers_to}
 use Rattle.sched_engine.proofs.Stepping.{cuts_then, cuts_within, gives_nothing, gives_then, takes}
+use Rattle.sched_engine.proofs.Tries.{good_then_bad, good_then_good, no_try}
 use Rattle.sched_engine.proofs.one_event.answer_event.Goals as goal
 
 -- what is known in each case is known where there is nothing
@@ -26,7 +26,7 @@ loop-core-init g c =
       counted = c.count.ensures.runs;
       room = subst (λ (m : CoreView). 0 + room_of m ≤ room_of old) (sym c.count.ensures.same) (omega arith);
       steps = ([], gives_nothing old counted first c.count.ensures.same, none_happened old counted c.args.event c.count.ensures.same);
-      counts = (refl, refl);
+      counts = no_try (g.W.Sink.failed c.args.writer.now) (g.W.Sink.fruitless c.args.writer.now);
     }
 
 pub returns-in_err-count-clause-cut : goal.returns-in_err-count-clause-cut
@@ -44,6 +44,15 @@ returns-in_err-count-clause-cut g c =
     let so_far = cuts_then old mid new hs (h.Call ∷ []) first here written lines c.loop-core.count kept.steps.1 c.give.ensures.steps c.in_err-count.ensures.cut in
     let all = left_after mid new [] lines c.args.event part hs kept.steps.2 (c.loop-core-test.ensures.call refl) c.give.ensures.steps in
     where_none c.from_residual.result _ (subst (λ (l : List Happening). CutsSteps old l first written) (sym all) (cuts_within old (h.Call ∷ hs) (part_from new c.args.event) first written so_far))
+
+pub returns-in_err-count-clause-counts : goal.returns-in_err-count-clause-counts
+returns-in_err-count-clause-counts g c =
+    let first = c.args.writer.now in
+    let after = c.give.new.writer in
+    let none : Option ℕ = None in
+    let told : none ≡ c.from_residual.result = search rules in
+    subst (λ (answer : Option ℕ). CountsLines answer (g.W.Sink.failed first) (g.W.Sink.fruitless first) (g.W.Sink.failed after) (g.W.Sink.fruitless after)) told
+    (good_then_bad _ _ _ _ _ _ c.loop-core.invariant.counts c.in_err-count.ensures.counts)
 
 pub loop-core-preserved : goal.loop-core-preserved
 loop-core-preserved g c =
@@ -70,7 +79,7 @@ loop-core-preserved g c =
         gives_then old mid new hs (h.Call ∷ []) first here there lines c.loop-core.count count kept.steps.1 did.gives.steps did.gives.written did.gives.counted,
         left_after mid new [] lines c.args.event part hs kept.steps.2 (c.loop-core-test.ensures.call refl) did.steps,
       );
-      counts = (did.counts.0 ∙ kept.counts.0, did.counts.1 ∙ kept.counts.1);
+      counts = good_then_good _ _ _ _ _ _ kept.counts did.counts;
     }
 
 pub returns-in_err-own-clause-cut : goal.returns-in_err-own-clause-cut
@@ -88,6 +97,18 @@ returns-in_err-own-clause-cut g c =
     let whole = cuts_then old mid new hs (happening ∷ []) first here written lines c.loop-core.count kept.steps.1 c.give-2.ensures.steps c.in_err-own.ensures.cut in
     let all = all_happened mid c.args.event (part_from old c.args.event) hs kept.steps.2 (c.loop-core-test.ensures.event refl) in
     where_none c.from_residual-in_err-own.result _ (subst (λ (l : List Happening). CutsSteps old l first written) (ap (λ x. x ∷ hs) c.happening.ensures ∙ sym all) whole)
+
+pub returns-in_err-own-clause-counts : goal.returns-in_err-own-clause-counts
+returns-in_err-own-clause-counts g c =
+    let first = c.args.writer.now in
+    let after = c.give-2.new.writer in
+    let none : Option ℕ = None in
+    let told : none ≡ c.from_residual-in_err-own.result = search rules in
+    subst (λ (answer : Option ℕ). CountsLines answer (g.W.Sink.failed first) (g.W.Sink.fruitless first) (g.W.Sink.failed after) (g.W.Sink.fruitless after)) told
+    (good_then_bad _ _ _ _ _ _ c.loop-core.invariant.counts c.in_err-own.ensures.counts)
+
+pub returns-clause-counts : goal.returns-clause-counts
+returns-clause-counts g c = good_then_good _ _ _ _ _ _ c.loop-core.invariant.counts c.in_ok-own.ensures.counts
 
 pub returns-clause-takes : goal.returns-clause-takes
 returns-clause-takes g c =

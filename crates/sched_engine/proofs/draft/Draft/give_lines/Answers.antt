@@ -1,8 +1,15 @@
-use Rattle.std.proofs.Common.{◌∙◌, [], take, drop, subst, sym, append-nil}
+use Rattle.std.proofs.Common.{[], take, drop, subst, sym, append-nil, rules}
 use Rattle.trace_text.specs.Spelling.{lines_text}
 use Rattle.sched_engine.specs.own.Pieces.{Gives, Output}
 use Rattle.sched_engine.proofs.Giving.{gives_both, gives_front, gives_put, lines_on, lines_split}
+use Rattle.sched_engine.proofs.Tries.{good_then_bad, good_then_good, no_try}
 use Rattle.sched_engine.proofs.draft.Draft.give_lines.Goals as goal
+
+pub loop-line-init : goal.loop-line-init
+loop-line-init g c = record { given = search rules; counts = no_try (g.W.Sink.failed c.args.writer.now) (g.W.Sink.fruitless c.args.writer.now) }
+
+pub returns-then-not-make_room-clause-counts : goal.returns-then-not-make_room-clause-counts
+returns-then-not-make_room-clause-counts g c = good_then_bad _ _ _ _ _ _ c.loop-line.invariant.counts c.if-not-make_room.ensures.counts
 
 pub returns-then-not-make_room-clause-text : goal.returns-then-not-make_room-clause-text
 returns-then-not-make_room-clause-text g c =
@@ -23,10 +30,9 @@ loop-line-preserved g c =
     let roomy : Output = record { contents = g.W.Sink.contents c.make_room.new.writer; text = c.make_room.new.self } in
     let new : Output = record { contents = g.W.Sink.contents c.make_room.new.writer; text = c.put.new.self } in
     let made = c.if-not-make_room.ensures.room.0 in
-    let none = c.if-not-make_room.ensures.counts in
     let kept = c.loop-line.invariant in
     let all : Gives old roomy so_far = subst (Gives old roomy) (append-nil so_far) (gives_both old here roomy so_far [] kept.given made) in
     record {
       given = subst (Gives old new) (sym (lines_on lines i _ c.loop-line-test.true)) (gives_put old roomy so_far _ c.put.new.self all c.put.ensures);
-      counts = (none.0 ∙ kept.counts.0, none.1 ∙ kept.counts.1);
+      counts = good_then_good _ _ _ _ _ _ kept.counts c.if-not-make_room.ensures.counts;
     }

@@ -1,12 +1,12 @@
 use Rattle.std.proofs.Common.{take}
 use Rattle.trace_text.specs.Spelling.{lines_text}
-use Rattle.sched_engine.specs.Ends.{NoneMore}
+use Rattle.sched_engine.specs.Ends.{AllGood}
 use Rattle.sched_engine.specs.own.Pieces.{Gives}
 use Rattle.sched_engine.proofs.draft.Draft.give_lines.Given as goal
 
--- the text of the lines so far was given out, and no fault was counted
+-- the text of the lines so far was given out, and each try was good
 abbrev pub invariant-loop-line : goal.invariant-loop-line
 invariant-loop-line g l = record {
   given : Gives (record { contents = g.W.Sink.contents l.fn.writer; text = l.fn.self }) (record { contents = g.W.Sink.contents l.writer; text = l.self }) (lines_text (take l.line-index l.lines));
-  counts : NoneMore (g.W.Sink.failed l.fn.writer) (g.W.Sink.fruitless l.fn.writer) (g.W.Sink.failed l.writer) (g.W.Sink.fruitless l.writer);
+  counts : AllGood (g.W.Sink.failed l.fn.writer) (g.W.Sink.fruitless l.fn.writer) (g.W.Sink.failed l.writer) (g.W.Sink.fruitless l.writer);
 }

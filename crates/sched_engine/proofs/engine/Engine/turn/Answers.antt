@@ -4,9 +4,10 @@ use Rattle.sched_engine.specs.declared.answering.PieceEnd.{PieceEnd}
 use Rattle.sched_engine.specs.declared.report.RunError.{RunError}
 use Rattle.sched_engine.specs.declared.report.RunError.TheVariants.{Write}
 use Rattle.sched_engine.specs.declared.engine.Turn.{Turn}
-use Rattle.sched_engine.specs.Running.{Runs, piece}
+use Rattle.sched_engine.specs.Running.{CountsReader, CountsWriter, Runs, piece}
 use Rattle.sched_engine.specs.own.Turns.{IsPieceEnd, Progress, Turns}
 use Rattle.sched_engine.proofs.Turns.{at_the_end, cut_short, faulted, few_lines, filled, full, out_of_memory, refused, smaller, unwritten, wrote}
+use Rattle.sched_engine.proofs.Tries.{bad_try, good_then_bad, good_then_good, good_try, no_try, reads_ended, writes_ended}
 use Rattle.sched_engine.proofs.engine.Engine.turn.Goals as goal
 
 pub returns-in-End-clause-turns : goal.returns-in-End-clause-turns
@@ -145,3 +146,73 @@ returns-in-Memory-clause-turns g c = λ run between.
     let finished = wrote run answered after c.clear.new.self done (subst (Appends given after) c.bytes.ensures c.if-not-write_text.ensures.bytes) c.clear.ensures in
     let here : Progress = record { left = reader; held = new.held; text = c.clear.new.self; contents = after; core = new.core; count = new.count } in
     out_of_memory run here finished c.clear.ensures near
+
+-- ---- what the tries of the reader count
+
+pub returns-in-End-clause-read : goal.returns-in-End-clause-read
+returns-in-End-clause-read g c =
+    let source = c.args.reader.now in
+    let after = c.fill.new.source in
+    let core = c.args.self.now.core in
+    reads_ended c.end.result (record { events = core.taken; lines = c.args.self.now.count }) c.fill.new.self (core.taken + 1) (g.S.Source.failed source) (g.S.Source.fruitless source) (g.S.Source.failed after) (g.S.Source.fruitless after)
+    c.end.ensures (good_try _ _ _ _ c.in-End.ensures.counts)
+
+pub returns-in-Fault-clause-read : goal.returns-in-Fault-clause-read
+returns-in-Fault-clause-read g c = bad_try _ _ _ _ c.in-Fault.ensures.counts
+
+pub returns-in_err-end-clause-read : goal.returns-in_err-end-clause-read
+returns-in_err-end-clause-read g c =
+    let source = c.args.reader.now in
+    let after = c.fill.new.source in
+    let fault : Result Turn RunError = Err Write in
+    let told : fault ≡ c.from_residual.result = search (rules, c.in_err-end.ensures.cut.0) in
+    subst (λ (r : Result Turn RunError). CountsReader r (g.S.Source.failed source) (g.S.Source.fruitless source) (g.S.Source.failed after) (g.S.Source.fruitless after)) told (good_try _ _ _ _ c.in-More.ensures.counts)
+
+pub returns-then-not-write_text-clause-read : goal.returns-then-not-write_text-clause-read
+returns-then-not-write_text-clause-read g c = good_try _ _ _ _ c.in-More.ensures.counts
+
+pub returns-in-Part-clause-read : goal.returns-in-Part-clause-read
+returns-in-Part-clause-read g c = good_try _ _ _ _ c.in-More.ensures.counts
+
+pub returns-in-Refused-clause-read : goal.returns-in-Refused-clause-read
+returns-in-Refused-clause-read g c =
+    let source = c.args.reader.now in
+    let after = c.fill.new.source in
+    subst (λ (e : RunError). CountsReader {T = Turn} (Err e) (g.S.Source.failed source) (g.S.Source.fruitless source) (g.S.Source.failed after) (g.S.Source.fruitless after)) (sym c.refused_line.ensures) (good_try _ _ _ _ c.in-More.ensures.counts)
+
+pub returns-in-Full-clause-read : goal.returns-in-Full-clause-read
+returns-in-Full-clause-read g c = good_try _ _ _ _ c.in-More.ensures.counts
+
+pub returns-in-Memory-clause-read : goal.returns-in-Memory-clause-read
+returns-in-Memory-clause-read g c = good_try _ _ _ _ c.in-More.ensures.counts
+
+-- ---- what the tries of the writer count
+
+pub returns-in-End-clause-write : goal.returns-in-End-clause-write
+returns-in-End-clause-write g c =
+    let sink = c.args.writer.now in
+    let core = c.args.self.now.core in
+    writes_ended c.end.result (record { events = core.taken; lines = c.args.self.now.count }) c.fill.new.self (core.taken + 1) (g.W.Sink.failed sink) (g.W.Sink.fruitless sink) (g.W.Sink.failed sink) (g.W.Sink.fruitless sink)
+    c.end.ensures (no_try (g.W.Sink.failed sink) (g.W.Sink.fruitless sink))
+
+pub returns-in-Fault-clause-write : goal.returns-in-Fault-clause-write
+returns-in-Fault-clause-write g c = no_try (g.W.Sink.failed c.args.writer.now) (g.W.Sink.fruitless c.args.writer.now)
+
+pub returns-then-not-write_text-clause-write : goal.returns-then-not-write_text-clause-write
+returns-then-not-write_text-clause-write g c = good_then_bad _ _ _ _ _ _ c.in_ok-end.ensures.write c.if-not-write_text.ensures.counts
+
+pub returns-in-Part-clause-write : goal.returns-in-Part-clause-write
+returns-in-Part-clause-write g c = good_then_good _ _ _ _ _ _ c.in_ok-end.ensures.write c.if-not-write_text.ensures.counts
+
+pub returns-in-Refused-clause-write : goal.returns-in-Refused-clause-write
+returns-in-Refused-clause-write g c =
+    let sink = c.args.writer.now in
+    let after = c.write_text.new.sink in
+    subst (λ (e : RunError). CountsWriter {T = Turn} (Err e) (g.W.Sink.failed sink) (g.W.Sink.fruitless sink) (g.W.Sink.failed after) (g.W.Sink.fruitless after)) (sym c.refused_line.ensures)
+    (good_then_good _ _ _ _ _ _ c.in_ok-end.ensures.write c.if-not-write_text.ensures.counts)
+
+pub returns-in-Full-clause-write : goal.returns-in-Full-clause-write
+returns-in-Full-clause-write g c = good_then_good _ _ _ _ _ _ c.in_ok-end.ensures.write c.if-not-write_text.ensures.counts
+
+pub returns-in-Memory-clause-write : goal.returns-in-Memory-clause-write
+returns-in-Memory-clause-write g c = good_then_good _ _ _ _ _ _ c.in_ok-end.ensures.write c.if-not-write_text.ensures.counts

@@ -1,0 +1,15 @@
+use Rattle.std.proofs.Common.{◌≡◌, Result, Err, subst, rules}
+use Rattle.sched_engine.specs.declared.report.RunError.{RunError}
+use Rattle.sched_engine.specs.CodeTexts.{CountsListing}
+use Rattle.sched_engine.proofs.Tries.{lists_none}
+use Rattle.sched_engine.proofs.listing.write_listing.Goals as goal
+
+pub returns-in_err-text-clause-write : goal.returns-in_err-text-clause-write
+returns-in_err-text-clause-write g c =
+    let sink = c.args.writer.now in
+    let failed = g.W.Sink.failed sink in
+    let fruitless = g.W.Sink.fruitless sink in
+    let e = c.in_err-text.field-0.0 in
+    let fault : Result (Unit {0}) RunError = Err e in
+    let told : fault ≡ c.from_residual.result = search rules in
+    subst (λ (r : Result (Unit {0}) RunError). CountsListing r failed fruitless failed fruitless) told (lists_none e c.args.plan_text.now failed fruitless c.in_err-text.ensures.refuses)

@@ -1,0 +1,333 @@
+//! Runs whose ends follow a script: they give and take a few bytes at a time, are interrupted, are in trouble at one call, and
+//! give without end.
+ghost use Rattle.std.specs.Prelude.{◌≤◌, IfOk};
+
+use super::*;
+
+/// What an end does at the call at which it is in trouble.
+#[derive(Clone, Copy)]
+pub enum Trouble {
+    Fails(ErrorKind),
+    TakesNothing,
+}
+
+/// What an end does at its calls.
+#[derive(Clone, Copy)]
+pub struct Script {
+    /// How many bytes a call gives or takes at most.
+    pub most: usize,
+    /// How many calls in a row are interrupted before each other one.
+    pub interrupts: u32,
+    /// Which of these others is in trouble, counted from 1; 0 is none.
+    pub trouble_at: u32,
+    pub trouble: Trouble,
+}
+
+impl Script {
+    /// So many bytes a call, with no trouble.
+    pub fn smooth(most: usize) -> Script {
+        Script {
+            most,
+            interrupts: 0,
+            trouble_at: 0,
+            trouble: Trouble::TakesNothing,
+        }
+    }
+
+    /// How often an end is called, up to its fault: the 1,000th interrupt in a row, or the trouble.
+    fn calls(&self) -> u32 {
+        if self.interrupts >= 1_000 {
+            return 1_000;
+        }
+        self.trouble_at
+            .saturating_mul(self.interrupts.saturating_add(1))
+    }
+}
+
+/// How far an end is in its script.
+#[derive(Drop)]
+struct Playing {
+    script: Script,
+    /// How often it was called.
+    calls: u32,
+    /// How many of these calls were interrupted, since the last other one.
+    interrupted: u32,
+    /// How many were not.
+    done: u32,
+}
+
+impl Playing {
+    fn new(script: Script) -> Playing {
+        Playing {
+            script,
+            calls: 0,
+            interrupted: 0,
+            done: 0,
+        }
+    }
+
+    /// How many of `len` bytes the next call gives or takes.
+    fn call(&mut self, len: usize) -> io::Result<usize>
+        ensures { IfOk result (λ n. n ≤ len) }
+    {
+        self.calls = self.calls.saturating_add(1);
+        if self.interrupted < self.script.interrupts {
+            self.interrupted += 1;
+            return Err(io::Error::from(ErrorKind::Interrupted));
+        }
+        self.interrupted = 0;
+        self.done = self.done.saturating_add(1);
+        if self.done != self.script.trouble_at {
+            return Ok(len.min(self.script.most));
+        }
+        match self.script.trouble {
+            Trouble::Fails(kind) => Err(io::Error::from(kind)),
+            Trouble::TakesNothing => Ok(0),
+        }
+    }
+}
+
+/// A reader that gives some bytes, and then others again and again.
+#[derive(Drop)]
+struct Giving<'a> {
+    rest: &'a [u8],
+    again: &'a [u8],
+    playing: Playing,
+}
+
+impl Read for Giving<'_> {
+    fn read(&mut self, buf: &mut [u8]) -> io::Result<usize> {
+        if self.rest.is_empty() {
+            self.rest = self.again;
+        }
+        let n = self.playing.call(self.rest.len().min(buf.len()))?;
+        let (front, rest) = self.rest.split_at(n);
+        buf[..n].copy_from_slice(front);
+        self.rest = rest;
+        Ok(n)
+    }
+}
+
+/// A writer that keeps what it takes.
+#[derive(Drop)]
+struct Taking {
+    taken: Vec<u8>,
+    playing: Playing,
+}
+
+impl Write for Taking {
+    fn write(&mut self, buf: &[u8]) -> io::Result<usize> {
+        let n = self.playing.call(buf.len())?;
+        self.taken.extend_from_slice(&buf[..n])?;
+        Ok(n)
+    }
+
+    fn flush(&mut self) -> io::Result<()> {
+        Ok(())
+    }
+}
+
+/// A run by 9 workers between ends with a script, and what it has to come to.
+#[derive(Clone, Copy)]
+pub struct ScriptedRow<'a> {
+    pub plan: &'a str,
+    pub limit: u32,
+    pub events: &'a str,
+    /// What the reader gives behind the events, again and again.
+    pub again: &'a str,
+    pub reader: Script,
+    pub writer: Script,
+    pub answer: Result<Report, RunError>,
+    /// The text of which a front is written, and how many bytes that are at least and at most.
+    pub text: &'a str,
+    pub least: usize,
+    pub greatest: usize,
+}
+
+/// Checks what a run came to: its answer, that an end at fault was called no more, and what was written.
+fn came_to(
+    rt: &impl Abort,
+    row: &ScriptedRow<'_>,
+    answer: Result<Report, RunError>,
+    reads: u32,
+    writes: u32,
+    taken: &[u8],
+) {
+    assert!(rt; answer == row.answer, "{answer:?}");
+    assert!(rt; answer != Err(RunError::Read) || reads == row.reader.calls());
+    assert!(rt; answer != Err(RunError::Write) || writes == row.writer.calls());
+    assert!(rt; row.text.as_bytes().starts_with(taken));
+    assert!(rt; row.least <= taken.len() && taken.len() <= row.greatest);
+}
+
+/// Checks a run.
+pub fn plays(rt: &(impl AllocGlobal + Abort), row: &ScriptedRow<'_>) {
+    let mut reader = Reading::new(Giving {
+        rest: row.events.as_bytes(),
+        again: row.again.as_bytes(),
+        playing: Playing::new(row.reader),
+    });
+    let mut writer = Writing::new(Taking {
+        taken: Vec::new(rt.alloc()),
+        playing: Playing::new(row.writer),
+    });
+    let answer = run(
+        rt.alloc(),
+        row.plan.as_bytes(),
+        9,
+        row.limit,
+        &mut reader,
+        &mut writer,
+    );
+    let reads = reader.into_inner().playing.calls;
+    let Taking { taken, playing } = writer.into_inner();
+    came_to(rt, row, answer, reads, playing.calls, &taken);
+}
+
+/// The example, read in pieces of 8 bytes, which are its first lines.
+fn example() -> ScriptedRow<'static> {
+    ScriptedRow {
+        plan: ONE_DELAY,
+        limit: 1_000_000,
+        events: EVENTS,
+        again: "",
+        reader: Script::smooth(8),
+        writer: Script::smooth(65_536),
+        answer: Ok(Report {
+            events: 7,
+            lines: 8,
+        }),
+        text: TRACE,
+        least: TRACE.len(),
+        greatest: TRACE.len(),
+    }
+}
+
+#[test]
+fn fruitless_calls_are_tried_again(rt: HostRuntime) {
+    let smooth = Script::smooth(1);
+    let interrupted = Script {
+        interrupts: 999,
+        ..Script::smooth(8)
+    };
+    for (reader, writer) in [
+        (smooth, smooth),
+        (interrupted, smooth),
+        (smooth, interrupted),
+        (interrupted, interrupted),
+    ] {
+        plays(
+            &rt,
+            &ScriptedRow {
+                reader,
+                writer,
+                ..example()
+            },
+        );
+    }
+}
+
+/// The example with a reader at fault after `clock 4` and its newline, and so with the first four lines.
+#[test]
+fn tells_a_fault_of_the_reader(rt: HostRuntime) {
+    for (interrupts, kind, written) in [
+        (0u32, ErrorKind::Other, 57usize),
+        (999, ErrorKind::Other, 57),
+        (999, ErrorKind::Interrupted, 57),
+        (1_000, ErrorKind::Other, 0),
+    ] {
+        plays(
+            &rt,
+            &ScriptedRow {
+                reader: Script {
+                    interrupts,
+                    trouble_at: 4,
+                    trouble: Trouble::Fails(kind),
+                    ..Script::smooth(8)
+                },
+                answer: Err(RunError::Read),
+                least: written,
+                greatest: written,
+                ..example()
+            },
+        );
+    }
+}
+
+/// The example with a writer at fault after 24 bytes.
+#[test]
+fn tells_a_fault_of_the_writer(rt: HostRuntime) {
+    for (interrupts, trouble, written) in [
+        (0u32, Trouble::Fails(ErrorKind::BrokenPipe), 24usize),
+        (0, Trouble::TakesNothing, 24),
+        (999, Trouble::TakesNothing, 24),
+        (999, Trouble::Fails(ErrorKind::Interrupted), 24),
+        (1_000, Trouble::TakesNothing, 0),
+    ] {
+        plays(
+            &rt,
+            &ScriptedRow {
+                writer: Script {
+                    interrupts,
+                    trouble_at: 4,
+                    trouble,
+                    ..Script::smooth(8)
+                },
+                answer: Err(RunError::Write),
+                least: written,
+                greatest: written,
+                ..example()
+            },
+        );
+    }
+}
+
+#[test]
+fn ends_on_readers_without_end(rt: HostRuntime) {
+    let row = ScriptedRow {
+        plan: "version = 1",
+        limit: 5,
+        events: "",
+        reader: Script::smooth(65_536),
+        answer: Err(RunError::EventLine(1)),
+        text: "",
+        least: 0,
+        greatest: 0,
+        ..example()
+    };
+    for most in [1usize, 65_536] {
+        for again in ["a", "\n"] {
+            plays(
+                &rt,
+                &ScriptedRow {
+                    again,
+                    reader: Script::smooth(most),
+                    ..row
+                },
+            );
+        }
+        plays(
+            &rt,
+            &ScriptedRow {
+                again: "clock 0\n",
+                reader: Script::smooth(most),
+                answer: Err(RunError::Full),
+                text: "0 clock\n0 clock\n0 clock\n0 clock\n0 clock\n",
+                least: 40,
+                greatest: 40,
+                ..row
+            },
+        );
+    }
+    plays(
+        &rt,
+        &ScriptedRow {
+            reader: Script {
+                interrupts: u32::MAX,
+                ..row.reader
+            },
+            answer: Err(RunError::Read),
+            ..row
+        },
+    );
+}
