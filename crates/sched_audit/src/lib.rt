@@ -45,7 +45,13 @@
 //!
 //! # Tests
 //!
-//! `tests.rt` has examples and the texts of errors, and `tests/sizes.rt` runs, checks and listings of 80 KB and more.
+//! `tests.rt` has runs and the texts of errors, `tests/examples` the examples of the folder `examples`, and `tests/sizes.rt`
+//! runs, checks and listings of 80 KB and more.
+//!
+//! `tests/growths` is about all crates below as well: of each call that takes an allocator each growth is refused in turn,
+//! over the allocator of `tests/refusing.rt`, which refuses one growth and grants all others. Want of memory is then told, or
+//! nothing else than with ample memory; all memory is given back; what was written is the text of whole events; and an event
+//! that was refused is given again.
 #![tactic(auto)]
 
 mod audit;

@@ -1,4 +1,6 @@
 mod examples;
+mod growths;
+mod refusing;
 mod sizes;
 
 use crate::audit::{Audit, run_and_check};
