@@ -16,7 +16,7 @@ use Rattle.executor_core.specs.CoreView.{CoreView, workers_of, state_of}
 use Rattle.executor_core.specs.own.Invariants.{IsWellFormedCore}
 use Rattle.executor_core.specs.own.OwnSteps.{Takes}
 use Rattle.executor_core.specs.own.Sought.{Sought}
-use Rattle.executor_core.proofs.Tables.{call_moment, count_grows}
+use Rattle.executor_core.proofs.Tables.{call_moment, next_later, count_grows}
 
 -- what a call made at some moment looks at
 abbrev pub view_at : List Planned → State → ℕ → View
@@ -64,6 +64,9 @@ made_kept m entries keeps sought moment at call policies shut kept is greatest s
       few = kept.few;
       taken = kept.taken;
       moment = grind (arith, kept.moment, near, greatest);
+      ahead = λ p next.
+          let later = next_later m.calls 0 0 m.made (at, call) p kept.orderly.1 is (ap (slice_get m.calls) (sym (add-one m.made)) ∙ next) in
+          grind (arith, kept.ahead (at, call) is, later, greatest);
       count = kept.count;
       queue = kept.queue;
       keeping = kept.keeping;

@@ -213,6 +213,7 @@ cancel_kept m entries left keeps held_so sought k kept low live gone put =
       few = kept.few;
       taken = kept.taken;
       moment = kept.moment;
+      ahead = kept.ahead;
       count = length-set m.tasks k over ∙ kept.count;
       queue = gone ∙ (ap (λ l. set l k None) kept.queue ∙ sym (map-set queued m.tasks k over));
       keeping = put;

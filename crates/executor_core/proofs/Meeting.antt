@@ -125,6 +125,7 @@ fewer_keeps m entries keeps left sought tasks kept few is =
       few = kept.few;
       taken = kept.taken;
       moment = kept.moment;
+      ahead = kept.ahead;
       count = few.size ∙ kept.count;
       queue = kept.queue ∙ sym (map_same queued m.tasks tasks few.size (λ k. ap queued (few.each k)));
       keeping = is;

@@ -169,6 +169,7 @@ going_noted m entries keeps sought kept shut none = record {
   few = kept.few;
   taken = kept.taken;
   moment = kept.moment;
+  ahead = kept.ahead;
   count = kept.count;
   queue = kept.queue;
   keeping = kept.keeping;

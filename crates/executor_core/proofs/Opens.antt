@@ -63,6 +63,7 @@ opening_kept calls count workers limit tasks work entries keeps policies sought 
       few = omega (arith, long, few);
       taken = omega arith;
       moment = omega arith;
+      ahead = λ p next. omega arith;
       count = ap length is ∙ (length-replicate count vacant ∙ counted);
       queue = empty ∙ (sym (map_vacant count) ∙ ap (map queued) (sym is));
       keeping = unkept ∙ (sym (map_unheld count) ∙ ap (map held) (sym is));

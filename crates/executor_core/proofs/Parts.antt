@@ -1,10 +1,11 @@
 -- An event's part comes one happening after the other: the calls that it reaches, and then the event itself.
-use Rattle.std.proofs.Common.{◌≡◌, ℕ, ◌+◌, ◌<◌, ◌≤◌, nat_le, zero, suc, max, Bool, true, false, cond, List, [], ◌∷◌, ◌++◌, length, length-append, append-nil, append_assoc, Option, Some, None, refl, sym, ap, ◌∙◌, arith}
+use Rattle.std.proofs.Common.{◌≡◌, ℕ, ◌+◌, ◌<◌, ◌≤◌, nat_le, zero, suc, max, Bool, true, false, cond, List, [], ◌∷◌, ◌++◌, ◌&&◌, length, length-append, append-nil, append_assoc, Option, Some, None, refl, sym, ap, ◌∙◌, arith, subst}
 use Rattle.std.specs.Prelude.{slice_get, replicate, IsTrue}
 use Rattle.std.specs.Option.{option_map_or}
 use Rattle.std.proofs.lemmas.Bool.{false≢true, le-leb, leb-true}
 use Rattle.std.proofs.lemmas.Bool.Decides.{nat_tests}
 use Rattle.std.proofs.lemmas.Option.{slice_get_within}
+use Rattle.sched_time.specs.Times.{longest}
 use Rattle.queue_code.specs.Calls.{Planned, IsOrderly}
 use Rattle.executor_core.specs.declared.types.Event.{Event}
 use Rattle.executor_core.specs.declared.types.Event.TheVariants as v
@@ -132,17 +133,34 @@ pub record Told (calls : List Planned) (made now : ℕ) (event : Event) (reaches
 told_next : (calls : List Planned) (made now : ℕ) (event : Event) → IsOrderly calls → MayFrom calls made now (happening_of event) → Told calls made now event false
 told_next calls made now event o may = record { comes = (λ q. may, λ q. refl); call = λ q. absurd cc; alone = λ q. event_next calls made now event o may }
 
--- of a clock that is not accepted
-pub told_refused : (calls : List Planned) (made now t : ℕ) → IsOrderly calls → (is_accepted now t ≡ true → ⊥) → Told calls made now (v.Clock t) false
-told_refused calls made now t o refused = told_next calls made now (v.Clock t) o (λ q. absurd (refused q))
+far_refused : (now t : ℕ) → longest < t → is_accepted now t ≡ true → ⊥
+far_refused now t far q = let clash : t ≤ longest = grind (arith, nat_tests, q) in omega (arith, far, clash)
 
--- of a clock that is accepted, by whether the next call is reached
-pub told_accepted : (calls : List Planned) (made now t : ℕ) (reaches : Bool) → IsOrderly calls → is_accepted now t ≡ true → (IsTrue reaches → ReachesNext calls made t) → (reaches ≡ false → reached calls made t ≡ 0) →
-    Told calls made now (v.Clock t) reaches
-told_accepted calls made now t true o is next none =
-    let not : MayFrom calls made now (h.Clock t) → ⊥ = λ may. next_left calls made t o (next refl) (may is) in
+near_accepted : (now t : ℕ) → now ≤ t → t ≤ longest → is_accepted now t ≡ true
+near_accepted now t later near = grind (arith, nat_tests, later, near)
+
+-- of a clock that is past the limit
+told_far : (calls : List Planned) (made now t : ℕ) → IsOrderly calls → longest < t → Told calls made now (v.Clock t) false
+told_far calls made now t o far = told_next calls made now (v.Clock t) o (λ q. absurd (far_refused now t far q))
+
+-- of a clock that reaches no call
+pub told_unreached : (calls : List Planned) (made now t : ℕ) → IsOrderly calls → reached calls made t ≡ 0 → Told calls made now (v.Clock t) false
+told_unreached calls made now t o none = told_next calls made now (v.Clock t) o (λ q. none_made calls made t o none)
+
+-- of a clock within the limit that reaches the next call, which is not before now
+told_reached : (calls : List Planned) (made now t : ℕ) (p : Planned) → IsOrderly calls → now ≤ p.0 → p.0 ≤ t → t ≤ longest → ReachesNext calls made t → Told calls made now (v.Clock t) true
+told_reached calls made now t p o ahead within near next =
+    let not : MayFrom calls made now (h.Clock t) → ⊥ = λ may. next_left calls made t o next (may (near_accepted now t (omega (arith, ahead, within)) near)) in
     record { comes = (λ q. absurd cc, λ may. absurd (not may)); call = λ q. call_next calls made now (v.Clock t) o not; alone = λ q. absurd cc }
-told_accepted calls made now t false o is next none = told_next calls made now (v.Clock t) o (λ q. none_made calls made t o (none refl))
+
+-- of a clock, by the test of the next call, which is not before now
+pub told_by : (calls : List Planned) (made now t : ℕ) (p : Planned) (reaches : Bool) → IsOrderly calls → slice_get calls made ≡ Some p → now ≤ p.0 → reaches ≡ (nat_le t longest && nat_le p.0 t) → Told calls made now (v.Clock t) reaches
+told_by calls made now t p reaches o is ahead test = subst (Told calls made now (v.Clock t)) (sym test) (by (nat_le t longest) (nat_le p.0 t) refl refl)
+  where
+    by : (a b : Bool) → nat_le t longest ≡ a → nat_le p.0 t ≡ b → Told calls made now (v.Clock t) (a && b)
+    by true true near within = told_reached calls made now t p o ahead (grind (arith, nat_tests, within)) (grind (arith, nat_tests, near)) (tells_next calls made t p o is within)
+    by true false near beyond = told_unreached calls made now t o (tells_none calls made t p o is beyond)
+    by false b far q = told_far calls made now t o (grind (arith, nat_tests, far))
 
 -- ---- what a core has made happen of an event, and what is left of it
 

@@ -68,6 +68,7 @@ quieter_kept m entries keeps entries' keeps' sought tasks kept quieter queue kee
       few = kept.few;
       taken = kept.taken;
       moment = kept.moment;
+      ahead = kept.ahead;
       count = quieter.size ∙ kept.count;
       queue = queue;
       keeping = keeping;

@@ -195,6 +195,7 @@ start_kept m entries keeps sought w e kept gets counted =
       few = omega (arith, kept.few, length-set m.work w (Some k));
       taken = kept.taken;
       moment = kept.moment;
+      ahead = kept.ahead;
       count = length-set m.tasks k (running task) ∙ kept.count;
       queue = unqueued entries m.tasks k (running task) kept.queue (running_unqueued (running task) refl);
       keeping = kept.keeping ∙ sym (map-set_same held m.tasks k (running task) vacant refl);
@@ -340,6 +341,7 @@ finish_kept m entries keeps left sought w k due ending outcome task kept ran put
       few = omega (arith, kept.few, length-set m.work w None);
       taken = kept.taken;
       moment = kept.moment;
+      ahead = kept.ahead;
       count = length-set m.tasks k new ∙ kept.count;
       queue = put ∙ ((λ i. set (kept.queue i) k (sym stands i)) ∙ sym (map-set queued m.tasks k new));
       keeping = kept.keeping ∙ sym (map-set_same held m.tasks k new vacant (unheld new (end_keeps outcome due x ∙ unkept) ∙ sym (unheld x unkept)));

@@ -27,7 +27,7 @@ use Rattle.executor_core.specs.own.OwnSteps.{Takes}
 use Rattle.executor_core.specs.own.Sought.{Sought}
 use Rattle.executor_core.proofs.Keeping.{kept_stays}
 use Rattle.executor_core.proofs.Agree.{still_true}
-use Rattle.executor_core.proofs.Tables.{at_set, submission, runs_set, uncancelled_set, noted_at}
+use Rattle.executor_core.proofs.Tables.{at_set, submission, next_later, runs_set, uncancelled_set, noted_at}
 use Rattle.executor_core.proofs.Calling.{view_at, called_state, call_reply, call_state, kept_so, passed, passed_steps}
 
 -- a call that is refused
@@ -128,6 +128,9 @@ submit_kept m entries keeps sought at task delay timing kept is opened =
       few = kept.few;
       taken = kept.taken;
       moment = grind (arith, kept.moment, sub.moment);
+      ahead = λ p next.
+          let later = next_later m.calls 0 0 m.made (at, c.Submit task timing delay) p kept.orderly.1 is (ap (slice_get m.calls) (sym (add-one m.made)) ∙ next) in
+          grind (arith, kept.ahead (at, c.Submit task timing delay) is, later);
       count = length-set m.tasks task (waiting timing (at + delay)) ∙ kept.count;
       queue = ap (λ q. set q task (Some (at + delay))) kept.queue ∙ sym (map-set queued m.tasks task (waiting timing (at + delay)));
       keeping = kept.keeping ∙ sym (map-set_same held m.tasks task (waiting timing (at + delay)) vacant (sym (ap held fresh)));

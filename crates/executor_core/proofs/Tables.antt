@@ -101,6 +101,18 @@ call_moment [] count moment n at call o q = absurd (none-some _ q)
 call_moment (p ∷ calls) count moment zero at call o q = omega (arith, o.1, ap (λ (x : Planned). x.0) (same_Some p (at, call) q))
 call_moment (p ∷ calls) count moment (suc n) at call o q = call_moment calls (count_after count p.1) p.0 n at call o.3 q
 
+-- a call is not before the moment that calls in order begin with
+call_later : (calls : List Planned) (count moment n : ℕ) (p : Planned) → IsOrderlyFrom count moment calls → slice_get calls n ≡ Some p → moment ≤ p.0
+call_later [] count moment n p o q = absurd (none-some _ q)
+call_later (x ∷ calls) count moment zero p o q = omega (arith, o.0, ap (λ (y : Planned). y.0) (same_Some x p q))
+call_later (x ∷ calls) count moment (suc n) p o q = omega (arith, o.0, call_later calls (count_after count x.1) x.0 n p o.3 q)
+
+-- the call behind another one is not before it
+pub next_later : (calls : List Planned) (count moment n : ℕ) (p q : Planned) → IsOrderlyFrom count moment calls → slice_get calls n ≡ Some p → slice_get calls (suc n) ≡ Some q → p.0 ≤ q.0
+next_later [] count moment n p q o is next = absurd (none-some _ is)
+next_later (x ∷ calls) count moment zero p q o is next = omega (arith, ap (λ (y : Planned). y.0) (same_Some x p is), call_later calls (count_after count x.1) x.0 0 q o.3 next)
+next_later (x ∷ calls) count moment (suc n) p q o is next = next_later calls (count_after count x.1) x.0 n p q o.3 is next
+
 -- a front of the calls has no more submissions than a longer one
 pub count_grows : (calls : List Planned) (n : ℕ) → task_count (take n calls) ≤ task_count (take (suc n) calls)
 count_grows [] zero = omega arith

@@ -108,6 +108,7 @@ delayed_is_noted m entries keeps sought now kept shut none is = subst (IsWellFor
   few = kept.few;
   taken = kept.taken;
   moment = kept.moment;
+  ahead = kept.ahead;
   count = kept.count;
   queue = kept.queue;
   keeping = kept.keeping;

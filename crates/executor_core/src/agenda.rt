@@ -1,5 +1,5 @@
 //! The calls of a code, as a core makes them one after the other.
-ghost use Rattle.std.specs.Prelude.{◌≡◌, ◌+◌, ◌-◌, ◌<◌, Some, length, max, slice_get};
+ghost use Rattle.std.specs.Prelude.{◌≡◌, ◌+◌, ◌-◌, ◌<◌, ◌≤◌, Some, length, max, slice_get};
 ghost use Rattle.queue_code.specs.Calls.{IsOrderly, Planned};
 ghost use Rattle.queue_code.specs.Codes.{calls_of};
 
@@ -60,9 +60,10 @@ impl<A: Allocator> Agenda<A> {
         self.left
     }
 
-    /// The next call is made. The answer is the moment after it, where it was `now`: the greater of that and the call's own.
+    /// The next call is made, at its own moment, which is the answer. The moment before it, `now`, is not after that.
     pub(crate) fn pass(&mut self, now: u64) -> u64
-        requires { self.old.made < length self.old.items }
+        requires left { self.old.made < length self.old.items }
+        requires later { (call : Planned) → slice_get self.old.items self.old.made ≡ Some call → now ≤ call.0 }
         ensures passed { self.new ≡ record self.old { made = self.old.made + 1 } }
         ensures moment { (call : Planned) → slice_get self.old.items self.old.made ≡ Some call → result ≡ max now call.0 }
     {
@@ -72,6 +73,6 @@ impl<A: Allocator> Agenda<A> {
         };
         self.next = self.cursor.fetch(&self.code);
         self.left -= 1;
-        now.max(at)
+        at
     }
 }

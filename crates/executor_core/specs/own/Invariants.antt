@@ -1,6 +1,6 @@
 -- What stays true of each core: its invariant, and what it rests on. No contract of a public call cites it but through
 -- the invariant of `Core`. All of it is this project's rule.
-use Rattle.std.specs.Prelude.{◌≡◌, ◌≢◌, ℕ, ◌<◌, ◌≤◌, true, false, if◌then◌else◌, List, length, map, take, Option, Some, None, slice_index_or}
+use Rattle.std.specs.Prelude.{◌≡◌, ◌≢◌, ℕ, ◌<◌, ◌≤◌, true, false, if◌then◌else◌, List, length, map, take, Option, Some, None, slice_get, slice_index_or}
 use Rattle.sched_time.specs.Times.{longest}
 use Rattle.sched_time.specs.declared.timing.Timing.TheVariants as t
 use Rattle.executor_core.specs.declared.task.Stage.{Stage}
@@ -61,6 +61,8 @@ pub record IsWellFormedCore (m : CoreView) (entries kept : List (Option ℕ)) (s
   pub few : workers_of m ≤ most_workers
   pub taken : m.taken ≤ m.limit
   pub moment : m.moment ≤ longest
+  -- the next call is not before the moment
+  pub ahead : (p : Planned) → slice_get m.calls m.made ≡ Some p → m.moment ≤ p.0
   pub count : length m.tasks ≡ task_count m.calls
   pub queue : entries ≡ map queued m.tasks
   pub keeping : kept ≡ map held m.tasks

@@ -2,7 +2,7 @@
 ghost use Rattle.std.specs.Prelude.{◌≡◌, ℕ, ◌+◌, ◌<◌, ◌≤◌, [], ◌∷◌, length, Some, slice_get, vec_len, vec_capacity};
 ghost use Rattle.executor_core.specs.declared.types.Happening.TheVariants as happening;
 ghost use Rattle.queue_code.specs.declared.call.CodeCall.TheVariants as call;
-ghost use Rattle.queue_code.specs.Calls.{IsOrderly};
+ghost use Rattle.queue_code.specs.Calls.{IsOrderly, Planned};
 ghost use Rattle.executor_core.specs.Answers.{kind_of};
 ghost use Rattle.executor_core.specs.Tasks.{uncancelled_in};
 
@@ -17,10 +17,11 @@ impl<A: Allocator> Core<A> {
     ghost use Rattle.executor_core.specs.CoreView.{Steps, ContinuesAny, Leaves, GivesRoom, IsCounted, room_of};
     ghost use Rattle.executor_core.specs.own.OwnSteps.{Takes};
 
-    /// The next call with its moment, and none after the last one.
+    /// The next call with its moment, which is not before that of the core, and none after the last one.
     pub(super) fn next_call(&self) -> Option<(u64, CodeCall)>
         ensures call { result ≡ slice_get self.now.calls self.now.made }
         ensures orderly { IsOrderly self.now.calls }
+        ensures ahead { (call : Planned) → slice_get self.now.calls self.now.made ≡ Some call → self.now.moment ≤ call.0 }
     {
         self.calls.next()
     }

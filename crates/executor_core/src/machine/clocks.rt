@@ -38,7 +38,7 @@ impl<A: Allocator> Core<A> {
     }
 
     /// Why a clock that shows this moment is refused, and `None` where it is accepted.
-    pub(super) fn refuses_clock(&self, moment: u64) -> Option<EventError>
+    fn refuses_clock(&self, moment: u64) -> Option<EventError>
         ensures accepted { (result ≡ None) ↔ (is_accepted self.now.moment moment ≡ true) }
         ensures orderly { IsOrderly self.now.calls }
         ensures within { result ≡ None → (self.now.moment ≤ moment) × (moment ≤ longest) }
@@ -55,6 +55,7 @@ impl<A: Allocator> Core<A> {
 
     /// The clock shows a moment.
     fn answer_clock(&mut self, moment: u64) -> Answer
+        requires { is_accepted self.old.moment moment ≡ true → AreMade self.old.calls self.old.made moment }
         ensures step { Takes self.old self.new (happening.Clock moment) result }
         ensures size { length self.new.tasks ≡ length self.old.tasks }
     {

@@ -10,6 +10,7 @@ ghost use Rattle.executor_core.specs.declared.types.CancelEffect.TheVariants as 
 
 use super::Core;
 use crate::types::{Event, Happening, Line, Need};
+use sched_time::LONGEST;
 use std::alloc::Allocator;
 
 impl<A: Allocator> Core<A> {
@@ -50,11 +51,9 @@ impl<A: Allocator> Core<A> {
         let Event::Clock(moment) = event else {
             return false;
         };
-        if self.refuses_clock(moment).is_some() {
-            return false;
-        }
+        // The next call is not before the moment of the core, so a clock that reaches it does not go back.
         match self.next_call() {
-            Some((at, _)) => at <= moment,
+            Some((at, _)) => moment <= LONGEST && at <= moment,
             None => false,
         }
     }

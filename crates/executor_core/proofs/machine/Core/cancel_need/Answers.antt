@@ -1,4 +1,4 @@
-use Rattle.std.proofs.Common.{◌≡◌, ◌<◌, length, ap, sym, ◌∙◌, arith}
+use Rattle.std.proofs.Common.{◌<◌, length, ap, sym, ◌∙◌, arith}
 use Rattle.queue_code.specs.Calls.{terms_of}
 use Rattle.executor_core.specs.declared.task.Task.{Task}
 use Rattle.executor_core.specs.declared.types.CancelEffect.TheVariants as effect

@@ -1,54 +1,52 @@
-use Rattle.std.proofs.Common.{◌≡◌, Some, None, true, false, sym, ap, ◌∙◌, rules}
+use Rattle.std.proofs.Common.{◌≡◌, ◌&&◌, true, Some, None, sym, ap, rules, arith}
 use Rattle.std.specs.Prelude.{slice_get, nat_le}
-use Rattle.executor_core.proofs.Opens.{tells_next, tells_none, end_reached}
-use Rattle.executor_core.proofs.Parts.{told_accepted}
-use Rattle.executor_core.proofs.Tables.{none_of}
+use Rattle.std.proofs.lemmas.Bool.Decides.{nat_tests}
+use Rattle.sched_time.specs.Times.{longest}
+use Rattle.executor_core.proofs.Opens.{end_reached}
+use Rattle.executor_core.proofs.Parts.{told_by, told_unreached}
 use Rattle.executor_core.proofs.machine.Core.reaches_call.Goals as goal
 
-pub returns-in-Some-clause-comes : goal.returns-in-Some-clause-comes
-returns-in-Some-clause-comes g c =
+pub returns-then-moment-le-LONGEST-clause-comes : goal.returns-then-moment-le-LONGEST-clause-comes
+returns-then-moment-le-LONGEST-clause-comes g c =
     let m = c.args.self.now in
     let t = c.in-Clock.moment in
     let is : slice_get m.calls m.made ≡ Some (c.in-Some.at, c.in-Some.field-0-1) = search rules in
-    rw c.in-Clock.is (told_accepted m.calls m.made m.moment t (nat_le c.in-Some.at t) c.refuses_clock.ensures.orderly (c.refuses_clock.ensures.accepted.0 (none_of c.refuses_clock.result c.if-is_some.ensures))
-    (tells_next m.calls m.made t (c.in-Some.at, c.in-Some.field-0-1) c.refuses_clock.ensures.orderly is) (tells_none m.calls m.made t (c.in-Some.at, c.in-Some.field-0-1) c.refuses_clock.ensures.orderly is)).comes
+    let near : nat_le t longest ≡ true = grind (arith, nat_tests, c.if-moment-le-LONGEST.true) in
+    rw c.in-Clock.is (told_by m.calls m.made m.moment t (c.in-Some.at, c.in-Some.field-0-1) (nat_le c.in-Some.at t) c.next_call.ensures.orderly is (c.next_call.ensures.ahead (c.in-Some.at, c.in-Some.field-0-1) is) (ap (λ b. b && nat_le c.in-Some.at t) (sym near))).comes
 
 pub returns-in-None-clause-comes : goal.returns-in-None-clause-comes
 returns-in-None-clause-comes g c =
     let m = c.args.self.now in
     let t = c.in-Clock.moment in
     let over : slice_get m.calls m.made ≡ None = search rules in
-    rw c.in-Clock.is (told_accepted m.calls m.made m.moment t false c.refuses_clock.ensures.orderly (c.refuses_clock.ensures.accepted.0 (none_of c.refuses_clock.result c.if-is_some.ensures))
-    (λ q. absurd cc) (λ q. end_reached m.calls m.made t over)).comes
+    rw c.in-Clock.is (told_unreached m.calls m.made m.moment t c.next_call.ensures.orderly (end_reached m.calls m.made t over)).comes
 
-pub returns-in-Some-clause-call : goal.returns-in-Some-clause-call
-returns-in-Some-clause-call g c =
+pub returns-then-moment-le-LONGEST-clause-call : goal.returns-then-moment-le-LONGEST-clause-call
+returns-then-moment-le-LONGEST-clause-call g c =
     let m = c.args.self.now in
     let t = c.in-Clock.moment in
     let is : slice_get m.calls m.made ≡ Some (c.in-Some.at, c.in-Some.field-0-1) = search rules in
-    rw c.in-Clock.is (told_accepted m.calls m.made m.moment t (nat_le c.in-Some.at t) c.refuses_clock.ensures.orderly (c.refuses_clock.ensures.accepted.0 (none_of c.refuses_clock.result c.if-is_some.ensures))
-    (tells_next m.calls m.made t (c.in-Some.at, c.in-Some.field-0-1) c.refuses_clock.ensures.orderly is) (tells_none m.calls m.made t (c.in-Some.at, c.in-Some.field-0-1) c.refuses_clock.ensures.orderly is)).call
+    let near : nat_le t longest ≡ true = grind (arith, nat_tests, c.if-moment-le-LONGEST.true) in
+    rw c.in-Clock.is (told_by m.calls m.made m.moment t (c.in-Some.at, c.in-Some.field-0-1) (nat_le c.in-Some.at t) c.next_call.ensures.orderly is (c.next_call.ensures.ahead (c.in-Some.at, c.in-Some.field-0-1) is) (ap (λ b. b && nat_le c.in-Some.at t) (sym near))).call
 
 pub returns-in-None-clause-call : goal.returns-in-None-clause-call
 returns-in-None-clause-call g c =
     let m = c.args.self.now in
     let t = c.in-Clock.moment in
     let over : slice_get m.calls m.made ≡ None = search rules in
-    rw c.in-Clock.is (told_accepted m.calls m.made m.moment t false c.refuses_clock.ensures.orderly (c.refuses_clock.ensures.accepted.0 (none_of c.refuses_clock.result c.if-is_some.ensures))
-    (λ q. absurd cc) (λ q. end_reached m.calls m.made t over)).call
+    rw c.in-Clock.is (told_unreached m.calls m.made m.moment t c.next_call.ensures.orderly (end_reached m.calls m.made t over)).call
 
-pub returns-in-Some-clause-event : goal.returns-in-Some-clause-event
-returns-in-Some-clause-event g c =
+pub returns-then-moment-le-LONGEST-clause-event : goal.returns-then-moment-le-LONGEST-clause-event
+returns-then-moment-le-LONGEST-clause-event g c =
     let m = c.args.self.now in
     let t = c.in-Clock.moment in
     let is : slice_get m.calls m.made ≡ Some (c.in-Some.at, c.in-Some.field-0-1) = search rules in
-    rw c.in-Clock.is (told_accepted m.calls m.made m.moment t (nat_le c.in-Some.at t) c.refuses_clock.ensures.orderly (c.refuses_clock.ensures.accepted.0 (none_of c.refuses_clock.result c.if-is_some.ensures))
-    (tells_next m.calls m.made t (c.in-Some.at, c.in-Some.field-0-1) c.refuses_clock.ensures.orderly is) (tells_none m.calls m.made t (c.in-Some.at, c.in-Some.field-0-1) c.refuses_clock.ensures.orderly is)).alone
+    let near : nat_le t longest ≡ true = grind (arith, nat_tests, c.if-moment-le-LONGEST.true) in
+    rw c.in-Clock.is (told_by m.calls m.made m.moment t (c.in-Some.at, c.in-Some.field-0-1) (nat_le c.in-Some.at t) c.next_call.ensures.orderly is (c.next_call.ensures.ahead (c.in-Some.at, c.in-Some.field-0-1) is) (ap (λ b. b && nat_le c.in-Some.at t) (sym near))).alone
 
 pub returns-in-None-clause-event : goal.returns-in-None-clause-event
 returns-in-None-clause-event g c =
     let m = c.args.self.now in
     let t = c.in-Clock.moment in
     let over : slice_get m.calls m.made ≡ None = search rules in
-    rw c.in-Clock.is (told_accepted m.calls m.made m.moment t false c.refuses_clock.ensures.orderly (c.refuses_clock.ensures.accepted.0 (none_of c.refuses_clock.result c.if-is_some.ensures))
-    (λ q. absurd cc) (λ q. end_reached m.calls m.made t over)).alone
+    rw c.in-Clock.is (told_unreached m.calls m.made m.moment t c.next_call.ensures.orderly (end_reached m.calls m.made t over)).alone
