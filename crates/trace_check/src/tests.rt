@@ -1,9 +1,11 @@
 //! Texts by hand, and the traces of plans.
+mod breaks;
 mod changes;
 mod examples;
 mod heaps;
 mod plainly;
-mod rows;
+mod plans;
+mod traces;
 
 use crate::{CheckError, Finding, MOST_BYTES, check};
 use plan_read::read_plan;

@@ -5,7 +5,7 @@ ghost use Rattle.queue_code.specs.Calls.{IsOrderly};
 ghost use Rattle.queue_code.specs.Codes.{calls_of};
 
 use super::plainly::plain_finding;
-use super::rows::{
+use super::plans::{
     A_CANCEL_OF_A_RUN, A_CANCEL_OF_A_RUN_TRACE, A_SWEEP, A_SWEEP_TRACE, AN_ENDED_RUN,
     AN_ENDED_RUN_TRACE, ERRORS, ERRORS_TRACE, POLICIES, POLICIES_TRACE, TWO_WORKERS,
     TWO_WORKERS_TRACE,

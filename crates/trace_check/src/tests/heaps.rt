@@ -1,5 +1,5 @@
 //! Checks with little memory, over heaps of fixed size.
-use super::rows::{A_SWEEP, A_SWEEP_TRACE};
+use super::plans::{A_SWEEP, A_SWEEP_TRACE};
 use super::*;
 use linked_list_allocator::LocalHeap;
 use plan_read::Plan;

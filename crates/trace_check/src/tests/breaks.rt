@@ -1,0 +1,154 @@
+//! Texts that are no trace of a plan, beside some that are one.
+use super::plans::{A_SWEEP, NO_OVERLAP_TRACE, ONE_DELAY, TWO_WORKERS, TWO_WORKERS_TRACE};
+use super::*;
+
+/// A plan without calls.
+const EMPTY: &str = "version = 1";
+
+/// Whatever may have happened conforms, where a line tells it.
+#[test]
+fn lines_of_an_empty_plan(rt: HostRuntime) -> Result<(), Fail> {
+    for text in [
+        "",
+        "0 error too far\n",
+        "0 error not running\n",
+        "0 error no task\n",
+        "5 clock\n",
+        "5 clock\n5 error backward\n",
+        "4611686018427387904 clock\n4611686018427387904 error too far\n",
+    ] {
+        assert_eq!(rt; found(&rt, EMPTY, &[text])?, Finding::Conforms, "{text}");
+    }
+    for text in [
+        "0 error backward\n",
+        "0 error busy\n",
+        "1 error too far\n",
+        "0 outside 0 none\n",
+        "05 clock\n",
+        "5 clock",
+        "5 clock\r\n",
+        "5\tclock\n",
+        "5  clock\n",
+        "5 clock \n",
+        "\n",
+        "\n5 clock\n",
+        "x\n",
+        "0 end 0\n",
+        "0 shutdown\n",
+        "4611686018427387905 clock\n",
+        "0 start 0 task 0 run 0 due 0\n",
+        // the longest line, and one that is too long
+        "18446744073709551615 finish 255 task 4294967295 run 18446744073709551615 again due 18446744073709551615\n",
+        "18446744073709551615 finish 255 task 4294967295 run 18446744073709551615 again due 184467440737095516150\n",
+    ] {
+        assert_eq!(rt; found(&rt, EMPTY, &[text])?, Finding::Breaks(1), "{text}");
+    }
+    assert_eq!(rt; checked(&rt, EMPTY, 1, &[255])?, Ok(Finding::Breaks(1)));
+    Ok(())
+}
+
+#[test]
+fn another_line(rt: HostRuntime) -> Result<(), Fail> {
+    let front =
+        "0 submit 0 schedule due 5\n0 clock\n0 start 0 idle\n4 clock\n4 start 0 idle\n5 clock\n";
+    let end = "5 finish 0 task 0 run 0 done 7\n";
+    for line in [
+        "5 start 0 task 0 run 0 due 6\n",
+        "5 start 0 task 0 run 1 due 5\n",
+        "5 start 0 task 1 run 0 due 5\n",
+        "5 start 1 task 0 run 0 due 5\n",
+        "6 start 0 task 0 run 0 due 5\n",
+        "5 start 0 idle\n",
+    ] {
+        assert_eq!(rt;
+            found(&rt, ONE_DELAY, &[front, line, end])?,
+            Finding::Breaks(7),
+            "{line}"
+        );
+    }
+    let start = "5 start 0 task 0 run 0 due 5\n";
+    assert_eq!(rt;
+        found(&rt, ONE_DELAY, &[front, start, "5 error busy\n", end])?,
+        Finding::Conforms
+    );
+    assert_eq!(rt;
+        found(&rt, ONE_DELAY, &[front, start, "5 error not running\n"])?,
+        Finding::Breaks(8)
+    );
+    assert_eq!(rt;
+        found(&rt, ONE_DELAY, &[front, start, end, "5 error busy\n"])?,
+        Finding::Breaks(9)
+    );
+    assert_eq!(rt;
+        found(&rt, ONE_DELAY, &[front, start, end, end])?,
+        Finding::Breaks(9)
+    );
+    Ok(())
+}
+
+/// A clock that jumps past a call, and a call past the last one.
+#[test]
+fn calls_are_made_in_time(rt: HostRuntime) -> Result<(), Fail> {
+    assert_eq!(rt; found(&rt, ONE_DELAY, &["0 clock\n"])?, Finding::Breaks(1));
+    let submit = "0 submit 0 schedule due 5\n";
+    assert_eq!(rt;
+        found(&rt, ONE_DELAY, &[submit, submit])?,
+        Finding::Breaks(2)
+    );
+    Ok(())
+}
+
+#[test]
+fn ends_of_tasks(rt: HostRuntime) -> Result<(), Fail> {
+    let front = "\
+0 policy execute false
+0 submit 0 schedule due 1
+0 submit 1 schedule due 100
+0 submit 2 rate due 3
+5 shutdown
+";
+    for (ends, finding) in [
+        ("5 end 1\n5 end 2\n", Finding::Conforms),
+        ("5 end 1\n", Finding::Breaks(7)),
+        ("5 end 1\n6 shutdown again\n", Finding::Breaks(7)),
+        ("6 shutdown again\n", Finding::Breaks(6)),
+        ("5 end 2\n5 end 1\n", Finding::Breaks(6)),
+        ("5 end 1\n5 end 2\n5 end 0\n", Finding::Breaks(8)),
+        ("6 end 1\n5 end 2\n", Finding::Breaks(6)),
+    ] {
+        assert_eq!(rt; found(&rt, A_SWEEP, &[front, ends])?, finding, "{ends}");
+    }
+    Ok(())
+}
+
+/// A worker that waits is named by the least number.
+#[test]
+fn two_workers(rt: HostRuntime) -> Result<(), Fail> {
+    for (workers, trace, finding) in [
+        (2, TWO_WORKERS_TRACE, Finding::Conforms),
+        (1, TWO_WORKERS_TRACE, Finding::Breaks(5)),
+        (2, NO_OVERLAP_TRACE, Finding::Conforms),
+        (1, NO_OVERLAP_TRACE, Finding::Breaks(5)),
+    ] {
+        assert_eq!(rt;
+            checked(&rt, TWO_WORKERS, workers, trace.as_bytes())?,
+            Ok(finding),
+            "{workers}: {trace}"
+        );
+    }
+    Ok(())
+}
+
+#[test]
+fn numbers_of_workers(rt: HostRuntime) -> Result<(), Fail> {
+    for workers in [0, 65, 255] {
+        assert_eq!(rt;
+            checked(&rt, EMPTY, workers, b"")?,
+            Err(CheckError::Workers)
+        );
+    }
+    for workers in [1, 64] {
+        assert_eq!(rt; checked(&rt, EMPTY, workers, b"")?, Ok(Finding::Conforms));
+    }
+    Ok(())
+}
