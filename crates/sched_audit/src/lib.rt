@@ -35,7 +35,7 @@
 //! | [`AuditError::TooLong`] | the trace has more bytes than a check takes, 67,108,864 |
 //! | [`AuditError::Memory`] | memory ran out while the trace was checked |
 //!
-//! The errors are looked for in this order. Nothing is kept after an error.
+//! The errors are looked for in this order, but for want of memory, which may come in place of each. Nothing is kept after an error.
 //!
 //! # Memory and cost
 //!
@@ -48,10 +48,11 @@
 //! `tests.rt` has runs and the texts of errors, `tests/examples` the examples of the folder `examples`, and `tests/sizes.rt`
 //! runs, checks and listings of 80 KB and more.
 //!
-//! `tests/growths` is about all crates below as well: of each call that takes an allocator each growth is refused in turn,
-//! over the allocator of `tests/refusing.rt`, which refuses one growth and grants all others. Want of memory is then told, or
-//! nothing else than with ample memory; all memory is given back; what was written is the text of whole events; and an event
-//! that was refused is given again.
+//! `tests/growths` is about crates below as well: of a plan that is read, compiled, listed, run and checked, and of an event, each
+//! growth is refused in turn, over the allocator of `tests/refusing.rt`, which refuses one growth and grants all others. Want of
+//! memory is then told, or nothing else than with ample memory; all memory is given back; what was written is the text of whole
+//! events; and an event that was refused is given again. What the crate `toml` takes is of the heap of the system, and is granted
+//! here: `tools/refuse_growths` refuses the program that.
 #![tactic(auto)]
 
 mod audit;

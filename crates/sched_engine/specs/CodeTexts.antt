@@ -29,7 +29,8 @@ Listed (Ok done) text old new = (listing : List ℕ) × IsListingOfText text lis
 Listed (Err x.Write) text old new = (listing : List ℕ) × IsListingOfText text listing × (n : ℕ) × Appends old new (take n listing)
 Listed (Err e) text old new = RefusesText text e × Keeps old new
 
--- the calls of the writer of a listing: each of its tries was good, but for the last at `Write`; none where there is no code
+-- what the calls of the writer of a listing count: what good tries do, the last of which was bad at `Write`; nothing where there is
+-- no code
 abbrev pub CountsListing : Result (Unit {0}) RunError → ℕ → ℕ → ℕ → ℕ → Type 0
 CountsListing (Ok done) failed fruitless failed' fruitless' = AllGood failed fruitless failed' fruitless'
 CountsListing (Err x.Write) failed fruitless failed' fruitless' = LastBad failed fruitless failed' fruitless'

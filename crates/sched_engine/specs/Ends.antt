@@ -78,11 +78,12 @@ CountsTry None failed fruitless failed' fruitless' = IsBadTry failed fruitless f
 
 -- ---- tries one behind the other
 
--- each of some tries was good
+-- what tries count of which each was good: no call failed, and some were fruitless
 abbrev pub AllGood : ℕ → ℕ → ℕ → ℕ → Type 0
 AllGood failed fruitless failed' fruitless' = (n : ℕ) × NoneFailed n failed fruitless failed' fruitless'
 
--- the last of some tries was bad: a call failed, or at least as many were fruitless as are a fault
+-- what tries count of which the last alone was bad: one call failed, or at least as many were fruitless as are a fault. That
+-- these stood in a row is said of each try by itself, as IsBadTry has it
 abbrev pub LastBad : ℕ → ℕ → ℕ → ℕ → Type 0
 LastBad failed fruitless failed' fruitless' =
     ((n : ℕ) × OneFailed n failed fruitless failed' fruitless')
@@ -93,7 +94,7 @@ abbrev pub WritesText : Bool → Option (List ℕ) → Option (List ℕ) → Lis
 WritesText true old new text = Appends old new text
 WritesText false old new text = (n : ℕ) × (n ≤ length text) × Appends old new (take n text)
 
--- `true`: each try was good; `false`: the last was bad
+-- `true`: what good tries count; `false`: what they count where the last was bad
 abbrev pub CountsTries : Bool → ℕ → ℕ → ℕ → ℕ → Type 0
 CountsTries true failed fruitless failed' fruitless' = AllGood failed fruitless failed' fruitless'
 CountsTries false failed fruitless failed' fruitless' = LastBad failed fruitless failed' fruitless'

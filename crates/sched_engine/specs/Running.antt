@@ -110,7 +110,8 @@ Ran (Err x.Memory) text workers limit input left old new =
 Ran result text workers limit input left old new =
     (calls : List Planned) × IsAccepted text calls workers limit × Runs result calls workers limit input left old new
 
--- the calls of the reader: none where the plan or a number is refused; each of its tries was good, but for the last at `Read`
+-- what the calls of the reader count: nothing where the plan or a number is refused, and else what good tries do, the last of
+-- which was bad at `Read`
 abbrev pub CountsReader : {T : Type 0} → Result T RunError → ℕ → ℕ → ℕ → ℕ → Type 0
 CountsReader (Err (x.Plan fault)) failed fruitless failed' fruitless' = NoneFailed 0 failed fruitless failed' fruitless'
 CountsReader (Err x.Workers) failed fruitless failed' fruitless' = NoneFailed 0 failed fruitless failed' fruitless'
@@ -118,7 +119,8 @@ CountsReader (Err x.Limit) failed fruitless failed' fruitless' = NoneFailed 0 fa
 CountsReader (Err x.Read) failed fruitless failed' fruitless' = LastBad failed fruitless failed' fruitless'
 CountsReader _ failed fruitless failed' fruitless' = AllGood failed fruitless failed' fruitless'
 
--- the calls of the writer: none where the plan or a number is refused; each of its tries was good, but for the last at `Write`
+-- what the calls of the writer count: nothing where the plan or a number is refused, and else what good tries do, the last of
+-- which was bad at `Write`
 abbrev pub CountsWriter : {T : Type 0} → Result T RunError → ℕ → ℕ → ℕ → ℕ → Type 0
 CountsWriter (Err (x.Plan fault)) failed fruitless failed' fruitless' = NoneFailed 0 failed fruitless failed' fruitless'
 CountsWriter (Err x.Workers) failed fruitless failed' fruitless' = NoneFailed 0 failed fruitless failed' fruitless'
