@@ -1,3 +1,4 @@
 pub mod Getters
 pub mod KnownCommand
 pub mod Orders
+pub mod EndCounts

@@ -1,5 +1,6 @@
 pub use Rattle.sched_engine.specs.Running
 pub mod Errors
+pub mod EndCounts
 pub mod Lines
 pub mod Commands
 pub mod Arguments

@@ -2,6 +2,7 @@
 
 ghost use Rattle.std.specs.Prelude.{◌≡◌, ◌≤◌, ◌↔◌, IfOk, IsErrOf, MatchResult, length, string_bytes};
 ghost use Rattle.executor_core.specs.Counts.{IsWorkerCount};
+ghost use Rattle.sched.specs.EndCounts.{CountsOutput};
 ghost use Rattle.sched.specs.Errors.{status_of as fault_status};
 ghost use Rattle.sched.specs.Findings.{IsCheckedAsAsked, finding_text, finding_status};
 ghost use Rattle.trace_check.specs.Standing.{most_bytes};
@@ -24,6 +25,8 @@ pub fn write_finding<A: Allocator + Copy, B: Allocator, W: Sink>(
 ) -> Result<u8, ProgramError>
     requires { length trace.now ≤ most_bytes }
     ensures found { IsCheckedAsAsked result plan.now workers trace.now (W.contents writer.old) (W.contents writer.new) }
+    ensures write { CountsOutput result (W.failed writer.old) (W.fruitless writer.old) (W.failed writer.new) (W.fruitless writer.new) }
+    ensures unread { IsErrOf result (ProgramError.Run RunError.Read) → ⊥ }
     ensures workers { IsErrOf result (ProgramError.Run RunError.Workers) ↔ ¬ IsWorkerCount workers }
     ensures status { MatchResult result (λ s. s ≤ 1) (λ e. fault_status e ≡ 1) }
 {

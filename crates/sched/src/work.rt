@@ -1,8 +1,9 @@
 //! What each command does with its files, and which fault it tells.
 
-ghost use Rattle.std.specs.Prelude.{◌≡◌, ◌≤◌, MatchResult, Result};
+ghost use Rattle.std.specs.Prelude.{◌≡◌, ◌≤◌, IsErrOf, MatchResult, Result};
 ghost use Rattle.std.specs.declared.io.Error.{Error};
 ghost use Rattle.sched.specs.Answers.{ListedAsAsked, RanAsAsked};
+ghost use Rattle.sched.specs.EndCounts.{CountsInput, CountsOutput};
 ghost use Rattle.sched.specs.Errors.{status_of};
 ghost use Rattle.sched.specs.Fronts.{IsReadOf, most_of_plan, most_of_trace};
 ghost use Rattle.sched.specs.Order.{AnswersCheck, AnswersCode, AnswersRun};
@@ -27,6 +28,8 @@ pub fn run_file<P: Read + Drop, S: Source, W: Sink>(
     writer: &mut W,
 ) -> Result<u8, ProgramError>
     ensures answers { AnswersRun result (IsReadOf P.remaining most_of_plan plan) asked.now (S.remaining reader.old) (S.remaining reader.new) (W.contents writer.old) (W.contents writer.new) }
+    ensures read { CountsInput result (S.failed reader.old) (S.fruitless reader.old) (S.failed reader.new) (S.fruitless reader.new) }
+    ensures write { CountsOutput result (W.failed writer.old) (W.fruitless writer.old) (W.failed writer.new) (W.fruitless writer.new) }
     ensures status { MatchResult result (λ s. s ≡ 0) (λ e. status_of e ≡ 1) }
 {
     let text = plan_text(alloc, plan)?;
@@ -43,6 +46,8 @@ fn run_text<A: HeapAllocator, S: Source, W: Sink>(
     writer: &mut W,
 ) -> Result<u8, ProgramError>
     ensures ran { RanAsAsked result asked.now text.now (S.remaining reader.old) (S.remaining reader.new) (W.contents writer.old) (W.contents writer.new) }
+    ensures read { CountsInput result (S.failed reader.old) (S.fruitless reader.old) (S.failed reader.new) (S.fruitless reader.new) }
+    ensures write { CountsOutput result (W.failed writer.old) (W.fruitless writer.old) (W.failed writer.new) (W.fruitless writer.new) }
     ensures status { MatchResult result (λ s. s ≡ 0) (λ e. status_of e ≡ 1) }
 {
     run(alloc, text, asked.workers, asked.limit, reader, writer)?;
@@ -57,6 +62,8 @@ pub fn list_file<P: Read + Drop, W: Sink>(
     writer: &mut W,
 ) -> Result<u8, ProgramError>
     ensures answers { AnswersCode result (IsReadOf P.remaining most_of_plan plan) (W.contents writer.old) (W.contents writer.new) }
+    ensures write { CountsOutput result (W.failed writer.old) (W.fruitless writer.old) (W.failed writer.new) (W.fruitless writer.new) }
+    ensures unread { IsErrOf result (ProgramError.Run RunError.Read) → ⊥ }
     ensures status { MatchResult result (λ s. s ≡ 0) (λ e. status_of e ≡ 1) }
 {
     list_text(alloc, &plan_text(alloc, plan)?, writer)
@@ -69,6 +76,8 @@ fn list_text<A: HeapAllocator, W: Sink>(
     writer: &mut W,
 ) -> Result<u8, ProgramError>
     ensures listed { ListedAsAsked result text.now (W.contents writer.old) (W.contents writer.new) }
+    ensures write { CountsOutput result (W.failed writer.old) (W.fruitless writer.old) (W.failed writer.new) (W.fruitless writer.new) }
+    ensures unread { IsErrOf result (ProgramError.Run RunError.Read) → ⊥ }
     ensures status { MatchResult result (λ s. s ≡ 0) (λ e. status_of e ≡ 1) }
 {
     write_listing(alloc, text, writer)?;
@@ -89,6 +98,8 @@ pub fn check_files<P: Read + Drop, O: Fn(&str) -> io::Result<P> + Drop, W: Sink>
     ensures answers { AnswersCheck result (IsReadOf P.remaining most_of_plan plan)
         (λ text. (trace : Result P Error) × O.post open_file asked.now.trace trace × IsReadOf P.remaining most_of_trace trace text)
         asked.now.workers (W.contents writer.old) (W.contents writer.new) }
+    ensures write { CountsOutput result (W.failed writer.old) (W.fruitless writer.old) (W.failed writer.new) (W.fruitless writer.new) }
+    ensures unread { IsErrOf result (ProgramError.Run RunError.Read) → ⊥ }
     ensures status { MatchResult result (λ s. s ≤ 1) (λ e. status_of e ≡ 1) }
 {
     let text = plan_text(alloc, plan)?;
