@@ -17,7 +17,7 @@ use Rattle.executor_core.specs.CoreView.{CoreView, workers_of, Counts}
 use Rattle.worker_pool.specs.own.Results.{TookVerdict}
 use Rattle.worker_pool.specs.Books.{BookView, IsBook, KnowsVerdict, EndedSo, ending_in, past_of, stands_in, was_outside}
 use Rattle.worker_pool.specs.Applies.{Applies}
-use Rattle.worker_pool.specs.own.Steps.{IsKept, Agrees, past_in, part_in, Takes, SamePlan, SameHandles}
+use Rattle.worker_pool.specs.own.Steps.{IsKept, Agrees, past_in, part_in, Completes, SamePlan, SameHandles}
 use Rattle.worker_pool.proofs.Entries.{takes_noted, lines_more, last_line}
 use Rattle.worker_pool.proofs.Booking.{book_kept, kept_book, outside_stays, knows_still, ended_ran, ends_once}
 
@@ -35,18 +35,18 @@ pub record Took (old : BookView) (core : CoreView) (seat : CoreSeatView) (happen
   pub workers : workers_of core ≡ workers_of old.core
   pub taken : core.taken ≡ old.core.taken + 1
   pub handles : SameHandles old.seat seat
-  pub took : Takes old.seat.own seat.own (past_of old) (past_in core happened) (part_in old.core event)
+  pub took : Completes old.seat.own seat.own (past_of old) (past_in core happened) (part_in old.core event)
 
 -- it was counted before
 pub took_counted : (old : BookView) (counted core : CoreView) (seat : CoreSeatView) (happened : List Happening) (lines : List Line) (event : Event) → Counts old.core counted → SamePlan counted core → SameHandles old.seat seat → IsKept core seat happened lines →
-    Takes old.seat.own seat.own (past_in counted old.happened) (past_in core happened) (part_in counted event) → Took old core seat happened lines event
+    Completes old.seat.own seat.own (past_in counted old.happened) (past_in core happened) (part_in counted event) → Took old core seat happened lines event
 took_counted old counted core seat happened lines event counts same handles kept took = record {
   kept = kept;
   calls = same.calls ∙ ap (λ (m : CoreView). m.calls) counts;
   workers = same.workers ∙ ap workers_of counts;
   taken = same.taken ∙ ap (λ (m : CoreView). m.taken) counts;
   handles = handles;
-  took = subst (λ (m : CoreView). Takes old.seat.own seat.own (past_in m old.happened) (past_in core happened) (part_in m event)) counts took;
+  took = subst (λ (m : CoreView). Completes old.seat.own seat.own (past_in m old.happened) (past_in core happened) (part_in m event)) counts took;
 }
 
 -- the history is that of the old calls and workers too
@@ -140,11 +140,11 @@ notes_same cells notes past = record { stay = λ k note is. is; come = λ k note
 
 -- the book's desk had room made, and the event was counted
 pub took_room : (old : BookView) (roomy counted core : CoreView) (met seat : CoreSeatView) (before happened : List Happening) (lines : List Line) (event : Event) → roomy ≡ old.core → met ≡ old.seat → before ≡ old.happened → Counts roomy counted →
-    SamePlan counted core → SameHandles met seat → IsKept core seat happened lines → Takes met.own seat.own (past_in counted before) (past_in core happened) (part_in counted event) → Took old core seat happened lines event
+    SamePlan counted core → SameHandles met seat → IsKept core seat happened lines → Completes met.own seat.own (past_in counted before) (past_in core happened) (part_in counted event) → Took old core seat happened lines event
 took_room old roomy counted core met seat before happened lines event r s b counts same handles kept took =
     took_counted old counted core seat happened lines event (subst (λ m. Counts m counted) r counts) same (subst (λ v. SameHandles v seat) s handles) kept
-    (subst (λ (v : CoreSeatView). Takes v.own seat.own (past_in counted old.happened) (past_in core happened) (part_in counted event)) s
-    (subst (λ hs. Takes met.own seat.own (past_in counted hs) (past_in core happened) (part_in counted event)) b took))
+    (subst (λ (v : CoreSeatView). Completes v.own seat.own (past_in counted old.happened) (past_in core happened) (part_in counted event)) s
+    (subst (λ hs. Completes met.own seat.own (past_in counted hs) (past_in core happened) (part_in counted event)) b took))
 
 -- the verdict that the answer tells was put
 pub settled : (cells : List ℕ) (old : BookView) (core : CoreView) (seat : CoreSeatView) (happened : List Happening) (lines : List Line) (event : Event) (answer : Option Answer) (notes : List (Option (Note Verdict))) → IsBook cells old → (t : Took old core seat happened lines event) →

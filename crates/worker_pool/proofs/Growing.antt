@@ -15,7 +15,7 @@ use Rattle.executor_core.specs.Flows.{happening_of, CallComes, EventComes}
 use Rattle.executor_core.specs.CoreView.{CoreView}
 use Rattle.worker_pool.specs.Books.{stands_in}
 use Rattle.worker_pool.specs.Applies.{SaysYes, calls_in}
-use Rattle.worker_pool.specs.own.Steps.{SamePlan, SameHandles, Noting, OnlyNoted, IsPassed, Passes, Takes, MovesOn, part_in, past_in}
+use Rattle.worker_pool.specs.own.Steps.{SamePlan, SameHandles, Noting, OnlyNoted, IsPassed, Passes, Completes, MovesOn, part_in, past_in}
 use Rattle.worker_pool.proofs.Bools.{or_none, or_assoc, any_append}
 use Rattle.worker_pool.proofs.Steps.{longer}
 
@@ -82,7 +82,7 @@ no_calls (e ∷ noted) all = ap (λ b. cond b (e ∷ calls_in noted) (calls_in n
 
 -- after noted cancels
 pub takes_one : (calls : List Planned) (workers : ℕ) (own new_own : List ℕ) (past mid new_past : List HistoryEntry) (y : Happening) → Noting past mid → new_past ≡ longer calls workers mid y →
-    ((k : ℕ) → stands_in k new_own ≡ (cancels k (answer calls workers mid y).answer (answer calls workers mid y).ends || stands_in k own)) → Takes own new_own past new_past (y ∷ [])
+    ((k : ℕ) → stands_in k new_own ≡ (cancels k (answer calls workers mid y).answer (answer calls workers mid y).ends || stands_in k own)) → Completes own new_own past new_past (y ∷ [])
 takes_one calls workers own new_own past mid new_past y noting more grows =
     let r = answer calls workers mid y in
     let none = no_calls noting.noted noting.each in
@@ -113,7 +113,7 @@ noting_passes own new_own past new_past same noting =
     }
 
 -- a call is passed too
-pub call_passes : (own new_own : List ℕ) (past new_past : List HistoryEntry) → Takes own new_own past new_past (h.Call ∷ []) → Passes own new_own past new_past (h.Call ∷ [])
+pub call_passes : (own new_own : List ℕ) (past new_past : List HistoryEntry) → Completes own new_own past new_past (h.Call ∷ []) → Passes own new_own past new_past (h.Call ∷ [])
 call_passes own new_own past new_past took =
     let is : took.last.happening ≡ h.Call = ap (λ xs. slice_index_or xs 0 h.Call) took.part in
     let one : calls_in (took.last ∷ took.between) ≡ took.last ∷ calls_in took.between = ap (λ y. cond (is_call y) (took.last ∷ calls_in took.between) (calls_in took.between)) is in
@@ -145,7 +145,7 @@ passes_then a b c p q r one two first second = record {
       ∙ ap (λ x. x || stands_in k a) (sym (cancelled_both k second.between first.between))));
 }
 
-pub passes_take : (a b c : List ℕ) (p q r : List HistoryEntry) (one two : List Happening) → Passes a b p q one → Takes b c q r two → Takes a c p r (two ++ one)
+pub passes_take : (a b c : List ℕ) (p q r : List HistoryEntry) (one two : List Happening) → Passes a b p q one → Completes b c q r two → Completes a c p r (two ++ one)
 passes_take a b c p q r one two first second = record {
   last = second.last;
   between = second.between ++ first.between;
@@ -186,7 +186,7 @@ part_last mid event part more is comes = is ∙ ap (λ xs. xs ++ more) comes.alo
 -- a call was tried: it was made, or a cancel was noted
 pub call_tried : (result : Bool) (old mid new : CoreView) (own mid_own new_own : List ℕ) (xs ys zs : List Happening) (event : Event) (more : List Happening) →
     Passes own mid_own (past_in old xs) (past_in mid ys) more → part_in old event ≡ part_in mid event ++ more → CallComes mid.calls mid.made mid.moment event → new.calls ≡ mid.calls →
-    (result ≡ true → Takes mid_own new_own (past_in mid ys) (past_in new zs) (h.Call ∷ []) × MovesOn mid new h.Call) → (result ≡ false → OnlyNoted mid new ys zs × (new_own ≡ mid_own)) →
+    (result ≡ true → Completes mid_own new_own (past_in mid ys) (past_in new zs) (h.Call ∷ []) × MovesOn mid new h.Call) → (result ≡ false → OnlyNoted mid new ys zs × (new_own ≡ mid_own)) →
     (then : List Happening) × Passes own new_own (past_in old xs) (past_in new zs) then × (part_in old event ≡ part_in new event ++ then)
 call_tried true old mid new own mid_own new_own xs ys zs event more passed is comes calls done noted =
     let did = done refl in (

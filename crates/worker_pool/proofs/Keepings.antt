@@ -28,7 +28,7 @@ use Rattle.executor_laws.specs.TaskWords.{word_after}
 use Rattle.executor_laws.proofs.CancelSteps.{cancels_touch_one_task, only_calls_sweep}
 use Rattle.worker_pool.specs.Books.{history_for}
 use Rattle.worker_pool.specs.Applies.{SaysYes}
-use Rattle.worker_pool.specs.own.Moves.{moved, CanMove, WasMet}
+use Rattle.worker_pool.specs.own.Moves.{moves_made, CanMove, WasMet}
 use Rattle.worker_pool.specs.own.Steps.{Agrees, Keeps, IsKept, past_in, Comes, need_in, SameHandles, Notes, MovesOn, ends_of}
 use Rattle.worker_pool.proofs.Steps.{longer, state_at, needs, stepped, can_move, noted}
 
@@ -77,7 +77,7 @@ need_after m v happened lines y kept = ap (λ s. need_of m.calls (workers_of m) 
 
 -- the words that a need names were moved, and then its step was taken
 pub keeps_step : (m next_m : CoreView) (v next_v : CoreSeatView) (happened items : List Happening) (lines next_lines : List Line) (y : Happening) → IsKept m v happened lines → Comes m y → need_in m y ≢ n.Sweep → Steps m next_m lines next_lines (y ∷ []) →
-    items ≡ happened ++ y ∷ [] → next_v ≡ moved v (need_in m y) → IsKept next_m next_v items next_lines
+    items ≡ happened ++ y ∷ [] → next_v ≡ moves_made v (need_in m y) → IsKept next_m next_v items next_lines
 keeps_step m next_m v next_v happened items lines next_lines y kept may plain steps more is =
     let calls = m.calls in
     let workers = workers_of m in
@@ -85,7 +85,7 @@ keeps_step m next_m v next_v happened items lines next_lines y kept may plain st
     let same = need_after m v happened lines y kept in
     let agrees = stepped calls workers past y v kept.orderly kept.means kept.agrees (λ q. plain (same ∙ q)) in
     keeps_more m next_m v next_v happened items lines next_lines y kept may steps more
-    (subst (Agrees calls workers (longer calls workers past y)) (sym (is ∙ ap (moved v) same)) agrees)
+    (subst (Agrees calls workers (longer calls workers past y)) (sym (is ∙ ap (moves_made v) same)) agrees)
 
 -- the seat can make the moves
 pub kept_can_move : (m : CoreView) (v : CoreSeatView) (happened : List Happening) (lines : List Line) (y : Happening) → IsKept m v happened lines → IsCounted m → m.taken < 4294967296 → CanMove (task_count m.calls) v (need_in m y)
@@ -170,7 +170,7 @@ sweeps_are_calls m (h.Finish w ending) q = absurd (events_sweep_nothing m (h.Fin
 sweeps_are_calls m (h.Cancel k) q = absurd (events_sweep_nothing m (h.Cancel k) refl q)
 
 -- the moves of a need leave the handles as they are
-pub moved_handles : (v : CoreSeatView) (need : Need) → SameHandles v (moved v need)
+pub moved_handles : (v : CoreSeatView) (need : Need) → SameHandles v (moves_made v need)
 moved_handles v n.Nothing = record { joined = refl; ranks = refl; out = refl }
 moved_handles v (n.Submit k) = record { joined = refl; ranks = refl; out = refl }
 moved_handles v (n.Start k) = record { joined = refl; ranks = refl; out = refl }

@@ -6,7 +6,7 @@ use Rattle.task_word.specs.declared.answers.CoreCancel.{CoreCancel}
 use Rattle.task_word.specs.declared.answers.CoreCancel.TheVariants as core
 use Rattle.task_word.specs.declared.views.CoreSeatView.{CoreSeatView}
 use Rattle.executor_core.specs.declared.types.Need.TheVariants as n
-use Rattle.worker_pool.specs.own.Moves.{IsFresh, WasMet, moved}
+use Rattle.worker_pool.specs.own.Moves.{IsFresh, WasMet, moves_made}
 
 pub late_met : (tasks : ℕ) (v next : CoreSeatView) (k : ℕ) (answer : CoreCancel) → IsFresh tasks v k (λ e. is_live e.phase ≡ true) → answer ≡ core.Late → next ≡ after_cancel v k answer → WasMet tasks v next k
 late_met tasks v next k answer fresh late is = record { task = fresh.0; live = fresh.1; fresh = fresh.2; now = is ∙ ap (after_cancel v k) late }
@@ -25,5 +25,5 @@ won answer not_late live = elim live [
 ]
 
 pub won_moved : (tasks : ℕ) (v next : CoreSeatView) (k : ℕ) (answer : CoreCancel) → IsFresh tasks v k (λ e. is_live e.phase ≡ true) → (answer ≡ core.Won) ⊎ ((answer ≡ core.Over) ⊎ (answer ≡ core.Vacant)) →
-    (answer ≡ core.Won) ⊎ (answer ≡ core.Late) → next ≡ after_cancel v k answer → next ≡ moved v (n.Cancel k)
+    (answer ≡ core.Won) ⊎ (answer ≡ core.Late) → next ≡ after_cancel v k answer → next ≡ moves_made v (n.Cancel k)
 won_moved tasks v next k answer fresh not_late live is = is ∙ ap (after_cancel v k) (won answer not_late live)

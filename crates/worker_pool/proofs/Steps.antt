@@ -37,7 +37,7 @@ use Rattle.executor_laws.specs.Cancels.{effect_on_word, outside_answer}
 use Rattle.executor_laws.proofs.WordMoves.{needs_move_words}
 use Rattle.executor_laws.proofs.CancelSteps.{cancels_go_by_words}
 use Rattle.worker_pool.specs.Books.{stands_in, is_outside, was_outside, FitsWord}
-use Rattle.worker_pool.specs.own.Moves.{moved, IsFresh, CanMove, WasMet}
+use Rattle.worker_pool.specs.own.Moves.{moves_made, IsFresh, CanMove, WasMet}
 use Rattle.worker_pool.specs.own.Steps.{Agrees}
 use Rattle.worker_pool.proofs.Bools.{or_none, and_none, and_true, or_swap, or_joins}
 
@@ -135,7 +135,7 @@ cancelled_then calls workers past y k means =
     ∙ cancels_are_sets s.shut (reply_of calls workers s y).answer (reply_of calls workers s y).ends k (ends_none calls workers s y)
 
 -- the seat's own tasks after the moves of a need
-moved_own : (v : CoreSeatView) (need : Need) (ends : List ℕ) (k : ℕ) → need ≢ n.Sweep → stands_in k (moved v need).own ≡ (sets k (writes_of need ends) || stands_in k v.own)
+moved_own : (v : CoreSeatView) (need : Need) (ends : List ℕ) (k : ℕ) → need ≢ n.Sweep → stands_in k (moves_made v need).own ≡ (sets k (writes_of need ends) || stands_in k v.own)
 moved_own v n.Nothing ends k plain = refl
 moved_own v (n.Submit j) ends k plain = ap (λ b. b || stands_in k v.own) (sym (nothing_set j k))
 moved_own v (n.Start j) ends k plain = ap (λ b. b || stands_in k v.own) (sym (nothing_set j k))
@@ -146,7 +146,7 @@ moved_own v (n.Cancel j) ends k plain = ap (λ b. b || stands_in k v.own) (sym (
 moved_own v n.Sweep ends k plain = absurd (plain refl)
 
 pub own_then : (calls : List Planned) (workers : ℕ) (past : List HistoryEntry) (y : Happening) (v : CoreSeatView) (k : ℕ) → IsHistoryOf calls workers past → needs calls workers past y ≢ n.Sweep →
-    stands_in k (moved v (needs calls workers past y)).own ≡ (cancels k (answer calls workers past y).answer (answer calls workers past y).ends || stands_in k v.own)
+    stands_in k (moves_made v (needs calls workers past y)).own ≡ (cancels k (answer calls workers past y).answer (answer calls workers past y).ends || stands_in k v.own)
 own_then calls workers past y v k means plain =
     let ends = (reply_of calls workers (state_at calls workers past) y).ends in
     moved_own v (needs calls workers past y) ends k plain ∙ ap (λ b. b || stands_in k v.own) (sym (cancelled_then calls workers past y k means))
@@ -262,13 +262,13 @@ writes_at calls workers past y need orderly means is =
 
 -- the seat's entries fit the words of a longer history, where the words that the step needs were moved
 pub moved_fits : (calls : List Planned) (workers : ℕ) (past : List HistoryEntry) (y : Happening) (v : CoreSeatView) → IsOrderly calls → IsHistoryOf calls workers past → Agrees calls workers past v → needs calls workers past y ≢ n.Sweep →
-    (length (moved v (needs calls workers past y)).entries ≡ length v.entries) × ((j : ℕ) → FitsWord (entry (moved v (needs calls workers past y)) j) (word_after calls workers (longer calls workers past y) j))
+    (length (moves_made v (needs calls workers past y)).entries ≡ length v.entries) × ((j : ℕ) → FitsWord (entry (moves_made v (needs calls workers past y)) j) (word_after calls workers (longer calls workers past y) j))
 moved_fits calls workers past y v orderly means agrees plain = by (needs calls workers past y) refl
   where
     writes : (need : Need) → needs calls workers past y ≡ need → MakesWrites calls workers (state_at calls workers past) y (writes_of need (reply_of calls workers (state_at calls workers past) y).ends)
     writes need is = writes_at calls workers past y need orderly means is
 
-    by : (need : Need) → needs calls workers past y ≡ need → (length (moved v need).entries ≡ length v.entries) × ((j : ℕ) → FitsWord (entry (moved v need) j) (word_after calls workers (longer calls workers past y) j))
+    by : (need : Need) → needs calls workers past y ≡ need → (length (moves_made v need).entries ≡ length v.entries) × ((j : ℕ) → FitsWord (entry (moves_made v need) j) (word_after calls workers (longer calls workers past y) j))
     by n.Nothing is = (refl, λ j. subst (FitsWord (entry v j)) (sym ((writes n.Nothing is).rest j refl)) (agrees.each j))
     by n.Sweep is = absurd (plain is)
     by (n.Submit k) is = (entry_count v k (new_in 0), one_fits calls workers past y k submit v (new_in 0) agrees (writes (n.Submit k) is) refl)
@@ -279,13 +279,13 @@ moved_fits calls workers past y v orderly means agrees plain = by (needs calls w
     by (n.Cancel k) is = (entry_count v k (marked (entry v k)), λ j. one_fits calls workers past y k core_cancel v (marked (entry v k)) agrees (writes (n.Cancel k) is) refl j)
 
 pub stepped : (calls : List Planned) (workers : ℕ) (past : List HistoryEntry) (y : Happening) (v : CoreSeatView) → IsOrderly calls → IsHistoryOf calls workers past → Agrees calls workers past v → needs calls workers past y ≢ n.Sweep →
-    Agrees calls workers (longer calls workers past y) (moved v (needs calls workers past y))
+    Agrees calls workers (longer calls workers past y) (moves_made v (needs calls workers past y))
 stepped calls workers past y v orderly means agrees plain =
     let fits = moved_fits calls workers past y v orderly means agrees plain in
     record {
       count = fits.0 ∙ agrees.count;
       each = fits.1;
-      cancelled = λ k. cancelled_more calls workers past y v.own (moved v (needs calls workers past y)).own k (agrees.cancelled k) (own_then calls workers past y v k means plain);
+      cancelled = λ k. cancelled_more calls workers past y v.own (moves_made v (needs calls workers past y)).own k (agrees.cancelled k) (own_then calls workers past y v k means plain);
     }
 
 -- the seat can make the moves that a step needs

@@ -10,7 +10,7 @@ ghost use Rattle.executor_core.specs.Flows.{happening_of, answer_line, EventCome
 ghost use Rattle.executor_core.specs.Histories.{is_call};
 ghost use Rattle.task_word.specs.declared.views.CoreSeatView.{CoreSeatView};
 ghost use Rattle.worker_pool.specs.own.Moves.{WasMet};
-ghost use Rattle.worker_pool.specs.own.Steps.{IsKept, past_in, Comes, need_in, HasRoom, SamePlan, SameHandles, OnlyNoted, Notes, Passes, Takes, MovesOn, part_in, SweepsUpTo, TellsUpTo};
+ghost use Rattle.worker_pool.specs.own.Steps.{IsKept, past_in, Comes, need_in, HasRoom, SamePlan, SameHandles, OnlyNoted, Notes, Passes, Completes, MovesOn, part_in, SweepsUpTo, TellsUpTo};
 
 use crate::moving::move_word;
 use executor_core::{Answer, Core, Event, Happening, Line, Message, Need};
@@ -65,7 +65,7 @@ impl<A: Allocator> Desk<A> {
         ensures kept { IsKept self.new.core self.new.seat.view self.new.happenings.items self.new.lines.items }
         ensures same { SamePlan self.old.core self.new.core }
         ensures handles { SameHandles self.old.seat.view self.new.seat.view }
-        ensures done { IsTrue result → Takes self.old.seat.view.own self.new.seat.view.own (past_in self.old.core self.old.happenings.items) (past_in self.new.core self.new.happenings.items) (happening ∷ [])
+        ensures done { IsTrue result → Completes self.old.seat.view.own self.new.seat.view.own (past_in self.old.core self.old.happenings.items) (past_in self.new.core self.new.happenings.items) (happening ∷ [])
             × MovesOn self.old.core self.new.core happening }
         ensures noted { result ≡ false → OnlyNoted self.old.core self.new.core self.old.happenings.items self.new.happenings.items × (self.new.seat.view.own ≡ self.old.seat.view.own) }
         ensures more { (result ≡ false) ⊎ (is_call happening ≡ true) → IsCounted self.new.core × (room_of self.new.core + 1 ≤ room_of self.old.core)
@@ -142,7 +142,7 @@ impl<A: Allocator> Desk<A> {
         ensures kept { IsKept self.new.core self.new.seat.view self.new.happenings.items self.new.lines.items }
         ensures same { SamePlan self.old.core self.new.core }
         ensures handles { SameHandles self.old.seat.view self.new.seat.view }
-        ensures done { Takes self.old.seat.view.own self.new.seat.view.own (past_in self.old.core self.old.happenings.items) (past_in self.new.core self.new.happenings.items) (h.Call ∷ []) }
+        ensures done { Completes self.old.seat.view.own self.new.seat.view.own (past_in self.old.core self.old.happenings.items) (past_in self.new.core self.new.happenings.items) (h.Call ∷ []) }
         ensures on { MovesOn self.old.core self.new.core h.Call }
         ensures counted { IsCounted self.new.core }
         ensures less { room_of self.new.core + 1 ≤ room_of self.old.core }
@@ -189,7 +189,7 @@ impl<A: Allocator> Desk<A> {
         ensures kept { IsKept self.new.core self.new.seat.view self.new.happenings.items self.new.lines.items }
         ensures same { SamePlan self.old.core self.new.core }
         ensures handles { SameHandles self.old.seat.view self.new.seat.view }
-        ensures took { Takes self.old.seat.view.own self.new.seat.view.own (past_in self.old.core self.old.happenings.items) (past_in self.new.core self.new.happenings.items) (happening_of event ∷ []) }
+        ensures took { Completes self.old.seat.view.own self.new.seat.view.own (past_in self.old.core self.old.happenings.items) (past_in self.new.core self.new.happenings.items) (happening_of event ∷ []) }
     {
         let happening = event.happening();
         while !self.attempt(words, happening) {}
@@ -207,7 +207,7 @@ impl<A: Allocator> Desk<A> {
         ensures kept { IsKept self.new.core self.new.seat.view self.new.happenings.items self.new.lines.items }
         ensures same { SamePlan self.old.core self.new.core }
         ensures handles { SameHandles self.old.seat.view self.new.seat.view }
-        ensures took { Takes self.old.seat.view.own self.new.seat.view.own (past_in self.old.core self.old.happenings.items) (past_in self.new.core self.new.happenings.items) (part_in self.old.core event) }
+        ensures took { Completes self.old.seat.view.own self.new.seat.view.own (past_in self.old.core self.old.happenings.items) (past_in self.new.core self.new.happenings.items) (part_in self.old.core event) }
     {
         self.make_calls(words, event);
         self.take_last(words, event);

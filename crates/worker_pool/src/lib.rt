@@ -67,6 +67,8 @@ mod moving;
 mod named;
 mod results;
 mod shared;
+#[cfg(test)]
+mod tests;
 
 pub use applied::{Applied, Work};
 pub use book::Book;

@@ -1,6 +1,6 @@
 //! The moves of words that a need names.
 ghost use Rattle.std.specs.Prelude.{◌≡◌, None, IfSome};
-ghost use Rattle.worker_pool.specs.own.Moves.{CanMove, WasMet, moved};
+ghost use Rattle.worker_pool.specs.own.Moves.{CanMove, WasMet, moves_made};
 
 use executor_core::Need;
 use std::alloc::Allocator;
@@ -16,7 +16,7 @@ pub fn move_word<A: Allocator>(
     requires table { seat.old.table ≡ words.now.table }
     requires can { CanMove words.now.tasks seat.old.view need }
     ensures table { seat.new.table ≡ seat.old.table }
-    ensures moved { result ≡ None → seat.new.view ≡ moved seat.old.view need }
+    ensures moved { result ≡ None → seat.new.view ≡ moves_made seat.old.view need }
     ensures met { IfSome result (λ k. WasMet words.now.tasks seat.old.view seat.new.view k) }
 {
     match need {

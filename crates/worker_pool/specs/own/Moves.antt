@@ -14,15 +14,15 @@ abbrev pub with_mark : CoreSeatView → ℕ → CoreSeatView
 with_mark v k = with_entry v k (marked (entry v k))
 
 -- the seat made the moves of a need; those of a sweep are made one by one
-abbrev pub moved : CoreSeatView → Need → CoreSeatView
-moved v n.Nothing = v
-moved v (n.Submit k) = with_entry v k (new_in 0)
-moved v (n.Start k) = with_entry v k (started (entry v k))
-moved v (n.Done k) = with_entry v k (ended_well (entry v k))
-moved v (n.Fail k) = with_entry v k (ended_badly (entry v k))
-moved v (n.Rearm k) = with_entry v k (rearmed (entry v k))
-moved v (n.Cancel k) = after_cancel v k core.Won
-moved v n.Sweep = v
+abbrev pub moves_made : CoreSeatView → Need → CoreSeatView
+moves_made v n.Nothing = v
+moves_made v (n.Submit k) = with_entry v k (new_in 0)
+moves_made v (n.Start k) = with_entry v k (started (entry v k))
+moves_made v (n.Done k) = with_entry v k (ended_well (entry v k))
+moves_made v (n.Fail k) = with_entry v k (ended_badly (entry v k))
+moves_made v (n.Rearm k) = with_entry v k (rearmed (entry v k))
+moves_made v (n.Cancel k) = after_cancel v k core.Won
+moves_made v n.Sweep = v
 
 -- task k is one of n tasks, and in the seat's view its word passes a test and is not cancelled
 abbrev pub IsFresh : ℕ → CoreSeatView → ℕ → (Parts → Type 0) → Type 0

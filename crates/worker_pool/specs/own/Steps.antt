@@ -111,7 +111,7 @@ pub record Passes (before after_own : List ℕ) (old now : List HistoryEntry) (t
   pub own : (k : ℕ) → stands_in k after_own ≡ (was_cancelled k (calls_in between) || stands_in k before)
 
 -- then a last happening came; with the calls it is this part
-pub record Takes (before after_own : List ℕ) (old now : List HistoryEntry) (these : List Happening) : Type 0 where
+pub record Completes (before after_own : List ℕ) (old now : List HistoryEntry) (these : List Happening) : Type 0 where
   pub last : HistoryEntry
   pub between : List HistoryEntry
   pub past : now ≡ last ∷ (between ++ old)

@@ -1,5 +1,5 @@
 use Rattle.std.proofs.Common.{sym, ap, ◌∙◌, subst}
-use Rattle.worker_pool.specs.own.Moves.{CanMove, moved}
+use Rattle.worker_pool.specs.own.Moves.{CanMove, moves_made}
 use Rattle.worker_pool.proofs.Late.{late_met, won_moved}
 use Rattle.worker_pool.proofs.moving.move_word.Goals as goal
 
@@ -16,6 +16,6 @@ returns-in-Won g c =
     let can = subst (CanMove tasks v) c.in-Cancel.is c.requires.can in
     record {
       table = c.cancel.ensures.table;
-      moved = λ q. won_moved tasks v _ c.in-Cancel.task _ can c.in-Won.is (c.cancel.ensures.live can.1) c.cancel.ensures.view ∙ sym (ap (moved v) c.in-Cancel.is);
+      moved = λ q. won_moved tasks v _ c.in-Cancel.task _ can c.in-Won.is (c.cancel.ensures.live can.1) c.cancel.ensures.view ∙ sym (ap (moves_made v) c.in-Cancel.is);
       met = tt;
     }

@@ -5,7 +5,7 @@ use Rattle.queue_code.specs.Calls.{task_count}
 use Rattle.executor_core.specs.declared.types.Need.TheVariants as n
 use Rattle.executor_core.specs.CoreView.{workers_of}
 use Rattle.worker_pool.specs.Books.{stands_in}
-use Rattle.worker_pool.specs.own.Moves.{CanMove, WasMet, moved}
+use Rattle.worker_pool.specs.own.Moves.{CanMove, WasMet, moves_made}
 use Rattle.worker_pool.specs.own.Steps.{IsKept, past_in, need_in, SameHandles}
 use Rattle.worker_pool.proofs.Steps.{own_then}
 use Rattle.worker_pool.proofs.Keepings.{keeps_step, kept_can_move, past_more, need_after, moves_on, moved_handles, call_comes_before}
@@ -53,7 +53,7 @@ returns g c =
     let lines = c.happen.new.out.items in
     let steps = c.happen.ensures.steps in
     let plain : need_in old.core y ≢ n.Sweep = λ q. c.in_default.not-Sweep (c.need-need.ensures ∙ q) in
-    let to : seat ≡ moved old.seat.view (need_in old.core y) = c.move_word.ensures.moved c.in_default-move_word.is ∙ ap (moved old.seat.view) c.need-need.ensures in
+    let to : seat ≡ moves_made old.seat.view (need_in old.core y) = c.move_word.ensures.moved c.in_default-move_word.is ∙ ap (moves_made old.seat.view) c.need-need.ensures in
     let after = need_after old.core old.seat.view old.happenings.items old.lines.items y c.requires.kept in
     let room = c.requires.room in
     record {
@@ -63,7 +63,7 @@ returns g c =
       handles = subst (SameHandles old.seat.view) (sym to) (moved_handles old.seat.view (need_in old.core y));
       done = λ q. (
         takes_one old.core.calls (workers_of old.core) old.seat.view.own seat.own past past (past_in core items) y (none_noted past) (past_more old.core core old.happenings.items items y steps.calls steps.workers c.push_reserved.ensures.items)
-            (λ k. ap (λ (v : CoreSeatView). stands_in k v.own) (to ∙ ap (moved old.seat.view) after) ∙ own_then old.core.calls (workers_of old.core) past y old.seat.view k c.requires.kept.means (λ q. plain (after ∙ q))),
+            (λ k. ap (λ (v : CoreSeatView). stands_in k v.own) (to ∙ ap (moves_made old.seat.view) after) ∙ own_then old.core.calls (workers_of old.core) past y old.seat.view k c.requires.kept.means (λ q. plain (after ∙ q))),
         moves_on old.core core old.lines.items lines y steps,
       );
       noted = λ q. absurd (false≢true (sym q));

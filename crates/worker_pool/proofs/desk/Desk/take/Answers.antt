@@ -1,7 +1,7 @@
 use Rattle.std.proofs.Common.{[], ◌∷◌, sym, subst, List}
 use Rattle.executor_core.specs.declared.types.Happening.{Happening}
 use Rattle.executor_core.specs.Flows.{happening_of}
-use Rattle.worker_pool.specs.own.Steps.{past_in, part_in, Takes}
+use Rattle.worker_pool.specs.own.Steps.{past_in, part_in, Completes}
 use Rattle.worker_pool.proofs.Growing.{same_then, handles_then, passes_take, part_last}
 use Rattle.worker_pool.proofs.desk.Desk.take.Goals as goal
 
@@ -17,7 +17,7 @@ returns-clause-took g c =
     let passed = c.make_calls.ensures.passed in
     let event = c.args.event in
     let part = part_last mid.core event (part_in first.core event) passed.0 passed.2 c.make_calls.ensures.comes in
-    subst (λ (hs : List Happening). Takes own new.seat.view.own begun end hs) (sym part)
+    subst (λ (hs : List Happening). Completes own new.seat.view.own begun end hs) (sym part)
     (passes_take own mid.seat.view.own new.seat.view.own begun then end passed.0 (happening_of event ∷ []) passed.1 c.take_last.ensures.took)
 
 pub returns-clause-same : goal.returns-clause-same

@@ -1,6 +1,6 @@
 use Rattle.std.proofs.Common.{inl, [], ◌∷◌, ◌∙◌, sym, subst, refl, arith}
 use Rattle.executor_core.specs.declared.types.Happening.{Happening}
-use Rattle.worker_pool.specs.own.Steps.{past_in, Takes, Comes}
+use Rattle.worker_pool.specs.own.Steps.{past_in, Completes, Comes}
 use Rattle.worker_pool.proofs.Keepings.{still_comes}
 use Rattle.worker_pool.proofs.Growing.{same_then, same_handles, handles_then, nothing_noted, noted_then, noting_passes, passes_take}
 use Rattle.worker_pool.proofs.desk.Desk.take_last.Goals as goal
@@ -52,8 +52,8 @@ returns-clause-took g c =
     let begun = past_in first.core first.happenings.items in
     let mid = past_in old.core old.happenings.items in
     let end = past_in new.core new.happenings.items in
-    let all : Takes own new.seat.view.own begun end (c.happening-happening.result ∷ []) = passes_take own old.seat.view.own new.seat.view.own begun mid end [] (c.happening-happening.result ∷ []) (noting_passes own old.seat.view.own begun mid was.own was.noted.noting) (c.loop-happening-test.ensures.done refl).0 in
-    subst (λ (y : Happening). Takes own new.seat.view.own begun end (y ∷ [])) c.happening-happening.ensures all
+    let all : Completes own new.seat.view.own begun end (c.happening-happening.result ∷ []) = passes_take own old.seat.view.own new.seat.view.own begun mid end [] (c.happening-happening.result ∷ []) (noting_passes own old.seat.view.own begun mid was.own was.noted.noting) (c.loop-happening-test.ensures.done refl).0 in
+    subst (λ (y : Happening). Completes own new.seat.view.own begun end (y ∷ [])) c.happening-happening.ensures all
 
 pub returns-clause-same : goal.returns-clause-same
 returns-clause-same g c = same_then c.args.self.now.core c.loop-happening.self.core c.attempt.new.self.core c.loop-happening.invariant.noted.same c.attempt.ensures.same
