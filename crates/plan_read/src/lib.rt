@@ -95,7 +95,6 @@ mod call_tables;
 mod calls;
 mod faults;
 mod headers;
-mod heap_allocator;
 mod keys;
 mod laws;
 mod limits;

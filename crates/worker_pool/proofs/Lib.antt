@@ -1,0 +1,13 @@
+pub mod Bools
+pub mod NoteLists
+pub mod Late
+pub mod Steps
+pub mod Keepings
+pub mod Growing
+pub mod Sweeps
+pub mod Entries
+pub mod Settling
+pub mod Booking
+pub mod Applying
+pub mod Looking
+pub mod Retiring

@@ -1,0 +1,57 @@
+use Rattle.std.proofs.Common.{◌≡◌, ◌+◌, ◌-◌, ◌∙◌, List, ap, subst, length, arith}
+use Rattle.executor_core.specs.Histories.{HistoryEntry}
+use Rattle.worker_pool.specs.Books.{BookView}
+use Rattle.worker_pool.specs.Applies.{OnlyNotes}
+use Rattle.worker_pool.specs.own.Steps.{OnlyNoted, SameHandles}
+use Rattle.worker_pool.proofs.Applying.{book_of}
+use Rattle.worker_pool.proofs.Retiring.{length_noted, looked_book, looked_notes, book_knows}
+use Rattle.worker_pool.proofs.book.Book.note_cancels.Goals as goal
+
+pub overflow_sub-result : goal.overflow_sub-result
+overflow_sub-result g c =
+    let roomy = c.make_room.new.self in
+    let new = c.look_all.new.self in
+    let many = length_noted roomy.core new.core roomy.happenings.items new.happenings.items c.look_all.ensures.noted in
+    omega (arith, many, c.len-before.ensures, c.len.ensures, roomy.happenings.ok.0, new.happenings.ok.0)
+
+pub invariant_of-self-2 : goal.invariant_of-self-2
+invariant_of-self-2 g c =
+    let desk = c.self.inside.desk in
+    let b = book_of desk.core desk.seat.view desk.happenings.items desk.lines.items c.self.inside.notes.items in
+    let roomy = c.make_room.new.self in
+    let new = c.look_all.new.self in
+    let only : OnlyNoted b.core new.core b.happened new.happenings.items =
+    subst (λ m. OnlyNoted m new.core b.happened new.happenings.items) c.make_room.ensures.core (subst (λ hs. OnlyNoted roomy.core new.core hs new.happenings.items) c.make_room.ensures.happenings c.look_all.ensures.noted)
+    in
+    let handles = subst (λ v. SameHandles v new.seat.view) (ap (λ s. s.view) c.make_room.ensures.seat) c.look_all.ensures.handles in (
+      only.same.calls ∙ c.self.invariant.0,
+      only.same.workers ∙ c.self.invariant.1,
+      c.look_all.ensures.table ∙ (ap (λ s. s.table) c.make_room.ensures.seat ∙ c.self.invariant.2),
+      c.self.invariant.3,
+      c.self.invariant.4,
+      looked_book g.N.Named.cells b new.core new.seat.view new.happenings.items new.lines.items c.self.invariant.5 c.look_all.ensures.kept only handles,
+    )
+
+pub returns-clause-noted : goal.returns-clause-noted
+returns-clause-noted g c =
+    let desk = c.self.inside.desk in
+    let b = book_of desk.core desk.seat.view desk.happenings.items desk.lines.items c.self.inside.notes.items in
+    let roomy = c.make_room.new.self in
+    let new = c.look_all.new.self in
+    let only : OnlyNoted b.core new.core b.happened new.happenings.items =
+    subst (λ m. OnlyNoted m new.core b.happened new.happenings.items) c.make_room.ensures.core (subst (λ hs. OnlyNoted roomy.core new.core hs new.happenings.items) c.make_room.ensures.happenings c.look_all.ensures.noted)
+    in
+    let handles = subst (λ v. SameHandles v new.seat.view) (ap (λ s. s.view) c.make_room.ensures.seat) c.look_all.ensures.handles in
+    let own = c.look_all.ensures.own ∙ ap (λ s. s.view.own) c.make_room.ensures.seat in
+    let many = length_noted b.core new.core b.happened new.happenings.items only in
+    let count : length new.happenings.items ≡ length b.happened + (c.len.result - c.len-before.result) =
+    omega (arith, many, c.len-before.ensures, c.len.ensures, roomy.happenings.ok.0, new.happenings.ok.0, ap length c.make_room.ensures.happenings)
+    in
+    let all = book_of new.core new.seat.view new.happenings.items new.lines.items b.notes in
+    subst (λ (old : BookView). (noted : List HistoryEntry) × OnlyNotes old all noted × (length noted ≡ c.len.result - c.len-before.result)) c.self.view_is
+    (looked_notes g.N.Named.cells b new.core new.seat.view new.happenings.items new.lines.items (c.len.result - c.len-before.result) c.self.invariant.5 c.look_all.ensures.kept only handles own count)
+
+pub returns-clause-known : goal.returns-clause-known
+returns-clause-known g c =
+    let new = c.look_all.new.self in
+    book_knows g.N.Named.cells (book_of new.core new.seat.view new.happenings.items new.lines.items c.self.inside.notes.items) (invariant_of-self-2 g c).5

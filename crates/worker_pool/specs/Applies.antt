@@ -1,0 +1,114 @@
+-- What the calls of a book add to it. All of it is this project's rule.
+use Rattle.std.specs.Prelude.{◌≡◌, ℕ, ◌+◌, ◌<◌, ◌≤◌, ◌||◌, ◌&&◌, not, true, false, IsTrue, List, ◌∷◌, ◌++◌, length, Option, Some, None, ◌⊎◌, ◌-◌, slice_index, slice_index_or}
+use Rattle.std.specs.List.{All, filter}
+use Rattle.once_cell.specs.declared.race.note.Note.{Note}
+use Rattle.task_word.specs.Words.{is_cancelled, rank}
+use Rattle.task_word.specs.Views.{entry}
+use Rattle.task_word.specs.declared.views.CoreSeatView.{CoreSeatView}
+use Rattle.task_word.specs.declared.views.HandleSeatView.{HandleSeatView}
+use Rattle.result_cell.specs.declared.verdict.Verdict.{Verdict}
+use Rattle.queue_code.specs.Calls.{task_count}
+use Rattle.executor_core.specs.declared.types.CancelEffect.TheVariants as f
+use Rattle.executor_core.specs.declared.types.Answer.{Answer}
+use Rattle.executor_core.specs.declared.types.Answer.TheVariants as a
+use Rattle.executor_core.specs.declared.types.Event.{Event}
+use Rattle.executor_core.specs.declared.types.Happening.TheVariants as h
+use Rattle.executor_core.specs.Histories.{HistoryEntry, happenings, is_call, was_cancelled}
+use Rattle.executor_core.specs.Flows.{part_of}
+use Rattle.executor_core.specs.State.{vacant}
+use Rattle.executor_core.specs.Tasks.{word_of_task}
+use Rattle.worker_pool.specs.declared.applied.Applied.{Applied}
+use Rattle.worker_pool.specs.declared.applied.Work.{Work}
+use Rattle.worker_pool.specs.Books.{BookView, past_of, stands_in, was_outside}
+
+-- ---- cancels that are noted
+
+-- an entry is a cancel from outside, and is answered yes
+pub record SaysYes (e : HistoryEntry) (task : ℕ) : Type 0 where
+  pub happening : e.happening ≡ h.Cancel task
+  pub answer : e.answer ≡ a.Outside task f.Yes
+
+-- an entry is a cancel that was noted: it is answered yes, and its task is cancelled in the seat's view, but not by the seat
+-- (so a handle won it: each cancelled task has one winner)
+pub record IsNoted (seat : CoreSeatView) (e : HistoryEntry) : Type 0 where
+  pub task : ℕ
+  pub said : SaysYes e task
+  pub met : is_cancelled (entry seat task) ≡ true
+  pub others : stands_in task seat.own ≡ false
+
+-- cancels were noted, the newest first, and nothing else happened; the seat is as it was but for the entries of their tasks
+pub record OnlyNotes (old new : BookView) (noted : List HistoryEntry) : Type 0 where
+  pub past : past_of new ≡ noted ++ past_of old
+  pub each : All (IsNoted new.seat) noted
+  pub taken : new.core.taken ≡ old.core.taken
+  pub limit : new.core.limit ≡ old.core.limit
+  pub own : new.seat.own ≡ old.seat.own
+  pub joined : new.seat.joined ≡ old.seat.joined
+  pub out : new.seat.out ≡ old.seat.out
+  pub notes : new.notes ≡ old.notes
+
+-- each task that is cancelled in the seat's view is cancelled in the history
+abbrev pub KnowsCancels : BookView → Type 0
+KnowsCancels b = (k : ℕ) → is_cancelled (entry b.seat k) ≡ true → was_cancelled k (past_of b) ≡ true
+
+-- ---- an event
+
+-- of some entries those of calls of the plan
+abbrev pub calls_in : List HistoryEntry → List HistoryEntry
+calls_in entries = filter (λ e. is_call e.happening) entries
+
+-- an event was taken
+pub record Applies (old new : BookView) (event : Event) : Type 0 where
+  -- the entry of the event, and what came before it, the newest first: calls, and cancels that were noted
+  pub last : HistoryEntry
+  pub between : List HistoryEntry
+  pub past : past_of new ≡ last ∷ (between ++ past_of old)
+  pub each : All (λ e. IsTrue (is_call e.happening) ⊎ IsNoted new.seat e) between
+  -- but for the cancels that were noted these are the event's part of the flow
+  pub part : last.happening ∷ happenings (calls_in between) ≡ part_of old.core.calls old.core.made old.core.moment event
+  -- the seat cancelled exactly those tasks that the event's part cancels
+  pub own : (k : ℕ) → stands_in k new.seat.own ≡ (was_cancelled k (last ∷ calls_in between) || stands_in k old.seat.own)
+  -- the handles that are out or came back are the same
+  pub joined : new.seat.joined ≡ old.seat.joined
+  pub out : new.seat.out ≡ old.seat.out
+  -- one event more was taken
+  pub taken : new.core.taken ≡ old.core.taken + 1
+  -- a note that was there stays
+  pub notes : (k : ℕ) (note : Note Verdict) → slice_index_or old.notes k None ≡ Some note → slice_index_or new.notes k None ≡ Some note
+
+-- the task and the run that an answer starts
+abbrev pub work_started : Answer → Option Work
+work_started (a.Start worker task run due) = Some (record { task = task; run = run })
+work_started _ = None
+
+-- what is told of an event that was taken: where its lines begin and how many they are, and the work that its answer starts
+pub record Tells (old new : BookView) (last : HistoryEntry) (told : Applied) : Type 0 where
+  pub first : told.first ≡ length old.lines
+  pub count : length new.lines ≡ told.first + told.count
+  pub work : told.work ≡ work_started last.answer
+
+-- ---- a handle that comes back
+
+-- the words of the core have at least the ranks that a handle met
+abbrev pub HasMetRanks : BookView → HandleSeatView → Type 0
+HasMetRanks b handle = (k : ℕ) → k < task_count b.core.calls → slice_index handle.ranks k ≤ rank (word_of_task (slice_index_or b.core.tasks k vacant))
+
+-- while no handle is out, the tasks on which a cancel from outside had an effect, and which the seat did not cancel, are
+-- exactly those that handles won which came back
+abbrev pub AllAreJoined : BookView → Type 0
+AllAreJoined b = b.seat.out ≡ 0 → (k : ℕ) → k < task_count b.core.calls
+    → stands_in k b.seat.joined ≡ (was_outside k (past_of b) && not (stands_in k b.seat.own))
+
+-- a handle came back: what it won is joined, and cancels alone were noted
+pub record Retires (old new : BookView) (handle : HandleSeatView) : Type 0 where
+  pub noted : List HistoryEntry
+  pub past : past_of new ≡ noted ++ past_of old
+  pub each : All (IsNoted new.seat) noted
+  pub taken : new.core.taken ≡ old.core.taken
+  pub limit : new.core.limit ≡ old.core.limit
+  pub own : new.seat.own ≡ old.seat.own
+  pub joined : new.seat.joined ≡ old.seat.joined ++ handle.won
+  pub out : new.seat.out ≡ old.seat.out - 1
+  pub notes : new.notes ≡ old.notes
+  pub ranks : HasMetRanks new handle
+  pub all : AllAreJoined new

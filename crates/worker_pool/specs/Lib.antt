@@ -1,0 +1,12 @@
+pub use Rattle.sched_time.specs.Times
+pub use Rattle.task_word.specs.Words
+pub use Rattle.task_word.specs.Views
+pub use Rattle.queue_code.specs.Calls
+pub use Rattle.executor_core.specs.Histories
+pub use Rattle.executor_core.specs.Flows
+pub use Rattle.executor_core.specs.State
+pub use Rattle.executor_core.specs.Needs
+pub mod Shares
+pub mod Books
+pub mod Applies
+pub mod own
