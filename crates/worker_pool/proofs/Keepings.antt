@@ -25,7 +25,8 @@ use Rattle.executor_core.proofs.Agree.{after_agrees}
 use Rattle.executor_core.proofs.Flowing.{step_continues}
 use Rattle.executor_laws.specs.NeedWrites.{writes_of}
 use Rattle.executor_laws.specs.TaskWords.{word_after}
-use Rattle.executor_laws.proofs.CancelSteps.{cancels_touch_one_task, only_calls_sweep}
+use Rattle.executor_laws.proofs.CancelSteps.{cancels_touch_one_task}
+use Rattle.executor_laws.proofs.CancelNeeds.{only_calls_sweep}
 use Rattle.worker_pool.specs.Books.{history_for}
 use Rattle.worker_pool.specs.Applies.{SaysYes}
 use Rattle.worker_pool.specs.own.Moves.{moves_made, CanMove, WasMet}

@@ -35,7 +35,7 @@ use Rattle.executor_laws.specs.TaskWords.{word_after}
 use Rattle.executor_laws.specs.NeedWrites.{writes_of, IsWritten, MakesWrites}
 use Rattle.executor_laws.specs.Cancels.{effect_on_word, outside_answer}
 use Rattle.executor_laws.proofs.WordMoves.{needs_move_words}
-use Rattle.executor_laws.proofs.CancelSteps.{cancels_go_by_words}
+use Rattle.executor_laws.proofs.CancelWords.{cancels_go_by_words}
 use Rattle.worker_pool.specs.Books.{stands_in, is_outside, was_outside, FitsWord}
 use Rattle.worker_pool.specs.own.Moves.{moves_made, IsFresh, CanMove, WasMet}
 use Rattle.worker_pool.specs.own.Steps.{Agrees}
