@@ -84,8 +84,12 @@
 //!
 //! A plan owns its blocks and calls, in the allocator that it was read with; a name stands in its call. While a
 //! text is read, a map from names to submissions takes memory of that allocator too, and its TOML tree memory of
-//! the heap: the allocator is a [`HeapAllocator`], which gives the heap. A text of n bytes is read in the time of n log n: each name is looked up in
-//! the map once, and each table is read once. What a call needs of those before it is handed on.
+//! the heap: the allocator is a [`HeapAllocator`], which gives the heap.
+//!
+//! A text of n bytes is read in the time of n log n, where its headers are short: each name is looked up in the map
+//! once, and each table is read once. What a call needs of those before it is handed on. A header of h bytes with k
+//! keys below it takes `toml` the time of h times k, since each key goes along its header's path: at the longest
+//! text that is 2.5 processor seconds, for a header of 500,000 bytes.
 //!
 //! The tests of this crate stand in the crate above it, in `plan_compile/src/plan_tests.rt`.
 #![tactic(auto)]
