@@ -67,9 +67,8 @@ impl<A: Allocator> Agenda<A> {
         ensures passed { self.new ≡ record self.old { made = self.old.made + 1 } }
         ensures moment { (call : Planned) → slice_get self.old.items self.old.made ≡ Some call → result ≡ max now call.0 }
     {
-        let at = match self.next {
-            Some((at, _)) => at,
-            None => now,
+        let Some((at, _)) = self.next else {
+            unreachable!()
         };
         self.next = self.cursor.fetch(&self.code);
         self.left -= 1;

@@ -9,6 +9,11 @@ use Rattle.trace_text.specs.Writing.{Puts}
 pub next : {old mid new a b : List ℕ} → Puts old mid a → Puts mid new b → Puts old new (a ++ b)
 next {old} {mid} {new} {a} {b} first more = record { is = more.is ∙ (ap (λ l. l ++ b) first.is ∙ append_assoc old a b) }
 
+-- three texts that were put as one, and then more
+pub next_three : {old mid new d : List ℕ} (a b c : List ℕ) → Puts old mid (a ++ (b ++ c)) → Puts mid new d → Puts old new (a ++ (b ++ (c ++ d)))
+next_three {old} {mid} {new} {d} a b c first more =
+    record { is = (next first more).is ∙ ap (λ l. old ++ l) (append_assoc a (b ++ c) d ∙ ap (λ l. a ++ l) (append_assoc b c d)) }
+
 -- a number that was put so that it ends at `end`
 pub number_put : (old new : List ℕ) (at end start n : ℕ) → at ≤ length old → end ≡ at + length (decimal n) → start + length (decimal n) ≡ end → drop start new ≡ decimal n ++ drop end old
     → take start new ≡ take start old → Puts (take at old) (take end new) (decimal n)

@@ -69,9 +69,7 @@ fn put_submit(buffer: &mut [u8], at: usize, task: u32, kind: Kind, due: u64) -> 
 {
     let at = put_text(buffer, at, *b" submit ");
     let at = put_number(buffer, at, task as u64);
-    let at = put_text(buffer, at, *b" ");
     let at = put_kind(buffer, at, kind);
-    let at = put_text(buffer, at, *b" due ");
     let at = put_number(buffer, at, due);
     put_text(buffer, at, *b"\n")
 }
@@ -111,9 +109,7 @@ fn put_policy(buffer: &mut [u8], at: usize, which: Which, value: bool) -> usize
 {
     let at = put_text(buffer, at, *b" policy ");
     let at = put_policy_text(buffer, at, which);
-    let at = put_text(buffer, at, *b" ");
-    let at = put_truth(buffer, at, value);
-    put_text(buffer, at, *b"\n")
+    put_truth(buffer, at, value)
 }
 
 /// Puts how far the executor is.
@@ -134,11 +130,8 @@ fn put_ask(
     let at = put_number(buffer, at, queue as u64);
     let at = put_text(buffer, at, *b" running ");
     let at = put_number(buffer, at, running as u64);
-    let at = put_text(buffer, at, *b" shutdown ");
-    let at = put_whether(buffer, at, shutdown);
-    let at = put_text(buffer, at, *b" terminated ");
-    let at = put_whether(buffer, at, terminated);
-    put_text(buffer, at, *b"\n")
+    let at = put_shutdown(buffer, at, shutdown);
+    put_terminated(buffer, at, terminated)
 }
 
 /// Puts a worker that starts a run.
@@ -234,17 +227,17 @@ fn put_error(buffer: &mut [u8], at: usize, error: EventError) -> usize
     put_text(buffer, at, *b"\n")
 }
 
-/// Puts the word of a kind of task.
+/// Puts the word of a kind of task, with what stands before and behind it.
 #[inline(always)]
 fn put_kind(buffer: &mut [u8], at: usize, kind: Kind) -> usize
-    requires { at + 10 ≤ length buffer.old }
-    ensures end { result ≤ at + 10 }
-    ensures put { Puts (take at buffer.old) (take result buffer.new) (kind_text kind) }
+    requires { at + 20 ≤ length buffer.old }
+    ensures end { result ≤ at + 20 }
+    ensures put { Puts (take at buffer.old) (take result buffer.new) (codes " " ++ (kind_text kind ++ codes " due ")) }
 {
     match kind {
-        Kind::Schedule => put_text(buffer, at, *b"schedule"),
-        Kind::Rate => put_text(buffer, at, *b"rate"),
-        Kind::Fixed => put_text(buffer, at, *b"fixed"),
+        Kind::Schedule => put_text(buffer, at, *b" schedule due "),
+        Kind::Rate => put_text(buffer, at, *b" rate due "),
+        Kind::Fixed => put_text(buffer, at, *b" fixed due "),
     }
 }
 
@@ -306,30 +299,44 @@ fn put_policy_text(buffer: &mut [u8], at: usize, which: Which) -> usize
     }
 }
 
-/// Puts what a policy was set to, in a word.
+/// Puts what a policy was set to, in a word, with the space before it and the newline: one text is put in fewer steps than three.
 #[inline(always)]
 fn put_truth(buffer: &mut [u8], at: usize, value: bool) -> usize
     requires { at + 10 ≤ length buffer.old }
     ensures end { result ≤ at + 10 }
-    ensures put { Puts (take at buffer.old) (take result buffer.new) (truth_text value) }
+    ensures put { Puts (take at buffer.old) (take result buffer.new) (codes " " ++ (truth_text value ++ codes "\n")) }
 {
     if value {
-        put_text(buffer, at, *b"true")
+        put_text(buffer, at, *b" true\n")
     } else {
-        put_text(buffer, at, *b"false")
+        put_text(buffer, at, *b" false\n")
     }
 }
 
-/// Puts whether something is so, in a word.
+/// Puts whether the executor is shut, in a word, with what stands before and behind it.
 #[inline(always)]
-fn put_whether(buffer: &mut [u8], at: usize, so: bool) -> usize
+fn put_shutdown(buffer: &mut [u8], at: usize, shutdown: bool) -> usize
+    requires { at + 30 ≤ length buffer.old }
+    ensures end { result ≤ at + 30 }
+    ensures put { Puts (take at buffer.old) (take result buffer.new) (codes " shutdown " ++ (whether_text shutdown ++ codes " terminated ")) }
+{
+    if shutdown {
+        put_text(buffer, at, *b" shutdown yes terminated ")
+    } else {
+        put_text(buffer, at, *b" shutdown no terminated ")
+    }
+}
+
+/// Puts whether the executor has terminated, in a word, with the newline.
+#[inline(always)]
+fn put_terminated(buffer: &mut [u8], at: usize, terminated: bool) -> usize
     requires { at + 10 ≤ length buffer.old }
     ensures end { result ≤ at + 10 }
-    ensures put { Puts (take at buffer.old) (take result buffer.new) (whether_text so) }
+    ensures put { Puts (take at buffer.old) (take result buffer.new) (whether_text terminated ++ codes "\n") }
 {
-    if so {
-        put_text(buffer, at, *b"yes")
+    if terminated {
+        put_text(buffer, at, *b"yes\n")
     } else {
-        put_text(buffer, at, *b"no")
+        put_text(buffer, at, *b"no\n")
     }
 }
