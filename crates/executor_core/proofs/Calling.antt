@@ -50,6 +50,10 @@ pub kept_so : (b : Bool) → b ≡ ((b && true) || false)
 kept_so true = refl
 kept_so false = refl
 
+-- the moment of a call that is not before that of the core is the greater one
+pub called_at : (now at moment : ℕ) → now ≤ at → moment ≡ at → moment ≡ max now at
+called_at now at moment ahead is = grind (arith, ahead, is)
+
 -- a core that made a call, at a moment that is not before it, stays well formed
 pub made_kept : (m : CoreView) (entries keeps : List (Option ℕ)) (sought : Sought) (moment at : ℕ) (call : CodeCall) (policies : Policies) (shut : Bool) → IsWellFormedCore m entries keeps sought →
     slice_get m.calls m.made ≡ Some (at, call) → moment ≡ max m.moment at → (m.shut ≡ true → shut ≡ true) →

@@ -1,5 +1,5 @@
 -- An event's part comes one happening after the other: the calls that it reaches, and then the event itself.
-use Rattle.std.proofs.Common.{◌≡◌, ℕ, ◌+◌, ◌<◌, ◌≤◌, nat_le, zero, suc, max, Bool, true, false, cond, List, [], ◌∷◌, ◌++◌, ◌&&◌, length, length-append, append-nil, append_assoc, Option, Some, None, refl, sym, ap, ◌∙◌, arith, subst}
+use Rattle.std.proofs.Common.{◌≡◌, ℕ, ◌+◌, ◌<◌, ◌≤◌, nat_le, zero, suc, max, Bool, true, false, cond, List, [], ◌∷◌, ◌++◌, ◌&&◌, append-nil, append_assoc, Option, Some, None, refl, sym, ap, ◌∙◌, arith, subst}
 use Rattle.std.specs.Prelude.{slice_get, replicate, IsTrue}
 use Rattle.std.specs.Option.{option_map_or}
 use Rattle.std.proofs.lemmas.Bool.{false≢true, le-leb, leb-true}
@@ -16,8 +16,7 @@ use Rattle.executor_core.specs.Answers.{is_accepted, moment_after}
 use Rattle.executor_core.specs.Histories.{AreMade, MayFrom, made_after}
 use Rattle.executor_core.specs.Flows.{ReachesNext, happening_of, reached, calls_before, part_of, CallComes, EventComes}
 use Rattle.executor_core.specs.CoreView.{CoreView, Counts, Steps}
-use Rattle.executor_core.proofs.Events.{uncounted}
-use Rattle.executor_core.proofs.Flowing.{all_reached, no_steps}
+use Rattle.executor_core.proofs.Flowing.{all_reached}
 use Rattle.executor_core.proofs.Needing.{all_made}
 use Rattle.executor_core.proofs.Opens.{end_reached, tells_next, tells_none}
 

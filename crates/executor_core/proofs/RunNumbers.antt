@@ -1,6 +1,6 @@
 -- The numbers of runs, which only a finish makes greater.
-use Rattle.std.proofs.Common.{◌≡◌, ℕ, ◌+◌, ◌<◌, ◌≤◌, ◌==◌, nat_lt, max, Bool, true, false, cond, List, [], ◌∷◌, Option, Some, None, refl, sym, ap, ◌∙◌, arith}
-use Rattle.std.specs.Prelude.{slice_get, slice_index_or}
+use Rattle.std.proofs.Common.{◌≡◌, ℕ, ◌≤◌, ◌==◌, nat_lt, max, Bool, true, false, cond, List, [], ◌∷◌, Option, Some, None, refl, ap, arith}
+use Rattle.std.specs.Prelude.{slice_get}
 use Rattle.std.specs.Option.{option_map_or}
 use Rattle.sched_time.specs.declared.timing.Timing.{Timing}
 use Rattle.queue_code.specs.declared.call.CodeCall.{CodeCall}
@@ -17,8 +17,8 @@ use Rattle.executor_core.specs.declared.types.Happening.{Happening}
 use Rattle.executor_core.specs.declared.types.Happening.TheVariants as h
 use Rattle.executor_core.specs.declared.types.Line.{Line}
 use Rattle.executor_core.specs.View.{View}
-use Rattle.executor_core.specs.Answers.{Reply, bare, called, kind_of, effect_on, setting_sweeps, set_policy, swept}
-use Rattle.executor_core.specs.State.{State, vacant, view_of_state, move_task, submit_phase, reply_of}
+use Rattle.executor_core.specs.Answers.{bare, called, kind_of, effect_on, swept}
+use Rattle.executor_core.specs.State.{State, view_of_state, move_task, submit_phase, reply_of}
 use Rattle.executor_core.specs.CoreView.{CoreView, workers_of, state_of, Steps, IsCounted}
 
 -- an answer says that some run was finished

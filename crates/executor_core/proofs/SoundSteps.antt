@@ -6,7 +6,6 @@ use Rattle.std.proofs.lemmas.Bool.Decides.{nat_tests}
 use Rattle.std.proofs.lemmas.Option.{none-some, same_Some}
 use Rattle.executor_core.specs.declared.types.Happening.{Happening}
 use Rattle.executor_core.specs.declared.types.Happening.TheVariants as h
-use Rattle.executor_core.specs.declared.types.EventError.TheVariants as x
 use Rattle.executor_core.specs.declared.types.Outcome.{Outcome}
 use Rattle.executor_core.specs.declared.types.Outcome.TheVariants as o
 use Rattle.executor_core.specs.declared.types.Answer.{Answer}

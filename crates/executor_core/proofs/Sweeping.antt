@@ -3,7 +3,7 @@ use Rattle.std.proofs.Common.{zero, suc, ◌≡◌, ◌≢◌, ℕ, ◌+◌, ◌
 use Rattle.std.specs.Prelude.{slice_index_or, not}
 use Rattle.std.specs.List.{filter, range_with_len}
 use Rattle.std.proofs.Math.ListN.{set}
-use Rattle.std.proofs.lemmas.Bool.{false≢true, eqb-true, eq-eqb, le-ltb}
+use Rattle.std.proofs.lemmas.Bool.{false≢true, eqb-true, le-ltb}
 use Rattle.std.proofs.lemmas.Bool.Decides.{nat_tests}
 use Rattle.std.proofs.lemmas.List.{append-nil, length-set, map-append}
 use Rattle.sched_time.specs.declared.timing.Timing.{Timing}
@@ -17,7 +17,7 @@ use Rattle.queue_code.specs.Calls.{Planned, Terms, terms_of, task_count, submits
 use Rattle.executor_core.specs.View.{is_waiting}
 use Rattle.executor_core.specs.Answers.{is_swept, is_ended_by, swept}
 use Rattle.executor_core.specs.Histories.{is_end}
-use Rattle.executor_core.specs.State.{vacant, seen_task, seen_phase, due_seen, view_of_state}
+use Rattle.executor_core.specs.State.{vacant, seen_task, due_seen, view_of_state}
 use Rattle.executor_core.specs.Flows.{end_line}
 use Rattle.executor_core.specs.Tasks.{uncancelled_in}
 use Rattle.executor_core.specs.own.Tables.{waits_with, waits_again, is_waiting_phase, is_periodic, periodic_in}

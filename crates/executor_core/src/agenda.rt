@@ -1,5 +1,5 @@
 //! The calls of a code, as a core makes them one after the other.
-ghost use Rattle.std.specs.Prelude.{◌≡◌, ◌+◌, ◌-◌, ◌<◌, ◌≤◌, Some, length, max, slice_get};
+ghost use Rattle.std.specs.Prelude.{◌≡◌, ◌+◌, ◌-◌, ◌<◌, Some, length, slice_get};
 ghost use Rattle.queue_code.specs.Calls.{IsOrderly, Planned};
 ghost use Rattle.queue_code.specs.Codes.{calls_of};
 
@@ -60,12 +60,11 @@ impl<A: Allocator> Agenda<A> {
         self.left
     }
 
-    /// The next call is made, at its own moment, which is the answer. The moment before it, `now`, is not after that.
-    pub(crate) fn pass(&mut self, now: u64) -> u64
+    /// The next call is made; the answer is its moment.
+    pub(crate) fn pass(&mut self) -> u64
         requires left { self.old.made < length self.old.items }
-        requires later { (call : Planned) → slice_get self.old.items self.old.made ≡ Some call → now ≤ call.0 }
         ensures passed { self.new ≡ record self.old { made = self.old.made + 1 } }
-        ensures moment { (call : Planned) → slice_get self.old.items self.old.made ≡ Some call → result ≡ max now call.0 }
+        ensures moment { (call : Planned) → slice_get self.old.items self.old.made ≡ Some call → result ≡ call.0 }
     {
         let Some((at, _)) = self.next else {
             unreachable!()

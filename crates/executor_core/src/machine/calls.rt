@@ -70,7 +70,7 @@ impl<A: Allocator> Core<A> {
         ensures made { self.new.made ≡ self.old.made + 1 }
         ensures uncancelled { uncancelled_in self.new.tasks ≤ uncancelled_in self.old.tasks }
     {
-        self.moment = self.calls.pass(self.moment);
+        self.moment = self.calls.pass();
         if self.shut {
             return Answer::Refuse {
                 task,
@@ -91,7 +91,7 @@ impl<A: Allocator> Core<A> {
         ensures made { self.new.made ≡ self.old.made + 1 }
         ensures uncancelled { uncancelled_in self.new.tasks ≤ uncancelled_in self.old.tasks }
     {
-        self.moment = self.calls.pass(self.moment);
+        self.moment = self.calls.pass();
         Answer::Refuse {
             task,
             refusal: Refusal::Illegal,
@@ -107,7 +107,7 @@ impl<A: Allocator> Core<A> {
     {
         let before = self.moment;
         let effect = self.cancel_task(task);
-        self.moment = self.calls.pass(before);
+        self.moment = before.max(self.calls.pass());
         Answer::Cancel { task, effect }
     }
 
@@ -118,7 +118,7 @@ impl<A: Allocator> Core<A> {
         ensures made { self.new.made ≡ self.old.made + 1 }
         ensures uncancelled { uncancelled_in self.new.tasks ≤ uncancelled_in self.old.tasks }
     {
-        self.moment = self.calls.pass(self.moment);
+        self.moment = self.calls.pass();
         let queue = self.queue.len() + self.kept.len();
         let running = self.tasks.running();
         Answer::Ask {

@@ -38,7 +38,7 @@ impl<A: Allocator> Core<A> {
         ensures room { vec_len out.new + room_of self.new ≤ vec_len out.old + room_of self.old }
         ensures capacity { vec_capacity out.new ≡ vec_capacity out.old }
     {
-        self.moment = self.calls.pass(self.moment);
+        self.moment = self.calls.pass();
         self.policies = self.policies.with(which, value);
         out.push_reserved(Line {
             moment: self.moment,
@@ -61,7 +61,7 @@ impl<A: Allocator> Core<A> {
         ensures room { vec_len out.new + room_of self.new ≤ vec_len out.old + room_of self.old }
         ensures capacity { vec_capacity out.new ≡ vec_capacity out.old }
     {
-        self.moment = self.calls.pass(self.moment);
+        self.moment = self.calls.pass();
         if self.shut {
             out.push_reserved(Line {
                 moment: self.moment,

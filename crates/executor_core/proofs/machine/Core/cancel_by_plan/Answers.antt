@@ -22,8 +22,8 @@ invariant_of-self g c =
     let same = c.self-2.view_is ∙ is_cancelled_so old c.cancel_task-effect.new.self c.args.task c.cancel_task-effect.result did.yes did.no in
     let is = ap (λ x. slice_get x.calls x.made) same ∙ c.requires.1 in
     let moment = ap (λ (x : CoreView). x.moment) c.self.view_is ∙ sym (ap (λ (x : CoreView). x.moment) same) in
-    rw c.pass-self-inside.ensures.passed (passed_kept _ c.self-2.inside.queue.entries c.self-2.inside.kept.entries c.self-2.inside.sought c.pass-self-inside.result c.requires.0 (call.Cancel c.args.task) c.self-2.invariant is
-    (c.pass-self-inside.ensures.moment (c.requires.0, call.Cancel c.args.task) is ∙ ap (λ n. max n c.requires.0) moment))
+    rw c.pass.ensures.passed (passed_kept _ c.self-2.inside.queue.entries c.self-2.inside.kept.entries c.self-2.inside.sought c.max-self-inside.result c.requires.0 (call.Cancel c.args.task) c.self-2.invariant is
+    (c.max-self-inside.ensures ∙ (ap (max c.self.inside.moment) (c.pass.ensures.moment (c.requires.0, call.Cancel c.args.task) is) ∙ ap (λ n. max n c.requires.0) moment)))
 
 pub returns-clause-step : goal.returns-clause-step
 returns-clause-step g c =
@@ -33,8 +33,9 @@ returns-clause-step g c =
     let is : slice_get m.calls.items m.calls.made ≡ Some (c.requires.0, call.Cancel c.args.task) = ap (λ x. slice_get x.calls x.made) c.self.view_is ∙ c.requires.1 in
     let low : c.args.task < length m.tasks = omega (arith, names_a_task m.calls.items 0 0 m.calls.made c.requires.0 c.args.task c.self.invariant.orderly.1 is, c.self.invariant.count) in
     let same = c.self-2.view_is ∙ is_cancelled_so old c.cancel_task-effect.new.self c.args.task c.cancel_task-effect.result did.yes did.no in
-    let moment = c.pass-self-inside.ensures.moment (c.requires.0, call.Cancel c.args.task) (ap (λ x. slice_get x.calls x.made) same ∙ c.requires.1) ∙ ap (λ (x : CoreView). max x.moment c.requires.0) c.self.view_is in
-    rw c.pass-self-inside.ensures.passed (plan_steps old old _ c.pass-self-inside.result c.requires.0 c.args.task c.cancel_task-effect.result (subst (λ (x : CoreView). IsSound (state_of x)) c.self.view_is c.self.invariant.sound) c.requires.1
+    let passed = c.pass.ensures.moment (c.requires.0, call.Cancel c.args.task) (ap (λ x. slice_get x.calls x.made) same ∙ c.requires.1) in
+    let moment = c.max-self-inside.ensures ∙ (ap (max m.moment) passed ∙ ap (λ (x : CoreView). max x.moment c.requires.0) c.self.view_is) in
+    rw c.pass.ensures.passed (plan_steps old old _ c.max-self-inside.result c.requires.0 c.args.task c.cancel_task-effect.result (subst (λ (x : CoreView). IsSound (state_of x)) c.self.view_is c.self.invariant.sound) c.requires.1
     moment (subst (λ (x : CoreView). c.args.task < length x.tasks) c.self.view_is low) did.effect same refl)
 
 pub returns-clause-uncancelled : goal.returns-clause-uncancelled

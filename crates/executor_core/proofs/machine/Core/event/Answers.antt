@@ -1,4 +1,4 @@
-use Rattle.std.proofs.Common.{◌≡◌, ◌+◌, ◌≤◌, ◌++◌, [], ◌∷◌, length, refl, sym, ap, ◌∙◌, arith, rules, subst}
+use Rattle.std.proofs.Common.{◌≡◌, ◌+◌, ◌≤◌, [], ◌∷◌, length, refl, sym, ap, ◌∙◌, arith, rules, subst}
 use Rattle.std.specs.Prelude.{vec_len, vec_capacity}
 use Rattle.queue_code.specs.Calls.{task_count}
 use Rattle.executor_core.specs.declared.types.Happening.{Happening}

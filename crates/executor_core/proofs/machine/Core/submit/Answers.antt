@@ -5,7 +5,7 @@ use Rattle.queue_code.specs.declared.call.CodeCall.TheVariants as call
 use Rattle.executor_core.specs.CoreView.{CoreView}
 use Rattle.executor_core.specs.own.Invariants.{queued}
 use Rattle.executor_core.proofs.Tables.{submission, queued_at}
-use Rattle.executor_core.proofs.Calling.{passed_kept}
+use Rattle.executor_core.proofs.Calling.{called_at, passed_kept}
 use Rattle.executor_core.specs.declared.types.Refusal.TheVariants as refusal
 use Rattle.executor_core.proofs.Submits.{refuse_steps, shut_reply, submit_keeps_in, submit_steps_in, submit_fewer}
 use Rattle.executor_core.proofs.machine.Core.submit.Goals as goal
@@ -49,14 +49,14 @@ pub invariant_of-self : goal.invariant_of-self
 invariant_of-self g c =
     let m = c.self.inside in
     let is : slice_get m.calls.items m.calls.made ≡ Some (c.args.moment, call.Submit c.args.task c.args.timing c.args.delay) = ap (λ x. slice_get x.calls x.made) c.self.view_is ∙ c.requires in
-    rw c.pass-self-inside.ensures.passed (passed_kept _ m.queue.entries m.kept.entries m.sought c.pass-self-inside.result c.args.moment (call.Submit c.args.task c.args.timing c.args.delay) c.self.invariant is (c.pass-self-inside.ensures.moment (c.args.moment, call.Submit c.args.task c.args.timing c.args.delay) is))
+    rw c.pass-self-inside.ensures.passed (passed_kept _ m.queue.entries m.kept.entries m.sought c.pass-self-inside.result c.args.moment (call.Submit c.args.task c.args.timing c.args.delay) c.self.invariant is (called_at m.moment c.args.moment c.pass-self-inside.result (c.self.invariant.ahead (c.args.moment, call.Submit c.args.task c.args.timing c.args.delay) is) (c.pass-self-inside.ensures.moment (c.args.moment, call.Submit c.args.task c.args.timing c.args.delay) is)))
 
 pub invariant_of-self-2 : goal.invariant_of-self-2
 invariant_of-self-2 g c =
     let m = c.self.inside in
     let is : slice_get m.calls.items m.calls.made ≡ Some (c.args.moment, call.Submit c.args.task c.args.timing c.args.delay) = ap (λ x. slice_get x.calls x.made) c.self.view_is ∙ c.requires in
     rw c.pass-self-inside.ensures.passed (submit_keeps_in _ m.queue.entries c.insert.new.self.entries m.kept.entries m.sought c.pass-self-inside.result c.args.moment c.args.task c.args.delay c.args.timing c.submit.new.self
-    c.self.invariant is c.if-self.false (c.pass-self-inside.ensures.moment (c.args.moment, call.Submit c.args.task c.args.timing c.args.delay) is) c.insert.ensures.inserted c.submit.ensures)
+    c.self.invariant is c.if-self.false (called_at m.moment c.args.moment c.pass-self-inside.result (c.self.invariant.ahead (c.args.moment, call.Submit c.args.task c.args.timing c.args.delay) is) (c.pass-self-inside.ensures.moment (c.args.moment, call.Submit c.args.task c.args.timing c.args.delay) is)) c.insert.ensures.inserted c.submit.ensures)
 
 pub returns-then-self-clause-step : goal.returns-then-self-clause-step
 returns-then-self-clause-step g c =
@@ -64,14 +64,14 @@ returns-then-self-clause-step g c =
     let is : slice_get m.calls.items m.calls.made ≡ Some (c.args.moment, call.Submit c.args.task c.args.timing c.args.delay) = ap (λ x. slice_get x.calls x.made) c.self.view_is ∙ c.requires in
     let view : CoreView = record { calls = m.calls.items; limit = m.limit; taken = m.taken; made = m.calls.made; moment = m.moment; tasks = m.tasks; work = m.work.items; policies = m.policies; shut = m.shut } in
     rw c.pass-self-inside.ensures.passed (refuse_steps view c.args.self.now c.pass-self-inside.result c.args.moment c.args.task (call.Submit c.args.task c.args.timing c.args.delay) refusal.Rejected is
-    (shut_reply view c.args.moment c.args.task c.args.delay c.args.timing c.if-self.true) (c.pass-self-inside.ensures.moment (c.args.moment, call.Submit c.args.task c.args.timing c.args.delay) is) c.self.view_is)
+    (shut_reply view c.args.moment c.args.task c.args.delay c.args.timing c.if-self.true) (called_at m.moment c.args.moment c.pass-self-inside.result (c.self.invariant.ahead (c.args.moment, call.Submit c.args.task c.args.timing c.args.delay) is) (c.pass-self-inside.ensures.moment (c.args.moment, call.Submit c.args.task c.args.timing c.args.delay) is)) c.self.view_is)
 
 pub returns-clause-step : goal.returns-clause-step
 returns-clause-step g c =
     let m = c.self.inside in
     let is : slice_get m.calls.items m.calls.made ≡ Some (c.args.moment, call.Submit c.args.task c.args.timing c.args.delay) = ap (λ x. slice_get x.calls x.made) c.self.view_is ∙ c.requires in
     rw c.pass-self-inside.ensures.passed (submit_steps_in _ c.args.self.now m.queue.entries m.kept.entries m.sought c.pass-self-inside.result c.args.moment c.args.task c.args.delay c.args.timing c.kind_of-kind.result c.submit.new.self
-    c.self.invariant is c.if-self.false c.kind_of-kind.ensures (c.pass-self-inside.ensures.moment (c.args.moment, call.Submit c.args.task c.args.timing c.args.delay) is) c.self.view_is c.submit.ensures)
+    c.self.invariant is c.if-self.false c.kind_of-kind.ensures (called_at m.moment c.args.moment c.pass-self-inside.result (c.self.invariant.ahead (c.args.moment, call.Submit c.args.task c.args.timing c.args.delay) is) (c.pass-self-inside.ensures.moment (c.args.moment, call.Submit c.args.task c.args.timing c.args.delay) is)) c.self.view_is c.submit.ensures)
 
 pub returns-clause-uncancelled : goal.returns-clause-uncancelled
 returns-clause-uncancelled g c =
