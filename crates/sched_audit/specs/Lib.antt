@@ -6,5 +6,4 @@ pub use Rattle.plan_compile.specs.PlanCalls
 pub use Rattle.trace_check.specs.Findings
 pub use Rattle.sched_engine.specs.Inputs
 pub use Rattle.sched_engine.specs.Running
-pub mod Laws
 pub mod Audits

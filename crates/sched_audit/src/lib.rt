@@ -19,9 +19,8 @@
 //! A run that ends at a line that is no event's, or at its limit, wrote the trace of the events before. Its
 //! trace is checked as well, and conforms.
 //!
-//! Two laws stand behind this. [`lines_fit`]: whatever the plan and the events, each line of their trace can be spelled,
-//! since its moment, its tasks, its runs and its due moments stay in range. [`runs_conform`]: so the text of the
-//! trace conforms.
+//! The law [`histories_conform`](trace_check::histories_conform) stands behind this: the text of each history of the plan
+//! conforms, and the trace of a run is one.
 //!
 //! # Order and ties
 //!
@@ -63,4 +62,4 @@ mod tests;
 
 pub use audit::{Audit, run_and_check};
 pub use error::AuditError;
-pub use laws::{audit_error_equality_tells, lines_fit, runs_conform};
+pub use laws::audit_error_equality_tells;

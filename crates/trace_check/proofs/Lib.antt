@@ -5,3 +5,4 @@ pub mod Taking
 pub mod Texts
 pub mod First
 pub mod TextLaws
+pub mod Fitting

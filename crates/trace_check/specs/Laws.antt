@@ -1,12 +1,14 @@
 -- What holds of the lines that go, and of what is found of a text. Lines and histories stand the newest first.
 -- All of it is this project's rule.
-use Rattle.std.specs.Prelude.{◌≡◌, ℕ, ◌↔◌, List, ◌∷◌, All, reverse}
+use Rattle.std.specs.Prelude.{◌≡◌, ℕ, ◌^◌, ◌≤◌, ◌↔◌, List, ◌∷◌, All, length, reverse}
 use Rattle.queue_code.specs.Calls.{Planned, IsOrderly}
+use Rattle.executor_core.specs.declared.types.Happening.{Happening}
+use Rattle.executor_core.specs.declared.types.Happening.TheVariants as h
 use Rattle.executor_core.specs.declared.types.Line.{Line}
 use Rattle.executor_core.specs.Counts.{IsWorkerCount}
-use Rattle.executor_core.specs.Histories.{HistoryEntry, IsHistoryOf}
+use Rattle.executor_core.specs.Histories.{HistoryEntry, happenings, IsHistoryOf}
 use Rattle.executor_core.specs.Flows.{lines_of}
-use Rattle.trace_text.specs.Spelling.{FitsLine, lines_text}
+use Rattle.trace_text.specs.Spelling.{FitsEnding, FitsLine, lines_text}
 use Rattle.trace_check.specs.declared.finding.Finding.{Finding}
 use Rattle.trace_check.specs.Going.{Goes, AreWhole, StandsNext}
 use Rattle.trace_check.specs.Findings.{Conforms, Breaks, Finds}
@@ -41,6 +43,23 @@ pub record IsTraceText (calls : List Planned) (workers : ℕ) (text : List ℕ) 
 abbrev pub TracesConform : Type 0
 TracesConform = (calls : List Planned) (workers : ℕ) (text : List ℕ) → IsOrderly calls → IsWorkerCount workers
     → Conforms calls workers text ↔ IsTraceText calls workers text
+
+-- what a happening hands in fits: the value, or the code, with which a run ended is one of its type. A moment, a worker or a
+-- task may be any number: no line shows one that is out of range
+abbrev pub FitsHappening : Happening → Type 0
+FitsHappening (h.Finish worker ending) = FitsEnding ending
+FitsHappening _ = Unit {0}
+
+-- each line of a history fits, where its happenings fit and are no more than 2^64: the number of a run is below theirs, and
+-- where a period is 0 there is no other bound on it
+abbrev pub HistoriesFit : Type 0
+HistoriesFit = (calls : List Planned) (workers : ℕ) (past : List HistoryEntry) → IsOrderly calls → IsWorkerCount workers → IsHistoryOf calls workers past
+    → All FitsHappening (happenings past) → length past ≤ 2 ^ 64 → All FitsLine (lines_of calls past)
+
+-- the text of such a history conforms, also where a cancel from outside stands between two calls that one clock reaches
+abbrev pub HistoriesConform : Type 0
+HistoriesConform = (calls : List Planned) (workers : ℕ) (past : List HistoryEntry) → IsOrderly calls → IsWorkerCount workers → IsHistoryOf calls workers past
+    → All FitsHappening (happenings past) → length past ≤ 2 ^ 64 → Conforms calls workers (lines_text (lines_of calls past))
 
 -- of a text one thing is found at most
 abbrev pub FindingsAreOne : Type 0

@@ -1,5 +1,5 @@
 //! Laws of the lines that go, and of what is found of a text. The functions do nothing: what they ensure is the law.
-ghost use Rattle.trace_check.specs.Laws.{GoesLineByLine, GoesOnlyOneWay, FrontsGo, TracesGo, TracesConform, FindingsAreOne, BreaksOrConforms};
+ghost use Rattle.trace_check.specs.Laws.{GoesLineByLine, GoesOnlyOneWay, FrontsGo, TracesGo, TracesConform, HistoriesFit, HistoriesConform, FindingsAreOne, BreaksOrConforms};
 ghost use Rattle.trace_check.specs.Standing.{most_bytes};
 ghost use Rattle.std.specs.Prelude.{◌≡◌, ◌↔◌, true};
 
@@ -30,6 +30,17 @@ pub fn traces_go()
 /// A text conforms exactly where it is that of a history, whose lines can be spelled.
 pub fn traces_conform()
     ensures { TracesConform }
+{}
+
+/// Each line of a history can be spelled, where the value or the code of each ending in it can: all other numbers that a line
+/// shows are in range.
+pub fn histories_fit()
+    ensures { HistoriesFit }
+{}
+
+/// The text of such a history conforms.
+pub fn histories_conform()
+    ensures { HistoriesConform }
 {}
 
 /// Of a text one thing is found at most.

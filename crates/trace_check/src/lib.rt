@@ -16,7 +16,9 @@
 //! A text conforms exactly where it is the text of a history of the plan: some list of happenings, each answered as the
 //! executor answers it, with a line for each answer and one for each task that it ends. In such a list the plan's calls stand in
 //! their order, each before any accepted clock that has reached its moment. Calls may stand with no clock after them, and other
-//! happenings between them. [`traces_conform`] is this law.
+//! happenings between them. [`traces_conform`] is this law. It asks that each line can be spelled, which is so of each history whose
+//! runs ended with values of 64 bits and codes of 32 ([`histories_fit`]). So the text of such a history conforms
+//! ([`histories_conform`]), wherever a cancel from outside stands in it.
 //!
 //! A line tells the happening that it answers, or all that matters of it. Where it leaves something open, any event
 //! that gets the line will do, and one of them, the *representative*, is tried:
@@ -66,6 +68,6 @@ pub use error::CheckError;
 pub use finding::Finding;
 pub use laws::{
     breaks_or_conforms, check_error_equality_tells, finding_equality_tells, findings_are_one,
-    fronts_go, goes_line_by_line, goes_only_one_way, most_bytes_is_the_limit, traces_conform,
-    traces_go,
+    fronts_go, goes_line_by_line, goes_only_one_way, histories_conform, histories_fit,
+    most_bytes_is_the_limit, traces_conform, traces_go,
 };

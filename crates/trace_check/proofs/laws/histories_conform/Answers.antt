@@ -1,0 +1,5 @@
+use Rattle.trace_check.proofs.Fitting
+use Rattle.trace_check.proofs.laws.histories_conform.Goals as goal
+
+pub returns : goal.returns
+returns c = Fitting.histories_conform
