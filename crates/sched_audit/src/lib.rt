@@ -48,7 +48,7 @@
 //! runs, checks and listings of 80 KB and more.
 //!
 //! `tests/growths` is about crates below as well: of a plan that is read, compiled, listed, run and checked, and of an event, each
-//! growth is refused in turn, over the allocator of `tests/refusing.rt`, which refuses one growth and grants all others. Want of
+//! growth is refused in turn, over the crate `refusing_allocator`, which refuses one growth and grants all others. Want of
 //! memory is then told, or nothing else than with ample memory; all memory is given back; what was written is the text of whole
 //! events; and an event that was refused is given again. What the crate `toml` takes is of the heap of the system, and is granted
 //! here: `tools/refuse_growths` refuses the program that.

@@ -1,6 +1,5 @@
 mod examples;
 mod growths;
-mod refusing;
 mod sizes;
 
 use crate::audit::{Audit, run_and_check};

@@ -6,19 +6,42 @@
 //! moves the words. A [`Handle`] goes to another thread: it cancels tasks and reads their states and results, without a lock.
 //!
 //! ```rust
-//! let (shared, seat) = Shared::new(alloc, code.tasks())?;
-//! let mut book = Book::<N, _>::new(alloc, &shared, seat, code, 1, 100)?;
-//! let mut handle = book.admit(&shared)?;
-//! book.apply(&shared, Event::Clock(0))?; // the task is submitted
-//! handle.cancel(0); // Yes
-//! book.apply(&shared, Event::Start(0))?; // its lines: `outside 0 yes`, `start 0 idle`
-//! handle.state(0); // Cancelled
-//! book.retire(&shared, handle)?;
+//! /// A book for a code that submits one task, at moment 0 and due then.
+//! fn run_code(rt: &(impl AllocGlobal + Abort), code: Code<Global>) -> Result<(), PoolError> {
+//!     let (shared, seat) = Shared::new(rt.alloc(), code.tasks())?;
+//!     run_book::<Brand>(rt, &shared, seat, code)
+//! }
+//!
+//! /// The task is submitted, and cancelled before it starts.
+//! fn run_book<N: Named>(
+//!     rt: &(impl AllocGlobal + Abort),
+//!     shared: &Shared<Global>,
+//!     seat: CoreSeat<Global>,
+//!     code: Code<Global>,
+//! ) -> Result<(), PoolError>
+//!     requires shared { (shared.now.table ≡ N.table) × (shared.now.cells ≡ N.cells) }
+//!     requires seat { (seat.table ≡ shared.now.table) × (seat.view ≡ new_core shared.now.tasks) }
+//!     requires tasks { shared.now.tasks ≡ task_count (calls_of code) }
+//!     requires named { (calls_of code ≡ N.calls) × (1 ≡ N.workers) }
+//! {
+//!     let mut book = Book::<N, Global>::new(rt.alloc(), shared, seat, code, 1, 100)?;
+//!     let mut handle = book.admit(shared)?;
+//!     // `submit 0 schedule due 0` and `clock`.
+//!     assert_eq!(rt; book.apply(shared, Event::Clock(0))?.count, 2);
+//!     assert_eq!(rt; handle.cancel(0), CancelAnswer::Yes);
+//!     // `outside 0 yes` and `start 0 idle`.
+//!     assert_eq!(rt; book.apply(shared, Event::Start(0))?.count, 2);
+//!     assert_eq!(rt; handle.state(0), TaskState::Cancelled);
+//!     assert_eq!(rt; book.lines().len(), 4);
+//!     book.retire(shared, handle).map_err(|(error, _)| error)
+//! }
 //! ```
 //!
-//! `N` is a [`Named`], by which contracts tell of which words, cells, calls and workers a book is. It has no functions:
-//! a caller writes `book_of::<Brand>(..)` for a function of its own that is generic in `N` and asks that they are the named
-//! ones, and says in a proof which they are.
+//! A test runs these lines as they stand (`src/tests/usage.rt`).
+//!
+//! `N` is a [`Named`], by which contracts tell of which words, cells, calls and workers a book is. It has no functions: a
+//! caller picks [`Brand`], as `run_code` does, and says in the proof of that function which they are
+//! (`proofs/tests/usage/run_code`).
 //!
 //! # Behaviour
 //!
@@ -49,13 +72,24 @@
 //!
 //! [`Book::apply`], [`Book::note_cancels`] and [`Book::retire`] first make room for a line and a happening for the event, for
 //! each call that is left and for each task that is not cancelled, and `apply` a box where the event ends a task. After that
-//! nothing fails. The lists double, so most events take no memory but that box. [`Book::admit`] takes no memory that grows:
-//! notes take no bytes. A handle's calls are one atomic step each. An event costs what it costs the core, and an atomic step
-//! for each word that it moves; a sweep looks at each task; `note_cancels` and `retire` load each word.
+//! nothing fails. The lists double, so most events take no memory but that box, which is on the heap: it is what the
+//! allocator is a [`HeapAllocator`](heap_allocator::HeapAllocator) for. [`Book::admit`] asks for room for a note of each task,
+//! which is a growth of no bytes, since notes take none.
+//!
+//! A handle's calls are one atomic step each. An event costs what it costs the core, and an atomic step for each word that it
+//! moves; a sweep looks at each task; `note_cancels` and `retire` load each word.
 //!
 //! # Tests
 //!
-//! They stand in `src/tests`.
+//! They stand in `src/tests`. `rows.rt` has rows of calls, with their answers and lines. Each growth of such a row is refused in
+//! turn, and all others are granted (`growths.rt`, over the crate `refusing_allocator`): [`Shared::new`], [`Book::new`],
+//! [`Book::apply`], [`Book::note_cancels`], [`Book::admit`] and [`Book::retire`] then tell [`PoolError::Memory`], and each
+//! other call what it tells with ample memory; the refused call is made again, and the lines are those of the row; and no byte
+//! stays in use. The box of a verdict is not asked of the allocator, but of the heap that it leads to: it
+//! is neither refused nor counted there.
+//!
+//! `handles.rt`, `limits.rt` and `results.rt` are about several handles, errors and verdicts, `table.rt` about all short
+//! sequences of calls, beside the plain program.
 #![tactic(auto)]
 
 mod applied;

@@ -1,9 +1,11 @@
 //! Tests of the book and its handles, by scripts: what is done, what is told, and which lines there are then.
+mod growths;
 mod handles;
 mod limits;
 mod results;
 mod rows;
 mod table;
+mod usage;
 
 ghost use Rattle.std.specs.Prelude.{◌≡◌};
 ghost use Rattle.queue_code.specs.Calls.{task_count};
@@ -12,9 +14,10 @@ ghost use Rattle.task_word.specs.Views.{new_core};
 
 use crate::{Applied, Book, Handle, Named, PoolError, Shared, Work};
 use executor_core::{Event, Happening, Line};
+use heap_allocator::HeapAllocator;
 use queue_code::{Code, Instr};
 use result_cell::Verdict;
-use std::alloc::{AllocGlobal, Global};
+use std::alloc::{AllocGlobal, Allocator, Global};
 use std::marker::Brand;
 use std::process::Abort;
 use std::test::Fail;
@@ -64,7 +67,7 @@ struct Played {
     lines: Vec<Line>,
 }
 
-type Handles<'s, N> = Vec<Option<Handle<'s, N, Global>>>;
+type Handles<'s, N, A> = Vec<Option<Handle<'s, N, A>>>;
 
 /// Tells of an event that was applied.
 fn tell_applied(answer: Result<Applied, PoolError>) -> Told {
@@ -74,11 +77,11 @@ fn tell_applied(answer: Result<Applied, PoolError>) -> Told {
     }
 }
 
-/// Gives a handle back.
-fn retire<'s, N: Named>(
-    book: &mut Book<N, Global>,
-    shared: &'s Shared<Global>,
-    handles: &mut Handles<'s, N>,
+/// Gives a handle back; where that is refused it stays.
+fn retire<'s, N: Named, A: Allocator>(
+    book: &mut Book<N, A>,
+    shared: &'s Shared<A>,
+    handles: &mut Handles<'s, N, A>,
     number: usize,
 ) -> Told
     requires { (shared.now.table ≡ N.table) × (shared.now.cells ≡ N.cells) }
@@ -91,15 +94,18 @@ fn retire<'s, N: Named>(
     };
     match book.retire(shared, handle) {
         Ok(()) => Told::Retired,
-        Err((error, _)) => Told::Refused(error),
+        Err((error, handle)) => {
+            *place = Some(handle);
+            Told::Refused(error)
+        }
     }
 }
 
 /// Gives a handle back, and takes another in its place.
-fn renew<'s, N: Named>(
-    book: &mut Book<N, Global>,
-    shared: &'s Shared<Global>,
-    handles: &mut Handles<'s, N>,
+fn renew<'s, N: Named, A: HeapAllocator>(
+    book: &mut Book<N, A>,
+    shared: &'s Shared<A>,
+    handles: &mut Handles<'s, N, A>,
     number: usize,
 ) -> Told
     requires { (shared.now.table ≡ N.table) × (shared.now.cells ≡ N.cells) }
@@ -118,10 +124,10 @@ fn renew<'s, N: Named>(
 }
 
 /// What a handle tells.
-fn ask<'s, N: Named>(
-    book: &mut Book<N, Global>,
-    shared: &'s Shared<Global>,
-    handle: &mut Handle<'s, N, Global>,
+fn ask<'s, N: Named, A: Allocator>(
+    book: &mut Book<N, A>,
+    shared: &'s Shared<A>,
+    handle: &mut Handle<'s, N, A>,
     step: Step,
 ) -> Told
     requires { (shared.now.table ≡ N.table) × (shared.now.cells ≡ N.cells) }
@@ -136,10 +142,10 @@ fn ask<'s, N: Named>(
 }
 
 /// Does one step.
-fn step_of<'s, N: Named>(
-    book: &mut Book<N, Global>,
-    shared: &'s Shared<Global>,
-    handles: &mut Handles<'s, N>,
+fn step_of<'s, N: Named, A: HeapAllocator>(
+    book: &mut Book<N, A>,
+    shared: &'s Shared<A>,
+    handles: &mut Handles<'s, N, A>,
     step: Step,
 ) -> Result<Told, Fail>
     requires { (shared.now.table ≡ N.table) × (shared.now.cells ≡ N.cells) }
@@ -225,6 +231,14 @@ fn play_code(
     book_of::<Brand>(alloc, &shared, seat, code, workers, limit, steps)
 }
 
+/// The code of these instructions and a halt.
+fn code_with_halt<A: Allocator + Copy>(alloc: A, instrs: &[Instr]) -> Result<Code<A>, Fail> {
+    let mut list = Vec::with_capacity(alloc, instrs.len() + 1)?;
+    list.extend_from_slice(instrs)?;
+    list.push(Instr::Halt)?;
+    Ok(Code::check(alloc, list)?)
+}
+
 /// Does the steps with a new book for these instructions and a halt.
 fn play(
     alloc: Global,
@@ -233,10 +247,17 @@ fn play(
     limit: u32,
     steps: &[Step],
 ) -> Result<Played, Fail> {
-    let mut list = Vec::with_capacity(alloc, instrs.len() + 1)?;
-    list.extend_from_slice(instrs)?;
-    list.push(Instr::Halt)?;
-    play_code(alloc, Code::check(alloc, list)?, workers, limit, steps)
+    play_code(alloc, code_with_halt(alloc, instrs)?, workers, limit, steps)
+}
+
+/// Checks the text of the lines.
+fn check_lines(rt: &(impl Abort + AllocGlobal), lines: &[Line], text: &str) -> Result<(), Fail> {
+    let mut written = Vec::new(rt.alloc());
+    for line in lines {
+        write_line(&mut written, line)?;
+    }
+    assert!(rt; written.as_slice() == text.as_bytes(), "{text}");
+    Ok(())
 }
 
 /// Checks what a script is told, and the text of the lines.
@@ -246,11 +267,6 @@ fn check(
     told: &[Told],
     text: &str,
 ) -> Result<(), Fail> {
-    let mut written = Vec::new(rt.alloc());
-    for line in &played.lines {
-        write_line(&mut written, line)?;
-    }
     assert_eq!(rt; played.told.as_slice(), told);
-    assert!(rt; written.as_slice() == text.as_bytes(), "{text}");
-    Ok(())
+    check_lines(rt, &played.lines, text)
 }

@@ -2,7 +2,7 @@
 mod calls;
 mod events;
 
-use super::refusing::Refusing;
+use refusing_allocator::Refusing;
 use calls::{Call, wants_memory};
 use std::process::Abort;
 use std::test::Fail;

@@ -5,7 +5,7 @@ use super::events::takes_events;
 use super::{EVENTS, LISTING, PLAN, TRACE, is_front};
 use crate::audit::run_and_check;
 use crate::error::AuditError;
-use crate::tests::refusing::Refusing;
+use refusing_allocator::Refusing;
 use plan_compile::{CompileFault, compile};
 use plan_read::{PlanFault, PlanFaultKind, read_plan};
 use queue_code::{CodeFault, listing};

@@ -1,7 +1,7 @@
 //! Events that are refused for want of memory, and given again.
 
 use super::{PLAN, TRACE};
-use crate::tests::refusing::Refusing;
+use refusing_allocator::Refusing;
 use executor_core::{Core, CoreError, Event, Line};
 use plan_compile::compile;
 use plan_read::read_plan;

@@ -38,21 +38,21 @@ use denote.RawPtr.{Ptr, block_ptr, null_ptr, ptr_val, rawptr_vals, rawptr_Tells}
 use denote.Builtin.{usize, RawPtr, RefOf}
 use denote.Triple.Call.{calls_at}
 use Rattle.std.proofs.alloc.Calls.{Al, α, seen, token, gives_key, Gives, at_gives, Gives-goes, Gives-Gives}
-use Rattle.sched_audit.proofs.tests.refusing.gives_back.Symbol as c_sym
-use Rattle.sched_audit.proofs.tests.refusing.gives_back.Met as c_met
-use Rattle.sched_audit.specs.contracts.tests.refusing.Refusing as wrapper
-use Rattle.sched_audit.specs.contracts.tests.refusing.RefusingAllocator.deallocate as F
-use Rattle.sched_audit.specs.contracts.tests.refusing.RefusingAllocator.deallocate.Key as key
-use Rattle.sched_audit.proofs.tests.refusing.RefusingAllocator.deallocate.Statement as stated
-use Rattle.sched_audit.proofs.tests.refusing.RefusingAllocator.deallocate.Code as code
+use Rattle.refusing_allocator.proofs.refusing.gives_back.Symbol as c_sym
+use Rattle.refusing_allocator.proofs.refusing.gives_back.Met as c_met
+use Rattle.refusing_allocator.specs.contracts.refusing.Refusing as wrapper
+use Rattle.refusing_allocator.specs.contracts.refusing.RefusingAllocator.deallocate as F
+use Rattle.refusing_allocator.specs.contracts.refusing.RefusingAllocator.deallocate.Key as key
+use Rattle.refusing_allocator.proofs.refusing.RefusingAllocator.deallocate.Statement as stated
+use Rattle.refusing_allocator.proofs.refusing.RefusingAllocator.deallocate.Code as code
 use denote.RattleType.{RattleType}
 use denote.Memory.{hidden_shr}
 use denote.Builtin.{unit}
 use denote.Steps.{only}
 use denote.Triple.Statement.{Contract}
 use Rattle.std.specs.contracts.cell.Cell as CE
-use Rattle.sched_audit.specs.contracts.tests.refusing.Growths as GR
-use Rattle.sched_audit.specs.contracts.tests.refusing.gives_back as GB
+use Rattle.refusing_allocator.specs.contracts.refusing.Growths as GR
+use Rattle.refusing_allocator.specs.contracts.refusing.gives_back as GB
 
 abbrev Counts : RattleType
 Counts = CE.the_row GR.the_row
@@ -156,4 +156,4 @@ deallocate_spec 𝓤 𝓛 𝓜 𝓡 wired Y L g d d' met _ =
     entered 𝓤 𝓛.H (triple_of 𝓛 (F.signature Y) (F.spec Y g d d' 𝓛 𝓜.mem 𝓡.returns)) 𝓣.C 𝓣.Λ (key.name (args Z)) (here Z) (code.unfolded 𝓤 𝓛.H 𝓜 𝓡 wired (Y, tt) d d')
     (walk_Meets 𝓛 (ended Z) (stayed Z) (Goes-dropped 𝓛 2 (self Z) yes (λ κs x f. refl), (Goes-dropped 𝓛 2 (plain (λ _. RawPtr)) yes (λ κs x f. refl), (Goes-dropped 𝓛 2 (plain (λ _. usize)) yes (λ κs x f. refl), (Goes-dropped 𝓛 2 (plain (λ _. usize)) yes (λ κs x f. refl), tt)))) c (WpFn 𝓤 𝓛.H 𝓣.C 𝓣.Λ (here Z)) (WpFn-mono 𝓤 𝓛.H 𝓛.laws 𝓣 (here Z))
     (walked 𝓛 (ended Z) (stayed Z) c (WpFn 𝓤 𝓛.H 𝓣.C 𝓣.Λ (here Z)) (λ κs. (shr_vals, (rawptr_vals, (uint_vals w64, (uint_vals w64, tt))))) (λ κs. ((λ r vs s. s.0), (rawptr_Tells, (uint_Tells w64, (uint_Tells w64, tt)))))
-    (λ κs qs bounds a τ are. walk Z 𝓛 𝓜.mem 𝓡.returns 𝓣 (met.deallocate d') (cited 𝓤 𝓛.H _ 𝓜 𝓡 𝓡.env c_sym.name (𝓡.env c_sym.name) refl (c_met.met 𝓤 𝓛 𝓜 𝓡 (code.calls-sched_audit::tests::refusing::gives_back 𝓡.env wired))) κs.0 κs.1.0 qs.0 qs.1.0 bounds.0 a.0 a.1.1.0 a.1.1.1.0 τ are.1.1.0.1 are.1.1.1.0.1 a.1.0)))
+    (λ κs qs bounds a τ are. walk Z 𝓛 𝓜.mem 𝓡.returns 𝓣 (met.deallocate d') (cited 𝓤 𝓛.H _ 𝓜 𝓡 𝓡.env c_sym.name (𝓡.env c_sym.name) refl (c_met.met 𝓤 𝓛 𝓜 𝓡 (code.calls-refusing_allocator::refusing::gives_back 𝓡.env wired))) κs.0 κs.1.0 qs.0 qs.1.0 bounds.0 a.0 a.1.1.0 a.1.1.1.0 τ are.1.1.0.1 are.1.1.1.0.1 a.1.0)))

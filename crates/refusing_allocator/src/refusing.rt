@@ -1,12 +1,12 @@
-//! An allocator of the heap that refuses one growth, grants all others, and counts what is in use.
+//! The allocator, and what it counts.
 
-use plan_read::HeapAllocator;
+use heap_allocator::HeapAllocator;
 use std::alloc::{AllocError, Allocator, Global};
 use std::cell::Cell;
 
 /// What was asked of an allocator so far, and what it will refuse.
 #[derive(Clone, Copy)]
-pub struct Growths {
+struct Growths {
     /// How many growths were asked for.
     asked: u64,
     /// Which of them is refused, counted from 1: none where it is 0.

@@ -1,0 +1,160 @@
+//! Want of memory: rows are played with each growth of a call refused in turn, and all before and behind it granted.
+//!
+//! What is refused, and counted, is what the words, the core, the lists of a book and the notes ask of their allocator. The
+//! box of a verdict is asked of the heap to which the allocator leads, which grants it, and gives it back to a cell.
+ghost use Rattle.std.specs.Prelude.{◌≡◌};
+ghost use Rattle.queue_code.specs.Calls.{task_count};
+ghost use Rattle.queue_code.specs.Codes.{calls_of};
+ghost use Rattle.task_word.specs.Views.{new_core};
+
+use super::{Handles, Step, Told, check_lines, code_with_halt, step_of};
+use crate::{Book, Named, PoolError, Shared};
+use heap_allocator::HeapAllocator;
+use queue_code::{Code, Instr};
+use refusing_allocator::Refusing;
+use std::alloc::{AllocGlobal, Global};
+use std::marker::Brand;
+use std::process::Abort;
+use std::test::Fail;
+use task_word::CoreSeat;
+
+/// A plan, what is done with a book for it, what is told with ample memory, and the lines then.
+#[derive(Clone, Copy)]
+pub struct Row<'a> {
+    pub instrs: &'a [Instr],
+    pub steps: &'a [Step],
+    pub told: &'a [Told],
+    pub text: &'a str,
+}
+
+/// A call that was refused a growth.
+#[derive(Clone, Copy, Debug, PartialEq, Eq)]
+pub enum Refused {
+    Shared,
+    Book,
+    /// A step, by its place in the row.
+    Step(usize),
+}
+
+/// Plays a row with its first growth refused, then with its second and so on, until no growth of that number is asked for.
+/// Each time the call that was refused tells want of memory, and is made again; all else that is told, and the lines,
+/// are those with ample memory, and all memory is given back. Over all plays these calls were refused, in their order.
+pub fn refuse_each(
+    rt: &(impl AllocGlobal + Abort),
+    row: &Row<'_>,
+    asking: &[Refused],
+) -> Result<(), Fail> {
+    let mut calls = Vec::new(rt.alloc());
+    for number in 1..1_000u64 {
+        let heap = Refusing::new(rt.alloc());
+        let refused = refused_call(rt, &heap, row, number)?;
+        assert_eq!(rt; heap.used(), 0, "{number}");
+        assert_eq!(rt; heap.has_refused(), refused.is_some(), "{number}");
+        let Some(call) = refused else {
+            assert_eq!(rt; calls.as_slice(), asking);
+            return Ok(());
+        };
+        if calls.last() != Some(&call) {
+            calls.push(call)?;
+        }
+    }
+    Err("a growth was refused each time".into())
+}
+
+/// Plays a row with its growth of this number refused, and tells which call asked for it, if any did.
+fn refused_call(
+    rt: &(impl AllocGlobal + Abort),
+    heap: &Refusing<Global>,
+    row: &Row<'_>,
+    number: u64,
+) -> Result<Option<Refused>, Fail> {
+    let code = code_with_halt(heap, row.instrs)?;
+    heap.refuse(number);
+    let refused = play_over(rt, heap, code, row)?;
+    if matches!(refused, Some(Refused::Shared | Refused::Book)) {
+        // What was handed in is dropped, so all is made anew.
+        let code = code_with_halt(heap, row.instrs)?;
+        assert_eq!(rt; play_over(rt, heap, code, row)?, None);
+    }
+    Ok(refused)
+}
+
+/// Plays a row with new words and a new book, and tells which call was refused a growth, if any was.
+fn play_over<'h>(
+    rt: &(impl AllocGlobal + Abort),
+    heap: &'h Refusing<Global>,
+    code: Code<&'h Refusing<Global>>,
+    row: &Row<'_>,
+) -> Result<Option<Refused>, Fail> {
+    match Shared::new(heap, code.tasks()) {
+        Ok((shared, seat)) => play_book::<Brand, _>(rt, heap, &shared, seat, code, row),
+        Err(error) => {
+            assert_eq!(rt; error, PoolError::Memory);
+            Ok(Some(Refused::Shared))
+        }
+    }
+}
+
+/// Plays a row with a new book of these names.
+fn play_book<N: Named, A: HeapAllocator>(
+    rt: &(impl AllocGlobal + Abort),
+    alloc: A,
+    shared: &Shared<A>,
+    seat: CoreSeat<A>,
+    code: Code<A>,
+    row: &Row<'_>,
+) -> Result<Option<Refused>, Fail>
+    requires shared { (shared.now.table ≡ N.table) × (shared.now.cells ≡ N.cells) }
+    requires seat { (seat.table ≡ shared.now.table) × (seat.view ≡ new_core shared.now.tasks) }
+    requires tasks { shared.now.tasks ≡ task_count (calls_of code) }
+    requires named { (calls_of code ≡ N.calls) × (1 ≡ N.workers) }
+{
+    match Book::<N, A>::new(alloc, shared, seat, code, 1, 100) {
+        Ok(mut book) => play_steps(rt, &mut book, shared, row),
+        Err(error) => {
+            assert_eq!(rt; error, PoolError::Memory);
+            Ok(Some(Refused::Book))
+        }
+    }
+}
+
+/// Does the steps of a row, and tells which one was refused a growth, if any was.
+fn play_steps<N: Named, A: HeapAllocator>(
+    rt: &(impl AllocGlobal + Abort),
+    book: &mut Book<N, A>,
+    shared: &Shared<A>,
+    row: &Row<'_>,
+) -> Result<Option<Refused>, Fail>
+    requires { (shared.now.table ≡ N.table) × (shared.now.cells ≡ N.cells) }
+{
+    let mut handles = Vec::new(rt.alloc());
+    let mut refused = None;
+    assert_eq!(rt; row.steps.len(), row.told.len());
+    for (place, (step, told)) in row.steps.iter().zip(row.told).enumerate() {
+        if is_done_again(rt, book, shared, &mut handles, *step, *told)? {
+            refused = Some(Refused::Step(place));
+        }
+    }
+    check_lines(rt, book.lines(), row.text)?;
+    Ok(refused)
+}
+
+/// Does a step, and once more where memory was wanting; tells whether it was.
+fn is_done_again<'s, N: Named, A: HeapAllocator>(
+    rt: &impl Abort,
+    book: &mut Book<N, A>,
+    shared: &'s Shared<A>,
+    handles: &mut Handles<'s, N, A>,
+    step: Step,
+    told: Told,
+) -> Result<bool, Fail>
+    requires { (shared.now.table ≡ N.table) × (shared.now.cells ≡ N.cells) }
+{
+    let first = step_of(book, shared, handles, step)?;
+    if first != Told::Refused(PoolError::Memory) {
+        assert_eq!(rt; first, told);
+        return Ok(false);
+    }
+    assert_eq!(rt; step_of(book, shared, handles, step)?, told);
+    Ok(true)
+}
