@@ -3,7 +3,7 @@ use Rattle.std.proofs.Common.{◌≡◌, ◌≢◌, ℕ, ◌<◌, sym, ap, ◌�
 use Rattle.std.proofs.lemmas.List.{map-set, get_or-set_same, get_or-set_other, length-map}
 use Rattle.std.proofs.Math.Seq.{map-set_same}
 use Rattle.once_cell.specs.declared.race.note.Note.{Note}
-use Rattle.result_cell.specs.own.Cells.{AreNotesOf, known_at}
+use Rattle.result_cell.specs.Cells.{AreNotesOf, known_at}
 use Rattle.result_cell.specs.declared.verdict.Verdict.{Verdict}
 
 -- two notes of one cell that know nothing are equal

@@ -1,7 +1,6 @@
 //! Tests of the cells: what no contract says, and how callers rest on what the contracts say.
 ghost use Rattle.std.specs.Prelude.{◌≡◌, ◌≢◌, ℕ, ◌<◌, true, false, ◌&&◌, Some, length, IfOk, OnOk, IfSome};
-ghost use Rattle.result_cell.specs.Cells.{KnowTheSame};
-ghost use Rattle.result_cell.specs.own.Cells.{AreNotesOf, known_at};
+ghost use Rattle.result_cell.specs.Cells.{KnowTheSame, AreNotesOf, known_at};
 
 use crate::{Note, ResultCell, Verdict, same};
 use sched_time::Ending;

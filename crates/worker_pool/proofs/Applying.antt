@@ -1,7 +1,8 @@
 -- What an event adds to a book.
 use Rattle.std.proofs.Common.{◌≡◌, ◌⊎◌, ℕ, ◌+◌, ◌<◌, false, inl, inr, List, [], ◌∷◌, ◌++◌, Option, Some, None, refl, sym, ap, ◌∙◌, subst}
-use Rattle.std.specs.Prelude.{slice_index, slice_index_or, slice_get}
+use Rattle.std.specs.Prelude.{IsSome, slice_index, slice_index_or, slice_get}
 use Rattle.std.specs.List.{All}
+use Rattle.atomic_table.specs.Seated.{TableId}
 use Rattle.once_cell.specs.declared.race.note.Note.{Note}
 use Rattle.task_word.specs.declared.views.CoreSeatView.{CoreSeatView}
 use Rattle.result_cell.specs.declared.verdict.Verdict.{Verdict}
@@ -17,7 +18,7 @@ use Rattle.executor_core.specs.CoreView.{CoreView, workers_of, Counts}
 use Rattle.worker_pool.specs.own.Results.{TookVerdict}
 use Rattle.worker_pool.specs.Books.{BookView, IsBook, KnowsVerdict, EndedSo, ending_in, past_of, stands_in, was_outside}
 use Rattle.worker_pool.specs.Applies.{Applies}
-use Rattle.worker_pool.specs.own.Steps.{IsKept, Agrees, past_in, part_in, Completes, SamePlan, SameHandles}
+use Rattle.worker_pool.specs.own.Steps.{IsKept, Agrees, past_in, part_in, Completes, SamePlan, OnlyOwnGrows}
 use Rattle.worker_pool.proofs.Entries.{takes_noted, lines_more, last_line}
 use Rattle.worker_pool.proofs.Booking.{book_kept, kept_book, outside_stays, knows_still, ended_ran, ends_once}
 
@@ -34,11 +35,11 @@ pub record Took (old : BookView) (core : CoreView) (seat : CoreSeatView) (happen
   pub calls : core.calls ≡ old.core.calls
   pub workers : workers_of core ≡ workers_of old.core
   pub taken : core.taken ≡ old.core.taken + 1
-  pub handles : SameHandles old.seat seat
+  pub handles : OnlyOwnGrows old.seat seat
   pub took : Completes old.seat.own seat.own (past_of old) (past_in core happened) (part_in old.core event)
 
 -- it was counted before
-pub took_counted : (old : BookView) (counted core : CoreView) (seat : CoreSeatView) (happened : List Happening) (lines : List Line) (event : Event) → Counts old.core counted → SamePlan counted core → SameHandles old.seat seat → IsKept core seat happened lines →
+pub took_counted : (old : BookView) (counted core : CoreView) (seat : CoreSeatView) (happened : List Happening) (lines : List Line) (event : Event) → Counts old.core counted → SamePlan counted core → OnlyOwnGrows old.seat seat → IsKept core seat happened lines →
     Completes old.seat.own seat.own (past_in counted old.happened) (past_in core happened) (part_in counted event) → Took old core seat happened lines event
 took_counted old counted core seat happened lines event counts same handles kept took = record {
   kept = kept;
@@ -93,29 +94,30 @@ verdict_fits cells old core seat happened lines event verdict book t said =
           ends_once calls workers rest e verdict.task verdict.ending still.ending book.orderly means said still.ended,
     )
 
--- what became of the notes: those that were there are there, and each other one is that of the verdict that the answer tells
-pub record NotesGo (cells : List ℕ) (old now : List (Option (Note Verdict))) (past : List HistoryEntry) : Type 0 where
-  pub stay : (k : ℕ) (note : Note Verdict) → slice_index_or old k None ≡ Some note → slice_index_or now k None ≡ Some note
+-- what became of the notes: each stays as it is, or there was none, and the answer tells of its task; and a new one is that of the
+-- verdict that the answer tells
+pub record NotesGo (cells : List ℕ) (old now : List (Option (Note Verdict))) (past : List HistoryEntry) (answer : Answer) : Type 0 where
+  pub each : (k : ℕ) → (slice_index_or now k None ≡ slice_index_or old k None) ⊎ ((slice_index_or old k None ≡ None) × IsSome (ending_in k answer))
   pub come : (k : ℕ) (note : Note Verdict) → slice_index_or now k None ≡ Some note → (slice_index_or old k None ≡ Some note) ⊎ KnowsVerdict cells past k note
 
 -- what the book is then
-abbrev pub book_of : CoreView → CoreSeatView → List Happening → List Line → List (Option (Note Verdict)) → BookView
-book_of core seat happened lines notes = record { core = core; seat = seat; happened = happened; lines = lines; notes = notes }
+abbrev pub book_of : TableId → CoreView → CoreSeatView → List Happening → List Line → List (Option (Note Verdict)) → BookView
+book_of table core seat happened lines notes = record { core = core; seat = seat; table = table; happened = happened; lines = lines; notes = notes }
 
-pub took_book : (cells : List ℕ) (old : BookView) (core : CoreView) (seat : CoreSeatView) (happened : List Happening) (lines : List Line) (notes : List (Option (Note Verdict))) (event : Event) → IsBook cells old → Took old core seat happened lines event →
-    NotesGo cells old.notes notes (past_in core happened) → IsBook cells (book_of core seat happened lines notes)
-took_book cells old core seat happened lines notes event book t go =
+pub took_book : (cells : List ℕ) (old : BookView) (table : TableId) (core : CoreView) (seat : CoreSeatView) (happened : List Happening) (lines : List Line) (notes : List (Option (Note Verdict))) (event : Event) → IsBook cells old → (t : Took old core seat happened lines event) →
+    NotesGo cells old.notes notes (past_in core happened) t.took.last.answer → IsBook cells (book_of table core seat happened lines notes)
+took_book cells old table core seat happened lines notes event book t go =
     let added = t.took.last ∷ t.took.between in
-    kept_book cells (book_of core seat happened lines notes) t.kept
-    (λ k low is. ap (was_outside k) t.took.past ∙ outside_stays k added (past_of old) (book.joined k (subst (λ c. k < task_count c) t.calls low) (ap (stands_in k) (sym t.handles.joined) ∙ is)))
+    kept_book cells (book_of table core seat happened lines notes) t.kept
+    (λ k is. ap (was_outside k) t.took.past ∙ outside_stays k added (past_of old) (book.joined k (ap (stands_in k) (sym t.handles.joined) ∙ is)))
     (λ k note is. elim (go.come k note is) [
       | inl was ↦ subst (λ p. KnowsVerdict cells p k note) (sym t.took.past) (knows_still cells added (past_of old) k note (book.notes k note was))
       | inr knows ↦ knows
     ])
 
-pub took_applies : (cells : List ℕ) (old : BookView) (core : CoreView) (seat : CoreSeatView) (happened : List Happening) (lines : List Line) (notes : List (Option (Note Verdict))) (event : Event) → IsBook cells old → (t : Took old core seat happened lines event) →
-    NotesGo cells old.notes notes (past_in core happened) → (did : Applies old (book_of core seat happened lines notes) event) × (did.last ≡ t.took.last)
-took_applies cells old core seat happened lines notes event book t go =
+pub took_applies : (cells : List ℕ) (old : BookView) (table : TableId) (core : CoreView) (seat : CoreSeatView) (happened : List Happening) (lines : List Line) (notes : List (Option (Note Verdict))) (event : Event) → IsBook cells old → (t : Took old core seat happened lines event) →
+    NotesGo cells old.notes notes (past_in core happened) t.took.last.answer → (did : Applies old (book_of table core seat happened lines notes) event) × (did.last ≡ t.took.last)
+took_applies cells old table core seat happened lines notes event book t go =
     let calls = old.core.calls in
     let workers = workers_of old.core in
     let agrees : Agrees calls workers (past_in core happened) seat = subst (λ c. Agrees c workers (past_in core happened) seat) t.calls (subst (λ w. Agrees core.calls w (past_in core happened) seat) t.workers t.kept.agrees) in (
@@ -126,34 +128,35 @@ took_applies cells old core seat happened lines notes event book t go =
         each = takes_noted calls workers (past_of old) (past_in core happened) old.seat seat (part_in old.core event) (history_same old core seat happened lines event t) (book_kept cells old book).agrees agrees t.took;
         part = t.took.part;
         own = t.took.own;
+        grows = (t.handles.these, t.handles.grows);
         joined = t.handles.joined;
+        ranks = t.handles.ranks;
         out = t.handles.out;
         taken = t.taken;
-        notes = go.stay;
+        notes = go.each;
       },
       refl,
     )
 
--- no verdict was put
-pub notes_same : (cells : List ℕ) (notes : List (Option (Note Verdict))) (past : List HistoryEntry) → NotesGo cells notes notes past
-notes_same cells notes past = record { stay = λ k note is. is; come = λ k note is. inl is }
-
 -- the book's desk had room made, and the event was counted
 pub took_room : (old : BookView) (roomy counted core : CoreView) (met seat : CoreSeatView) (before happened : List Happening) (lines : List Line) (event : Event) → roomy ≡ old.core → met ≡ old.seat → before ≡ old.happened → Counts roomy counted →
-    SamePlan counted core → SameHandles met seat → IsKept core seat happened lines → Completes met.own seat.own (past_in counted before) (past_in core happened) (part_in counted event) → Took old core seat happened lines event
+    SamePlan counted core → OnlyOwnGrows met seat → IsKept core seat happened lines → Completes met.own seat.own (past_in counted before) (past_in core happened) (part_in counted event) → Took old core seat happened lines event
 took_room old roomy counted core met seat before happened lines event r s b counts same handles kept took =
-    took_counted old counted core seat happened lines event (subst (λ m. Counts m counted) r counts) same (subst (λ v. SameHandles v seat) s handles) kept
+    took_counted old counted core seat happened lines event (subst (λ m. Counts m counted) r counts) same (subst (λ v. OnlyOwnGrows v seat) s handles) kept
     (subst (λ (v : CoreSeatView). Completes v.own seat.own (past_in counted old.happened) (past_in core happened) (part_in counted event)) s
     (subst (λ hs. Completes met.own seat.own (past_in counted hs) (past_in core happened) (part_in counted event)) b took))
 
 -- the verdict that the answer tells was put
 pub settled : (cells : List ℕ) (old : BookView) (core : CoreView) (seat : CoreSeatView) (happened : List Happening) (lines : List Line) (event : Event) (answer : Option Answer) (notes : List (Option (Note Verdict))) → IsBook cells old → (t : Took old core seat happened lines event) →
     answer ≡ Some t.took.last.answer → ((k : ℕ) → (slice_index_or notes k None ≡ slice_index_or old.notes k None) ⊎ ((note : Note Verdict) × (slice_index_or notes k None ≡ Some note) × TookVerdict cells answer k note)) →
-    NotesGo cells old.notes notes (past_in core happened)
+    NotesGo cells old.notes notes (past_in core happened) t.took.last.answer
 settled cells old core seat happened lines event answer notes book t is each = record {
-  stay = λ k note there. elim (each k) [
-    | inl same ↦ same ∙ there
-    | inr new ↦ absurd ((verdict_fits cells old core seat happened lines event (record { task = k; ending = new.2.ending }) book t (told k new.0 new.2)).1 note there)
+  each = λ k. elim (each k) [
+    | inl same ↦ inl same
+    | inr new ↦ inr (
+      none_there (slice_index_or old.notes k None) (verdict_fits cells old core seat happened lines event (record { task = k; ending = new.2.ending }) book t (told k new.0 new.2)).1,
+      subst (λ o. IsSome o) (sym (told k new.0 new.2)) refl,
+    )
   ];
   come = λ k note there. elim (each k) [
     | inl same ↦ inl (sym same ∙ there)
@@ -163,6 +166,10 @@ settled cells old core seat happened lines event answer notes book t is each = r
   where
     one : (a b : Note Verdict) → Some a ≡ Some b → a ≡ b
     one a b q = ap (λ (o : Option (Note Verdict)). Rattle.std.specs.Option.option_map_or (λ n. n) o a) q
+
+    none_there : (o : Option (Note Verdict)) → ((note : Note Verdict) → o ≡ Some note → ⊥) → o ≡ None
+    none_there None never = refl
+    none_there (Some note) never = absurd (never note refl)
 
     two : (a b : Answer) → Some a ≡ Some b → a ≡ b
     two a b q = ap (λ (o : Option Answer). Rattle.std.specs.Option.option_map_or (λ n. n) o a) q

@@ -3,6 +3,7 @@ use Rattle.std.proofs.Common.{◌≡◌, ◌⊎◌, ℕ, zero, suc, ◌<◌, ◌
 use Rattle.std.specs.Prelude.{slice_index_or, replicate}
 use Rattle.std.proofs.lemmas.Bool.{false≢true, eqb-true}
 use Rattle.std.proofs.lemmas.List.Elements.{All-head}
+use Rattle.atomic_table.specs.Seated.{TableId}
 use Rattle.once_cell.specs.declared.race.note.Note.{Note}
 use Rattle.sched_time.specs.declared.timing.Ending.{Ending}
 use Rattle.std.proofs.lemmas.List.{length-replicate}
@@ -50,7 +51,7 @@ book_kept cells b book = record {
 
 -- what joined handles won had a cancel from outside
 abbrev pub AreJoined : BookView → Type 0
-AreJoined b = (k : ℕ) → k < task_count b.core.calls → stands_in k b.seat.joined ≡ true → was_outside k (past_of b) ≡ true
+AreJoined b = (k : ℕ) → stands_in k b.seat.joined ≡ true → was_outside k (past_of b) ≡ true
 
 -- each note knows the verdict of its task
 abbrev pub KnowAll : List ℕ → BookView → Type 0
@@ -154,9 +155,9 @@ vacant_at zero k = refl
 vacant_at (suc n) zero = refl
 vacant_at (suc n) (suc k) = vacant_at n k
 
-pub opening_book : (cells : List ℕ) (calls : List Planned) (workers limit n tasks : ℕ) (m : CoreView) (v : CoreSeatView) (notes : List (Option (Note Verdict))) → IsOrderly calls → IsOpening m calls workers limit → v ≡ new_core n → n ≡ task_count calls →
-    notes ≡ replicate tasks None → IsBook cells (record { core = m; seat = v; happened = []; lines = []; notes = notes })
-opening_book cells calls workers limit n tasks m v notes orderly opens seat count none = record {
+pub opening_book : (cells : List ℕ) (table : TableId) (calls : List Planned) (workers limit n tasks : ℕ) (m : CoreView) (v : CoreSeatView) (notes : List (Option (Note Verdict))) → IsOrderly calls → IsOpening m calls workers limit → v ≡ new_core n → n ≡ task_count calls →
+    notes ≡ replicate tasks None → IsBook cells (record { core = m; seat = v; table = table; happened = []; lines = []; notes = notes })
+opening_book cells table calls workers limit n tasks m v notes orderly opens seat count none = record {
   orderly = subst IsOrderly (sym opens.calls) orderly;
   means = tt;
   stands = opens.stands;
@@ -167,6 +168,6 @@ opening_book cells calls workers limit n tasks m v notes orderly opens seat coun
       let u : slice_index_or m.tasks k vacant ≡ vacant = ap (λ (s : State). s.tasks k) opens.stands in
       subst (λ x. FitsWord x (word_of_task (slice_index_or m.tasks k vacant))) (sym e) (subst (λ x. FitsWord vacant_word (word_of_task x)) (sym u) (record { phase = refl; run = refl; cancelled = refl }));
   cancelled = λ k. sym (ap (λ (w : CoreSeatView). stands_in k w.own || false) seat);
-  joined = λ k low q. absurd (false≢true (sym (ap (λ (w : CoreSeatView). stands_in k w.joined) seat) ∙ q));
+  joined = λ k q. absurd (false≢true (sym (ap (λ (w : CoreSeatView). stands_in k w.joined) seat) ∙ q));
   notes = λ k note q. let clash : None ≡ Some note = sym (ap (λ xs. slice_index_or xs k None) none ∙ none_at tasks k) ∙ q in absurd cc;
 }

@@ -4,6 +4,7 @@ use Rattle.std.specs.Prelude.{slice_index_or, slice_get}
 use Rattle.std.specs.List.{All}
 use Rattle.std.proofs.lemmas.List.{map-append}
 use Rattle.std.proofs.lemmas.List.Elements.{All-nil, All-cons, All-head, All-tail, All-append, All-weaker, filter-append}
+use Rattle.task_word.specs.Views.{and_if}
 use Rattle.task_word.specs.declared.views.CoreSeatView.{CoreSeatView}
 use Rattle.queue_code.specs.Calls.{Planned}
 use Rattle.executor_core.specs.declared.types.Event.{Event}
@@ -15,7 +16,7 @@ use Rattle.executor_core.specs.Flows.{happening_of, CallComes, EventComes}
 use Rattle.executor_core.specs.CoreView.{CoreView}
 use Rattle.worker_pool.specs.Books.{stands_in}
 use Rattle.worker_pool.specs.Applies.{SaysYes, calls_in}
-use Rattle.worker_pool.specs.own.Steps.{SamePlan, SameHandles, Noting, OnlyNoted, IsPassed, Passes, Completes, MovesOn, part_in, past_in}
+use Rattle.worker_pool.specs.own.Steps.{SamePlan, OnlyOwnGrows, Noting, OnlyNoted, IsPassed, Passes, Completes, MovesOn, part_in, past_in}
 use Rattle.worker_pool.proofs.Bools.{or_none, or_assoc, any_append}
 use Rattle.worker_pool.proofs.Steps.{longer}
 
@@ -27,11 +28,22 @@ same_plan m = record { calls = refl; workers = refl; taken = refl; limit = refl 
 pub same_then : (a b c : CoreView) → SamePlan a b → SamePlan b c → SamePlan a c
 same_then a b c one two = record { calls = two.calls ∙ one.calls; workers = two.workers ∙ one.workers; taken = two.taken ∙ one.taken; limit = two.limit ∙ one.limit }
 
-pub same_handles : (v : CoreSeatView) → SameHandles v v
-same_handles v = record { joined = refl; ranks = refl; out = refl }
+pub same_handles : (v : CoreSeatView) → OnlyOwnGrows v v
+same_handles v = record { joined = refl; ranks = refl; out = refl; these = []; grows = refl }
 
-pub handles_then : (a b c : CoreSeatView) → SameHandles a b → SameHandles b c → SameHandles a c
-handles_then a b c one two = record { joined = two.joined ∙ one.joined; ranks = two.ranks ∙ one.ranks; out = two.out ∙ one.out }
+pub handles_then : (a b c : CoreSeatView) → OnlyOwnGrows a b → OnlyOwnGrows b c → OnlyOwnGrows a c
+handles_then a b c one two = record {
+  joined = two.joined ∙ one.joined;
+  ranks = two.ranks ∙ one.ranks;
+  out = two.out ∙ one.out;
+  these = two.these ++ one.these;
+  grows = two.grows ∙ (ap (λ xs. two.these ++ xs) one.grows ∙ sym (append_assoc two.these one.these a.own));
+}
+
+-- a task that came to a list, if so, stands in front of it
+pub in_front : (b : Bool) (k : ℕ) (xs : List ℕ) → and_if b k xs ≡ and_if b k [] ++ xs
+in_front true k xs = refl
+in_front false k xs = refl
 
 -- ---- cancels that were noted
 

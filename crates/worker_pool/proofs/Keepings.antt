@@ -30,7 +30,7 @@ use Rattle.executor_laws.proofs.CancelNeeds.{only_calls_sweep}
 use Rattle.worker_pool.specs.Books.{history_for}
 use Rattle.worker_pool.specs.Applies.{SaysYes}
 use Rattle.worker_pool.specs.own.Moves.{moves_made, CanMove, WasMet}
-use Rattle.worker_pool.specs.own.Steps.{Agrees, Keeps, IsKept, past_in, Comes, need_in, SameHandles, Notes, MovesOn, ends_of}
+use Rattle.worker_pool.specs.own.Steps.{Agrees, Keeps, IsKept, past_in, Comes, need_in, OnlyOwnGrows, Notes, MovesOn, ends_of}
 use Rattle.worker_pool.proofs.Steps.{longer, state_at, needs, stepped, can_move, noted}
 
 -- what is so of some calls and workers is so of the same ones
@@ -171,15 +171,15 @@ sweeps_are_calls m (h.Finish w ending) q = absurd (events_sweep_nothing m (h.Fin
 sweeps_are_calls m (h.Cancel k) q = absurd (events_sweep_nothing m (h.Cancel k) refl q)
 
 -- the moves of a need leave the handles as they are
-pub moved_handles : (v : CoreSeatView) (need : Need) → SameHandles v (moves_made v need)
-moved_handles v n.Nothing = record { joined = refl; ranks = refl; out = refl }
-moved_handles v (n.Submit k) = record { joined = refl; ranks = refl; out = refl }
-moved_handles v (n.Start k) = record { joined = refl; ranks = refl; out = refl }
-moved_handles v (n.Done k) = record { joined = refl; ranks = refl; out = refl }
-moved_handles v (n.Fail k) = record { joined = refl; ranks = refl; out = refl }
-moved_handles v (n.Rearm k) = record { joined = refl; ranks = refl; out = refl }
-moved_handles v (n.Cancel k) = record { joined = refl; ranks = refl; out = refl }
-moved_handles v n.Sweep = record { joined = refl; ranks = refl; out = refl }
+pub moved_handles : (v : CoreSeatView) (need : Need) → OnlyOwnGrows v (moves_made v need)
+moved_handles v n.Nothing = record { joined = refl; ranks = refl; out = refl; these = []; grows = refl }
+moved_handles v (n.Submit k) = record { joined = refl; ranks = refl; out = refl; these = []; grows = refl }
+moved_handles v (n.Start k) = record { joined = refl; ranks = refl; out = refl; these = []; grows = refl }
+moved_handles v (n.Done k) = record { joined = refl; ranks = refl; out = refl; these = []; grows = refl }
+moved_handles v (n.Fail k) = record { joined = refl; ranks = refl; out = refl; these = []; grows = refl }
+moved_handles v (n.Rearm k) = record { joined = refl; ranks = refl; out = refl; these = []; grows = refl }
+moved_handles v (n.Cancel k) = record { joined = refl; ranks = refl; out = refl; these = k ∷ []; grows = refl }
+moved_handles v n.Sweep = record { joined = refl; ranks = refl; out = refl; these = []; grows = refl }
 
 -- a call comes before an event
 pub call_comes_before : (y : Happening) → is_call y ≡ true → comes_before_event y ≡ true

@@ -5,6 +5,7 @@ pub mod Steps
 pub mod Keepings
 pub mod Growing
 pub mod Sweeps
+pub mod Wins
 pub mod Entries
 pub mod Settling
 pub mod Booking

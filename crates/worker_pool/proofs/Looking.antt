@@ -15,8 +15,9 @@ use Rattle.executor_core.specs.State.{State, vacant}
 use Rattle.executor_core.specs.CoreView.{CoreView, workers_of}
 use Rattle.executor_laws.specs.TaskWords.{word_after}
 use Rattle.worker_pool.specs.Books.{FitsWord}
+use Rattle.worker_pool.specs.Applies.{OnlyMarks, TellsUpTo}
 use Rattle.worker_pool.specs.own.Moves.{WasMet}
-use Rattle.worker_pool.specs.own.Steps.{Agrees, IsKept, past_in, TellsUpTo, SameHandles}
+use Rattle.worker_pool.specs.own.Steps.{Agrees, IsKept, past_in, OnlyOwnGrows}
 use Rattle.worker_pool.proofs.Bools.{and_none, and_true}
 
 looked_fits : (e w u : Parts) → FitsWord e u → MeetsEntry e w → (is_cancelled w ≡ true → is_cancelled u ≡ true) → FitsWord w u
@@ -72,6 +73,26 @@ looked m v happened lines k w kept low meets only = record {
         (subst (λ x. FitsWord x u) (sym (entry_here v k w (subst (λ n. k < n) (sym agrees.count) low))) here)
     at j false apart = subst (λ x. FitsWord x (word_after m.calls (workers_of m) past j)) (sym (entry_other v k j w (λ e. false≢true (sym apart ∙ eq-eqb k j (sym e))))) (agrees.each j)
 
+-- each entry is as it was then, or has the bit
+pub looked_marks : (v : CoreSeatView) (k : ℕ) (w : Parts) → k < length v.entries → MeetsEntry (entry v k) w → OnlyMarks v (with_entry v k w)
+looked_marks v k w low meets = λ j. by j (k == j) refl
+  where
+    by : (j : ℕ) (b : Bool) → (k == j) ≡ b → MeetsEntry (entry v j) (entry (with_entry v k w) j)
+    by j true same = subst (λ i. MeetsEntry (entry v i) (entry (with_entry v k w) i)) (eqb-true k j same) (subst (λ x. MeetsEntry (entry v k) x) (sym (entry_here v k w low)) meets)
+    by j false apart = inl (entry_other v k j w (λ e. false≢true (sym apart ∙ eq-eqb k j (sym e))))
+
+meets_then : (x y z : Parts) → MeetsEntry x y → MeetsEntry y z → MeetsEntry x z
+meets_then x y z one two = elim two [
+  | inl same ↦ subst (λ p. MeetsEntry x p) (sym same) one
+  | inr mark ↦ elim one [
+    | inl same ↦ inr (mark ∙ ap marked same)
+    | inr same ↦ inr (mark ∙ ap marked same)
+  ]
+]
+
+pub marks_then : (a b c : CoreSeatView) → OnlyMarks a b → OnlyMarks b c → OnlyMarks a c
+marks_then a b c one two = λ k. meets_then (entry a k) (entry b k) (entry c k) (one k) (two k)
+
 -- where the core does not know of it, it was met
 pub looked_met : (m : CoreView) (v : CoreSeatView) (happened : List Happening) (lines : List Line) (k : ℕ) (w : Parts) → IsKept m v happened lines → k < task_count m.calls → MeetsEntry (entry v k) w → is_cancelled w ≡ true →
     (slice_index_or m.tasks k vacant).cancelled ≡ false → WasMet (task_count m.calls) v (with_entry v k w) k
@@ -87,7 +108,7 @@ looked_met m v happened lines k w kept low meets cancelled unknown =
     ]
 
 -- what the seat tells goes by its own lists alone
-tells_alike : (v next_v : CoreSeatView) (k : ℕ) (w : Parts) → next_v.own ≡ v.own → SameHandles v next_v → CoreTells v k w → CoreTells next_v k w
+tells_alike : (v next_v : CoreSeatView) (k : ℕ) (w : Parts) → next_v.own ≡ v.own → OnlyOwnGrows v next_v → CoreTells v k w → CoreTells next_v k w
 tells_alike v next_v k w own same tells =
     subst (λ o. CoreTells (record { entries = next_v.entries; own = o; joined = next_v.joined; ranks = next_v.ranks; out = next_v.out }) k w) (sym own)
     (subst (λ j. CoreTells (record { entries = next_v.entries; own = v.own; joined = j; ranks = next_v.ranks; out = next_v.out }) k w) (sym same.joined)

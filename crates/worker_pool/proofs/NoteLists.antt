@@ -1,11 +1,10 @@
 -- Lists of notes.
-use Rattle.std.proofs.Common.{◌≡◌, ℕ, zero, suc, ◌<◌, ◌≤◌, List, [], ◌∷◌, length, Option, Some, None, refl, sym, ap, arith}
+use Rattle.std.proofs.Common.{◌≡◌, ℕ, zero, suc, ◌<◌, ◌≤◌, List, [], ◌∷◌, ◌++◌, length, Option, Some, None, refl, sym, ap, arith}
 use Rattle.std.proofs.lemmas.Bool.{false≢true}
 use Rattle.std.specs.Prelude.{slice_index_or, slice_set, replicate, IsSome, IfSome}
-use Rattle.result_cell.specs.Cells.{StaysKnown}
 use Rattle.once_cell.specs.declared.race.note.Note.{Note}
 use Rattle.result_cell.specs.declared.verdict.Verdict.{Verdict}
-use Rattle.result_cell.specs.own.Cells.{known_at}
+use Rattle.result_cell.specs.Cells.{StaysKnown, known_at}
 
 -- what is known at the place of a note
 pub known_read : (notes : List (Note Verdict)) (k : ℕ) (d : Note Verdict) → k < length notes → known_at notes k ≡ (slice_index_or notes k d).known
@@ -18,6 +17,13 @@ pub known_past : (notes : List (Note Verdict)) (k : ℕ) → length notes ≤ k 
 known_past [] k high = refl
 known_past (n ∷ notes) zero high = absurd (omega (arith, high))
 known_past (n ∷ notes) (suc k) high = known_past notes k (omega (arith, high))
+
+-- where each note knows nothing, and so does one more
+pub nothing_more : (notes : List (Note Verdict)) (n : Note Verdict) → n.known ≡ None → ((k : ℕ) → known_at notes k ≡ None) → (k : ℕ) → known_at (notes ++ n ∷ []) k ≡ None
+nothing_more [] n none never zero = none
+nothing_more [] n none never (suc k) = refl
+nothing_more (m ∷ notes) n none never zero = never zero
+nothing_more (m ∷ notes) n none never (suc k) = nothing_more notes n none (λ j. never (suc j)) k
 
 -- no place of these has one
 abbrev no_note : Option (Note Verdict)

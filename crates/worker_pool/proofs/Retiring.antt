@@ -1,11 +1,12 @@
 -- What holds once each word was looked at, after a handle came back.
-use Rattle.std.proofs.Common.{◌≡◌, ℕ, suc, ◌+◌, ◌<◌, ◌≤◌, ◌==◌, ◌&&◌, ◌||◌, Bool, true, false, not, cond, List, [], ◌∷◌, length, reverse, refl, sym, ap, ◌∙◌, subst, arith, length-append}
+use Rattle.std.proofs.Common.{◌≡◌, ℕ, zero, suc, ◌+◌, ◌<◌, ◌≤◌, ◌==◌, ◌&&◌, ◌||◌, Bool, true, false, not, cond, inl, inr, List, [], ◌∷◌, ◌++◌, length, reverse, refl, sym, ap, ◌∙◌, subst, arith, length-append}
 use Rattle.std.specs.Prelude.{slice_index, slice_index_or}
 use Rattle.std.proofs.lemmas.Bool.{false≢true}
 use Rattle.std.specs.List.{All}
 use Rattle.std.proofs.lemmas.List.{length-reverse}
 use Rattle.std.proofs.lemmas.List.Sums.{sum_by-cons}
-use Rattle.task_word.specs.Words.{is_cancelled, rank, rank_in}
+use Rattle.atomic_table.specs.Seated.{TableId}
+use Rattle.task_word.specs.Words.{is_cancelled, rank, rank_in, vacant_word}
 use Rattle.task_word.specs.Views.{entry, times, joined_with}
 use Rattle.task_word.specs.Rule.{flag}
 use Rattle.task_word.specs.Steps.{CoreTells}
@@ -22,8 +23,10 @@ use Rattle.executor_core.specs.Tasks.{word_of_task}
 use Rattle.executor_core.specs.CoreView.{CoreView, workers_of}
 use Rattle.executor_laws.proofs.TaskWords.{words_tell_the_history}
 use Rattle.worker_pool.specs.Books.{BookView, IsBook, KnowsVerdict, past_of, stands_in, was_outside}
-use Rattle.worker_pool.specs.Applies.{IsNoted, Retires, OnlyNotes, KnowsCancels, HasMetRanks, AllAreJoined}
-use Rattle.worker_pool.specs.own.Steps.{Agrees, IsKept, past_in, OnlyNoted, SameHandles, TellsUpTo}
+use Rattle.worker_pool.specs.Applies.{IsNoted, Retires, OnlyMarks, OnlyNotes, KnowsCancels, TellsUpTo, HasMetRanks, AllAreJoined}
+use Rattle.worker_pool.specs.own.Steps.{Agrees, IsKept, past_in, OnlyNoted, OnlyOwnGrows, WinsBelow}
+use Rattle.worker_pool.proofs.Bools.{any_append, false_unless, neither, or_true}
+use Rattle.worker_pool.proofs.Sweeps.{low_or}
 use Rattle.worker_pool.proofs.Entries.{noting_noted}
 use Rattle.worker_pool.proofs.Booking.{book_kept, kept_book, AreJoined, KnowAll, outside_stays, knows_still}
 use Rattle.worker_pool.proofs.Applying.{book_of}
@@ -74,6 +77,31 @@ stood b k kept tells = record {
   alone = tells.alone;
 }
 
+-- past the last task nothing was cancelled
+beyond : {X : Type 0} (xs : List X) (k : ℕ) (d : X) → length xs ≤ k → slice_index_or xs k d ≡ d
+beyond [] k d high = refl
+beyond (x ∷ xs) zero d high = absurd (omega (arith, high))
+beyond (x ∷ xs) (suc k) d high = beyond xs k d (omega (arith, high))
+
+pub none_outside : (b : BookView) (k : ℕ) → IsKept b.core b.seat b.happened b.lines → task_count b.core.calls ≤ k → was_outside k (past_of b) ≡ false
+none_outside b k kept high =
+    let past_end : entry b.seat k ≡ vacant_word = beyond b.seat.entries k vacant_word (subst (λ n. n ≤ k) (sym kept.agrees.count) high) in
+    let tells = words_tell_the_history b.core.calls (workers_of b.core) (past_of b) k kept.means in
+    let all : (stands_in k b.seat.own || was_outside k (past_of b)) ≡ false =
+    sym (kept.agrees.cancelled k) ∙ (sym tells.cancelled ∙ (sym (kept.agrees.each k).cancelled ∙ ap is_cancelled past_end))
+    in
+    (neither (stands_in k b.seat.own) (was_outside k (past_of b)) all).1
+
+-- what handles won that came back, or one that comes back now
+pub joined_below : (cells : List ℕ) (b : BookView) (handle : HandleSeatView) → IsBook cells b → WinsBelow (task_count b.core.calls) handle → (k : ℕ) → stands_in k (b.seat.joined ++ handle.won) ≡ true → k < task_count b.core.calls
+joined_below cells b handle book wins k q = elim (low_or k (task_count b.core.calls)) [
+  | inl low ↦ low
+  | inr high ↦
+      let never = none_outside b k (book_kept cells b book) high in
+      let before : stands_in k b.seat.joined ≡ false = false_unless (stands_in k b.seat.joined) (λ p. false≢true (sym never ∙ book.joined k p)) in
+      wins k (ap (λ x. x || stands_in k handle.won) (sym before) ∙ (sym (any_append (λ j. j == k) b.seat.joined handle.won) ∙ q))
+]
+
 joined_outside : (own joined out cancelled : Bool) (m n : ℕ) → (own || out) ≡ cancelled → m + n ≤ flag cancelled → (own ≡ true → 1 ≤ m) → (joined ≡ true → 1 ≤ n) → joined ≡ true → out ≡ true
 joined_outside own joined true cancelled m n is once owns joins q = refl
 joined_outside true joined false true m n is once owns joins q = let a' = owns refl in let b' = joins q in absurd (omega (arith, a', b', once))
@@ -93,16 +121,26 @@ all_joined false false true true m n is all owns lacks joins never = let a' = la
 all_joined false false true false m n is all owns lacks joins never = absurd (false≢true (sym is))
 all_joined false false false cancelled m n is all owns lacks joins never = refl
 
-pub tells_joined : (b : BookView) → IsKept b.core b.seat b.happened b.lines → TellsUpTo b.seat (task_count b.core.calls) → AreJoined b
-tells_joined b kept tells k low q =
+-- what joined handles won is among the tasks
+abbrev AreBelow : BookView → Type 0
+AreBelow b = (k : ℕ) → stands_in k b.seat.joined ≡ true → k < task_count b.core.calls
+
+pub tells_joined : (b : BookView) → IsKept b.core b.seat b.happened b.lines → TellsUpTo b.seat (task_count b.core.calls) → AreBelow b → AreJoined b
+tells_joined b kept tells below k q =
+    let low = below k q in
     let s = stood b k kept (tells k low) in
     joined_outside (stands_in k b.seat.own) (stands_in k b.seat.joined) (was_outside k (past_of b)) s.cancelled (times k b.seat.own) (times k b.seat.joined) s.is s.once (stands_often k b.seat.own) (stands_often k b.seat.joined) q
 
-pub tells_all : (b : BookView) → IsKept b.core b.seat b.happened b.lines → TellsUpTo b.seat (task_count b.core.calls) → AllAreJoined b
-tells_all b kept tells none k low =
-    let s = stood b k kept (tells k low) in
-    all_joined (stands_in k b.seat.own) (stands_in k b.seat.joined) (was_outside k (past_of b)) s.cancelled (times k b.seat.own) (times k b.seat.joined) s.is (s.alone none)
-    (stands_often k b.seat.own) (stands_never k b.seat.own) (stands_often k b.seat.joined) (stands_never k b.seat.joined)
+pub tells_all : (b : BookView) → IsKept b.core b.seat b.happened b.lines → TellsUpTo b.seat (task_count b.core.calls) → AreJoined b → AllAreJoined b
+tells_all b kept tells joined none k = elim (low_or k (task_count b.core.calls)) [
+  | inl low ↦
+      let s = stood b k kept (tells k low) in
+      all_joined (stands_in k b.seat.own) (stands_in k b.seat.joined) (was_outside k (past_of b)) s.cancelled (times k b.seat.own) (times k b.seat.joined) s.is (s.alone none)
+      (stands_often k b.seat.own) (stands_never k b.seat.own) (stands_often k b.seat.joined) (stands_never k b.seat.joined)
+  | inr high ↦
+      let never = none_outside b k kept high in
+      false_unless (stands_in k b.seat.joined) (λ q. false≢true (sym never ∙ joined k q)) ∙ sym (ap (λ o. o && not (stands_in k b.seat.own)) never)
+]
 
 pub tells_ranks : (b : BookView) (before : CoreSeatView) (handle : HandleSeatView) → IsKept b.core b.seat b.happened b.lines → TellsUpTo b.seat (task_count b.core.calls) → b.seat.ranks ≡ (joined_with before handle).ranks → HasMetRanks b handle
 tells_ranks b before handle kept tells is k low =
@@ -153,21 +191,21 @@ looked_noted cells old v core seat happened lines kept new_kept only own =
     noting_noted calls workers (past_of old) now v seat means kept.agrees agrees own only.noting
 
 -- the notes go on knowing
-pub know_still : (cells : List ℕ) (old : BookView) (core : CoreView) (seat : CoreSeatView) (happened : List Happening) (lines : List Line) → IsBook cells old → OnlyNoted old.core core old.happened happened → KnowAll cells (book_of core seat happened lines old.notes)
-know_still cells old core seat happened lines book only = λ k note is.
+pub know_still : (cells : List ℕ) (old : BookView) (table : TableId) (core : CoreView) (seat : CoreSeatView) (happened : List Happening) (lines : List Line) → IsBook cells old → OnlyNoted old.core core old.happened happened → KnowAll cells (book_of table core seat happened lines old.notes)
+know_still cells old table core seat happened lines book only = λ k note is.
     subst (λ p. KnowsVerdict cells p k note) (sym only.noting.past) (knows_still cells only.noting.noted (past_of old) k note (book.notes k note is))
 
 -- cancels were noted, and no handle came back
-pub looked_book : (cells : List ℕ) (old : BookView) (core : CoreView) (seat : CoreSeatView) (happened : List Happening) (lines : List Line) → IsBook cells old → IsKept core seat happened lines → OnlyNoted old.core core old.happened happened → SameHandles old.seat seat →
-    IsBook cells (book_of core seat happened lines old.notes)
-looked_book cells old core seat happened lines book kept only handles =
-    kept_book cells (book_of core seat happened lines old.notes) kept
-    (λ k low is. ap (was_outside k) only.noting.past ∙ outside_stays k only.noting.noted (past_of old) (book.joined k (subst (λ c. k < task_count c) only.same.calls low) (ap (stands_in k) (sym handles.joined) ∙ is)))
-    (know_still cells old core seat happened lines book only)
+pub looked_book : (cells : List ℕ) (old : BookView) (table : TableId) (core : CoreView) (seat : CoreSeatView) (happened : List Happening) (lines : List Line) → IsBook cells old → IsKept core seat happened lines → OnlyNoted old.core core old.happened happened → OnlyOwnGrows old.seat seat →
+    IsBook cells (book_of table core seat happened lines old.notes)
+looked_book cells old table core seat happened lines book kept only handles =
+    kept_book cells (book_of table core seat happened lines old.notes) kept
+    (λ k is. ap (was_outside k) only.noting.past ∙ outside_stays k only.noting.noted (past_of old) (book.joined k (ap (stands_in k) (sym handles.joined) ∙ is)))
+    (know_still cells old table core seat happened lines book only)
 
-pub looked_notes : (cells : List ℕ) (old : BookView) (core : CoreView) (seat : CoreSeatView) (happened : List Happening) (lines : List Line) (count : ℕ) → IsBook cells old → IsKept core seat happened lines → OnlyNoted old.core core old.happened happened →
-    SameHandles old.seat seat → seat.own ≡ old.seat.own → length happened ≡ length old.happened + count → (noted : List HistoryEntry) × OnlyNotes old (book_of core seat happened lines old.notes) noted × (length noted ≡ count)
-looked_notes cells old core seat happened lines count book kept only handles own many = (
+pub looked_notes : (cells : List ℕ) (old : BookView) (table : TableId) (core : CoreView) (seat : CoreSeatView) (happened : List Happening) (lines : List Line) (count : ℕ) → IsBook cells old → IsKept core seat happened lines → OnlyNoted old.core core old.happened happened →
+    OnlyOwnGrows old.seat seat → seat.own ≡ old.seat.own → OnlyMarks old.seat seat → length happened ≡ length old.happened + count → (noted : List HistoryEntry) × OnlyNotes old (book_of table core seat happened lines old.notes) noted × (length noted ≡ count)
+looked_notes cells old table core seat happened lines count book kept only handles own marks many = (
   only.noting.noted,
   record {
     past = only.noting.past;
@@ -176,7 +214,9 @@ looked_notes cells old core seat happened lines count book kept only handles own
     limit = only.same.limit;
     own = own;
     joined = handles.joined;
+    ranks = handles.ranks;
     out = handles.out;
+    entries = marks;
     notes = refl;
   },
   omega (arith, many, length_noted old.core core old.happened happened only),
@@ -187,16 +227,26 @@ pub book_knows : (cells : List ℕ) (b : BookView) → IsBook cells b → KnowsC
 book_knows cells b book k q =
     sym (words_tell_the_history b.core.calls (workers_of b.core) (past_of b) k book.means).cancelled ∙ (sym ((book_kept cells b book).agrees.each k).cancelled ∙ q)
 
--- a handle came back first
-pub retired_book : (cells : List ℕ) (old : BookView) (core : CoreView) (seat : CoreSeatView) (happened : List Happening) (lines : List Line) → IsBook cells old → IsKept core seat happened lines → OnlyNoted old.core core old.happened happened →
-    TellsUpTo seat (task_count core.calls) → IsBook cells (book_of core seat happened lines old.notes)
-retired_book cells old core seat happened lines book kept only tells =
-    kept_book cells (book_of core seat happened lines old.notes) kept (tells_joined (book_of core seat happened lines old.notes) kept tells) (know_still cells old core seat happened lines book only)
+-- a handle came back first: what it won is among the tasks, and so is what joined before
+pub retired_joined : (cells : List ℕ) (old : BookView) (table : TableId) (handle : HandleSeatView) (core : CoreView) (seat : CoreSeatView) (happened : List Happening) (lines : List Line) → IsBook cells old → WinsBelow (task_count core.calls) handle → IsKept core seat happened lines →
+    OnlyNoted old.core core old.happened happened → OnlyOwnGrows (joined_with old.seat handle) seat → TellsUpTo seat (task_count core.calls) → AreJoined (book_of table core seat happened lines old.notes)
+retired_joined cells old table handle core seat happened lines book wins kept only handles tells =
+    let calls = ap task_count only.same.calls in
+    let before : WinsBelow (task_count old.core.calls) handle = subst (λ n. WinsBelow n handle) calls wins in
+    tells_joined (book_of table core seat happened lines old.notes) kept tells
+    (λ k q. subst (λ n. k < n) (sym calls) (joined_below cells old handle book before k (ap (stands_in k) (sym handles.joined) ∙ q)))
 
-pub retired : (cells : List ℕ) (old : BookView) (handle : HandleSeatView) (core : CoreView) (seat : CoreSeatView) (happened : List Happening) (lines : List Line) → IsBook cells old → IsKept core seat happened lines → OnlyNoted old.core core old.happened happened →
-    SameHandles (joined_with old.seat handle) seat → seat.own ≡ old.seat.own → TellsUpTo seat (task_count core.calls) → Retires old (book_of core seat happened lines old.notes) handle
-retired cells old handle core seat happened lines book kept only handles own tells =
-    let all = book_of core seat happened lines old.notes in
+pub retired_book : (cells : List ℕ) (old : BookView) (table : TableId) (handle : HandleSeatView) (core : CoreView) (seat : CoreSeatView) (happened : List Happening) (lines : List Line) → IsBook cells old → WinsBelow (task_count core.calls) handle → IsKept core seat happened lines →
+    OnlyNoted old.core core old.happened happened → OnlyOwnGrows (joined_with old.seat handle) seat → TellsUpTo seat (task_count core.calls) → IsBook cells (book_of table core seat happened lines old.notes)
+retired_book cells old table handle core seat happened lines book wins kept only handles tells =
+    kept_book cells (book_of table core seat happened lines old.notes) kept (retired_joined cells old table handle core seat happened lines book wins kept only handles tells)
+    (know_still cells old table core seat happened lines book only)
+
+pub retired : (cells : List ℕ) (old : BookView) (table : TableId) (handle : HandleSeatView) (core : CoreView) (seat : CoreSeatView) (happened : List Happening) (lines : List Line) → IsBook cells old → WinsBelow (task_count core.calls) handle → IsKept core seat happened lines →
+    OnlyNoted old.core core old.happened happened → OnlyOwnGrows (joined_with old.seat handle) seat → seat.own ≡ old.seat.own → OnlyMarks old.seat seat → TellsUpTo seat (task_count core.calls) → Retires old (book_of table core seat happened lines old.notes) handle
+retired cells old table handle core seat happened lines book wins kept only handles own marks tells =
+    let all = book_of table core seat happened lines old.notes in
+    let joined = retired_joined cells old table handle core seat happened lines book wins kept only handles tells in
     record {
       noted = only.noting.noted;
       past = only.noting.past;
@@ -205,8 +255,12 @@ retired cells old handle core seat happened lines book kept only handles own tel
       limit = only.same.limit;
       own = own;
       joined = handles.joined;
+      met = handles.ranks;
       out = handles.out;
+      entries = marks;
       notes = refl;
+      won = λ k q. joined k (ap (stands_in k) handles.joined ∙ (any_append (λ j. j == k) old.seat.joined handle.won ∙ or_true (stands_in k old.seat.joined) (stands_in k handle.won) q));
       ranks = tells_ranks all old.seat handle kept tells handles.ranks;
-      all = tells_all all kept tells;
+      all = tells_all all kept tells joined;
+      looked = tells;
     }

@@ -52,7 +52,7 @@ written_in P (j ∷ ends) k all q =
     in
     pick (j == k) refl
 
-low_or : (k t : ℕ) → (k < t) ⊎ (t ≤ k)
+pub low_or : (k t : ℕ) → (k < t) ⊎ (t ≤ k)
 low_or k zero = inr (omega arith)
 low_or zero (suc t) = inl (omega arith)
 low_or (suc k) (suc t) = elim (low_or k t) [ inl l ↦ inl (omega (arith, l)) | inr l ↦ inr (omega (arith, l)) ]

@@ -1,12 +1,11 @@
 -- What the calls of a book add to it. All of it is this project's rule.
-use Rattle.std.specs.Prelude.{◌≡◌, ℕ, ◌+◌, ◌<◌, ◌≤◌, ◌||◌, ◌&&◌, not, true, false, IsTrue, List, ◌∷◌, ◌++◌, length, Option, Some, None, ◌⊎◌, ◌-◌, slice_index, slice_index_or}
+use Rattle.std.specs.Prelude.{◌≡◌, ℕ, ◌+◌, ◌<◌, ◌≤◌, ◌||◌, ◌&&◌, not, true, false, IsTrue, List, ◌∷◌, ◌++◌, length, Option, Some, None, ◌⊎◌, ◌-◌, IsSome, slice_index, slice_index_or}
 use Rattle.std.specs.List.{All, filter}
-use Rattle.once_cell.specs.declared.race.note.Note.{Note}
 use Rattle.task_word.specs.Words.{is_cancelled, rank}
-use Rattle.task_word.specs.Views.{entry}
+use Rattle.task_word.specs.Views.{MeetsEntry, entry, greater}
+use Rattle.task_word.specs.Steps.{CoreTells}
 use Rattle.task_word.specs.declared.views.CoreSeatView.{CoreSeatView}
 use Rattle.task_word.specs.declared.views.HandleSeatView.{HandleSeatView}
-use Rattle.result_cell.specs.declared.verdict.Verdict.{Verdict}
 use Rattle.queue_code.specs.Calls.{task_count}
 use Rattle.executor_core.specs.declared.types.CancelEffect.TheVariants as f
 use Rattle.executor_core.specs.declared.types.Answer.{Answer}
@@ -19,7 +18,7 @@ use Rattle.executor_core.specs.State.{vacant}
 use Rattle.executor_core.specs.Tasks.{word_of_task}
 use Rattle.worker_pool.specs.declared.applied.Applied.{Applied}
 use Rattle.worker_pool.specs.declared.applied.Work.{Work}
-use Rattle.worker_pool.specs.Books.{BookView, past_of, stands_in, was_outside}
+use Rattle.worker_pool.specs.Books.{BookView, ending_in, past_of, stands_in, was_outside}
 
 -- ---- cancels that are noted
 
@@ -36,7 +35,11 @@ pub record IsNoted (seat : CoreSeatView) (e : HistoryEntry) : Type 0 where
   pub met : is_cancelled (entry seat task) ≡ true
   pub others : stands_in task seat.own ≡ false
 
--- cancels were noted, the newest first, and nothing else happened; the seat is as it was but for the entries of their tasks
+-- each entry is as it was, or has the bit of a cancel
+abbrev pub OnlyMarks : CoreSeatView → CoreSeatView → Type 0
+OnlyMarks old new = (k : ℕ) → MeetsEntry (entry old k) (entry new k)
+
+-- cancels were noted, the newest first, and nothing else happened; of the seat the entries alone changed
 pub record OnlyNotes (old new : BookView) (noted : List HistoryEntry) : Type 0 where
   pub past : past_of new ≡ noted ++ past_of old
   pub each : All (IsNoted new.seat) noted
@@ -44,12 +47,23 @@ pub record OnlyNotes (old new : BookView) (noted : List HistoryEntry) : Type 0 w
   pub limit : new.core.limit ≡ old.core.limit
   pub own : new.seat.own ≡ old.seat.own
   pub joined : new.seat.joined ≡ old.seat.joined
+  pub ranks : new.seat.ranks ≡ old.seat.ranks
   pub out : new.seat.out ≡ old.seat.out
+  pub entries : OnlyMarks old.seat new.seat
   pub notes : new.notes ≡ old.notes
 
--- each task that is cancelled in the seat's view is cancelled in the history
+-- each task that is cancelled in the seat's view is cancelled in the history; this is so of each book, by the sentences `words`
+-- and `stands` of what it keeps, and is said once more for callers
 abbrev pub KnowsCancels : BookView → Type 0
 KnowsCancels b = (k : ℕ) → is_cancelled (entry b.seat k) ≡ true → was_cancelled k (past_of b) ≡ true
+
+-- of the tasks below i the seat's view tells of the word that was met, which is its entry
+abbrev pub TellsUpTo : CoreSeatView → ℕ → Type 0
+TellsUpTo v i = (k : ℕ) → k < i → CoreTells v k (entry v k)
+
+-- the word of each task was looked at: the seat's lists and ranks say of its entry what a look tells of a word
+abbrev pub AllAreLookedAt : BookView → Type 0
+AllAreLookedAt b = TellsUpTo b.seat (task_count b.core.calls)
 
 -- ---- an event
 
@@ -68,13 +82,16 @@ pub record Applies (old new : BookView) (event : Event) : Type 0 where
   pub part : last.happening ∷ happenings (calls_in between) ≡ part_of old.core.calls old.core.made old.core.moment event
   -- the seat cancelled exactly those tasks that the event's part cancels
   pub own : (k : ℕ) → stands_in k new.seat.own ≡ (was_cancelled k (last ∷ calls_in between) || stands_in k old.seat.own)
+  -- its list grew in front
+  pub grows : (these : List ℕ) × (new.seat.own ≡ these ++ old.seat.own)
   -- the handles that are out or came back are the same
   pub joined : new.seat.joined ≡ old.seat.joined
+  pub ranks : new.seat.ranks ≡ old.seat.ranks
   pub out : new.seat.out ≡ old.seat.out
   -- one event more was taken
   pub taken : new.core.taken ≡ old.core.taken + 1
-  -- a note that was there stays
-  pub notes : (k : ℕ) (note : Note Verdict) → slice_index_or old.notes k None ≡ Some note → slice_index_or new.notes k None ≡ Some note
+  -- a note came alone where there was none, and of the task alone of which the event's answer says that it is done, or failed
+  pub notes : (k : ℕ) → (slice_index_or new.notes k None ≡ slice_index_or old.notes k None) ⊎ ((slice_index_or old.notes k None ≡ None) × IsSome (ending_in k last.answer))
 
 -- the task and the run that an answer starts
 abbrev pub work_started : Answer → Option Work
@@ -96,10 +113,10 @@ HasMetRanks b handle = (k : ℕ) → k < task_count b.core.calls → slice_index
 -- while no handle is out, the tasks on which a cancel from outside had an effect, and which the seat did not cancel, are
 -- exactly those that handles won which came back
 abbrev pub AllAreJoined : BookView → Type 0
-AllAreJoined b = b.seat.out ≡ 0 → (k : ℕ) → k < task_count b.core.calls
+AllAreJoined b = b.seat.out ≡ 0 → (k : ℕ)
     → stands_in k b.seat.joined ≡ (was_outside k (past_of b) && not (stands_in k b.seat.own))
 
--- a handle came back: what it won is joined, and cancels alone were noted
+-- a handle came back: what it won is joined and known, cancels alone were noted, and the word of each task was looked at
 pub record Retires (old new : BookView) (handle : HandleSeatView) : Type 0 where
   pub noted : List HistoryEntry
   pub past : past_of new ≡ noted ++ past_of old
@@ -108,7 +125,12 @@ pub record Retires (old new : BookView) (handle : HandleSeatView) : Type 0 where
   pub limit : new.core.limit ≡ old.core.limit
   pub own : new.seat.own ≡ old.seat.own
   pub joined : new.seat.joined ≡ old.seat.joined ++ handle.won
+  pub met : new.seat.ranks ≡ greater old.seat.ranks handle.ranks
+  -- one handle fewer is out; that some handle was is in the rule of the words, and no step tells it
   pub out : new.seat.out ≡ old.seat.out - 1
+  pub entries : OnlyMarks old.seat new.seat
   pub notes : new.notes ≡ old.notes
+  pub won : (k : ℕ) → stands_in k handle.won ≡ true → was_outside k (past_of new) ≡ true
   pub ranks : HasMetRanks new handle
   pub all : AllAreJoined new
+  pub looked : AllAreLookedAt new

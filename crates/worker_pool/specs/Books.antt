@@ -1,7 +1,8 @@
 -- What a book keeps: its core, its seat, what happened and the lines agree with each other.
 -- All of it is this project's rule.
-use Rattle.std.specs.Prelude.{◌≡◌, ℕ, ◌<◌, ◌==◌, ◌&&◌, ◌||◌, if◌then◌else◌, Bool, true, false, List, [], ◌∷◌, length, reverse, Option, Some, None, slice_index, slice_index_or, ◌⊎◌}
+use Rattle.std.specs.Prelude.{◌≡◌, ℕ, ◌==◌, ◌&&◌, ◌||◌, if◌then◌else◌, Bool, true, false, List, [], ◌∷◌, length, reverse, Option, Some, None, slice_index, slice_index_or, ◌⊎◌}
 use Rattle.std.specs.List.{list_any}
+use Rattle.atomic_table.specs.Seated.{TableId}
 use Rattle.once_cell.specs.declared.race.note.Note.{Note}
 use Rattle.sched_time.specs.declared.timing.Ending.{Ending}
 use Rattle.sched_time.specs.declared.timing.Ending.TheVariants as e
@@ -22,11 +23,12 @@ use Rattle.executor_core.specs.State.{vacant}
 use Rattle.executor_core.specs.Tasks.{word_of_task}
 use Rattle.executor_core.specs.CoreView.{CoreView, workers_of, Stands}
 
--- what contracts see of a book: its core, its seat, the happenings and the lines, the oldest first, and of each task the note
--- of its cell, where the book set that cell
+-- what contracts see of a book: its core, its seat and the table of the seat, the happenings and the lines, the oldest first,
+-- and of each task the note of its cell that the book keeps, if any
 pub record BookView : Type 0 where
   pub core : CoreView
   pub seat : CoreSeatView
+  pub table : TableId
   pub happened : List Happening
   pub lines : List Line
   pub notes : List (Option (Note Verdict))
@@ -97,6 +99,6 @@ pub record IsBook (cells : List ℕ) (b : BookView) : Type 0 where
   -- a task is cancelled in the history exactly where the seat cancelled it, or a cancel from outside had an effect
   pub cancelled : (k : ℕ) → was_cancelled k (past_of b) ≡ (stands_in k b.seat.own || was_outside k (past_of b))
   -- one had an effect on each task that a handle won which came back
-  pub joined : (k : ℕ) → k < task_count b.core.calls → stands_in k b.seat.joined ≡ true → was_outside k (past_of b) ≡ true
+  pub joined : (k : ℕ) → stands_in k b.seat.joined ≡ true → was_outside k (past_of b) ≡ true
   -- each note knows the verdict of the finish with which its task is done, or failed
   pub notes : (k : ℕ) (note : Note Verdict) → slice_index_or b.notes k None ≡ Some note → KnowsVerdict cells (past_of b) k note

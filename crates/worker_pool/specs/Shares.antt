@@ -1,8 +1,9 @@
 -- What contracts see of what threads share, and of a handle. All of it is this project's rule.
-use Rattle.std.specs.Prelude.{ℕ, List, Option, None, map, slice_index_or}
+use Rattle.std.specs.Prelude.{ℕ, List, Option}
 use Rattle.atomic_table.specs.Seated.{TableId}
 use Rattle.once_cell.specs.declared.race.note.Note.{Note}
 use Rattle.task_word.specs.declared.views.HandleSeatView.{HandleSeatView}
+use Rattle.result_cell.specs.Cells.{known_at}
 use Rattle.result_cell.specs.declared.verdict.Verdict.{Verdict}
 
 -- which words and cells are shared, and of how many tasks
@@ -19,4 +20,4 @@ pub record HandleView : Type 0 where
 
 -- the verdict that a handle knows of task k, and nothing past the last task
 abbrev pub known_to : HandleView → ℕ → Option Verdict
-known_to h k = slice_index_or (map (λ n. n.known) h.notes) k None
+known_to h k = known_at h.notes k

@@ -1,7 +1,7 @@
 //! The book of a pool: what happened, and what it was answered.
-ghost use Rattle.std.specs.Prelude.{◌≡◌, ◌≢◌, ◌⊎◌, ◌+◌, ◌<◌, ◌↔◌, [], Some, IsTrue, IfOk, OnOk, OnErr, IfErr, IsErrOf, IsSome, IfSome, None, ℕ, List, length, slice_index_or};
-ghost use Rattle.once_cell.specs.declared.race.note.Note.{Note as Noted};
-ghost use Rattle.result_cell.specs.Cells.{StaysKnown};
+ghost use Rattle.std.specs.Prelude.{◌≡◌, ◌≢◌, ◌⊎◌, ◌+◌, ◌<◌, ◌≤◌, ◌↔◌, [], Some, IsTrue, IfOk, OnOk, OnErr, IfErr, IsErrOf, IsSome, IfSome, None, ℕ, List, length, slice_index_or};
+ghost use Rattle.once_cell.specs.declared.race.note.Note.{Note as CellNote};
+ghost use Rattle.result_cell.specs.Cells.{AreNotesOf, StaysKnown};
 ghost use Rattle.result_cell.specs.declared.verdict.Verdict.{Verdict as Put};
 ghost use Rattle.queue_code.specs.Calls.{task_count};
 ghost use Rattle.queue_code.specs.Codes.{calls_of};
@@ -13,7 +13,7 @@ ghost use Rattle.executor_core.specs.State.{view_of_state};
 ghost use Rattle.executor_core.specs.Needs.{IsRipe};
 ghost use Rattle.worker_pool.specs.Books.{IsBook};
 ghost use Rattle.worker_pool.specs.Shares.{known_to};
-ghost use Rattle.worker_pool.specs.Applies.{Applies, Tells, OnlyNotes, KnowsCancels, Retires, work_started};
+ghost use Rattle.worker_pool.specs.Applies.{Applies, Tells, OnlyNotes, KnowsCancels, AllAreLookedAt, Retires, work_started};
 
 use crate::applied::{Applied, Work};
 use crate::desk::Desk;
@@ -47,10 +47,10 @@ impl<N: Named, A: Allocator> Model for Book<N, A> {
 
     ghost Value = { BookView };
 
-    ghost view = { λ b. record { core = b.desk.core; seat = b.desk.seat.view; happened = b.desk.happenings.items; lines = b.desk.lines.items; notes = b.notes.items } };
+    ghost view = { λ b. record { core = b.desk.core; seat = b.desk.seat.view; table = b.desk.seat.table; happened = b.desk.happenings.items; lines = b.desk.lines.items; notes = b.notes.items } };
 
     ghost invariant = { λ b. (b.desk.core.calls ≡ N.calls) × (workers_of b.desk.core ≡ N.workers) × (b.desk.seat.table ≡ N.table) × (length N.cells ≡ task_count N.calls) × (length b.notes.items ≡ length N.cells)
-        × IsBook N.cells (record { core = b.desk.core; seat = b.desk.seat.view; happened = b.desk.happenings.items; lines = b.desk.lines.items; notes = b.notes.items }) };
+        × IsBook N.cells (record { core = b.desk.core; seat = b.desk.seat.view; table = b.desk.seat.table; happened = b.desk.happenings.items; lines = b.desk.lines.items; notes = b.notes.items }) };
 }
 
 impl<N: Named, A: HeapAllocator> Book<N, A> {
@@ -157,6 +157,7 @@ impl<N: Named, A: HeapAllocator> Book<N, A> {
         ensures refused { OnErr result (self.new ≡ self.old) }
         ensures admitted { OnOk result (self.new ≡ record self.old { seat = one_out self.old.seat }) }
         ensures handle { IfOk result (λ h. h.seat ≡ new_handle (length N.cells)) }
+        ensures notes { IfOk result (λ h. AreNotesOf h.notes N.cells × ((k : ℕ) → known_to h k ≡ None)) }
     {
         if self.desk.seat.handles() >= MOST_HANDLES {
             return Err(PoolError::Seats);
@@ -189,6 +190,7 @@ impl<N: Named, A: Allocator> Book<N, A> {
         ensures refused { OnErr result (self.new ≡ self.old) }
         ensures noted { IfOk result (λ count. (noted : List HistoryEntry) × OnlyNotes self.old self.new noted × (length noted ≡ count)) }
         ensures known { OnOk result (KnowsCancels self.new) }
+        ensures looked { OnOk result (AllAreLookedAt self.new) }
     {
         let desk = &mut self.desk;
         if desk.make_room().is_err() {
@@ -199,7 +201,8 @@ impl<N: Named, A: Allocator> Book<N, A> {
         Ok(desk.happenings.len() - before)
     }
 
-    /// Takes a handle back: notes each task that it cancelled and that the book does not know, and gives its seat to another.
+    /// Takes a handle back, so that its seat may go to another, and notes each cancel that the book does not know: those of
+    /// this handle, and those of handles that are out.
     ///
     /// # Errors
     ///
@@ -232,10 +235,12 @@ impl<N: Named, A: Allocator> Book<N, A> {
     ) -> Option<Verdict>
         requires shared { (shared.now.table ≡ N.table) × (shared.now.cells ≡ N.cells) }
         ensures same { self.new ≡ self.old }
-        ensures both { IfSome result (λ v. (known_to handle.new task ≡ Some v) × (note : Noted Put) × (slice_index_or self.new.notes task None ≡ Some note) × (note.known ≡ Some v)) }
-        ensures wherever { (note : Noted Put) → slice_index_or self.old.notes task None ≡ Some note → IsSome (known_to handle.old task) → IsSome result }
+        ensures both { IfSome result (λ v. (known_to handle.new task ≡ Some v) × (note : CellNote Put) × (slice_index_or self.new.notes task None ≡ Some note) × (note.known ≡ Some v)) }
+        ensures past { length N.cells ≤ task → result ≡ None }
+        ensures wherever { (note : CellNote Put) → slice_index_or self.old.notes task None ≡ Some note → IsSome (known_to handle.old task) → IsSome result }
         ensures keeps { StaysKnown (known_to handle.old task) (known_to handle.new task) }
         ensures others { (k : ℕ) → k ≢ task → known_to handle.new k ≡ known_to handle.old k }
+        ensures notes { AreNotesOf handle.new.notes N.cells }
         ensures seat { handle.new.seat ≡ handle.old.seat }
     {
         agreed(&shared.cells, &mut self.notes, &mut handle.notes, task)
@@ -247,7 +252,7 @@ impl<N: Named, A: Allocator> Book<N, A> {
     pub fn happenings(&self) -> &[Happening]
         ensures items { result.now ≡ self.now.happened }
         ensures book { IsBook N.cells self.now }
-        ensures named { (self.now.core.calls ≡ N.calls) × (workers_of self.now.core ≡ N.workers) }
+        ensures named { (self.now.core.calls ≡ N.calls) × (workers_of self.now.core ≡ N.workers) × (self.now.table ≡ N.table) × (length N.cells ≡ task_count N.calls) }
     {
         &self.desk.happenings
     }
@@ -256,7 +261,7 @@ impl<N: Named, A: Allocator> Book<N, A> {
     pub fn lines(&self) -> &[Line]
         ensures items { result.now ≡ self.now.lines }
         ensures book { IsBook N.cells self.now }
-        ensures named { (self.now.core.calls ≡ N.calls) × (workers_of self.now.core ≡ N.workers) }
+        ensures named { (self.now.core.calls ≡ N.calls) × (workers_of self.now.core ≡ N.workers) × (self.now.table ≡ N.table) × (length N.cells ≡ task_count N.calls) }
     {
         &self.desk.lines
     }
@@ -265,7 +270,7 @@ impl<N: Named, A: Allocator> Book<N, A> {
     pub fn ripe(&self) -> bool
         ensures ripe { IsTrue result ↔ IsRipe self.now.core.calls (view_of_state self.now.core.calls (state_of self.now.core)) }
         ensures book { IsBook N.cells self.now }
-        ensures named { (self.now.core.calls ≡ N.calls) × (workers_of self.now.core ≡ N.workers) }
+        ensures named { (self.now.core.calls ≡ N.calls) × (workers_of self.now.core ≡ N.workers) × (self.now.table ≡ N.table) × (length N.cells ≡ task_count N.calls) }
     {
         self.desk.core.ripe()
     }

@@ -4,13 +4,14 @@ ghost use Rattle.std.specs.Prelude.{◌≡◌, ◌≢◌, ◌⊎◌, ℕ, ◌+�
 ghost use Rattle.queue_code.specs.Calls.{task_count};
 ghost use Rattle.executor_core.specs.CoreView.{IsCounted, room_of, workers_of};
 ghost use Rattle.executor_core.specs.declared.types.Happening.TheVariants as h;
-ghost use Rattle.executor_core.specs.declared.types.Happening.{Happening as Said};
+ghost use Rattle.executor_core.specs.declared.types.Happening.{Happening as OneHappening};
 ghost use Rattle.executor_core.specs.declared.types.Need.TheVariants as n;
 ghost use Rattle.executor_core.specs.Flows.{happening_of, answer_line, EventComes};
 ghost use Rattle.executor_core.specs.Histories.{is_call};
 ghost use Rattle.task_word.specs.declared.views.CoreSeatView.{CoreSeatView};
+ghost use Rattle.worker_pool.specs.Applies.{OnlyMarks, TellsUpTo};
 ghost use Rattle.worker_pool.specs.own.Moves.{WasMet};
-ghost use Rattle.worker_pool.specs.own.Steps.{IsKept, past_in, Comes, need_in, HasRoom, SamePlan, SameHandles, OnlyNoted, Notes, Passes, Completes, MovesOn, part_in, SweepsUpTo, TellsUpTo};
+ghost use Rattle.worker_pool.specs.own.Steps.{IsKept, past_in, Comes, need_in, HasRoom, SamePlan, OnlyOwnGrows, OnlyNoted, Notes, Passes, Completes, MovesOn, part_in, SweepsUpTo};
 
 use crate::moving::move_word;
 use executor_core::{Answer, Core, Event, Happening, Line, Message, Need};
@@ -64,7 +65,7 @@ impl<A: Allocator> Desk<A> {
         ensures table { self.new.seat.table ≡ self.old.seat.table }
         ensures kept { IsKept self.new.core self.new.seat.view self.new.happenings.items self.new.lines.items }
         ensures same { SamePlan self.old.core self.new.core }
-        ensures handles { SameHandles self.old.seat.view self.new.seat.view }
+        ensures handles { OnlyOwnGrows self.old.seat.view self.new.seat.view }
         ensures done { IsTrue result → Completes self.old.seat.view.own self.new.seat.view.own (past_in self.old.core self.old.happenings.items) (past_in self.new.core self.new.happenings.items) (happening ∷ [])
             × MovesOn self.old.core self.new.core happening }
         ensures noted { result ≡ false → OnlyNoted self.old.core self.new.core self.old.happenings.items self.new.happenings.items × (self.new.seat.view.own ≡ self.old.seat.view.own) }
@@ -98,7 +99,7 @@ impl<A: Allocator> Desk<A> {
         ensures table { self.new.seat.table ≡ self.old.seat.table }
         ensures upto { (own : List ℕ) → SweepsUpTo own self.old.core self.old.seat.view self.old.happenings.items self.old.lines.items task
             → SweepsUpTo own self.new.core self.new.seat.view self.new.happenings.items self.new.lines.items (task + 1) }
-        ensures handles { SameHandles self.old.seat.view self.new.seat.view }
+        ensures handles { OnlyOwnGrows self.old.seat.view self.new.seat.view }
         ensures noted { OnlyNoted self.old.core self.new.core self.old.happenings.items self.new.happenings.items }
         ensures room { HasRoom self.new.core (vec_len self.new.lines) (vec_capacity self.new.lines) (vec_len self.new.happenings) (vec_capacity self.new.happenings) }
     {
@@ -119,7 +120,7 @@ impl<A: Allocator> Desk<A> {
         requires room { HasRoom self.old.core (vec_len self.old.lines) (vec_capacity self.old.lines) (vec_len self.old.happenings) (vec_capacity self.old.happenings) }
         ensures table { self.new.seat.table ≡ self.old.seat.table }
         ensures upto { SweepsUpTo self.old.seat.view.own self.new.core self.new.seat.view self.new.happenings.items self.new.lines.items words.now.tasks }
-        ensures handles { SameHandles self.old.seat.view self.new.seat.view }
+        ensures handles { OnlyOwnGrows self.old.seat.view self.new.seat.view }
         ensures noted { OnlyNoted self.old.core self.new.core self.old.happenings.items self.new.happenings.items }
         ensures room { HasRoom self.new.core (vec_len self.new.lines) (vec_capacity self.new.lines) (vec_len self.new.happenings) (vec_capacity self.new.happenings) }
     {
@@ -141,7 +142,7 @@ impl<A: Allocator> Desk<A> {
         ensures table { self.new.seat.table ≡ self.old.seat.table }
         ensures kept { IsKept self.new.core self.new.seat.view self.new.happenings.items self.new.lines.items }
         ensures same { SamePlan self.old.core self.new.core }
-        ensures handles { SameHandles self.old.seat.view self.new.seat.view }
+        ensures handles { OnlyOwnGrows self.old.seat.view self.new.seat.view }
         ensures done { Completes self.old.seat.view.own self.new.seat.view.own (past_in self.old.core self.old.happenings.items) (past_in self.new.core self.new.happenings.items) (h.Call ∷ []) }
         ensures on { MovesOn self.old.core self.new.core h.Call }
         ensures counted { IsCounted self.new.core }
@@ -165,11 +166,11 @@ impl<A: Allocator> Desk<A> {
         ensures table { self.new.seat.table ≡ self.old.seat.table }
         ensures kept { IsKept self.new.core self.new.seat.view self.new.happenings.items self.new.lines.items }
         ensures same { SamePlan self.old.core self.new.core }
-        ensures handles { SameHandles self.old.seat.view self.new.seat.view }
+        ensures handles { OnlyOwnGrows self.old.seat.view self.new.seat.view }
         ensures counted { IsCounted self.new.core }
         ensures room { HasRoom self.new.core (vec_len self.new.lines) (vec_capacity self.new.lines) (vec_len self.new.happenings) (vec_capacity self.new.happenings) }
         ensures comes { EventComes self.new.core.calls self.new.core.made self.new.core.moment event }
-        ensures passed { (more : List Said) × Passes self.old.seat.view.own self.new.seat.view.own (past_in self.old.core self.old.happenings.items) (past_in self.new.core self.new.happenings.items) more
+        ensures passed { (more : List OneHappening) × Passes self.old.seat.view.own self.new.seat.view.own (past_in self.old.core self.old.happenings.items) (past_in self.new.core self.new.happenings.items) more
             × (part_in self.old.core event ≡ part_in self.new.core event ++ more) }
     {
         while self.core.reaches_call(event) {
@@ -188,7 +189,7 @@ impl<A: Allocator> Desk<A> {
         ensures table { self.new.seat.table ≡ self.old.seat.table }
         ensures kept { IsKept self.new.core self.new.seat.view self.new.happenings.items self.new.lines.items }
         ensures same { SamePlan self.old.core self.new.core }
-        ensures handles { SameHandles self.old.seat.view self.new.seat.view }
+        ensures handles { OnlyOwnGrows self.old.seat.view self.new.seat.view }
         ensures took { Completes self.old.seat.view.own self.new.seat.view.own (past_in self.old.core self.old.happenings.items) (past_in self.new.core self.new.happenings.items) (happening_of event ∷ []) }
     {
         let happening = event.happening();
@@ -206,7 +207,7 @@ impl<A: Allocator> Desk<A> {
         ensures table { self.new.seat.table ≡ self.old.seat.table }
         ensures kept { IsKept self.new.core self.new.seat.view self.new.happenings.items self.new.lines.items }
         ensures same { SamePlan self.old.core self.new.core }
-        ensures handles { SameHandles self.old.seat.view self.new.seat.view }
+        ensures handles { OnlyOwnGrows self.old.seat.view self.new.seat.view }
         ensures took { Completes self.old.seat.view.own self.new.seat.view.own (past_in self.old.core self.old.happenings.items) (past_in self.new.core self.new.happenings.items) (part_in self.old.core event) }
     {
         self.make_calls(words, event);
@@ -227,7 +228,8 @@ impl<A: Allocator> Desk<A> {
         ensures room { HasRoom self.new.core (vec_len self.new.lines) (vec_capacity self.new.lines) (vec_len self.new.happenings) (vec_capacity self.new.happenings) }
         ensures noted { OnlyNoted self.old.core self.new.core self.old.happenings.items self.new.happenings.items }
         ensures own { self.new.seat.view.own ≡ self.old.seat.view.own }
-        ensures handles { SameHandles self.old.seat.view self.new.seat.view }
+        ensures handles { OnlyOwnGrows self.old.seat.view self.new.seat.view }
+        ensures entries { OnlyMarks self.old.seat.view self.new.seat.view }
         ensures tells { TellsUpTo self.old.seat.view task → TellsUpTo self.new.seat.view (task + 1) }
     {
         let found = self.seat.look(words, task).is_cancelled();
@@ -251,7 +253,8 @@ impl<A: Allocator> Desk<A> {
         ensures kept { IsKept self.new.core self.new.seat.view self.new.happenings.items self.new.lines.items }
         ensures noted { OnlyNoted self.old.core self.new.core self.old.happenings.items self.new.happenings.items }
         ensures own { self.new.seat.view.own ≡ self.old.seat.view.own }
-        ensures handles { SameHandles self.old.seat.view self.new.seat.view }
+        ensures handles { OnlyOwnGrows self.old.seat.view self.new.seat.view }
+        ensures entries { OnlyMarks self.old.seat.view self.new.seat.view }
         ensures tells { TellsUpTo self.new.seat.view words.now.tasks }
     {
         let tasks = self.core.tasks();

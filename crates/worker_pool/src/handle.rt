@@ -1,12 +1,12 @@
 //! What another thread has of a pool: it cancels tasks and reads their states and results, without a lock.
 ghost use Rattle.std.specs.Prelude.{◌≡◌, ◌≢◌, ℕ, ◌<◌, ◌≤◌, length, None, IfOk};
-ghost use Rattle.result_cell.specs.Cells.{StaysKnown};
-ghost use Rattle.result_cell.specs.own.Cells.{AreNotesOf, known_at};
+ghost use Rattle.result_cell.specs.Cells.{AreNotesOf, StaysKnown, known_at};
 ghost use Rattle.task_word.specs.Views.{and_if, times};
 ghost use Rattle.task_word.specs.Answers.{is_handle_win, HandleCancels, HandleLooks};
 ghost use Rattle.task_word.specs.declared.answers.CancelAnswer.TheVariants as cancel;
 ghost use Rattle.task_word.specs.declared.answers.TaskState.TheVariants as state;
 ghost use Rattle.worker_pool.specs.Shares.{known_to};
+ghost use Rattle.worker_pool.specs.own.Steps.{WinsBelow};
 
 use crate::named::Named;
 use crate::shared::Shared;
@@ -28,14 +28,15 @@ pub struct Handle<'s, N: Named, A: Allocator> {
 
 impl<'s, N: Named, A: Allocator> Model for Handle<'s, N, A> {
     ghost use Rattle.std.specs.Prelude.{◌≡◌, length};
-    ghost use Rattle.result_cell.specs.own.Cells.{AreNotesOf};
+    ghost use Rattle.result_cell.specs.Cells.{AreNotesOf};
     ghost use Rattle.worker_pool.specs.Shares.{HandleView};
+    ghost use Rattle.worker_pool.specs.own.Steps.{WinsBelow};
 
     ghost Value = { HandleView };
 
     ghost view = { λ h. record { seat = h.seat.view; notes = h.notes.items } };
 
-    ghost invariant = { λ h. (h.shared.now.table ≡ N.table) × (h.shared.now.cells ≡ N.cells) × (h.shared.now.tasks ≡ length N.cells) × (h.seat.table ≡ N.table) × AreNotesOf h.notes.items N.cells };
+    ghost invariant = { λ h. (h.shared.now.table ≡ N.table) × (h.shared.now.cells ≡ N.cells) × (h.shared.now.tasks ≡ length N.cells) × (h.seat.table ≡ N.table) × AreNotesOf h.notes.items N.cells × WinsBelow (length N.cells) h.seat.view };
 }
 
 impl<'s, N: Named, A: Allocator> Handle<'s, N, A> {
@@ -70,6 +71,8 @@ impl<'s, N: Named, A: Allocator> Handle<'s, N, A> {
     /// task, and past the last one. A verdict that was read once is read again.
     pub fn result(&mut self, task: u32) -> Option<Verdict>
         ensures known { result ≡ known_to self.new task }
+        ensures past { length N.cells ≤ task → result ≡ None }
+        ensures notes { AreNotesOf self.new.notes N.cells }
         ensures keeps { StaysKnown (known_to self.old task) (known_to self.new task) }
         ensures others { (k : ℕ) → k ≢ task → known_to self.new k ≡ known_to self.old k }
         ensures seat { self.new.seat ≡ self.old.seat }
@@ -87,6 +90,7 @@ impl<'s, N: Named, A: Allocator> Handle<'s, N, A> {
     pub(crate) fn into_seat(self) -> HandleSeat
         ensures table { result.table ≡ N.table }
         ensures view { result.view ≡ self.entry.seat }
+        ensures won { WinsBelow (length N.cells) result.view }
     {
         self.seat
     }
@@ -110,11 +114,13 @@ fn read_of<A: Allocator>(
 }
 
 /// A note of each cell, which knows nothing.
+#[tactic(auto, using(crate::proofs::NoteLists::nothing_more))]
 pub(crate) fn notes_of<A: Allocator>(
     alloc: A,
     cells: &[ResultCell],
 ) -> Result<Vec<Note<Verdict>, A>, AllocError>
     ensures of { IfOk result (λ notes. AreNotesOf notes.items cells.now) }
+    ensures nothing { IfOk result (λ notes. (k : ℕ) → known_at notes.items k ≡ None) }
 {
     let mut notes = Vec::new(alloc);
     notes.reserve(cells.len())?;

@@ -60,13 +60,15 @@
 //!
 //! # Order and ties
 //!
-//! [`Book::happenings`] and [`Book::lines`] are the oldest first. A noted cancel stands before what met it, and tasks that one
-//! call meets stand in ascending number. Of all who cancel a task one wins.
+//! [`Book::happenings`] and [`Book::lines`] are the oldest first. A noted cancel stands before what met it. A sweep,
+//! [`Book::note_cancels`] and [`Book::retire`] meet tasks in ascending number; a start by due moment, and then by number; and
+//! the calls that a clock reaches one behind the other. Of all who cancel a task one wins.
 //!
 //! # Errors
 //!
-//! [`PoolError`]. `Full` and `Seats` are tested before `Memory`. At each of them the book is as it was, the call may be
-//! made again, and `retire` hands the handle back. [`Book::new`] drops the seat and the code.
+//! [`PoolError`]. `Full` and `Seats` are tested before `Memory`, and so are `Workers` and then `Limit`. At each of the first
+//! three the book is as it was, and `retire` hands the handle back; after `Memory` or `Seats` the call may be made again, and
+//! after `Full` each event is answered so. [`Book::new`] drops the seat and the code.
 //!
 //! # Memory and cost
 //!

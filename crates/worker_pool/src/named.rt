@@ -15,6 +15,7 @@ pub trait Named {
     ghost workers: { ℕ };
 }
 
+// Placeholders: which ones are meant at a call says the record that its caller chooses in a proof.
 impl Named for Brand {
     ghost use Rattle.std.specs.Prelude.{[]};
 

@@ -1,13 +1,12 @@
 //! The verdicts on tasks that are done or have failed, and the notes of their cells.
-ghost use Rattle.std.specs.Prelude.{◌≡◌, ◌≢◌, ◌⊎◌, ℕ, ◌<◌, Some, None, IfOk, IfSome, IsSome, length, replicate, slice_index, slice_index_or};
-ghost use Rattle.once_cell.specs.declared.race.note.Note.{Note as Noted};
+ghost use Rattle.std.specs.Prelude.{◌≡◌, ◌≢◌, ◌⊎◌, ℕ, ◌<◌, ◌≤◌, Some, None, IfOk, IfSome, IfNone, IsSome, length, replicate, slice_index, slice_index_or};
+ghost use Rattle.once_cell.specs.declared.race.note.Note.{Note as CellNote};
 ghost use Rattle.result_cell.specs.declared.verdict.Verdict.{Verdict as Put};
-ghost use Rattle.result_cell.specs.Cells.{StaysKnown};
-ghost use Rattle.result_cell.specs.own.Cells.{AreNotesOf, known_at};
-ghost use Rattle.executor_core.specs.declared.types.Answer.{Answer as Said};
+ghost use Rattle.result_cell.specs.Cells.{AreNotesOf, StaysKnown, known_at};
+ghost use Rattle.executor_core.specs.declared.types.Answer.{Answer as OneAnswer};
 ghost use Rattle.sched_time.specs.declared.timing.Ending.{Ending as Ended};
 ghost use Rattle.worker_pool.specs.Books.{ending_in, ending_of_outcome};
-ghost use Rattle.worker_pool.specs.own.Results.{TookVerdict};
+ghost use Rattle.worker_pool.specs.own.Results.{HasNoteOf, TookVerdict, verdict_told};
 
 use executor_core::{Answer, Core, Event, Need, Outcome};
 use heap_allocator::HeapAllocator;
@@ -34,7 +33,7 @@ pub fn verdict_room<A: HeapAllocator>(
 
 /// The verdict that an answer tells: of a task that is done, or has failed.
 fn verdict_of(answer: Option<Answer>) -> Option<Verdict>
-    ensures { (v : Put) → result ≡ Some v → (a : Answer) × (answer ≡ Some a) × (ending_in v.task a ≡ Some v.ending) }
+    ensures { result ≡ verdict_told answer }
 {
     match answer? {
         Answer::Finish { task, outcome, .. } => {
@@ -71,49 +70,51 @@ pub fn empty_notes<A: Allocator>(
 }
 
 /// Puts the verdict that an answer tells, if any, into the cell of its task, in the room that was made for it. Where the cell
-/// takes it, its note is kept.
+/// takes it, its note is kept. The room comes back as it was where no verdict is told, and with the verdict told where the cell
+/// was set before.
 pub fn settle<A: Allocator>(
     cells: &[ResultCell],
     notes: &mut Vec<Option<Note<Verdict>>, A>,
     answer: Option<Answer>,
     room: Option<Box<Verdict>>,
-)
-    requires below { (task : ℕ) (ending : Ended) (said : Said) → answer ≡ Some said → ending_in task said ≡ Some ending → task < length cells.now }
+) -> Option<Box<Verdict>>
+    requires below { (task : ℕ) (ending : Ended) (said : OneAnswer) → answer ≡ Some said → ending_in task said ≡ Some ending → task < length cells.now }
     requires count { length notes.old.items ≡ length cells.now }
     ensures count { length notes.new.items ≡ length notes.old.items }
     ensures each { (k : ℕ) → (slice_index_or notes.new.items k None ≡ slice_index_or notes.old.items k None)
-        ⊎ ((note : Noted Put) × (slice_index_or notes.new.items k None ≡ Some note) × TookVerdict cells.now answer k note) }
+        ⊎ ((note : CellNote Put) × (slice_index_or notes.new.items k None ≡ Some note) × TookVerdict cells.now answer k note) }
+    ensures untold { verdict_told answer ≡ None → (result ≡ room) × (notes.new.items ≡ notes.old.items) }
+    ensures told { IfSome (verdict_told answer) (λ v. IsSome room → IfNone result (HasNoteOf cells.now notes.new.items v) × IfSome result (λ back. back.value ≡ v)) }
 {
     let Some(verdict) = verdict_of(answer) else {
-        return;
+        return room;
     };
-    let Some(room) = room else {
-        return;
-    };
-    set_cell(cells, notes, verdict, room);
+    set_cell(cells, notes, verdict, room?)
 }
 
-/// Puts a verdict into the cell of its task. Where the cell takes it, its note is kept.
+/// Puts a verdict into the cell of its task. Where the cell takes it, its note is kept; else the room comes back with it.
 fn set_cell<A: Allocator>(
     cells: &[ResultCell],
     notes: &mut Vec<Option<Note<Verdict>>, A>,
     verdict: Verdict,
     mut room: Box<Verdict>,
-)
+) -> Option<Box<Verdict>>
     requires below { verdict.task < length cells.now }
     requires count { length notes.old.items ≡ length cells.now }
     ensures count { length notes.new.items ≡ length notes.old.items }
     ensures others { (k : ℕ) → k ≢ verdict.task → slice_index_or notes.new.items k None ≡ slice_index_or notes.old.items k None }
-    ensures set { (slice_index_or notes.new.items verdict.task None ≡ slice_index_or notes.old.items verdict.task None)
-        ⊎ ((note : Noted Put) × (slice_index_or notes.new.items verdict.task None ≡ Some note) × (note.cell ≡ slice_index cells.now verdict.task) × (note.known ≡ Some verdict)) }
+    ensures put { IfNone result (HasNoteOf cells.now notes.new.items verdict) }
+    ensures refused { IfSome result (λ back. (back.value ≡ verdict) × (notes.new.items ≡ notes.old.items)) }
 {
     let task = verdict.task as usize;
     let cell = &cells[task];
     let mut note = cell.note();
     *room = verdict;
-    if cell.put(&mut note, room).is_ok() {
+    let refused = cell.put(&mut note, room).err();
+    if refused.is_none() {
         notes[task] = Some(note);
     }
+    refused
 }
 
 /// The verdict on a task, where a book's note and a handle's note of its cell both read one: it is the same one. The book's
@@ -125,14 +126,15 @@ pub fn agreed<A: Allocator, B: Allocator>(
     task: u32,
 ) -> Option<Verdict>
     requires count { length mine.old.items ≡ length cells.now }
-    requires mine { (k : ℕ) (note : Noted Put) → slice_index_or mine.old.items k None ≡ Some note → (note.cell ≡ slice_index cells.now k) × IsSome note.known }
+    requires mine { (k : ℕ) (note : CellNote Put) → slice_index_or mine.old.items k None ≡ Some note → (note.cell ≡ slice_index cells.now k) × IsSome note.known }
     requires theirs { AreNotesOf theirs.old.items cells.now }
     ensures mine { mine.new.items ≡ mine.old.items }
     ensures theirs { AreNotesOf theirs.new.items cells.now }
+    ensures past { length cells.now ≤ task → result ≡ None }
     ensures keeps { StaysKnown (known_at theirs.old.items task) (known_at theirs.new.items task) }
     ensures others { (k : ℕ) → k ≢ task → known_at theirs.new.items k ≡ known_at theirs.old.items k }
-    ensures both { IfSome result (λ v. (known_at theirs.new.items task ≡ Some v) × (note : Noted Put) × (slice_index_or mine.new.items task None ≡ Some note) × (note.known ≡ Some v)) }
-    ensures wherever { (note : Noted Put) → slice_index_or mine.old.items task None ≡ Some note → IsSome (known_at theirs.old.items task) → IsSome result }
+    ensures both { IfSome result (λ v. (known_at theirs.new.items task ≡ Some v) × (note : CellNote Put) × (slice_index_or mine.new.items task None ≡ Some note) × (note.known ≡ Some v)) }
+    ensures wherever { (note : CellNote Put) → slice_index_or mine.old.items task None ≡ Some note → IsSome (known_at theirs.old.items task) → IsSome result }
 {
     let place = task as usize;
     if place >= cells.len() {

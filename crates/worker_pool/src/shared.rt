@@ -1,5 +1,5 @@
 //! What threads share: the words of the tasks, and a cell for the result of each.
-ghost use Rattle.std.specs.Prelude.{◌≡◌, IfOk, IfErr};
+ghost use Rattle.std.specs.Prelude.{◌≡◌, IfOk, IfErr, length};
 ghost use Rattle.task_word.specs.Views.{new_core};
 
 use crate::error::PoolError;
@@ -34,7 +34,7 @@ impl<A: HeapAllocator> Shared<A> {
     ///
     /// [`PoolError::Memory`], where the allocator refused; then nothing is held.
     pub fn new(alloc: A, tasks: u32) -> Result<(Shared<A>, CoreSeat<A>), PoolError>
-        ensures ok { IfOk result (λ r. (r.0.tasks ≡ tasks) × (r.1.table ≡ r.0.table) × (r.1.view ≡ new_core tasks)) }
+        ensures ok { IfOk result (λ r. (r.0.tasks ≡ tasks) × (length r.0.cells ≡ tasks) × (r.1.table ≡ r.0.table) × (r.1.view ≡ new_core tasks)) }
         ensures err { IfErr result (λ e. e ≡ PoolError.Memory) }
     {
         let Ok((words, seat)) = TaskWords::new(alloc, tasks) else {

@@ -1,10 +1,10 @@
 -- What stays so of a book while one happening after the other comes.
-use Rattle.std.specs.Prelude.{◌≡◌, ℕ, ◌+◌, ◌<◌, ◌≤◌, ◌||◌, ◌&&◌, ◌==◌, not, if◌then◌else◌, false, IsTrue, List, ◌∷◌, ◌++◌, length, ◌⊎◌, slice_get}
+use Rattle.std.specs.Prelude.{◌≡◌, ℕ, ◌+◌, ◌<◌, ◌≤◌, ◌||◌, ◌&&◌, ◌==◌, not, if◌then◌else◌, true, false, IsTrue, List, ◌∷◌, ◌++◌, length, ◌⊎◌, slice_get}
 use Rattle.std.specs.List.{All}
 use Rattle.task_word.specs.Words.{marked}
 use Rattle.task_word.specs.Views.{entry}
-use Rattle.task_word.specs.Steps.{CoreTells}
 use Rattle.task_word.specs.declared.views.CoreSeatView.{CoreSeatView}
+use Rattle.task_word.specs.declared.views.HandleSeatView.{HandleSeatView}
 use Rattle.queue_code.specs.Calls.{Planned, IsOrderly, task_count}
 use Rattle.executor_core.specs.declared.types.Happening.{Happening}
 use Rattle.executor_core.specs.declared.types.Happening.TheVariants as h
@@ -69,6 +69,14 @@ pub record SameHandles (old new : CoreSeatView) : Type 0 where
   pub joined : new.joined ≡ old.joined
   pub ranks : new.ranks ≡ old.ranks
   pub out : new.out ≡ old.out
+
+-- the same, and the list of the tasks that the seat cancelled grew in front
+pub record OnlyOwnGrows (old new : CoreSeatView) : Type 0 where
+  pub joined : new.joined ≡ old.joined
+  pub ranks : new.ranks ≡ old.ranks
+  pub out : new.out ≡ old.out
+  pub these : List ℕ
+  pub grows : new.own ≡ these ++ old.own
 
 -- cancels were noted, each answered yes, the newest first, and nothing else came
 pub record Noting (old now : List HistoryEntry) : Type 0 where
@@ -147,8 +155,8 @@ pub record SweepsUpTo (mine : List ℕ) (m : CoreView) (v : CoreSeatView) (happe
   pub swept : (k : ℕ) → k < i → stands_in k ahead ≡ is_end k (ends_of m)
   pub rest : (k : ℕ) → i ≤ k → stands_in k ahead ≡ false
 
--- ---- a look at each word
+-- ---- what a handle won
 
--- of the tasks below i the seat's view tells of the word that was met, which is its entry
-abbrev pub TellsUpTo : CoreSeatView → ℕ → Type 0
-TellsUpTo v i = (k : ℕ) → k < i → CoreTells v k (entry v k)
+-- the tasks that a handle won are among the first n
+abbrev pub WinsBelow : ℕ → HandleSeatView → Type 0
+WinsBelow n handle = (k : ℕ) → stands_in k handle.won ≡ true → k < n

@@ -1,5 +1,5 @@
 use Rattle.std.proofs.Common.{take}
-use Rattle.result_cell.specs.own.Cells.{AreNotesOf}
+use Rattle.result_cell.specs.Cells.{AreNotesOf}
 use Rattle.result_cell.proofs.tests.notes_of.Given as goal
 
 abbrev pub invariant-loop-cell : goal.invariant-loop-cell

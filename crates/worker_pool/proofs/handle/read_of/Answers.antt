@@ -1,7 +1,6 @@
 use Rattle.std.proofs.Common.{◌≡◌, ◌<◌, length, sym, ap, ◌∙◌, subst}
 use Rattle.std.specs.Prelude.{slice_set}
-use Rattle.result_cell.specs.Cells.{StaysKnown}
-use Rattle.result_cell.specs.own.Cells.{known_at}
+use Rattle.result_cell.specs.Cells.{StaysKnown, known_at}
 use Rattle.result_cell.proofs.Notes.{length_notes, set_note, known_here, known_elsewhere}
 use Rattle.worker_pool.proofs.NoteLists.{known_read}
 use Rattle.worker_pool.proofs.handle.read_of.Goals as goal

@@ -2,8 +2,7 @@ use Rattle.std.proofs.Common.{◌≡◌, ◌<◌, ◌∙◌, Some, None, length,
 use Rattle.std.specs.Prelude.{slice_index_or, slice_set, IsSome}
 use Rattle.once_cell.specs.declared.race.note.Note.{Note}
 use Rattle.result_cell.specs.declared.verdict.Verdict.{Verdict}
-use Rattle.result_cell.specs.Cells.{StaysKnown}
-use Rattle.result_cell.specs.own.Cells.{known_at}
+use Rattle.result_cell.specs.Cells.{StaysKnown, known_at}
 use Rattle.result_cell.proofs.Notes.{length_notes, set_note, known_here, known_elsewhere}
 use Rattle.worker_pool.proofs.NoteLists.{known_read, any_default, put_back, note_still, if_some}
 use Rattle.worker_pool.proofs.results.agreed.Goals as goal

@@ -1,8 +1,11 @@
-use Rattle.worker_pool.proofs.Settling.{settle_each}
+use Rattle.std.proofs.Common.{◌≡◌, ◌∙◌, Option, Some, None, sym, ap, subst}
+use Rattle.std.specs.Prelude.{IsSome, IfNone, IfSome}
+use Rattle.worker_pool.specs.own.Results.{HasNoteOf, verdict_told}
+use Rattle.worker_pool.proofs.Settling.{set_or_back, settle_each, told_so}
 use Rattle.worker_pool.proofs.results.settle.Goals as goal
 
-pub returns-clause-each : goal.returns-clause-each
-returns-clause-each g c =
+pub set_cell-requires-clause-below : goal.set_cell-requires-clause-below
+set_cell-requires-clause-below g c =
     let verdict = c.in-Some.verdict in
-    let told = c.verdict_of.ensures verdict c.in-Some.is in
-    settle_each c.args.cells.now c.args.notes.now.items c.set_cell.new.notes.items c.args.answer verdict told.0 told.1 told.2 c.set_cell.ensures.others c.set_cell.ensures.set
+    let told = told_so c.args.answer verdict (sym c.verdict_of.ensures ∙ c.in-Some.is) in
+    c.requires.below verdict.task verdict.ending told.0 told.1 told.2

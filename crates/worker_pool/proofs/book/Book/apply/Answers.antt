@@ -14,7 +14,7 @@ use Rattle.worker_pool.proofs.book.Book.apply.Goals as goal
 pub overflow_sub-count : goal.overflow_sub-count
 overflow_sub-count g c =
     let desk = c.self.inside.desk in
-    let b = book_of desk.core desk.seat.view desk.happenings.items desk.lines.items c.self.inside.notes.items in
+    let b = book_of desk.seat.table desk.core desk.seat.view desk.happenings.items desk.lines.items c.self.inside.notes.items in
     let roomy = c.make_room.new.self in
     let new = c.take.new.self in
     let t : Took b new.core new.seat.view new.happenings.items new.lines.items c.args.event =
@@ -27,7 +27,7 @@ overflow_sub-count g c =
 pub settle-requires-clause-below : goal.settle-requires-clause-below
 settle-requires-clause-below g c = λ task ending said is tells.
     let desk = c.self.inside.desk in
-    let b = book_of desk.core desk.seat.view desk.happenings.items desk.lines.items c.self.inside.notes.items in
+    let b = book_of desk.seat.table desk.core desk.seat.view desk.happenings.items desk.lines.items c.self.inside.notes.items in
     let roomy = c.make_room.new.self in
     let new = c.take.new.self in
     let t : Took b new.core new.seat.view new.happenings.items new.lines.items c.args.event =
@@ -48,7 +48,7 @@ settle-requires-clause-below g c = λ task ending said is tells.
 pub invariant_of-self-2 : goal.invariant_of-self-2
 invariant_of-self-2 g c =
     let desk = c.self.inside.desk in
-    let b = book_of desk.core desk.seat.view desk.happenings.items desk.lines.items c.self.inside.notes.items in
+    let b = book_of desk.seat.table desk.core desk.seat.view desk.happenings.items desk.lines.items c.self.inside.notes.items in
     let roomy = c.make_room.new.self in
     let new = c.take.new.self in
     let t : Took b new.core new.seat.view new.happenings.items new.lines.items c.args.event =
@@ -67,13 +67,13 @@ invariant_of-self-2 g c =
       c.take.ensures.table ∙ (ap (λ s. s.table) c.make_room.ensures.seat ∙ c.self.invariant.2),
       c.self.invariant.3,
       c.settle.ensures.count ∙ c.self.invariant.4,
-      took_book g.N.Named.cells b new.core new.seat.view new.happenings.items new.lines.items notes c.args.event c.self.invariant.5 t go,
+      took_book g.N.Named.cells b new.seat.table new.core new.seat.view new.happenings.items new.lines.items notes c.args.event c.self.invariant.5 t go,
     )
 
 pub returns-clause-applied : goal.returns-clause-applied
 returns-clause-applied g c =
     let desk = c.self.inside.desk in
-    let b = book_of desk.core desk.seat.view desk.happenings.items desk.lines.items c.self.inside.notes.items in
+    let b = book_of desk.seat.table desk.core desk.seat.view desk.happenings.items desk.lines.items c.self.inside.notes.items in
     let roomy = c.make_room.new.self in
     let new = c.take.new.self in
     let t : Took b new.core new.seat.view new.happenings.items new.lines.items c.args.event =
@@ -87,9 +87,9 @@ returns-clause-applied g c =
     let go = settled g.N.Named.cells b new.core new.seat.view new.happenings.items new.lines.items c.args.event c.last_answer-answer.result notes c.self.invariant.5 t answer
     (subst (λ (cs : List ℕ). (k : ℕ) → (slice_index_or notes k None ≡ slice_index_or b.notes k None) ⊎ ((note : Note Verdict) × (slice_index_or notes k None ≡ Some note) × TookVerdict cs c.last_answer-answer.result k note)) cells c.settle.ensures.each)
     in
-    let did = took_applies g.N.Named.cells b new.core new.seat.view new.happenings.items new.lines.items notes c.args.event c.self.invariant.5 t go in
+    let did = took_applies g.N.Named.cells b new.seat.table new.core new.seat.view new.happenings.items new.lines.items notes c.args.event c.self.invariant.5 t go in
     let added = lines_added g.N.Named.cells b new.core new.seat.view new.happenings.items new.lines.items c.args.event c.self.invariant.5 t in
-    let all = book_of new.core new.seat.view new.happenings.items new.lines.items notes in
+    let all = book_of new.seat.table new.core new.seat.view new.happenings.items new.lines.items notes in
     let told : Applied = record { first = c.len-first.result; count = c.len.result - c.len-first.result; work = c.work_of.result } in
     subst (λ (old : BookView). (d : Applies old all c.args.event) × Tells old all d.last told) c.self.view_is (
       did.0,

@@ -1,4 +1,4 @@
-use Rattle.std.proofs.Common.{◌≡◌, ◌≢◌, inl, inr, ◌∙◌, sym, ap, subst, arith}
+use Rattle.std.proofs.Common.{◌≡◌, ◌≢◌, inl, inr, [], ◌∙◌, sym, ap, subst, arith}
 use Rattle.std.proofs.lemmas.Bool.{false≢true}
 use Rattle.task_word.specs.declared.views.CoreSeatView.{CoreSeatView}
 use Rattle.queue_code.specs.Calls.{task_count}
@@ -6,7 +6,7 @@ use Rattle.executor_core.specs.declared.types.Need.TheVariants as n
 use Rattle.executor_core.specs.CoreView.{workers_of}
 use Rattle.worker_pool.specs.Books.{stands_in}
 use Rattle.worker_pool.specs.own.Moves.{CanMove, WasMet, moves_made}
-use Rattle.worker_pool.specs.own.Steps.{IsKept, past_in, need_in, SameHandles}
+use Rattle.worker_pool.specs.own.Steps.{IsKept, past_in, need_in, OnlyOwnGrows}
 use Rattle.worker_pool.proofs.Steps.{own_then}
 use Rattle.worker_pool.proofs.Keepings.{keeps_step, kept_can_move, past_more, need_after, moves_on, moved_handles, call_comes_before}
 use Rattle.worker_pool.proofs.Growing.{none_noted, takes_one}
@@ -36,7 +36,7 @@ returns-in-Some g c =
       table = ap (λ s. s.table) c.note.ensures.seat ∙ c.move_word.ensures.table;
       kept = subst (λ v. IsKept new.core v new.happenings.items new.lines.items) (sym same) did.0;
       same = did.1.only.same;
-      handles = record { joined = ap (λ (v : CoreSeatView). v.joined) to; ranks = ap (λ (v : CoreSeatView). v.ranks) to; out = ap (λ (v : CoreSeatView). v.out) to };
+      handles = record { joined = ap (λ (v : CoreSeatView). v.joined) to; ranks = ap (λ (v : CoreSeatView). v.ranks) to; out = ap (λ (v : CoreSeatView). v.out) to; these = []; grows = ap (λ (v : CoreSeatView). v.own) to };
       done = λ q. absurd (false≢true q);
       noted = λ q. (did.1.only, ap (λ (v : CoreSeatView). v.own) to);
       more = λ why. (did.1.only.counted c.requires.counted, did.1.less, did.2);
@@ -60,7 +60,7 @@ returns g c =
       table = c.move_word.ensures.table;
       kept = keeps_step old.core core old.seat.view seat old.happenings.items items old.lines.items lines y c.requires.kept c.requires.comes plain steps c.push_reserved.ensures.items to;
       same = record { calls = steps.calls; workers = steps.workers; taken = c.happen.ensures.leaves.taken; limit = steps.limit };
-      handles = subst (SameHandles old.seat.view) (sym to) (moved_handles old.seat.view (need_in old.core y));
+      handles = subst (OnlyOwnGrows old.seat.view) (sym to) (moved_handles old.seat.view (need_in old.core y));
       done = λ q. (
         takes_one old.core.calls (workers_of old.core) old.seat.view.own seat.own past past (past_in core items) y (none_noted past) (past_more old.core core old.happenings.items items y steps.calls steps.workers c.push_reserved.ensures.items)
             (λ k. ap (λ (v : CoreSeatView). stands_in k v.own) (to ∙ ap (moves_made old.seat.view) after) ∙ own_then old.core.calls (workers_of old.core) past y old.seat.view k c.requires.kept.means (λ q. plain (after ∙ q))),

@@ -1,7 +1,8 @@
-use Rattle.std.proofs.Common.{◌∙◌, refl, arith}
+use Rattle.std.proofs.Common.{◌∙◌, inl, refl, arith}
 use Rattle.queue_code.specs.Calls.{submits_task}
 use Rattle.executor_core.proofs.Flowing.{how_many-le}
 use Rattle.worker_pool.proofs.Growing.{nothing_noted, noted_then, same_handles, handles_then}
+use Rattle.worker_pool.proofs.Looking.{marks_then}
 use Rattle.worker_pool.proofs.desk.Desk.look_all.Goals as goal
 
 pub overflow_cast-task-end : goal.overflow_cast-task-end
@@ -18,6 +19,7 @@ loop-task-init g c =
       kept = c.requires.kept;
       noted = nothing_noted old.core old.happenings.items;
       own = refl;
+      entries = λ k. inl refl;
       handles = same_handles old.seat.view;
       tells = λ k l. absurd (omega (arith, l));
       room = c.requires.room;
@@ -35,6 +37,7 @@ loop-task-preserved g c =
       kept = did.kept;
       noted = noted_then first.core old.core new.core first.happenings.items old.happenings.items new.happenings.items was.noted did.noted;
       own = did.own ∙ was.own;
+      entries = marks_then first.seat.view old.seat.view new.seat.view was.entries did.entries;
       handles = handles_then first.seat.view old.seat.view new.seat.view was.handles did.handles;
       tells = did.tells was.tells;
       room = did.room;

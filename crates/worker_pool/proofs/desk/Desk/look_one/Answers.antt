@@ -1,13 +1,14 @@
-use Rattle.std.proofs.Common.{◌≡◌, ◌<◌, ◌∙◌, sym, ap, subst}
+use Rattle.std.proofs.Common.{◌≡◌, ◌<◌, ◌∙◌, [], sym, ap, subst}
 use Rattle.std.proofs.lemmas.Bool.{false≢true}
 use Rattle.std.specs.Prelude.{false}
 use Rattle.task_word.specs.Words.{is_cancelled}
 use Rattle.task_word.specs.declared.views.CoreSeatView.{CoreSeatView}
 use Rattle.queue_code.specs.Calls.{task_count}
+use Rattle.worker_pool.specs.Applies.{OnlyMarks}
 use Rattle.worker_pool.specs.own.Moves.{WasMet}
 use Rattle.worker_pool.specs.own.Steps.{IsKept}
 use Rattle.worker_pool.proofs.Growing.{nothing_noted}
-use Rattle.worker_pool.proofs.Looking.{looked, looked_met, tells_more}
+use Rattle.worker_pool.proofs.Looking.{looked, looked_marks, looked_met, tells_more}
 use Rattle.worker_pool.proofs.desk.Desk.look_one.Goals as goal
 
 pub returns-then-not-found-clause-kept : goal.returns-then-not-found-clause-kept
@@ -23,7 +24,12 @@ returns-then-not-found-clause-noted g c = nothing_noted c.args.self.now.core c.a
 pub returns-then-not-found-clause-handles : goal.returns-then-not-found-clause-handles
 returns-then-not-found-clause-handles g c =
     let to = c.look.ensures.view in
-    record { joined = ap (λ (v : CoreSeatView). v.joined) to; ranks = ap (λ (v : CoreSeatView). v.ranks) to; out = ap (λ (v : CoreSeatView). v.out) to }
+    record { joined = ap (λ (v : CoreSeatView). v.joined) to; ranks = ap (λ (v : CoreSeatView). v.ranks) to; out = ap (λ (v : CoreSeatView). v.out) to; these = []; grows = ap (λ (v : CoreSeatView). v.own) to }
+
+pub returns-then-not-found-clause-entries : goal.returns-then-not-found-clause-entries
+returns-then-not-found-clause-entries g c =
+    let v = c.args.self.now.seat.view in
+    subst (OnlyMarks v) (sym c.look.ensures.view) (looked_marks v c.args.task c.look.result (subst (λ n. c.args.task < n) (sym c.look.ensures.count) c.requires.task) c.look.ensures.met)
 
 pub returns-then-not-found-clause-own : goal.returns-then-not-found-clause-own
 returns-then-not-found-clause-own g c = ap (λ (v : CoreSeatView). v.own) c.look.ensures.view
@@ -44,7 +50,12 @@ returns-then-known-clause-noted g c = nothing_noted c.args.self.now.core c.args.
 pub returns-then-known-clause-handles : goal.returns-then-known-clause-handles
 returns-then-known-clause-handles g c =
     let to = c.look.ensures.view in
-    record { joined = ap (λ (v : CoreSeatView). v.joined) to; ranks = ap (λ (v : CoreSeatView). v.ranks) to; out = ap (λ (v : CoreSeatView). v.out) to }
+    record { joined = ap (λ (v : CoreSeatView). v.joined) to; ranks = ap (λ (v : CoreSeatView). v.ranks) to; out = ap (λ (v : CoreSeatView). v.out) to; these = []; grows = ap (λ (v : CoreSeatView). v.own) to }
+
+pub returns-then-known-clause-entries : goal.returns-then-known-clause-entries
+returns-then-known-clause-entries g c =
+    let v = c.args.self.now.seat.view in
+    subst (OnlyMarks v) (sym c.look.ensures.view) (looked_marks v c.args.task c.look.result (subst (λ n. c.args.task < n) (sym c.look.ensures.count) c.requires.task) c.look.ensures.met)
 
 pub returns-then-known-clause-own : goal.returns-then-known-clause-own
 returns-then-known-clause-own g c = ap (λ (v : CoreSeatView). v.own) c.look.ensures.view
@@ -72,6 +83,7 @@ returns g c =
       room = did.2;
       noted = did.1.only;
       own = ap (λ (v : CoreSeatView). v.own) to;
-      handles = record { joined = ap (λ (v : CoreSeatView). v.joined) to; ranks = ap (λ (v : CoreSeatView). v.ranks) to; out = ap (λ (v : CoreSeatView). v.out) to };
+      handles = record { joined = ap (λ (v : CoreSeatView). v.joined) to; ranks = ap (λ (v : CoreSeatView). v.ranks) to; out = ap (λ (v : CoreSeatView). v.out) to; these = []; grows = ap (λ (v : CoreSeatView). v.own) to };
+      entries = subst (OnlyMarks old.seat.view) (sym to) (looked_marks old.seat.view task c.look.result (subst (λ n. task < n) (sym c.look.ensures.count) c.requires.task) c.look.ensures.met);
       tells = λ up. tells_more old.seat.view new.seat.view task c.look.result (subst (λ n. task < n) (sym c.look.ensures.count) c.requires.task) c.look.ensures.tells to up;
     }

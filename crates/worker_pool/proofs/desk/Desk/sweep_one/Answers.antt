@@ -1,7 +1,9 @@
-use Rattle.std.proofs.Common.{◌<◌, ◌+◌, ◌∙◌, sym, ap, subst}
+use Rattle.std.proofs.Common.{◌<◌, ◌+◌, ◌∙◌, [], sym, ap, subst}
+use Rattle.task_word.specs.Views.{and_if}
+use Rattle.task_word.specs.Answers.{is_won}
 use Rattle.worker_pool.specs.own.Moves.{with_mark}
 use Rattle.worker_pool.specs.own.Steps.{SweepsUpTo}
-use Rattle.worker_pool.proofs.Growing.{nothing_noted}
+use Rattle.worker_pool.proofs.Growing.{nothing_noted, same_handles, in_front}
 use Rattle.worker_pool.proofs.Sweeps.{ended_late, ended_won, passes_over, base_met, notes_in}
 use Rattle.worker_pool.proofs.desk.Desk.sweep_one.Goals as goal
 
@@ -9,6 +11,9 @@ pub returns-then-not-sweeps-clause-upto : goal.returns-then-not-sweeps-clause-up
 returns-then-not-sweeps-clause-upto g c = λ own up.
     let old = c.args.self.now in
     passes_over own old.core old.seat.view old.happenings.items old.lines.items c.args.task up (sym c.sweeps.ensures ∙ c.if-not-sweeps.true)
+
+pub returns-then-not-sweeps-clause-handles : goal.returns-then-not-sweeps-clause-handles
+returns-then-not-sweeps-clause-handles g c = same_handles c.args.self.now.seat.view
 
 pub returns-then-not-sweeps-clause-noted : goal.returns-then-not-sweeps-clause-noted
 returns-then-not-sweeps-clause-noted g c = nothing_noted c.args.self.now.core c.args.self.now.happenings.items
@@ -51,7 +56,7 @@ pub returns-in-Late-clause-handles : goal.returns-in-Late-clause-handles
 returns-in-Late-clause-handles g c =
     let old = c.args.self.now in
     let to = ap (λ x. x.view) c.note.ensures.seat ∙ c.cancel.ensures.view in
-    record { joined = ap (λ v. v.joined) to; ranks = ap (λ v. v.ranks) to; out = ap (λ v. v.out) to }
+    record { joined = ap (λ v. v.joined) to; ranks = ap (λ v. v.ranks) to; out = ap (λ v. v.out) to; these = and_if (is_won c.cancel.result) c.args.task []; grows = ap (λ v. v.own) to ∙ in_front (is_won c.cancel.result) c.args.task c.args.self.now.seat.view.own }
 
 pub returns-in-Won-clause-upto : goal.returns-in-Won-clause-upto
 returns-in-Won-clause-upto g c = λ own up.
@@ -63,7 +68,7 @@ returns-in-Won-clause-upto g c = λ own up.
 pub returns-in-Won-clause-handles : goal.returns-in-Won-clause-handles
 returns-in-Won-clause-handles g c =
     let to = c.cancel.ensures.view in
-    record { joined = ap (λ v. v.joined) to; ranks = ap (λ v. v.ranks) to; out = ap (λ v. v.out) to }
+    record { joined = ap (λ v. v.joined) to; ranks = ap (λ v. v.ranks) to; out = ap (λ v. v.out) to; these = and_if (is_won c.cancel.result) c.args.task []; grows = ap (λ v. v.own) to ∙ in_front (is_won c.cancel.result) c.args.task c.args.self.now.seat.view.own }
 
 pub returns-in-Won-clause-noted : goal.returns-in-Won-clause-noted
 returns-in-Won-clause-noted g c = nothing_noted c.args.self.now.core c.args.self.now.happenings.items
