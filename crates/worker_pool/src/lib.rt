@@ -55,7 +55,9 @@
 //!
 //! # Tests
 //!
-//! They stand in `src/tests`.
+//! They stand in `src/tests`. `tests/table.rt` plays all short sequences of steps over one plan; the text of the lines of each goes
+//! through [`check`](trace_check::check), which knows nothing of the book, and conforms. `plan_read`, `plan_compile`,
+//! `executor_plain`, `trace_text` and `trace_check` are for tests alone.
 #![tactic(auto)]
 
 mod applied;
