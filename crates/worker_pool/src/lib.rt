@@ -90,8 +90,10 @@
 //! stays in use. The box of a verdict is not asked of the allocator, but of the heap that it leads to: it
 //! is neither refused nor counted there.
 //!
-//! `handles.rt`, `limits.rt` and `results.rt` are about several handles, errors and verdicts, `table.rt` about all short
-//! sequences of calls, beside the plain program.
+//! `handles.rt`, `limits.rt` and `results.rt` are about several handles, errors and verdicts. `table.rt` plays all short sequences
+//! of steps over one plan, beside the plain program; the text of the lines of each goes through
+//! [`check`](trace_check::check), which knows nothing of the book, and conforms. `refusing_allocator`, `plan_read`,
+//! `plan_compile`, `executor_plain`, `trace_text` and `trace_check` are for tests alone.
 #![tactic(auto)]
 
 mod applied;

@@ -1,17 +1,32 @@
-//! All sequences of four steps, and those of five that begin with the clock, each beside the plain program: the lines are those
-//! of the happenings.
+//! All sequences of four steps, and those of five that begin with the clock: the text of the book's lines conforms, by the plan
+//! alone, and the lines are those that the plain program has for the happenings.
 ghost use Rattle.std.specs.Prelude.{◌≡◌, IfOk};
 ghost use Rattle.queue_code.specs.Codes.{calls_of};
 
 use super::{Played, Step, Told, play_code};
 use executor_core::{Answer, CancelEffect, Event, Line, Message};
 use executor_plain::trace_of_happenings;
-use queue_code::{Code, CodeCall, Cursor, Instr};
-use sched_time::{Ending, Timing, Unit, span};
+use plan_compile::compile;
+use plan_read::{Plan, read_plan};
+use queue_code::{Code, CodeCall, Cursor};
+use sched_time::Ending;
 use std::alloc::{AllocError, Allocator, Global};
 use std::process::Abort;
 use std::test::Fail;
 use task_word::CancelAnswer;
+use trace_check::{Finding, MOST_BYTES, check};
+use trace_text::write_line;
+
+/// The plan of a task with one run, one at a fixed rate, and a shutdown.
+const PLAN: &str = r#"version = 1
+
+[[block]]
+call = [
+  { op = "schedule", name = "a", delay = 0 },
+  { op = "rate", name = "b", first = 0, period = 2 },
+  { op = "shutdown", at = 5 },
+]
+"#;
 
 /// How many steps there are to choose from.
 const CHOICES: u32 = 9;
@@ -46,16 +61,19 @@ fn made_by<A: Allocator + Copy>(
     Ok(calls)
 }
 
-/// The code of a task with one run, one at a fixed rate, and a shutdown.
-fn code_of(alloc: Global) -> Result<Code<Global>, Fail> {
-    let heartbeat = Instr::Submit(0, Timing::Rate(span(2, Unit::Ns)?), 0);
-    let instrs = vec![in alloc;
-        Instr::Submit(0, Timing::Once, 0),
-        heartbeat,
-        Instr::Shutdown(5),
-        Instr::Halt,
-    ]?;
-    Ok(Code::check(alloc, instrs)?)
+/// What is found of the text of some lines, held against a plan with one worker.
+fn found(
+    rt: &impl Abort,
+    alloc: Global,
+    plan: &Plan<Global>,
+    lines: &[Line],
+) -> Result<Finding, Fail> {
+    let mut text = Vec::new(alloc);
+    for line in lines {
+        write_line(&mut text, line)?;
+    }
+    assert!(rt; text.len() <= MOST_BYTES);
+    Ok(check(alloc, plan, 1, &text)?)
 }
 
 /// Whether a line says that a cancel of task 0 from outside had an effect.
@@ -79,8 +97,14 @@ fn are_noted(steps: &[Step], played: &Played) -> bool {
     wins == played.lines.iter().filter(|line| is_outside(line)).count()
 }
 
-/// Plays four steps, by their number, behind a first one, and compares.
-fn compare(rt: &impl Abort, alloc: Global, first: Step, number: u32) -> Result<(), Fail> {
+/// Plays four steps, by their number, behind a first one, and checks and compares the lines.
+fn compare(
+    rt: &impl Abort,
+    alloc: Global,
+    plan: &Plan<Global>,
+    first: Step,
+    number: u32,
+) -> Result<(), Fail> {
     let mut steps = Vec::with_capacity(alloc, 8)?;
     steps.push(Step::Admit)?;
     steps.push(first)?;
@@ -90,11 +114,13 @@ fn compare(rt: &impl Abort, alloc: Global, first: Step, number: u32) -> Result<(
         rest /= CHOICES;
     }
     steps.push(Step::Retire(0))?;
-    let code = code_of(alloc)?;
+    let code = compile(alloc, plan)?;
     // Its calls are in order, as the plain program asks.
     let _count = code.calls();
     let calls = made_by(alloc, &code)?;
     let played = play_code(alloc, code, 1, 100, &steps)?;
+    let finding = found(rt, alloc, plan, &played.lines)?;
+    assert!(rt; finding == Finding::Conforms, "{number}: {finding:?}");
     let plain = trace_of_happenings(alloc, &calls, 1, &played.happened)?;
     assert!(rt; plain.as_slice() == played.lines.as_slice(), "{number}");
     assert!(rt; are_noted(&steps, &played), "{number}");
@@ -103,16 +129,18 @@ fn compare(rt: &impl Abort, alloc: Global, first: Step, number: u32) -> Result<(
 
 #[test]
 fn all_sequences_of_four_conform(rt: HostRuntime) -> Result<(), Fail> {
+    let plan = read_plan(rt.alloc(), PLAN.as_bytes())?;
     for number in 0..6_561u32 {
-        compare(&rt, rt.alloc(), Step::NoteCancels, number)?;
+        compare(&rt, rt.alloc(), &plan, Step::NoteCancels, number)?;
     }
     Ok(())
 }
 
 #[test]
 fn all_sequences_behind_a_clock_conform(rt: HostRuntime) -> Result<(), Fail> {
+    let plan = read_plan(rt.alloc(), PLAN.as_bytes())?;
     for number in 0..6_561u32 {
-        compare(&rt, rt.alloc(), Step::Apply(Event::Clock(0)), number)?;
+        compare(&rt, rt.alloc(), &plan, Step::Apply(Event::Clock(0)), number)?;
     }
     Ok(())
 }
