@@ -199,10 +199,16 @@ taken_at_end run at IsAhead IsRest Gives done end near stops rest gives = record
   gives = gives;
 }
 
--- want of memory
-pub out_of_memory : (run : Setting) (at : Progress) → Done run at → at.text ≡ [] → length at.held ≤ piece → Runs (Err x.Memory) run.calls run.workers run.limit run.input at.left run.contents at.contents
-out_of_memory run at done none near =
-    taken_so_far run at (λ ahead. Unit {0}) (λ rest. Unit {0}) (λ events lines trace. Appends run.contents at.contents trace) done near tt (λ more. tt) (all_written run at done none)
+-- what begins with an event's line does so whatever follows
+begins_whatever_follows : (held more : List ℕ) → BeginsWithEvent held → BeginsWithEvent (held ++ more)
+begins_whatever_follows held more begins = (begins.0, begins.1 ++ more, begins.2, ap (λ l. l ++ more) begins.3 ∙ append_assoc (event_line begins.0) begins.1 more)
+
+-- want of memory for the answer to a further event, below the limit
+pub out_of_memory : (run : Setting) (at : Progress) → Done run at → at.text ≡ [] → length at.held ≤ piece → at.core.taken < at.core.limit → BeginsWithEvent at.held →
+    Runs (Err x.Memory) run.calls run.workers run.limit run.input at.left run.contents at.contents
+out_of_memory run at done none near below begins =
+    taken_so_far run at BeginsWithEvent BeginsWithEvent (λ events lines trace. (events < run.limit) × Appends run.contents at.contents trace) done near begins
+    (λ more. begins_whatever_follows at.held more begins) (omega (arith, below, done.limit, done.taken), all_written run at done none)
 
 -- a rest that is refused
 pub refused : (run : Setting) (at : Progress) (n : ℕ) → Done run at → at.text ≡ [] → length at.held ≤ piece → IsFront front.Refused at.held → n ≡ at.core.taken + 1 →
@@ -216,7 +222,7 @@ pub full : (run : Setting) (at : Progress) → Done run at → at.text ≡ [] �
     Runs (Err x.Full) run.calls run.workers run.limit run.input at.left run.contents at.contents
 full run at done none near reached begins =
     taken_so_far run at BeginsWithEvent BeginsWithEvent (λ events lines trace. (events ≡ run.limit) × Appends run.contents at.contents trace) done near begins
-    (λ more. (begins.0, begins.1 ++ more, begins.2, ap (λ l. l ++ more) begins.3 ∙ append_assoc (event_line begins.0) begins.1 more)) (omega (arith, reached, done.limit, done.taken), all_written run at done none)
+    (λ more. begins_whatever_follows at.held more begins) (omega (arith, reached, done.limit, done.taken), all_written run at done none)
 
 -- the end of the input, with nothing held
 pub ended : (run : Setting) (at : Progress) (report : Report) → Done run at → at.text ≡ [] → IsAtEnd at.left → at.held ≡ [] → report ≡ record { events = at.core.taken; lines = at.count } →

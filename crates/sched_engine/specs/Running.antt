@@ -86,7 +86,7 @@ Runs (Err x.Read) calls workers limit input left old new =
 Runs (Err x.Write) calls workers limit input left old new =
     Taken calls workers limit input left (λ ahead. Unit {0}) (λ rest. Unit {0}) (λ events lines trace. (n : ℕ) × Appends old new (take n trace))
 Runs (Err x.Memory) calls workers limit input left old new =
-    Taken calls workers limit input left (λ ahead. Unit {0}) (λ rest. Unit {0}) (λ events lines trace. Appends old new trace)
+    Taken calls workers limit input left BeginsWithEvent BeginsWithEvent (λ events lines trace. (events < limit) × Appends old new trace)
 Runs (Err (x.Plan fault)) calls workers limit input left old new = ⊥
 Runs (Err x.Workers) calls workers limit input left old new = ⊥
 Runs (Err x.Limit) calls workers limit input left old new = ⊥

@@ -27,9 +27,10 @@ use std::alloc::Allocator;
 ///
 /// On [`RunError::Plan`], [`RunError::Workers`] and [`RunError::Limit`], found in this order,
 /// nothing is read or written. On [`RunError::EventLine`], [`RunError::Full`] and
-/// [`RunError::Read`] the text of all events before was written, on [`RunError::Memory`] the
-/// text of some of the first events, and on [`RunError::Write`] a front of such a text. At most
-/// one piece was read behind the last event that was taken.
+/// [`RunError::Read`] the text of all events before was written, and on [`RunError::Write`] a front
+/// of the text of some of the first events. On [`RunError::Memory`] nothing was read or written, or
+/// there was no memory for the lines of a further event within the limit, and the text of all events
+/// before it was written. At most one piece was read behind the last event that was taken.
 ///
 /// A read or write that fails by `Interrupted` is tried again, up to the 1,000th in a row. That one,
 /// any other fault, and a write that takes nothing, is [`RunError::Read`] or [`RunError::Write`], and

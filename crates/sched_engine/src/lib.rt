@@ -38,7 +38,8 @@
 //! | [`RunError::Full`] | a further event follows as many as the limit allows | the answers to these |
 //! | [`RunError::Read`] | the reader was at fault, or interrupted 1,000 times in a row | the answers to all whole lines read |
 //! | [`RunError::Write`] | the writer was at fault, took nothing, or was interrupted 1,000 times in a row | a front of some events' answers |
-//! | [`RunError::Memory`] | memory was refused | the answers to some of the first events |
+//! | [`RunError::Memory`] | memory was refused before anything is read | nothing |
+//! | | memory was refused for the lines of a further event, within the limit | the answers to all events before |
 //!
 //! [`write_listing`] answers [`RunError::Plan`] and [`RunError::Memory`] with nothing written, and
 //! [`RunError::Write`] with a front of the listing written.

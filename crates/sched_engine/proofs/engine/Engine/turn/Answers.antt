@@ -145,7 +145,8 @@ returns-in-Memory-clause-turns g c = λ run between.
     let after = g.W.Sink.contents c.write_text.new.sink in
     let finished = wrote run answered after c.clear.new.self done (subst (Appends given after) c.bytes.ensures c.if-not-write_text.ensures.bytes) c.clear.ensures in
     let here : Progress = record { left = reader; held = new.held; text = c.clear.new.self; contents = after; core = new.core; count = new.count } in
-    out_of_memory run here finished c.clear.ensures near
+    let stop = subst (λ (end : PieceEnd). IsPieceEnd end new.core new.held) c.in-Memory.is ok.end in
+    out_of_memory run here finished c.clear.ensures near stop.0 stop.1
 
 -- ---- what the tries of the reader count
 
