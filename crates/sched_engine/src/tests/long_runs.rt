@@ -55,6 +55,30 @@ fn long_runs_end_well(rt: HostRuntime) -> Result<(), Fail> {
     Ok(())
 }
 
+/// A reader that gives, and a writer that takes, one byte a call: more than 1 MiB is written whole.
+#[test]
+fn more_than_a_mebibyte_goes_a_byte_a_call(rt: HostRuntime) -> Result<(), Fail> {
+    let events = EVENT.repeat(rt.alloc(), 60_000)?;
+    let text = ANSWER.repeat(rt.alloc(), 60_000)?;
+    assert!(rt; text.len() > 1_048_576);
+    for most in [1usize, 65_536] {
+        plays(
+            &rt,
+            &ScriptedRow {
+                reader: Script::smooth(most),
+                answer: Ok(Report {
+                    events: 60_000,
+                    lines: 60_000,
+                }),
+                least: 1_080_000,
+                greatest: 1_080_000,
+                ..long_run(events.as_str(), text.as_str(), 1)
+            },
+        );
+    }
+    Ok(())
+}
+
 #[test]
 fn a_fault_in_mid_stream_of_the_reader_is_told_at_once(rt: HostRuntime) -> Result<(), Fail> {
     let events = EVENT.repeat(rt.alloc(), 20_000)?;
