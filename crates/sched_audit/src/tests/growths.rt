@@ -2,8 +2,8 @@
 mod calls;
 mod events;
 
-use refusing_allocator::Refusing;
 use calls::{Call, wants_memory};
+use refusing_allocator::Refusing;
 use std::process::Abort;
 use std::test::Fail;
 

@@ -1,10 +1,10 @@
 //! Events that are refused for want of memory, and given again.
 
 use super::{PLAN, TRACE};
-use refusing_allocator::Refusing;
 use executor_core::{Core, CoreError, Event, Line};
 use plan_compile::compile;
 use plan_read::read_plan;
+use refusing_allocator::Refusing;
 use sched_time::Ending;
 use std::alloc::{Allocator, Global};
 use std::process::Abort;
