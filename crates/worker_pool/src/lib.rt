@@ -61,14 +61,14 @@
 //! # Order and ties
 //!
 //! [`Book::happenings`] and [`Book::lines`] are the oldest first. A noted cancel stands before what met it. A sweep,
-//! [`Book::note_cancels`] and [`Book::retire`] meet tasks in ascending number; a start by due moment, and then by number; and
-//! the calls that a clock reaches one behind the other. Of all who cancel a task one wins.
+//! [`Book::note_cancels`] and [`Book::retire`] meet tasks in ascending number; a start meets them by due moment, and then by
+//! number; a clock meets them call by call. Of all who cancel a task one wins.
 //!
 //! # Errors
 //!
-//! [`PoolError`]. `Full` and `Seats` are tested before `Memory`, and so are `Workers` and then `Limit`. At each of the first
-//! three the book is as it was, and `retire` hands the handle back; after `Memory` or `Seats` the call may be made again, and
-//! after `Full` each event is answered so. [`Book::new`] drops the seat and the code.
+//! [`PoolError`]. `Full`, `Seats`, and `Workers` before `Limit`, are tested before `Memory`. At `Full`, `Seats` and `Memory` the
+//! book is as it was, and `retire` hands the handle back. The call may be made again, but after `Full` no event is taken any
+//! more. [`Book::new`] drops the seat and the code.
 //!
 //! # Memory and cost
 //!
