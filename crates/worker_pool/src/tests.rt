@@ -1,6 +1,7 @@
 //! Tests of the book and its handles, by scripts: what is done, what is told, and which lines there are then.
 mod handles;
 mod limits;
+mod pool;
 mod results;
 mod rows;
 mod table;
