@@ -1,5 +1,5 @@
 -- What ends a run of a pool, and that an open run was not refused.
-use Rattle.std.proofs.Common.{◌≡◌, ◌⊎◌, ◌∙◌, inl, inr, refl, sym, ap, true, false, Some, None, Option}
+use Rattle.std.proofs.Common.{◌≡◌, ◌⊎◌, ◌∙◌, inl, inr, refl, sym, ap, true, Some, None, Option}
 use Rattle.std.proofs.lemmas.Bool.{false≢true}
 use Rattle.std.specs.Option.{ForSome}
 use Rattle.worker_pool.specs.declared.error.PoolError.{PoolError}
