@@ -12,3 +12,4 @@ pub mod Booking
 pub mod Applying
 pub mod Looking
 pub mod Retiring
+pub mod Shifting

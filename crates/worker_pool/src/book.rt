@@ -78,7 +78,7 @@ impl<N: Named, A: HeapAllocator> Book<N, A> {
         ensures opening { IfOk result (λ b. (b.happened ≡ []) × (b.lines ≡ []) × IsOpening b.core N.calls N.workers limit × (b.seat ≡ new_core (length N.cells))) }
         ensures workers { IsErrOf result PoolError.Workers ↔ ¬ IsWorkerCount workers }
         ensures limit { IsErrOf result PoolError.Limit ↔ (IsWorkerCount workers × (limit ≡ 0)) }
-        ensures others { (IsErrOf result PoolError.Full → ⊥) × (IsErrOf result PoolError.Seats → ⊥) }
+        ensures others { (IsErrOf result PoolError.Full → ⊥) × (IsErrOf result PoolError.Seats → ⊥) × (IsErrOf result PoolError.Running → ⊥) }
     {
         let _calls = code.calls();
         let count = shared.cells.len();

@@ -15,6 +15,9 @@ pub enum PoolError {
     /// As many handles are out as may be.
     #[error("as many handles are out as may be")]
     Seats,
+    /// A run of the pool is under way.
+    #[error("a run is under way")]
+    Running,
     /// A growth was refused for want of memory.
     #[error("out of memory")]
     Memory,

@@ -58,6 +58,23 @@
 //! When a task is done, or has failed, the verdict goes into its cell. A handle reads it with [`Handle::result`];
 //! [`Book::agrees`] gives it where both have read it.
 //!
+//! # A pool
+//!
+//! A [`Pool`] is a book that threads share. [`Pool::run`] lets the clock show some moments, and at each of them runs what is
+//! due, a [`Job`] for each start, in as many threads as the book has workers.
+//!
+//! ```rust
+//! let pool = Pool::<N, _>::new(alloc, &shared, seat, code, 2, 100)?;
+//! let handle = pool.handle(rt)?; // for another thread
+//! pool.run(rt, &job, &[0, 5])?; // what is due at moment 0, and then what is at 5
+//! let mut book = pool.end();
+//! book.retire(&shared, handle)?;
+//! ```
+//!
+//! Jobs are run without the lock. The page of `src/pool.rt` says who waits for whom. What is proved of a pool is that what lies
+//! under its lock is a book, each time the lock is taken and when it ends; that its jobs are run, and that each call returns, is
+//! tested.
+//!
 //! # Order and ties
 //!
 //! [`Book::happenings`] and [`Book::lines`] are the oldest first. A noted cancel stands before what met it. A sweep,
@@ -68,7 +85,8 @@
 //!
 //! [`PoolError`]. `Full`, `Seats`, and `Workers` before `Limit`, are tested before `Memory`. At `Full`, `Seats` and `Memory` the
 //! book is as it was, and `retire` hands the handle back. The call may be made again, but after `Full` no event is taken any
-//! more. [`Book::new`] drops the seat and the code.
+//! more. [`Book::new`] drops the seat and the code. A run of a pool that was refused ends, and so does each later one; a run
+//! beside another is refused as `Running`.
 //!
 //! # Memory and cost
 //!
@@ -82,6 +100,8 @@
 //! moves; a sweep looks at each task; `note_cancels` and `retire` load each word. A clock that makes n submissions, with no
 //! handle out, takes 1.29 times the instructions of [`Core::event`](executor_core::Core::event): 287 for a call in place of
 //! 223, at 2,000 calls as at 20,000.
+//!
+//! A pool takes no memory of its own but for its threads. A worker takes the lock once for a finish and the start after it.
 //!
 //! # Tests
 //!
@@ -105,6 +125,7 @@ mod error;
 mod handle;
 mod moving;
 mod named;
+mod pool;
 mod results;
 mod shared;
 #[cfg(test)]
@@ -115,4 +136,5 @@ pub use book::Book;
 pub use error::PoolError;
 pub use handle::Handle;
 pub use named::Named;
+pub use pool::{Job, Pool};
 pub use shared::Shared;

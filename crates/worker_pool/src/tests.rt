@@ -2,6 +2,7 @@
 mod growths;
 mod handles;
 mod limits;
+mod pool;
 mod results;
 mod rows;
 mod table;

@@ -1,0 +1,284 @@
+//! A pool: a book under one lock, workers that run the jobs of its tasks, and one who leads them through the moments of a run.
+//!
+//! # The protocol
+//!
+//! One lock is round the book, and with it round how far a run is. A run is *closed* before it begins and when it has ended;
+//! *opening* while its workers are made; *open* from its first clock on; *leaving* once its workers are to stop. There is
+//! *work* while the run is open and a task is ripe: then a start may be taken. All is *quiet* while nothing is ripe and no
+//! worker is in a job, and also while no run is open. Both are computed from what is under the lock.
+//!
+//! | Who | Waits for | Where | Is woken by |
+//! |---|---|---|---|
+//! | a worker | work, or that all leave | `work` | who makes work, or sees more of it than it takes: one worker; who makes the run leave: all |
+//! | who leads | quiet | `quiet` | who makes all quiet |
+//!
+//! Who waits looks under the lock, and goes to sleep and lets go of the lock in one step; it looks again when it is woken.
+//! Who makes true what another waits for does so under the lock, and wakes it afterwards. So a waiter either sees the change or
+//! is asleep when it is woken: no wake-up is lost. It is left to see that each such change wakes somebody.
+//!
+//! **Work** comes into being in three ways.
+//! - A clock makes a task ripe, that of who leads or that of [`Pool::advance`]: each wakes one worker where there is work.
+//! - A finish arms its task again, and the next due moment is reached: the worker that finished is awake, and takes a start in
+//!   the same hold of the lock.
+//! - The first clock of a run opens it: it is one of the clocks above.
+//!
+//! A worker that takes a start and leaves work behind wakes one more. So while there is work, a worker is awake that will look,
+//! or was woken and will, or all are in jobs; and each looks for work when its job is done.
+//!
+//! **Quiet** comes into being in four ways.
+//! - The last job is done, or a start finds only tasks that are cancelled: that worker, before it sleeps, wakes who leads.
+//! - A clock of [`Pool::advance`] takes away what was ripe, as a sweep does: it wakes who leads.
+//! - A call of the run is refused, and the run is leaving: who sees that leaves, and wakes all others and who leads.
+//! - A clock of who leads, which looks itself.
+//!
+//! A handle's cancel changes nothing under the lock. Its task stays ripe until a start has noted the cancel.
+//!
+//! **The end of a run.** Who leads goes to the next moment when all is quiet. After the last one the run is leaving and all
+//! workers are woken; each is joined before [`Pool::run`] returns. The first call of the run that is refused, a clock, a start
+//! or a finish, or a thread that can't be made, makes the run leave too. A worker in its job then gives its finish to the book
+//! all the same, and leaves.
+//!
+//! No lock is held while a job runs. So a job may call the pool: [`Pool::advance`], [`Pool::handle`]; and [`Pool::run`], which
+//! answers that a run is under way.
+ghost use Rattle.std.specs.Prelude.{◌≡◌, ◌⊎◌, ◌↔◌, IsErrOf, IfErr, IfOk, length};
+ghost use Rattle.queue_code.specs.Calls.{task_count};
+ghost use Rattle.queue_code.specs.Codes.{calls_of};
+ghost use Rattle.task_word.specs.Views.{new_core, new_handle};
+ghost use Rattle.executor_core.specs.Counts.{IsWorkerCount};
+ghost use Rattle.executor_core.specs.CoreView.{workers_of};
+ghost use Rattle.worker_pool.specs.Books.{IsBook};
+
+mod shift;
+
+use crate::applied::{Applied, Work};
+use crate::book::Book;
+use crate::error::PoolError;
+use crate::handle::Handle;
+use crate::named::Named;
+use crate::shared::Shared;
+use heap_allocator::HeapAllocator;
+use queue_code::Code;
+use sched_time::Ending;
+use shift::Shift;
+use std::alloc::Allocator;
+use std::marker::Model;
+use std::sync::{Condvar, Mutex, Wait};
+use std::thread;
+use std::thread::Threads;
+use task_word::CoreSeat;
+
+/// What is done in a run of a task.
+pub trait Job {
+    /// Does it, and says how it ended.
+    fn run(&self, task: u32, run: u64) -> Ending;
+}
+
+/// A book that threads share, and workers for the time of a run.
+#[derive(Drop)]
+pub struct Pool<'s, N: Named, A: Allocator> {
+    shared: &'s Shared<A>,
+    workers: u8,
+    shift: Mutex<Shift<N, A>>,
+    /// Workers wait here for work.
+    work: Condvar,
+    /// Who leads a run waits here until all is quiet.
+    quiet: Condvar,
+}
+
+impl<'s, N: Named, A: Allocator> Model for Pool<'s, N, A> {
+    ghost use Rattle.std.specs.Prelude.{◌≡◌};
+    ghost use Rattle.worker_pool.specs.Shares.{SharedView};
+
+    ghost Value = { SharedView };
+
+    ghost view = { λ p. p.shared.now };
+
+    ghost invariant = { λ p. (p.shared.now.table ≡ N.table) × (p.shared.now.cells ≡ N.cells) };
+}
+
+impl<'s, N: Named, A: HeapAllocator> Pool<'s, N, A> {
+    /// A pool with a new book: what is asked for and answered is as for [`Book::new`].
+    ///
+    /// # Errors
+    ///
+    /// [`PoolError::Workers`] and then [`PoolError::Limit`], exactly where that number is out of range; then
+    /// [`PoolError::Memory`]. The seat and the code are dropped, so a new `Shared` has to be made.
+    pub fn new(
+        alloc: A,
+        shared: &'s Shared<A>,
+        seat: CoreSeat<A>,
+        code: Code<A>,
+        workers: u8,
+        limit: u32,
+    ) -> Result<Pool<'s, N, A>, PoolError>
+        requires shared { (shared.now.table ≡ N.table) × (shared.now.cells ≡ N.cells) }
+        requires seat { (seat.table ≡ shared.now.table) × (seat.view ≡ new_core shared.now.tasks) }
+        requires tasks { shared.now.tasks ≡ task_count (calls_of code) }
+        requires named { (calls_of code ≡ N.calls) × (workers ≡ N.workers) }
+        ensures shared { IfOk result (λ p. p ≡ shared.now) }
+        ensures workers { IsErrOf result PoolError.Workers ↔ ¬ IsWorkerCount workers }
+        ensures limit { IsErrOf result PoolError.Limit ↔ (IsWorkerCount workers × (limit ≡ 0)) }
+        ensures others { (IsErrOf result PoolError.Full → ⊥) × (IsErrOf result PoolError.Seats → ⊥) × (IsErrOf result PoolError.Running → ⊥) }
+    {
+        let book = Book::new(alloc, shared, seat, code, workers, limit)?;
+        Ok(Pool {
+            shared,
+            workers,
+            shift: Mutex::new(Shift::new(book)),
+            work: Condvar::new(),
+            quiet: Condvar::new(),
+        })
+    }
+
+    /// Runs the tasks that are due while the clock shows these moments, one after the other: at each moment until nothing is
+    /// due and nothing runs. With no moments nothing runs. When it answers, none of its threads is left.
+    ///
+    /// # Errors
+    ///
+    /// [`PoolError::Running`] where a run is under way. [`PoolError::Full`] and [`PoolError::Memory`], the first that a clock,
+    /// a start or a finish of this run was refused with; a thread that can't be made counts as `Memory`. Then no further task
+    /// is started, and each later run of this pool is answered the same, and does nothing.
+    pub fn run<R: Threads + Wait + Sync, J: Job + Sync>(
+        &self,
+        rt: &R,
+        job: &J,
+        moments: &[u64],
+    ) -> Result<(), PoolError>
+    where
+        N: Send + Sync,
+        A: Send + Sync,
+        ensures others { IfErr result (λ e. (e ≡ PoolError.Running) ⊎ ((e ≡ PoolError.Full) ⊎ (e ≡ PoolError.Memory))) }
+    {
+        self.shift.lock(rt).open()?;
+        let workers = self.workers;
+        thread::scope(thread::scope_env(), rt, |scope| {
+            let mut made = true;
+            for worker in 0..workers {
+                if scope.spawn(move || self.work(rt, job, worker)).is_err() {
+                    made = false;
+                    break;
+                }
+            }
+            self.lead(rt, moments, made);
+        });
+        self.shift.lock(rt).close()
+    }
+
+    /// Moves the clock through the moments, and waits at each until all is quiet. Then all workers leave.
+    fn lead<R: Wait>(&self, rt: &R, moments: &[u64], made: bool) {
+        let mut shift = self.shift.lock(rt);
+        if !made {
+            shift.fail(PoolError::Memory);
+        }
+        for &moment in moments {
+            if shift.is_failed() {
+                break;
+            }
+            shift.move_clock(self.shared, moment);
+            if shift.has_work() {
+                drop(shift);
+                self.work.notify_one();
+                shift = self.shift.lock(rt);
+            }
+            shift = self.quiet.wait_while(rt, shift, |shift| !shift.is_quiet());
+        }
+        shift.leave();
+        drop(shift);
+        self.work.notify_all();
+    }
+
+    /// What a worker does: the jobs that it is given, until it is to leave.
+    fn work<R: Wait, J: Job>(&self, rt: &R, job: &J, worker: u8) {
+        let mut done = None;
+        for _ in rt.forever() {
+            let Some(work) = self.next(rt, worker, done) else {
+                return;
+            };
+            done = Some(job.run(work.task, work.run));
+        }
+    }
+
+    /// Gives the finish of the job that a worker has done to the book, and the worker its next one. `None`: it is to leave.
+    fn next<R: Wait>(&self, rt: &R, worker: u8, done: Option<Ending>) -> Option<Work> {
+        let mut shift = self.shift.lock(rt);
+        if let Some(ending) = done {
+            shift.finish(self.shared, worker, ending);
+        }
+        for _ in rt.forever() {
+            if shift.has_work() {
+                let work = shift.start(self.shared, worker);
+                if work.is_some() {
+                    let more = shift.has_work();
+                    drop(shift);
+                    if more {
+                        self.work.notify_one();
+                    }
+                    return work;
+                }
+                continue;
+            }
+            if shift.is_leaving() {
+                drop(shift);
+                self.work.notify_all();
+                self.quiet.notify_one();
+                return None;
+            }
+            if shift.is_quiet() {
+                self.quiet.notify_one();
+            }
+            shift = self.work.wait(rt, shift);
+        }
+        unreachable!()
+    }
+
+    /// Cuts off a handle, as [`Book::admit`] does.
+    ///
+    /// # Errors
+    ///
+    /// [`PoolError::Seats`], where 63 are out; then [`PoolError::Memory`].
+    pub fn handle<R: Wait>(&self, rt: &R) -> Result<Handle<'s, N, A>, PoolError>
+        ensures others { IfErr result (λ e. (e ≡ PoolError.Seats) ⊎ (e ≡ PoolError.Memory)) }
+        ensures handle { IfOk result (λ h. h.seat ≡ new_handle (length N.cells)) }
+    {
+        self.shift.lock(rt).book.admit(self.shared)
+    }
+
+    /// Lets the clock show a moment, whether a run is under way or not. A run that is under way goes on with what is due then.
+    ///
+    /// # Errors
+    ///
+    /// Those of [`Book::apply`], [`PoolError::Full`] and then [`PoolError::Memory`]. They end no run.
+    pub fn advance<R: Wait>(&self, rt: &R, moment: u64) -> Result<Applied, PoolError>
+        ensures others { IfErr result (λ e. (e ≡ PoolError.Full) ⊎ (e ≡ PoolError.Memory)) }
+    {
+        let mut shift = self.shift.lock(rt);
+        let applied = shift.advance(self.shared, moment);
+        let more = shift.has_work();
+        let quiet = shift.is_quiet();
+        drop(shift);
+        if more {
+            self.work.notify_one();
+        }
+        if quiet {
+            self.quiet.notify_one();
+        }
+        applied
+    }
+}
+
+impl<'s, N: Named, A: Allocator> Pool<'s, N, A> {
+    /// The book, which takes back the handles that are out.
+    pub fn end(self) -> Book<N, A>
+        ensures book { IsBook N.cells result }
+        ensures named { (result.core.calls ≡ N.calls) × (workers_of result.core ≡ N.workers) }
+    {
+        let Pool {
+            shared: _,
+            workers: _,
+            shift,
+            work: _,
+            quiet: _,
+        } = self;
+        shift.into_inner().into_book()
+    }
+}

@@ -1,0 +1,202 @@
+//! Tests of the pool: jobs, and scripts of what is done with a pool by one thread.
+mod beside;
+mod rows;
+mod stress;
+
+ghost use Rattle.std.specs.Prelude.{◌≡◌};
+ghost use Rattle.queue_code.specs.Calls.{task_count};
+ghost use Rattle.queue_code.specs.Codes.{calls_of};
+ghost use Rattle.task_word.specs.Views.{new_core};
+
+use crate::{Applied, Book, Handle, Job, Named, Pool, PoolError, Shared};
+use executor_core::{Happening, Line};
+use queue_code::{Code, Instr};
+use result_cell::Verdict;
+use sched_time::{Ending, Timing};
+use std::alloc::{AllocError, Global};
+use std::marker::Brand;
+use std::process::Abort;
+use std::sync::Wait;
+use std::sync::atomic::{AtomicU64, Ordering};
+use std::test::Fail;
+use std::thread;
+use std::thread::Threads;
+use std::time::{Clock, Duration};
+use task_word::CoreSeat;
+use trace_text::write_line;
+
+/// How often a test looks whether what it waits for came, before it gives up.
+const MOST_LOADS: u64 = 1_000_000_000;
+
+/// A job whose value is the number of the run.
+struct RunNumber;
+
+impl Job for RunNumber {
+    fn run(&self, _task: u32, run: u64) -> Ending {
+        Ending::Value(run)
+    }
+}
+
+/// Waits until a count is as great as is wanted. Whether it was seen so.
+fn saw(count: &AtomicU64, wanted: u64) -> bool {
+    for _load in 0..MOST_LOADS {
+        if count.load(Ordering::SeqCst) >= wanted {
+            return true;
+        }
+    }
+    false
+}
+
+/// How often it is looked whether a test is done, two milliseconds apart, before it fails.
+const MOST_LOOKS: u64 = 12_000;
+
+/// Looks whether a test is done, and fails where it does not come to be.
+fn watch<R: Clock + Abort>(rt: &R, done: &AtomicU64) {
+    for _look in 0..MOST_LOOKS {
+        if done.load(Ordering::SeqCst) == 1 {
+            return;
+        }
+        thread::sleep(rt, Duration::from_millis(2));
+    }
+    assert!(rt; false, "a call does not return");
+}
+
+/// A call of a pool.
+#[derive(Clone, Copy)]
+enum Call<'m> {
+    Run(&'m [u64]),
+    Advance(u64),
+}
+
+/// What it is answered.
+#[derive(Clone, Copy, Debug, PartialEq, Eq)]
+enum Said {
+    Ran(Result<(), PoolError>),
+    Advanced(Result<Applied, PoolError>),
+}
+
+/// What calls are answered, the verdicts on the tasks as a handle and as handle and book read them, and what happened.
+#[derive(Drop)]
+struct Played {
+    said: Vec<Said>,
+    results: Vec<Option<Verdict>>,
+    agreed: Vec<Option<Verdict>>,
+    happened: Vec<Happening>,
+    lines: Vec<Line>,
+}
+
+/// The text of some lines.
+fn text_of(alloc: Global, lines: &[Line]) -> Result<Vec<u8>, AllocError> {
+    let mut text = Vec::new(alloc);
+    for line in lines {
+        if write_line(&mut text, line).is_err() {
+            return Err(AllocError);
+        }
+    }
+    Ok(text)
+}
+
+/// The code of these instructions and a halt.
+fn code_of(alloc: Global, instrs: &[Instr]) -> Result<Code<Global>, Fail> {
+    let mut list = Vec::with_capacity(alloc, instrs.len() + 1)?;
+    list.extend_from_slice(instrs)?;
+    list.push(Instr::Halt)?;
+    Ok(Code::check(alloc, list)?)
+}
+
+/// So many tasks with one run, each submitted at moment 0.
+fn tasks_of(alloc: Global, count: usize, delay: u64) -> Result<Vec<Instr>, AllocError> {
+    let mut instrs = Vec::new(alloc);
+    instrs.resize(count, Instr::Submit(0, Timing::Once, delay))?;
+    Ok(instrs)
+}
+
+/// Does one call.
+fn call_of<N: Named + Send + Sync, R: Threads + Wait + Sync, J: Job + Sync>(
+    rt: &R,
+    pool: &Pool<'_, N, Global>,
+    job: &J,
+    call: Call<'_>,
+) -> Said {
+    match call {
+        Call::Run(moments) => Said::Ran(pool.run(rt, job, moments)),
+        Call::Advance(moment) => Said::Advanced(pool.advance(rt, moment)),
+    }
+}
+
+/// What a book and a handle know of the tasks, and what happened.
+fn told_by<N: Named>(
+    alloc: Global,
+    shared: &Shared<Global>,
+    book: &mut Book<N, Global>,
+    handle: &mut Handle<'_, N, Global>,
+    said: Vec<Said>,
+    tasks: u32,
+) -> Result<Played, AllocError>
+    requires { (shared.now.table ≡ N.table) × (shared.now.cells ≡ N.cells) }
+{
+    let mut results = Vec::new(alloc);
+    let mut agreed = Vec::new(alloc);
+    for task in 0..tasks {
+        results.push(handle.result(task))?;
+        agreed.push(book.agrees(shared, handle, task))?;
+    }
+    let mut happened = Vec::new(alloc);
+    happened.extend_from_slice(book.happenings())?;
+    let mut lines = Vec::new(alloc);
+    lines.extend_from_slice(book.lines())?;
+    Ok(Played {
+        said,
+        results,
+        agreed,
+        happened,
+        lines,
+    })
+}
+
+/// Does the calls with a pool of these names, by one thread, and ends it.
+fn pool_of<N: Named + Send + Sync, R: Threads + Wait + Sync, J: Job + Sync>(
+    rt: &R,
+    alloc: Global,
+    shared: &Shared<Global>,
+    seat: CoreSeat<Global>,
+    code: Code<Global>,
+    workers: u8,
+    limit: u32,
+    job: &J,
+    calls: &[Call<'_>],
+) -> Result<Played, Fail>
+    requires shared { (shared.now.table ≡ N.table) × (shared.now.cells ≡ N.cells) }
+    requires seat { (seat.table ≡ shared.now.table) × (seat.view ≡ new_core shared.now.tasks) }
+    requires tasks { shared.now.tasks ≡ task_count (calls_of code) }
+    requires named { (calls_of code ≡ N.calls) × (workers ≡ N.workers) }
+{
+    let tasks = code.tasks();
+    let pool = Pool::<N, Global>::new(alloc, shared, seat, code, workers, limit)?;
+    let mut handle = pool.handle(rt)?;
+    let mut said = Vec::new(alloc);
+    for &call in calls {
+        said.push(call_of(rt, &pool, job, call))?;
+    }
+    let mut book = pool.end();
+    let played = told_by(alloc, shared, &mut book, &mut handle, said, tasks)?;
+    match book.retire(shared, handle) {
+        Ok(()) => Ok(played),
+        Err((error, _)) => Err(error.into()),
+    }
+}
+
+/// Does the calls with a new pool for these instructions.
+fn play<R: Threads + Wait + Sync, J: Job + Sync>(
+    rt: &R,
+    alloc: Global,
+    instrs: &[Instr],
+    workers: u8,
+    limit: u32,
+    job: &J,
+    calls: &[Call<'_>],
+) -> Result<Played, Fail> {
+    let code = code_of(alloc, instrs)?;
+    let (shared, seat) = Shared::new(alloc, code.tasks())?;
+    pool_of::<Brand, _, _>(rt, alloc, &shared, seat, code, workers, limit, job, calls)
+}

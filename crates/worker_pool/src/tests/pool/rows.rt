@@ -1,0 +1,167 @@
+//! What a run comes to, which errors come, and what later runs are answered.
+use super::{Call, Played, RunNumber, Said, play, tasks_of, text_of};
+use crate::{Applied, Job, PoolError};
+use result_cell::Verdict;
+use sched_time::Ending;
+use std::alloc::AllocGlobal;
+use std::process::Abort;
+use std::sync::atomic::{AtomicU64, Ordering};
+use std::test::Fail;
+
+/// Checks what calls are answered, and the text of the lines.
+fn check(
+    rt: &(impl Abort + AllocGlobal),
+    played: &Played,
+    said: &[Said],
+    text: &str,
+) -> Result<(), Fail> {
+    let written = text_of(rt.alloc(), &played.lines)?;
+    assert_eq!(rt; played.said.as_slice(), said);
+    assert!(rt; written.as_slice() == text.as_bytes(), "{text}");
+    Ok(())
+}
+
+#[test]
+fn a_task_is_run_once_it_is_due(rt: HostRuntime) -> Result<(), Fail> {
+    let instrs = tasks_of(rt.alloc(), 1, 5)?;
+    let calls = [Call::Advance(0), Call::Run(&[5])];
+    let played = play(&rt, rt.alloc(), &instrs, 1, 1_000_000, &RunNumber, &calls)?;
+    let applied = Applied {
+        first: 0,
+        count: 2,
+        work: None,
+    };
+    let said = [Said::Advanced(Ok(applied)), Said::Ran(Ok(()))];
+    let verdict = Verdict {
+        task: 0,
+        ending: Ending::Value(0),
+    };
+    assert_eq!(rt; played.results.as_slice(), [Some(verdict)].as_slice());
+    assert_eq!(rt; played.agreed.as_slice(), [Some(verdict)].as_slice());
+    check(
+        &rt,
+        &played,
+        &said,
+        "0 submit 0 schedule due 5\n0 clock\n5 clock\n5 start 0 task 0 run 0 due 5\n5 finish 0 task 0 run 0 done 0\n",
+    )
+}
+
+#[test]
+fn a_limit_ends_this_run_and_each_later_one(rt: HostRuntime) -> Result<(), Fail> {
+    let instrs = tasks_of(rt.alloc(), 1, 5)?;
+    let calls = [
+        Call::Run(&[0, 5]),
+        Call::Run(&[6]),
+        Call::Run(&[]),
+        Call::Advance(9),
+    ];
+    let played = play(&rt, rt.alloc(), &instrs, 1, 3, &RunNumber, &calls)?;
+    let full = Said::Ran(Err(PoolError::Full));
+    let said = [full, full, full, Said::Advanced(Err(PoolError::Full))];
+    check(
+        &rt,
+        &played,
+        &said,
+        "0 submit 0 schedule due 5\n0 clock\n5 clock\n5 start 0 task 0 run 0 due 5\n",
+    )
+}
+
+#[test]
+fn a_refused_advance_ends_no_run(rt: HostRuntime) -> Result<(), Fail> {
+    let instrs = tasks_of(rt.alloc(), 1, 5)?;
+    let calls = [
+        Call::Advance(0),
+        Call::Advance(5),
+        Call::Run(&[]),
+        Call::Run(&[6]),
+        Call::Run(&[]),
+    ];
+    let played = play(&rt, rt.alloc(), &instrs, 1, 1, &RunNumber, &calls)?;
+    let applied = Applied {
+        first: 0,
+        count: 2,
+        work: None,
+    };
+    let full = Err(PoolError::Full);
+    let said = [
+        Said::Advanced(Ok(applied)),
+        Said::Advanced(full),
+        Said::Ran(Ok(())),
+        Said::Ran(full_run()),
+        Said::Ran(full_run()),
+    ];
+    check(&rt, &played, &said, "0 submit 0 schedule due 5\n0 clock\n")
+}
+
+/// The answer to a run at the limit.
+fn full_run() -> Result<(), PoolError> {
+    Err(PoolError::Full)
+}
+
+#[test]
+fn nothing_starts_before_a_clock_of_the_run(rt: HostRuntime) -> Result<(), Fail> {
+    let instrs = tasks_of(rt.alloc(), 2, 0)?;
+    let calls = [
+        Call::Advance(3),
+        Call::Run(&[]),
+        Call::Run(&[]),
+        Call::Run(&[2]),
+        Call::Run(&[4]),
+    ];
+    let played = play(&rt, rt.alloc(), &instrs, 1, 1_000_000, &RunNumber, &calls)?;
+    let applied = Applied {
+        first: 0,
+        count: 3,
+        work: None,
+    };
+    let ran = Said::Ran(Ok(()));
+    check(
+        &rt,
+        &played,
+        &[Said::Advanced(Ok(applied)), ran, ran, ran, ran],
+        "0 submit 0 schedule due 0\n0 submit 1 schedule due 0\n3 clock\n3 error backward\n\
+         3 start 0 task 0 run 0 due 0\n3 finish 0 task 0 run 0 done 0\n\
+         3 start 0 task 1 run 0 due 0\n3 finish 0 task 1 run 0 done 0\n4 clock\n",
+    )
+}
+
+/// A job that waits until so many of them run at once.
+#[derive(Drop)]
+struct Gate {
+    wanted: u64,
+    inside: AtomicU64,
+}
+
+impl Job for Gate {
+    fn run(&self, _task: u32, _run: u64) -> Ending {
+        self.inside.fetch_add(1, Ordering::SeqCst);
+        if super::saw(&self.inside, self.wanted) {
+            Ending::Value(1)
+        } else {
+            Ending::Fault(1)
+        }
+    }
+}
+
+#[test]
+fn workers_run_jobs_at_the_same_time(rt: HostRuntime) -> Result<(), Fail> {
+    for workers in [2u8, 8] {
+        let gate = Gate {
+            wanted: workers as u64,
+            inside: AtomicU64::new(0),
+        };
+        let instrs = tasks_of(rt.alloc(), workers as usize, 0)?;
+        let calls = [Call::Run(&[0])];
+        let played = play(&rt, rt.alloc(), &instrs, workers, 1_000_000, &gate, &calls)?;
+        assert_eq!(rt; played.said.as_slice(), [Said::Ran(Ok(()))].as_slice());
+        assert_eq!(rt; played.results.len(), workers as usize);
+        for (task, result) in played.results.iter().enumerate() {
+            let verdict = Verdict {
+                task: task as u32,
+                ending: Ending::Value(1),
+            };
+            assert_eq!(rt; *result, Some(verdict));
+        }
+    }
+    Ok(())
+}
