@@ -1,4 +1,4 @@
-//! What is answered while a job is run: to another thread, and to the job itself.
+//! What is answered to another thread while a job is run.
 ghost use Rattle.std.specs.Prelude.{◌≡◌};
 ghost use Rattle.queue_code.specs.Calls.{task_count};
 ghost use Rattle.queue_code.specs.Codes.{calls_of};
@@ -7,8 +7,8 @@ ghost use Rattle.task_word.specs.Views.{new_core};
 use super::{Call, RunNumber, Said, call_of, code_of, saw, tasks_of, text_of};
 use crate::{Applied, Job, Named, Pool, PoolError, Shared};
 use executor_core::Line;
-use queue_code::{Code, Instr};
-use sched_time::{Ending, Timing};
+use queue_code::Code;
+use sched_time::Ending;
 use std::alloc::{AllocError, Global};
 use std::marker::Brand;
 use std::sync::Wait;
@@ -123,69 +123,6 @@ fn a_second_run_is_told_so(rt: HostRuntime) -> Result<(), Fail> {
     let wanted = "0 submit 0 schedule due 0\n0 submit 1 schedule due 0\n0 clock\n\
                   0 start 0 task 0 run 0 due 0\n7 clock\n7 finish 0 task 0 run 0 done 1\n\
                   7 start 0 task 1 run 0 due 0\n7 finish 0 task 1 run 0 done 1\n";
-    assert!(rt; text.as_slice() == wanted.as_bytes());
-    Ok(())
-}
-
-/// A job that calls its own pool.
-#[derive(Drop)]
-struct Nested<'p, 's, N: Named, R> {
-    rt: &'p R,
-    pool: &'p Pool<'s, N, Global>,
-}
-
-impl<'p, 's, N: Named + Send + Sync, R: Threads + Wait + Sync> Job for Nested<'p, 's, N, R> {
-    fn run(&self, _task: u32, _run: u64) -> Ending {
-        let ran = self.pool.run(self.rt, &RunNumber, &[9]);
-        let advanced = self.pool.advance(self.rt, 3);
-        let admitted = self.pool.handle(self.rt);
-        if ran == Err(PoolError::Running) && advanced.is_ok() && admitted.is_ok() {
-            Ending::Value(1)
-        } else {
-            Ending::Fault(1)
-        }
-    }
-}
-
-/// A run whose jobs call the pool.
-fn nested_of<N: Named + Send + Sync, R: Threads + Wait + Sync>(
-    rt: &R,
-    alloc: Global,
-    shared: &Shared<Global>,
-    seat: CoreSeat<Global>,
-    code: Code<Global>,
-) -> Result<Beside, Fail>
-    requires shared { (shared.now.table ≡ N.table) × (shared.now.cells ≡ N.cells) }
-    requires seat { (seat.table ≡ shared.now.table) × (seat.view ≡ new_core shared.now.tasks) }
-    requires tasks { shared.now.tasks ≡ task_count (calls_of code) }
-    requires named { (calls_of code ≡ N.calls) × (1 ≡ N.workers) }
-{
-    let pool = Pool::<N, Global>::new(alloc, shared, seat, code, 1, 1_000)?;
-    let nested = Nested { rt, pool: &pool };
-    let ran = pool.run(rt, &nested, &[0]);
-    let book = pool.end();
-    let mut lines = Vec::new(alloc);
-    lines.extend_from_slice(book.lines())?;
-    Ok(Beside {
-        ran,
-        said: Vec::new(alloc),
-        lines,
-    })
-}
-
-#[test]
-fn a_job_calls_its_pool(rt: HostRuntime) -> Result<(), Fail> {
-    let alloc = rt.alloc();
-    let mut instrs = tasks_of(alloc, 1, 0)?;
-    instrs.push(Instr::Submit(2, Timing::Once, 1))?;
-    let code = code_of(alloc, &instrs)?;
-    let (shared, seat) = Shared::new(alloc, code.tasks())?;
-    let beside = nested_of::<Brand, _>(&rt, alloc, &shared, seat, code)?;
-    assert_eq!(rt; beside.ran, Ok(()));
-    let text = text_of(alloc, &beside.lines)?;
-    let wanted = "0 submit 0 schedule due 0\n0 clock\n0 start 0 task 0 run 0 due 0\n\
-                  2 submit 1 schedule due 3\n3 clock\n3 finish 0 task 0 run 0 done 1\n\
-                  3 start 0 task 1 run 0 due 3\n3 clock\n3 finish 0 task 1 run 0 done 1\n";
     assert!(rt; text.as_slice() == wanted.as_bytes());
     Ok(())
 }
