@@ -114,7 +114,8 @@
 //!
 //! `handles.rt`, `limits.rt` and `results.rt` are about several handles, errors and verdicts. `table.rt` plays all short sequences
 //! of steps over one plan, beside the plain program; the text of the lines of each goes through
-//! [`check`](trace_check::check), which knows nothing of the book, and conforms. `refusing_allocator`, `plan_read`,
+//! [`check`](trace_check::check), which knows nothing of the book, and conforms. `pool` has rows of calls of a pool, and what is
+//! answered to another thread while a job is run. `refusing_allocator`, `plan_read`,
 //! `plan_compile`, `executor_plain`, `trace_text` and `trace_check` are for tests alone.
 #![tactic(auto)]
 

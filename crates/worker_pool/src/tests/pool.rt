@@ -1,7 +1,6 @@
 //! Tests of the pool: jobs, and scripts of what is done with a pool by one thread.
 mod beside;
 mod rows;
-mod stress;
 
 ghost use Rattle.std.specs.Prelude.{◌≡◌};
 ghost use Rattle.queue_code.specs.Calls.{task_count};
@@ -15,13 +14,10 @@ use result_cell::Verdict;
 use sched_time::{Ending, Timing};
 use std::alloc::{AllocError, Global};
 use std::marker::Brand;
-use std::process::Abort;
 use std::sync::Wait;
 use std::sync::atomic::{AtomicU64, Ordering};
 use std::test::Fail;
-use std::thread;
 use std::thread::Threads;
-use std::time::{Clock, Duration};
 use task_word::CoreSeat;
 use trace_text::write_line;
 
@@ -45,20 +41,6 @@ fn saw(count: &AtomicU64, wanted: u64) -> bool {
         }
     }
     false
-}
-
-/// How often it is looked whether a test is done, two milliseconds apart, before it fails.
-const MOST_LOOKS: u64 = 12_000;
-
-/// Looks whether a test is done, and fails where it does not come to be.
-fn watch<R: Clock + Abort>(rt: &R, done: &AtomicU64) {
-    for _look in 0..MOST_LOOKS {
-        if done.load(Ordering::SeqCst) == 1 {
-            return;
-        }
-        thread::sleep(rt, Duration::from_millis(2));
-    }
-    assert!(rt; false, "a call does not return");
 }
 
 /// A call of a pool.
