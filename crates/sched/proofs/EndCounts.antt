@@ -21,4 +21,5 @@ unread (Err (f.Run (x.EventLine line))) failed fruitless other = no_try failed f
 unread (Err (f.Run x.Full)) failed fruitless other = no_try failed fruitless
 unread (Err (f.Run x.Read)) failed fruitless other = absurd (other refl)
 unread (Err (f.Run x.Write)) failed fruitless other = no_try failed fruitless
+unread (Err (f.Run x.Lost)) failed fruitless other = no_try failed fruitless
 unread (Err (f.Run x.Memory)) failed fruitless other = no_try failed fruitless

@@ -12,7 +12,8 @@ use Rattle.plan_read.specs.declared.faults.PlanFault.{PlanFault}
 use Rattle.plan_read.specs.declared.faults.PlanFaultKind.{PlanFaultKind}
 use Rattle.plan_read.specs.declared.faults.PlanFaultKind.TheVariants as k
 use Rattle.plan_read.proofs.TextLaw.{text_only}
-use Rattle.sched_engine.specs.Running.{IsAccepted, Ran}
+use Rattle.pool_engine.specs.PoolRuns.{PoolRan}
+use Rattle.sched_engine.specs.Running.{IsAccepted, IsUntouched, Ran, RefusesToRun}
 use Rattle.sched_engine.specs.CodeTexts.{Listed}
 use Rattle.sched_engine.specs.declared.report.Report.{Report}
 use Rattle.sched_engine.specs.declared.report.RunError.{RunError}
@@ -20,11 +21,11 @@ use Rattle.sched_engine.specs.declared.report.RunError.TheVariants as x
 use Rattle.sched.specs.declared.error.ProgramError.{ProgramError}
 use Rattle.sched.specs.declared.error.ProgramError.TheVariants.{TraceFile, TraceTooLong, Run}
 use Rattle.sched.specs.declared.arguments.RunArguments.{RunArguments}
-use Rattle.sched.specs.Answers.{ListedAsAsked, RanAsAsked, TellsEnd}
+use Rattle.sched.specs.Answers.{ListedAsAsked, PooledAsAsked, RanAsAsked, TellsEnd}
 use Rattle.sched.specs.Errors.{IsToldAs}
 use Rattle.sched.specs.Findings.{IsCheckedAsAsked}
 use Rattle.trace_check.specs.Standing.{most_bytes}
-use Rattle.sched.specs.Order.{AnswersCheck, AnswersCode, AnswersRun, code_faults, first_present, is_worker_count, plan_fault, run_faults}
+use Rattle.sched.specs.Order.{AnswersCheck, AnswersCode, AnswersPool, AnswersRun, AnswersToPlan, code_faults, first_present, is_worker_count, plan_fault, run_faults}
 
 -- what stays is kept
 pub kept : (contents : Option (List ℕ)) → Keeps contents contents
@@ -183,6 +184,7 @@ code_read text answer IsPlan old new read all = go all.ended all.listed all.told
     go (Err (x.EventLine n)) listed told = absurd listed.0
     go (Err x.Full) listed told = absurd listed.0
     go (Err x.Read) listed told = absurd listed.0
+    go (Err x.Lost) listed told = absurd listed.0
 
 -- ---- a run
 
@@ -195,25 +197,79 @@ no_run_fault : (text : List ℕ) (plan : PlanTree) (workers limit : ℕ) → Tex
     → first_present (run_faults (Some text) workers limit) ≡ None
 no_run_fault text plan workers limit writes all more = rw (no_plan_fault text plan writes, counted workers all, some_events limit more) refl
 
--- the plan's file was read
+-- the plan's file was read, and the plan and the numbers were accepted
+accepted : (text : List ℕ) (answer : Result ℕ ProgramError) (IsPlan : Option (List ℕ) → Type 0) (asked : RunArguments) (untouched : Type 0) (Done : List ℕ → Type 0) (calls : _)
+    → IsPlan (Some text) → IsAccepted text calls asked.workers asked.limit → Done text → AnswersToPlan answer IsPlan asked untouched Done
+accepted text answer IsPlan asked untouched Done calls read a done = inr (Some text, read, rw (no_run_fault text a.plan asked.workers asked.limit a.reads a.counted a.positive) done)
+
+-- the plan's file was read, and a run was refused
+refused : (text : List ℕ) (answer : Result ℕ ProgramError) (IsPlan : Option (List ℕ) → Type 0) (asked : RunArguments) (untouched : Type 0) (Done : List ℕ → Type 0) (e : RunError)
+    → IsPlan (Some text) → RefusesToRun e text asked.workers asked.limit → untouched → TellsEnd {T = Report} (Err e) answer → AnswersToPlan answer IsPlan asked untouched Done
+refused text answer IsPlan asked untouched Done (x.Plan fault) read why same told = elim (told_plan text fault told.0 why told.1) [
+  | inl memory ↦ inl (told.2 ∙ ap Err memory, same)
+  | inr first ↦ inr (Some text, read, rw first (told.2, same))
+]
+refused text answer IsPlan asked untouched Done x.Workers read why same told = inr (Some text, read, rw (no_plan_fault text why.0 why.1, not_counted asked.workers why.2) (told.2 ∙ ap Err told.1, same))
+refused text answer IsPlan asked untouched Done x.Limit read why same told = inr (Some text, read, rw (no_plan_fault text why.0 why.1, counted asked.workers why.2, why.3) (told.2 ∙ ap Err told.1, same))
+refused text answer IsPlan asked untouched Done x.Memory read why same told = inl (told.2 ∙ ap Err told.1, same)
+refused text answer IsPlan asked untouched Done (x.EventLine n) read why same told = absurd why
+refused text answer IsPlan asked untouched Done x.Full read why same told = absurd why
+refused text answer IsPlan asked untouched Done x.Read read why same told = absurd why
+refused text answer IsPlan asked untouched Done x.Write read why same told = absurd why
+refused text answer IsPlan asked untouched Done x.Lost read why same told = absurd why
+
+-- a run of a plan whose file was read
 pub run_read : (text : List ℕ) (answer : Result ℕ ProgramError) (IsPlan : Option (List ℕ) → Type 0) (asked : RunArguments) (input left old new : Option (List ℕ))
     → IsPlan (Some text) → RanAsAsked answer asked text input left old new → AnswersRun answer IsPlan asked input left old new
 run_read text answer IsPlan asked input left old new read all = go all.ended all.ran all.told
   where
-    accepted : (calls : _) → IsAccepted text calls asked.workers asked.limit → AnswersRun answer IsPlan asked input left old new
-    accepted calls a = inr (Some text, read, rw (no_run_fault text a.plan asked.workers asked.limit a.reads a.counted a.positive) all)
+    Done : List ℕ → Type 0
+    Done = λ text. RanAsAsked answer asked text input left old new
+
+    over : (calls : _) → IsAccepted text calls asked.workers asked.limit → AnswersRun answer IsPlan asked input left old new
+    over calls a = accepted text answer IsPlan asked (IsUntouched input left old new) Done calls read a all
+
+    no : (e : RunError) → RefusesToRun e text asked.workers asked.limit → IsUntouched input left old new → TellsEnd {T = Report} (Err e) answer → AnswersRun answer IsPlan asked input left old new
+    no e why same told = refused text answer IsPlan asked (IsUntouched input left old new) Done e read why same told
 
     go : (ended : Result Report RunError) → Ran ended text asked.workers asked.limit input left old new → TellsEnd ended answer → AnswersRun answer IsPlan asked input left old new
-    go (Ok report) ran told = accepted ran.0 ran.1
-    go (Err (x.Plan fault)) ran told = elim (told_plan text fault told.0 ran.0 told.1) [
-      | inl memory ↦ inl (told.2 ∙ ap Err memory, ran.1)
-      | inr first ↦ inr (Some text, read, rw first (told.2, ran.1))
-    ]
-    go (Err x.Workers) ran told = inr (Some text, read, rw (no_plan_fault text ran.0.0 ran.0.1, not_counted asked.workers ran.0.2) (told.2 ∙ ap Err told.1, ran.1))
-    go (Err x.Limit) ran told = inr (Some text, read, rw (no_plan_fault text ran.0.0 ran.0.1, counted asked.workers ran.0.2, ran.0.3) (told.2 ∙ ap Err told.1, ran.1))
-    go (Err x.Memory) (inl refused) told = inl (told.2 ∙ ap Err told.1, refused.1)
-    go (Err x.Memory) (inr ran) told = accepted ran.0 ran.1
-    go (Err (x.EventLine n)) ran told = accepted ran.0 ran.1
-    go (Err x.Full) ran told = accepted ran.0 ran.1
-    go (Err x.Read) ran told = accepted ran.0 ran.1
-    go (Err x.Write) ran told = accepted ran.0 ran.1
+    go (Ok report) ran told = over ran.0 ran.1
+    go (Err (x.Plan fault)) ran told = no (x.Plan fault) ran.0 ran.1 told
+    go (Err x.Workers) ran told = no x.Workers ran.0 ran.1 told
+    go (Err x.Limit) ran told = no x.Limit ran.0 ran.1 told
+    go (Err x.Memory) (inl refused) told = no x.Memory refused.0 refused.1 told
+    go (Err x.Memory) (inr ran) told = over ran.0 ran.1
+    go (Err (x.EventLine n)) ran told = over ran.0 ran.1
+    go (Err x.Full) ran told = over ran.0 ran.1
+    go (Err x.Read) ran told = over ran.0 ran.1
+    go (Err x.Write) ran told = over ran.0 ran.1
+    go (Err x.Lost) ran told = absurd ran.2
+
+-- a run by a pool of a plan whose file was read
+pub pool_read : (text : List ℕ) (answer : Result ℕ ProgramError) (IsPlan : Option (List ℕ) → Type 0) (asked : RunArguments) (input left old new : Option (List ℕ))
+    → IsPlan (Some text) → PooledAsAsked answer asked text input left old new → AnswersPool answer IsPlan asked input left old new
+pool_read text answer IsPlan asked input left old new read all = go all.ended all.ran all.told
+  where
+    Done : List ℕ → Type 0
+    Done = λ text. PooledAsAsked answer asked text input left old new
+
+    over : (calls : _) → IsAccepted text calls asked.workers asked.limit → AnswersPool answer IsPlan asked input left old new
+    over calls a = accepted text answer IsPlan asked (IsUntouched input left old new) Done calls read a all
+
+    no : (e : RunError) → RefusesToRun e text asked.workers asked.limit → IsUntouched input left old new → TellsEnd {T = Report} (Err e) answer → AnswersPool answer IsPlan asked input left old new
+    no e why same told = refused text answer IsPlan asked (IsUntouched input left old new) Done e read why same told
+
+    go : (ended : Result Report RunError) → PoolRan ended text asked.workers asked.limit input left old new → TellsEnd ended answer → AnswersPool answer IsPlan asked input left old new
+    go (Ok report) ran told = over ran.0 ran.1
+    go (Err (x.Plan fault)) ran told = no (x.Plan fault) ran.0 ran.1 told
+    go (Err x.Workers) ran told = no x.Workers ran.0 ran.1 told
+    go (Err x.Limit) ran told = no x.Limit ran.0 ran.1 told
+    go (Err x.Memory) (inl refused) told = no x.Memory refused.0 refused.1 told
+    go (Err x.Memory) (inr (inl ran)) told = over ran.0 ran.1
+    go (Err x.Memory) (inr (inr ran)) told = over ran.0 ran.1
+    go (Err (x.EventLine n)) ran told = over ran.0 ran.1
+    go (Err x.Full) (inl ran) told = over ran.0 ran.1
+    go (Err x.Full) (inr ran) told = over ran.0 ran.1
+    go (Err x.Read) ran told = over ran.0 ran.1
+    go (Err x.Write) ran told = over ran.0 ran.1
+    go (Err x.Lost) ran told = over ran.0 ran.1

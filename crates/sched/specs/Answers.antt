@@ -6,6 +6,7 @@ use Rattle.sched.specs.declared.arguments.RunArguments.{RunArguments}
 use Rattle.sched.specs.declared.error.ProgramError.{ProgramError}
 use Rattle.sched_engine.specs.Running.{Ran}
 use Rattle.sched_engine.specs.CodeTexts.{Listed}
+use Rattle.pool_engine.specs.PoolRuns.{PoolRan}
 use Rattle.sched_engine.specs.declared.report.Report.{Report}
 use Rattle.sched_engine.specs.declared.report.RunError.{RunError}
 
@@ -18,6 +19,12 @@ TellsEnd (Err error) answer = (fault : ProgramError) × IsToldAs error fault × 
 pub record RanAsAsked (answer : Result ℕ ProgramError) (asked : RunArguments) (text : List ℕ) (input left old new : Option (List ℕ)) : Type 0 where
   pub ended : Result Report RunError
   pub ran : Ran ended text asked.workers asked.limit input left old new
+  pub told : TellsEnd ended answer
+
+-- the run by a pool that was asked for, over the plan that the text writes, and its end as the answer tells it
+pub record PooledAsAsked (answer : Result ℕ ProgramError) (asked : RunArguments) (text : List ℕ) (input left old new : Option (List ℕ)) : Type 0 where
+  pub ended : Result Report RunError
+  pub ran : PoolRan ended text asked.workers asked.limit input left old new
   pub told : TellsEnd ended answer
 
 -- the listing of the plan that the text writes, and its end as the answer tells it

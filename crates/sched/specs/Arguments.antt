@@ -8,7 +8,7 @@ use Rattle.sched.specs.declared.arguments.RunArguments.{RunArguments}
 use Rattle.sched.specs.declared.arguments.CodeArguments.{CodeArguments}
 use Rattle.sched.specs.declared.arguments.CheckArguments.{CheckArguments}
 use Rattle.sched.specs.declared.arguments.Asked.{Asked}
-use Rattle.sched.specs.declared.arguments.Asked.TheVariants.{Run, Code, Check}
+use Rattle.sched.specs.declared.arguments.Asked.TheVariants.{Run, Pool, Code, Check}
 
 -- a text writes, in decimal digits, a number that fits `bits` bits
 abbrev pub WritesNumber : ℕ → Text → Type 0
@@ -20,7 +20,7 @@ IsNumberOf bits None n = n ≡ 0
 IsNumberOf bits (Some text) n =
     (WritesNumber bits text → n ≡ digits_value 10 (without_leading_plus text)) × (¬ (WritesNumber bits text) → n ≡ 0)
 
--- the name and the two numbers are the values of `run`'s arguments
+-- the name and the two numbers are the values of the arguments of `run` or `pool`
 pub record AsksForRun (rows : List Row) (asked : RunArguments) : Type 0 where
   pub plan : asked.path.now ≡ unwrap_or (first_of (codes "plan") rows) []
   pub workers : IsNumberOf 8 (one_of (codes "workers") rows) asked.workers
@@ -37,11 +37,12 @@ pub record AsksForCheck (rows : List Row) (asked : CheckArguments) : Type 0 wher
   pub workers : IsNumberOf 8 (one_of (codes "workers") rows) asked.workers
 
 -- what is asked for, by the command that is named, with what a command line holds for its arguments: a listing by `code`, a
--- check by `check`, and a run by any other one, which is `run`
+-- check by `check`, a run by a pool by `pool`, and a run by any other one, which is `run`
 abbrev pub AsksIn : Option (Text × List Row) → Asked → Type 0
 AsksIn named (Code c) = (rows : List Row) × (named ≡ Some (codes "code", rows)) × AsksForCode rows c
 AsksIn named (Check c) = (rows : List Row) × (named ≡ Some (codes "check", rows)) × AsksForCheck rows c
-AsksIn named (Run r) = (name : Text) × (rows : List Row) × (named ≡ Some (name, rows)) × (name ≢ codes "code") × (name ≢ codes "check") × AsksForRun rows r
+AsksIn named (Pool p) = (rows : List Row) × (named ≡ Some (codes "pool", rows)) × AsksForRun rows p
+AsksIn named (Run r) = (name : Text) × (rows : List Row) × (named ≡ Some (name, rows)) × (name ≢ codes "code") × (name ≢ codes "check") × (name ≢ codes "pool") × AsksForRun rows r
 
 -- what the arguments of a command line ask for
 abbrev pub Asks : List Text → Asked → Type 0

@@ -1,5 +1,5 @@
--- Commands: the command lines that the program takes: `sched run PLAN --workers N [--limit N]`, `sched code PLAN`
--- and `sched check PLAN TRACE --workers N`.
+-- Commands: the command lines that the program takes: `sched run PLAN --workers N [--limit N]`, `sched pool` with the same
+-- arguments, `sched code PLAN` and `sched check PLAN TRACE --workers N`.
 -- All of it is this project's rule, in the words that clap has for arguments and commands. The texts of help are no part of it.
 use Rattle.std.specs.Prelude.{◌≡◌, ◌≢◌, ◌⊎◌, ℕ, List, [], ◌∷◌, Some, Ok, Err, Result, MatchResult, true, false, pos, codes}
 use Rattle.clap.specs.Words.{App, Row, Rule, IsAmong, fault_of, new_rule, subcommand_of}
@@ -49,6 +49,13 @@ run_app = record {
   subs = [];
 }
 
+-- `pool` with its three arguments
+abbrev pub pool_app : App
+pool_app = record {
+  top = record (new_shape (codes "pool")) { rules = plan_rule ∷ workers_rule ∷ limit_rule ∷ [] };
+  subs = [];
+}
+
 -- `code` with its argument
 abbrev pub code_app : App
 code_app = record {
@@ -67,7 +74,7 @@ check_app = record {
 abbrev pub sched_app : App
 sched_app = record {
   top = record (new_shape (codes "sched")) { is_leaf = false; subcommand_required = true };
-  subs = run_app.top ∷ code_app.top ∷ check_app.top ∷ [];
+  subs = run_app.top ∷ pool_app.top ∷ code_app.top ∷ check_app.top ∷ [];
 }
 
 -- ---- what the program answers to the arguments of a command line

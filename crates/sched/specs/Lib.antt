@@ -1,4 +1,5 @@
 pub use Rattle.sched_engine.specs.Running
+pub use Rattle.pool_engine.specs.PoolRuns
 pub mod Errors
 pub mod EndCounts
 pub mod Lines

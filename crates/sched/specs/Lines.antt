@@ -38,6 +38,7 @@ run_error_text (x.EventLine line) = codes "event line " ++ decimal line
 run_error_text x.Full = codes "full"
 run_error_text x.Read = codes "read fault"
 run_error_text x.Write = codes "write fault"
+run_error_text x.Lost = codes "lost"
 run_error_text x.Memory = codes "out of memory"
 
 -- why the program gives up

@@ -9,7 +9,7 @@ use Rattle.sched_engine.specs.declared.report.RunError.TheVariants as x
 use Rattle.sched.specs.declared.arguments.RunArguments.{RunArguments}
 use Rattle.sched.specs.declared.error.ProgramError.{ProgramError}
 use Rattle.sched.specs.declared.error.ProgramError.TheVariants.{PlanFile, TraceFile, TraceTooLong, Run}
-use Rattle.sched.specs.Answers.{ListedAsAsked, RanAsAsked}
+use Rattle.sched.specs.Answers.{ListedAsAsked, PooledAsAsked, RanAsAsked}
 use Rattle.sched.specs.Findings.{IsCheckedAsAsked}
 use Rattle.trace_check.specs.Standing.{most_bytes}
 
@@ -39,7 +39,7 @@ code_faults plan =
     ∷ plan_fault (bytes_of plan)
     ∷ []
 
--- the faults of `sched run`, before an event is read
+-- the faults of `sched run` and of `sched pool`, before an event is read
 abbrev pub run_faults : Option (List ℕ) → ℕ → ℕ → List (Option ProgramError)
 run_faults plan workers limit =
     (PlanFile barring is_some plan)
@@ -79,14 +79,22 @@ AnswersCode answer IsPlan old new =
     ⊎ ((plan : Option (List ℕ)) × IsPlan plan
     × ToldOr (first_present (code_faults plan)) answer (Keeps old new) (ListedAsAsked answer (bytes_of plan) old new))
 
--- what `sched run` answers to what was read of the plan's file: its first fault, or what a run answers. Want of memory may come
--- in place of each fault, with nothing read or written
+-- what a run of a plan answers to what was read of the plan's file: its first fault, or what was done with the plan's text. Want of
+-- memory may come in place of each fault, with nothing touched
+abbrev pub AnswersToPlan : Result ℕ ProgramError → (Option (List ℕ) → Type 0) → RunArguments → Type 0 → (List ℕ → Type 0) → Type 0
+AnswersToPlan answer IsPlan asked untouched Done =
+    ((answer ≡ Err (Run x.Memory)) × untouched)
+    ⊎ ((plan : Option (List ℕ)) × IsPlan plan × ToldOr (first_present (run_faults plan asked.workers asked.limit)) answer untouched (Done (bytes_of plan)))
+
+-- what `sched run` answers to what was read of the plan's file
 abbrev pub AnswersRun : Result ℕ ProgramError → (Option (List ℕ) → Type 0) → RunArguments → Option (List ℕ) → Option (List ℕ) → Option (List ℕ) → Option (List ℕ) → Type 0
 AnswersRun answer IsPlan asked input left old new =
-    ((answer ≡ Err (Run x.Memory)) × IsUntouched input left old new)
-    ⊎ ((plan : Option (List ℕ)) × IsPlan plan
-    × ToldOr (first_present (run_faults plan asked.workers asked.limit)) answer (IsUntouched input left old new)
-    (RanAsAsked answer asked (bytes_of plan) input left old new))
+    AnswersToPlan answer IsPlan asked (IsUntouched input left old new) (λ text. RanAsAsked answer asked text input left old new)
+
+-- what `sched pool` answers to what was read of the plan's file
+abbrev pub AnswersPool : Result ℕ ProgramError → (Option (List ℕ) → Type 0) → RunArguments → Option (List ℕ) → Option (List ℕ) → Option (List ℕ) → Option (List ℕ) → Type 0
+AnswersPool answer IsPlan asked input left old new =
+    AnswersToPlan answer IsPlan asked (IsUntouched input left old new) (λ text. PooledAsAsked answer asked text input left old new)
 
 -- what was read of the plan's file and of the trace's, which is read only where the plan has no fault, and the first fault, or
 -- what is found

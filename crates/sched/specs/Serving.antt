@@ -7,15 +7,17 @@ use Rattle.std.specs.declared.io.Error.{Error}
 use Rattle.clap.specs.Words.{Text}
 use Rattle.sched.specs.Arguments.{Asks}
 use Rattle.sched.specs.Fronts.{IsReadOf, most_of_plan, most_of_trace}
-use Rattle.sched.specs.Order.{AnswersCheck, AnswersCode, AnswersRun}
+use Rattle.sched.specs.Order.{AnswersCheck, AnswersCode, AnswersPool, AnswersRun}
 use Rattle.sched.specs.declared.arguments.Asked.{Asked}
-use Rattle.sched.specs.declared.arguments.Asked.TheVariants.{Run, Code, Check}
+use Rattle.sched.specs.declared.arguments.Asked.TheVariants.{Run, Pool, Code, Check}
 use Rattle.sched.specs.declared.error.ProgramError.{ProgramError}
 
 -- what is asked for is done over the files that it names, as they are opened by their names. A listing and a check read nothing else
 abbrev pub AnswersAsked : {P : Type 0} → Result ℕ ProgramError → (P → Option (List ℕ)) → (Bor Text → Result P Error → Type 0) → Asked → Option (List ℕ) → Option (List ℕ) → Option (List ℕ) → Option (List ℕ) → Type 0
 AnswersAsked {P} answer remaining Opens (Run asked) input left old new =
     (plan : Result P Error) × Opens asked.path plan × AnswersRun answer (IsReadOf remaining most_of_plan plan) asked input left old new
+AnswersAsked {P} answer remaining Opens (Pool asked) input left old new =
+    (plan : Result P Error) × Opens asked.path plan × AnswersPool answer (IsReadOf remaining most_of_plan plan) asked input left old new
 AnswersAsked {P} answer remaining Opens (Code asked) input left old new =
     (plan : Result P Error) × Opens asked.path plan × AnswersCode answer (IsReadOf remaining most_of_plan plan) old new × Keeps input left
 AnswersAsked {P} answer remaining Opens (Check asked) input left old new =

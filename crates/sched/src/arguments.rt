@@ -14,13 +14,15 @@ use std::alloc::Global;
 pub enum Asked<'a> {
     /// A run of a plan over the events on standard input.
     Run(RunArguments<'a>),
+    /// A run of a plan by a pool over the clocks on standard input.
+    Pool(RunArguments<'a>),
     /// The listing of a plan's code.
     Code(CodeArguments<'a>),
     /// The check of a trace against a plan.
     Check(CheckArguments<'a>),
 }
 
-/// What `sched run` is asked for.
+/// What `sched run` or `sched pool` is asked for.
 #[derive(Clone, Copy, Debug)]
 pub struct RunArguments<'a> {
     /// The name of the plan's file.
@@ -63,6 +65,9 @@ impl<'a> Asked<'a> {
         if let Some(check) = matches.subcommand_matches("check") {
             return Ok(Asked::Check(CheckArguments::of_matches(check)));
         }
+        if let Some(pool) = matches.subcommand_matches("pool") {
+            return Ok(Asked::Pool(RunArguments::of_matches(pool)));
+        }
         match matches.subcommand() {
             Some((_, run)) => Ok(Asked::Run(RunArguments::of_matches(run))),
             None => unreachable!(),
@@ -71,7 +76,7 @@ impl<'a> Asked<'a> {
 }
 
 impl<'a> RunArguments<'a> {
-    /// What was found for the arguments of `run`. A value that is missing, which the command line
+    /// What was found for the arguments of `run` or `pool`. A value that is missing, which the command line
     /// does not let through, is no name, no worker and no event.
     fn of_matches(run: &ArgMatches<'a>) -> RunArguments<'a>
         ensures { AsksForRun (rows_of (found_of run.now)) result }

@@ -2,7 +2,7 @@
 
 ghost use Rattle.std.specs.Prelude.{◌≡◌, false, IfOk};
 ghost use Rattle.clap.specs.Words.{app_of, rule_of};
-ghost use Rattle.sched.specs.Commands.{check_app, code_app, limit_rule, plan_rule, run_app, sched_app, trace_rule, workers_rule};
+ghost use Rattle.sched.specs.Commands.{check_app, code_app, limit_rule, plan_rule, pool_app, run_app, sched_app, trace_rule, workers_rule};
 
 use clap::{Arg, ArgAction, Command, value_parser};
 use executor_core::MOST_WORKERS;
@@ -103,6 +103,33 @@ Exit status:
      The events before a bad line, the limit or a read fault were answered.
   2  a fault of the command line";
 
+/// What the help of `pool` says below the options: what is read and run, and the exit statuses.
+const POOL: &str = "\
+The plan and the trace are as 'sched run --help' has them. Standard input has
+clocks alone:
+  clock T          the time is now T nanoseconds
+All of them are read first. Then as many threads as there are workers run the
+plan: at each clock they start each task that is due, until none is. The value
+of a run is its number, counted from 0. The trace goes to standard output once
+all has been run. Its events are the clocks, and a start and a finish for each
+run.
+
+Exit status:
+  0  all was run
+  1  a fault, told by one of these lines on standard error:
+       sched: plan file not read
+       sched: plan: KIND block B call C   no plan; KIND tells what is wrong
+       sched: event line N                line N, counted from 1, is no clock
+       sched: full                        more events than the limit
+       sched: read fault
+       sched: write fault
+       sched: lost                        the pool did not come to its end
+       sched: out of memory
+     At 'full' the trace up to the limit was written, or nothing where the
+     clocks alone are more than that. Nothing was written at the others, but
+     for a front of the trace at a write fault.
+  2  a fault of the command line";
+
 /// What the help of `code` says below the options: what the lines of a listing look like, and the exit
 /// statuses.
 const CODE: &str = "\
@@ -156,8 +183,8 @@ Exit status:
        sched: out of memory
   2  a fault of the command line";
 
-/// The command lines of the program: `sched run PLAN --workers N [--limit N]`, `sched code PLAN` and
-/// `sched check PLAN TRACE --workers N`. `Err` where memory ran out.
+/// The command lines of the program: `sched run PLAN --workers N [--limit N]`, `sched pool` with the same arguments,
+/// `sched code PLAN` and `sched check PLAN TRACE --workers N`. `Err` where memory ran out.
 pub fn command<'a>(alloc: Global) -> Result<Command<'a>, AllocError>
     ensures app { IfOk result (λ c. app_of c ≡ sched_app) }
 {
@@ -168,6 +195,7 @@ pub fn command<'a>(alloc: Global) -> Result<Command<'a>, AllocError>
             .after_help(STATUSES)
             .subcommand_required(true)
             .subcommand(run_command(alloc)?)?
+            .subcommand(pool_command(alloc)?)?
             .subcommand(code_command(alloc)?)?
             .subcommand(check_command(alloc)?)?,
     )
@@ -183,6 +211,22 @@ fn run_command<'a>(alloc: Global) -> Result<Command<'a>, AllocError>
                 "Runs a plan over the events on standard input, and writes the trace to standard output.",
             )
             .after_help(FORMS)
+            .arg(plan(alloc))?
+            .arg(workers(alloc))?
+            .arg(limit(alloc))?,
+    )
+}
+
+/// `pool`, with its three arguments. `Err` where memory ran out.
+fn pool_command<'a>(alloc: Global) -> Result<Command<'a>, AllocError>
+    ensures app { IfOk result (λ c. app_of c ≡ pool_app) }
+{
+    Ok(
+        Command::new(alloc, "pool")
+            .about(
+                "Runs a plan by threads through the clocks on standard input, and writes the trace.",
+            )
+            .after_help(POOL)
             .arg(plan(alloc))?
             .arg(workers(alloc))?
             .arg(limit(alloc))?,

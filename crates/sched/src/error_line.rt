@@ -47,6 +47,7 @@ impl fmt::Display for ProgramError {
             ProgramError::Run(RunError::Full) => write!(f, "full"),
             ProgramError::Run(RunError::Read) => write!(f, "read fault"),
             ProgramError::Run(RunError::Write) => write!(f, "write fault"),
+            ProgramError::Run(RunError::Lost) => write!(f, "lost"),
             ProgramError::Run(RunError::Memory) => write!(f, "out of memory"),
         }
     }

@@ -1,9 +1,10 @@
-//! Runs a plan of scheduled tasks over lines of events, prints its code, and checks traces of it.
+//! Runs a plan of scheduled tasks over lines of events or by a pool of threads, prints its code, and checks traces of it.
 //!
 //! # Usage
 //!
 //! ```text
 //! sched run PLAN --workers N [--limit N]
+//! sched pool PLAN --workers N [--limit N]
 //! sched code PLAN
 //! sched check PLAN TRACE --workers N
 //! ```
@@ -18,7 +19,8 @@
 //! The words of the command line become one value, `Asked`, before anything is opened. Then at most 1,048,577
 //! bytes of the plan file are read, and [`run`](sched_engine::run) does the rest: it answers all that it read before it
 //! reads more. `code` writes the listing of the plan's code instead ([`write_listing`](sched_engine::write_listing)).
-//! `check` reads the plan, then at most 67,108,865 bytes of the trace file, and writes `conforms`, or `breaks N` with the
+//! `pool` does it by [`run_pool`](pool_engine::run_pool): standard input has clocks alone, all of which are read first, and a run's
+//! value is its number. `check` reads the plan, then at most 67,108,865 bytes of the trace file, and writes `conforms`, or `breaks N` with the
 //! number of a line from 1 ([`check`](trace_check::check)). No clock of the machine is read.
 //!
 //! # Order and ties
@@ -61,5 +63,5 @@ mod work;
 use std::process::ExitCode;
 
 fn main(rt: HostRuntime) -> ExitCode {
-    program::program(&rt)
+    program::program(&rt, &rt)
 }

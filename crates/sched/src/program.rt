@@ -15,22 +15,30 @@ use clap::error::ErrorKind;
 use sched_engine::{Reading, RunError, Writing};
 use std::process::ExitCode;
 use std::rt::{Env, Files};
+use std::sync::Wait;
+use std::thread::Threads;
 use std::{env, fs, io};
 
 /// Does what the command line says, and answers the exit status: 0, 1 after a fault that a line
-/// on standard error tells or where a trace breaks, or 2 for a fault of the command line.
-pub fn program<R: Env + Files + Input + Print + Eprint + AllocGlobal>(rt: &R) -> ExitCode
+/// on standard error tells or where a trace breaks, or 2 for a fault of the command line. A pool's threads are those of `threads`.
+pub fn program<R: Env + Files + Input + Print + Eprint + AllocGlobal, T: Threads + Wait + Sync>(
+    rt: &R,
+    threads: &T,
+) -> ExitCode
     ensures status { exit_status result ≤ 2 }
 {
-    told(rt, answer(rt))
+    told(rt, answer(rt, threads))
 }
 
 /// Does what the command line says. `Ok` is the exit status, 0, 1 or 2.
-fn answer<R: Env + Files + Input + Print + Eprint + AllocGlobal>(rt: &R) -> Result<u8, ProgramError>
+fn answer<R: Env + Files + Input + Print + Eprint + AllocGlobal, T: Threads + Wait + Sync>(
+    rt: &R,
+    threads: &T,
+) -> Result<u8, ProgramError>
     ensures status { IfOk result (λ s. s ≤ 2) }
 {
     let arguments = arguments(rt)?;
-    answer_arguments(rt, &arguments)
+    answer_arguments(rt, threads, &arguments)
 }
 
 /// The arguments of the command line, the program's name first. `Err` where one is not UTF-8, or
@@ -48,8 +56,9 @@ fn arguments<R: Env + AllocGlobal>(rt: &R) -> Result<Vec<String>, ProgramError>
 /// for the events and standard output. No buffer stands between a run and the two, since the run reads and writes large
 /// pieces itself. `Ok` is the exit status: 0 where what they ask for was done or help was printed, 1 where a trace breaks,
 /// 2 where the program does not take them.
-fn answer_arguments<R: Files + Input + Print + Eprint + AllocGlobal>(
+fn answer_arguments<R: Files + Input + Print + Eprint + AllocGlobal, T: Threads + Wait + Sync>(
     rt: &R,
+    threads: &T,
     arguments: &[String],
 ) -> Result<u8, ProgramError>
     ensures status { IfOk result (λ s. s ≤ 2) }
@@ -59,6 +68,7 @@ fn answer_arguments<R: Files + Input + Print + Eprint + AllocGlobal>(
     let mut reader = Reading::new(rt.reader());
     let mut writer = Writing::new(io::writer(rt));
     match serve(
+        threads,
         rt.alloc(),
         arguments,
         |path| fs::open(rt, path),

@@ -10,18 +10,27 @@ ghost use Rattle.sched_engine.specs.Running.{IsUntouched};
 
 use crate::arguments::Asked;
 use crate::error::ProgramError;
-use crate::work::{check_files, list_file, run_file};
+use crate::work::{check_files, list_file, pool_file, run_file};
 use clap::Error;
 use sched_engine::{Sink, Source};
 use std::alloc::Global;
 use std::io;
 use std::io::Read;
+use std::sync::Wait;
+use std::thread::Threads;
 
 /// Does what the arguments of a command line ask for, the program's name first: it opens the files that they name, reads events
-/// from the reader and writes to the writer. `Ok` is how that ended: with an exit status, 0 or, where a trace breaks, 1, or with an
+/// from the reader and writes to the writer. A pool's threads are those of `rt`. `Ok` is how that ended: with an exit status, 0 or, where a trace breaks, 1, or with an
 /// error. `Err` is help, a fault of the command line or want of memory, which is to be shown: nothing was read or written.
 #[tactic(auto, using(crate::proofs::EndCounts::unread))]
-pub fn serve<P: Read + Drop, O: Fn(&str) -> io::Result<P> + Drop, S: Source, W: Sink>(
+pub fn serve<
+    R: Threads + Wait + Sync,
+    P: Read + Drop,
+    O: Fn(&str) -> io::Result<P> + Drop,
+    S: Source,
+    W: Sink,
+>(
+    rt: &R,
     alloc: Global,
     arguments: &[String],
     open_file: O,
@@ -39,6 +48,10 @@ pub fn serve<P: Read + Drop, O: Fn(&str) -> io::Result<P> + Drop, S: Source, W: 
 {
     match Asked::parse(alloc, arguments)? {
         Asked::Run(asked) => Ok(run_file(alloc, &asked, open_file(asked.path), reader, writer)),
+        Asked::Pool(asked) => {
+            let plan = open_file(asked.path);
+            Ok(pool_file(rt, alloc, &asked, plan, reader, writer))
+        }
         Asked::Code(asked) => Ok(list_file(alloc, open_file(asked.path), writer)),
         Asked::Check(asked) => {
             let plan = open_file(asked.path);

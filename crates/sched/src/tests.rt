@@ -7,6 +7,8 @@ mod world;
 
 use std::alloc::Global;
 use std::process::{Abort, ExitCode};
+use std::sync::Wait;
+use std::thread::Threads;
 use world::{Ended, Given, GivenFile, run_in};
 
 /// The plan of one delayed task, in the file `plan.toml`.
@@ -40,6 +42,12 @@ fn ends(rt: &impl Abort, ended: &Ended, status: u8, out: &str, err: &str) {
 }
 
 /// Checks how the program ends where this is given.
-fn ends_given(rt: &(impl AllocGlobal + Abort), given: Given<'_>, status: u8, out: &str, err: &str) {
-    ends(rt, &run_in(rt.alloc(), given), status, out, err)
+fn ends_given<R: AllocGlobal + Abort + Threads + Wait + Sync>(
+    rt: &R,
+    given: Given<'_>,
+    status: u8,
+    out: &str,
+    err: &str,
+) {
+    ends(rt, &run_in(rt, given), status, out, err)
 }

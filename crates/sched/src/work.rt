@@ -2,21 +2,24 @@
 
 ghost use Rattle.std.specs.Prelude.{◌≡◌, ◌≤◌, IsErrOf, MatchResult, Result};
 ghost use Rattle.std.specs.declared.io.Error.{Error};
-ghost use Rattle.sched.specs.Answers.{ListedAsAsked, RanAsAsked};
+ghost use Rattle.sched.specs.Answers.{ListedAsAsked, PooledAsAsked, RanAsAsked};
 ghost use Rattle.sched.specs.EndCounts.{CountsInput, CountsOutput};
 ghost use Rattle.sched.specs.Errors.{status_of};
 ghost use Rattle.sched.specs.Fronts.{IsReadOf, most_of_plan, most_of_trace};
-ghost use Rattle.sched.specs.Order.{AnswersCheck, AnswersCode, AnswersRun};
+ghost use Rattle.sched.specs.Order.{AnswersCheck, AnswersCode, AnswersPool, AnswersRun};
 
 use crate::arguments::{CheckArguments, RunArguments};
 use crate::error::ProgramError;
 use crate::files::{plan_text, trace_text};
 use crate::finding::write_finding;
 use plan_read::read_plan;
+use pool_engine::run_pool;
 use sched_engine::{HeapAllocator, RunError, Sink, Source, run, write_listing};
 use std::alloc::Global;
 use std::io;
 use std::io::Read;
+use std::sync::Wait;
+use std::thread::Threads;
 
 /// Runs the plan of a file, as the system opened it, as asked: events from the reader and the trace to the writer. `Ok` is
 /// the exit status, 0. At a fault of the file, the plan or the numbers, the first in this order, nothing is read or written.
@@ -51,6 +54,44 @@ fn run_text<A: HeapAllocator, S: Source, W: Sink>(
     ensures status { MatchResult result (λ s. s ≡ 0) (λ e. status_of e ≡ 1) }
 {
     run(alloc, text, asked.workers, asked.limit, reader, writer)?;
+    Ok(0)
+}
+
+/// Runs the plan of a file by a pool, as the system opened it, as asked: clocks from the reader, and the trace to the writer.
+/// `Ok` is the exit status, 0. At a fault of the file, the plan or the numbers, the first in this order, nothing is read or
+/// written.
+pub fn pool_file<R: Threads + Wait + Sync, P: Read + Drop, S: Source, W: Sink>(
+    rt: &R,
+    alloc: Global,
+    asked: &RunArguments<'_>,
+    plan: io::Result<P>,
+    reader: &mut S,
+    writer: &mut W,
+) -> Result<u8, ProgramError>
+    ensures answers { AnswersPool result (IsReadOf P.remaining most_of_plan plan) asked.now (S.remaining reader.old) (S.remaining reader.new) (W.contents writer.old) (W.contents writer.new) }
+    ensures read { CountsInput result (S.failed reader.old) (S.fruitless reader.old) (S.failed reader.new) (S.fruitless reader.new) }
+    ensures write { CountsOutput result (W.failed writer.old) (W.fruitless writer.old) (W.failed writer.new) (W.fruitless writer.new) }
+    ensures status { MatchResult result (λ s. s ≡ 0) (λ e. status_of e ≡ 1) }
+{
+    let text = plan_text(alloc, plan)?;
+    pool_text(rt, alloc, asked, &text, reader, writer)
+}
+
+/// Runs a plan's text by a pool as asked, clocks from the reader and the trace to the writer. `Ok` is the exit status, 0.
+fn pool_text<R: Threads + Wait + Sync, A: HeapAllocator + Send + Sync, S: Source, W: Sink>(
+    rt: &R,
+    alloc: A,
+    asked: &RunArguments<'_>,
+    text: &[u8],
+    reader: &mut S,
+    writer: &mut W,
+) -> Result<u8, ProgramError>
+    ensures ran { PooledAsAsked result asked.now text.now (S.remaining reader.old) (S.remaining reader.new) (W.contents writer.old) (W.contents writer.new) }
+    ensures read { CountsInput result (S.failed reader.old) (S.fruitless reader.old) (S.failed reader.new) (S.fruitless reader.new) }
+    ensures write { CountsOutput result (W.failed writer.old) (W.fruitless writer.old) (W.failed writer.new) (W.fruitless writer.new) }
+    ensures status { MatchResult result (λ s. s ≡ 0) (λ e. status_of e ≡ 1) }
+{
+    run_pool(rt, alloc, text, asked.workers, asked.limit, reader, writer)?;
     Ok(0)
 }
 

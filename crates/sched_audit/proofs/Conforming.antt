@@ -105,6 +105,7 @@ whole_conforms (Err x.Workers) plan_text workers limit input output ordered smal
 whole_conforms (Err x.Limit) plan_text workers limit input output ordered small ran whole = absurd whole
 whole_conforms (Err x.Read) plan_text workers limit input output ordered small ran whole = absurd whole
 whole_conforms (Err x.Write) plan_text workers limit input output ordered small ran whole = absurd whole
+whole_conforms (Err x.Lost) plan_text workers limit input output ordered small ran whole = absurd whole
 whole_conforms (Err x.Memory) plan_text workers limit input output ordered small ran whole = absurd whole
 
 -- what is found of a whole trace is that it conforms

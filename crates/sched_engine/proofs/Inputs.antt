@@ -17,7 +17,7 @@ use Rattle.trace_text.proofs.Texts.{take_add}
 use Rattle.executor_core.proofs.Flowing.{flow_means, history_more, lines_follow, stands_agrees, made_past, made-calls, happenings_from}
 use Rattle.trace_text.specs.Spelling.{event_line, FitsEvent, lines_text}
 use Rattle.sched_engine.specs.Inputs.{input_of}
-use Rattle.sched_engine.specs.own.Pieces.{Output}
+use Rattle.sched_engine.specs.Pieces.{Output}
 use Rattle.sched_engine.specs.Running.{text_of}
 use Rattle.sched_engine.specs.own.Turns.{TakesEvent, Extends, IsAnswered, StandsAfterEvents, answers_to}
 use Rattle.sched_engine.proofs.Giving.{gives_both, gives_none, lines_text-append}

@@ -3,7 +3,7 @@ use Rattle.std.proofs.Common.{◌≡◌, ℕ, ◌<◌, ◌≤◌, List, ◌⊎�
 use Rattle.std.proofs.lemmas.Bool.{cases_lt}
 use Rattle.executor_core.specs.CoreView.{CoreView, room_of}
 use Rattle.sched_engine.specs.Inputs.{BeginsWithEvent}
-use Rattle.sched_engine.specs.own.Pieces.{Output}
+use Rattle.sched_engine.specs.Pieces.{Output}
 use Rattle.sched_engine.specs.own.Turns.{IsAnswered, WantsRoom}
 
 -- the capacity stays, or an event wanted more of it

@@ -12,7 +12,7 @@ use Rattle.executor_core.specs.CoreView.{CoreView, Counts, Steps, state_of, work
 use Rattle.executor_core.proofs.Events.{counted_once, uncounted}
 use Rattle.executor_core.proofs.Flowing.{core_continues, lines_from-append, no_steps, steps_then}
 use Rattle.trace_text.specs.Spelling.{lines_text}
-use Rattle.sched_engine.specs.own.Pieces.{Gives, Output}
+use Rattle.sched_engine.specs.Pieces.{Gives, Output}
 use Rattle.sched_engine.specs.own.Turns.{CutsSteps, GivesSteps, TakesEvent, answers_to}
 use Rattle.sched_engine.proofs.Giving.{gives_both, gives_front, gives_none, gives_put, lines_text-append}
 

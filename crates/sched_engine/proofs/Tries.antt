@@ -67,6 +67,7 @@ pub reads_then : (e : RunError) (calls : List Planned) (workers limit : ℕ) (in
 reads_then (x.Plan fault) calls workers limit input left old new f r f' r' f'' r'' runs p q = absurd runs
 reads_then x.Workers calls workers limit input left old new f r f' r' f'' r'' runs p q = absurd runs
 reads_then x.Limit calls workers limit input left old new f r f' r' f'' r'' runs p q = absurd runs
+reads_then x.Lost calls workers limit input left old new f r f' r' f'' r'' runs p q = absurd runs
 reads_then (x.EventLine n) calls workers limit input left old new f r f' r' f'' r'' runs p q = good_then_good f r f' r' f'' r'' p q
 reads_then x.Full calls workers limit input left old new f r f' r' f'' r'' runs p q = good_then_good f r f' r' f'' r'' p q
 reads_then x.Read calls workers limit input left old new f r f' r' f'' r'' runs p q = good_then_bad f r f' r' f'' r'' p q
@@ -78,6 +79,7 @@ pub writes_then : (e : RunError) (calls : List Planned) (workers limit : ℕ) (i
 writes_then (x.Plan fault) calls workers limit input left old new f r f' r' f'' r'' runs p q = absurd runs
 writes_then x.Workers calls workers limit input left old new f r f' r' f'' r'' runs p q = absurd runs
 writes_then x.Limit calls workers limit input left old new f r f' r' f'' r'' runs p q = absurd runs
+writes_then x.Lost calls workers limit input left old new f r f' r' f'' r'' runs p q = absurd runs
 writes_then (x.EventLine n) calls workers limit input left old new f r f' r' f'' r'' runs p q = good_then_good f r f' r' f'' r'' p q
 writes_then x.Full calls workers limit input left old new f r f' r' f'' r'' runs p q = good_then_good f r f' r' f'' r'' p q
 writes_then x.Read calls workers limit input left old new f r f' r' f'' r'' runs p q = good_then_good f r f' r' f'' r'' p q
@@ -94,6 +96,7 @@ reads_refused (x.EventLine n) text workers limit f r refuses = absurd refuses
 reads_refused x.Full text workers limit f r refuses = absurd refuses
 reads_refused x.Read text workers limit f r refuses = absurd refuses
 reads_refused x.Write text workers limit f r refuses = absurd refuses
+reads_refused x.Lost text workers limit f r refuses = absurd refuses
 
 pub writes_refused : (e : RunError) (text : List ℕ) (workers limit f r : ℕ) → RefusesToRun e text workers limit → CountsWriter {T = Report} (Err e) f r f r
 writes_refused (x.Plan fault) text workers limit f r refuses = no_call f r
@@ -104,6 +107,7 @@ writes_refused (x.EventLine n) text workers limit f r refuses = absurd refuses
 writes_refused x.Full text workers limit f r refuses = absurd refuses
 writes_refused x.Read text workers limit f r refuses = absurd refuses
 writes_refused x.Write text workers limit f r refuses = absurd refuses
+writes_refused x.Lost text workers limit f r refuses = absurd refuses
 
 -- a listing that was refused
 pub lists_none : (e : RunError) (text : List ℕ) (f r : ℕ) → RefusesText text e → CountsListing (Err e) f r f r
@@ -115,3 +119,4 @@ lists_none (x.EventLine n) text f r refuses = absurd refuses
 lists_none x.Full text f r refuses = absurd refuses
 lists_none x.Read text f r refuses = absurd refuses
 lists_none x.Write text f r refuses = absurd refuses
+lists_none x.Lost text f r refuses = absurd refuses

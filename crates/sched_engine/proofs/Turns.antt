@@ -15,7 +15,7 @@ use Rattle.sched_engine.specs.declared.report.RunError.{RunError}
 use Rattle.sched_engine.specs.declared.report.RunError.TheVariants as x
 use Rattle.sched_engine.specs.Inputs.{AreEvents, input_of, IsRefused, BeginsWithEvent}
 use Rattle.sched_engine.specs.Running.{IsAccepted, IsNoEventLine, IsTrace, Ran, Runs, Taken, piece, text_of}
-use Rattle.sched_engine.specs.own.Pieces.{Output}
+use Rattle.sched_engine.specs.Pieces.{Output}
 use Rattle.sched_engine.specs.own.Turns.{CutsSteps, Done, Extends, IsAnswered, IsBetweenTurns, IsCut, StandsAfterEvents, Opens, Progress, Setting, Turns, answers_to}
 use Rattle.trace_text.specs.declared.front.Front.TheVariants as front
 use Rattle.trace_text.specs.Reading.{IsFront, most_event_bytes}
@@ -115,12 +115,13 @@ wrote run at contents text done appends none = record {
 
 -- ---- the ends of a run
 
-nothing_read : (a : Option (List ℕ)) (held : List ℕ) → held ≡ [] → Consumes a (prepend_known held a) []
+-- before anything was read
+pub nothing_read : (a : Option (List ℕ)) (held : List ℕ) → held ≡ [] → Consumes a (prepend_known held a) []
 nothing_read None held none = tt
 nothing_read (Some xs) held none = ap (λ l. l ++ xs) (sym none)
 
 -- what is left as it was gave no byte
-kept_none : (a b : Option (List ℕ)) → Keeps a b → Consumes a b []
+pub kept_none : (a b : Option (List ℕ)) → Keeps a b → Consumes a b []
 kept_none None b p = tt
 kept_none (Some xs) None p = absurd p
 kept_none (Some xs) (Some ys) p = sym p
@@ -319,6 +320,7 @@ pub ran_to_a_fault : (run : Setting) (e : RunError) (text : List ℕ) (left cont
 ran_to_a_fault run (x.Plan fault) text left contents accepted runs = absurd runs
 ran_to_a_fault run x.Workers text left contents accepted runs = absurd runs
 ran_to_a_fault run x.Limit text left contents accepted runs = absurd runs
+ran_to_a_fault run x.Lost text left contents accepted runs = absurd runs
 ran_to_a_fault run (x.EventLine n) text left contents accepted runs = (run.calls, accepted, runs)
 ran_to_a_fault run x.Full text left contents accepted runs = (run.calls, accepted, runs)
 ran_to_a_fault run x.Read text left contents accepted runs = (run.calls, accepted, runs)

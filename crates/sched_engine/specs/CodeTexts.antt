@@ -2,14 +2,24 @@
 -- All of it is this project's rule.
 use Rattle.std.specs.Prelude.{◌≡◌, ℕ, List, ◌⊎◌, Option, Some, Result, Ok, Err, take}
 use Rattle.std.specs.Io.KnownBytes.{Appends, Keeps}
+use Rattle.queue_code.specs.declared.instr.Instr.{Instr}
+use Rattle.queue_code.specs.Codes.{calls_of as code_calls}
 use Rattle.queue_code.specs.Listings.{listing_of}
 use Rattle.plan_read.specs.Plans.{PlanTree}
 use Rattle.plan_read.specs.Reads.{out_of_memory}
 use Rattle.plan_read.specs.Texts.{TextWrites, fault_of_text}
+use Rattle.plan_compile.specs.PlanCalls.{calls_of_plan}
 use Rattle.plan_compile.specs.PlanCode.{instrs_of}
 use Rattle.sched_engine.specs.declared.report.RunError.{RunError}
 use Rattle.sched_engine.specs.declared.report.RunError.TheVariants as x
 use Rattle.sched_engine.specs.Ends.{AllGood, LastBad, NoneFailed}
+
+-- the text writes a plan, whose code this is, and which makes the plan's calls
+pub record IsCodeOfText (text : List ℕ) (code : List Instr) : Type 0 where
+  pub plan : PlanTree
+  pub reads : TextWrites text plan
+  pub instrs : code ≡ instrs_of plan
+  pub calls : code_calls code ≡ calls_of_plan plan
 
 -- the text writes a plan, and the listing is that of the plan's code
 pub record IsListingOfText (text listing : List ℕ) : Type 0 where

@@ -14,5 +14,6 @@ pub use Rattle.trace_text.specs.Reading
 pub mod CodeTexts
 pub mod Ends
 pub mod Inputs
+pub mod Pieces
 pub mod Running
 pub mod own

@@ -90,6 +90,7 @@ Runs (Err x.Memory) calls workers limit input left old new =
 Runs (Err (x.Plan fault)) calls workers limit input left old new = ⊥
 Runs (Err x.Workers) calls workers limit input left old new = ⊥
 Runs (Err x.Limit) calls workers limit input left old new = ⊥
+Runs (Err x.Lost) calls workers limit input left old new = ⊥
 
 -- why there is no core for a text and these numbers, the plan first, then the workers, then the limit
 abbrev pub RefusesToRun : RunError → List ℕ → ℕ → ℕ → Type 0

@@ -2,7 +2,8 @@
 ghost use Rattle.std.specs.Prelude.{◌≡◌, ◌+◌, ◌≤◌, ◌↔◌, [], ◌++◌, length, IfOk, IsTrue};
 ghost use Rattle.trace_text.specs.Spelling.{line_text, lines_text};
 ghost use Rattle.sched_engine.specs.Ends.{CountsTries, WritesText};
-ghost use Rattle.sched_engine.specs.own.Pieces.{GivesText, MakesRoom};
+ghost use Rattle.sched_engine.specs.Pieces.{GivesText};
+ghost use Rattle.sched_engine.specs.own.Pieces.{MakesRoom};
 
 use crate::ends::{Sink, write_text};
 use crate::held::PIECE;

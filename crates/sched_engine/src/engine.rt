@@ -1,8 +1,7 @@
 //! The engine: it reads a piece, answers it and writes the answers, turn by turn.
 ghost use Rattle.std.specs.Prelude.{◌≡◌, ℕ, ◌+◌, ◌^◌, ◌<◌, ◌≤◌, List, [], Option, IfOk, IfErr, MatchResult, OnOk, length};
 ghost use Rattle.sched_engine.specs.Running.{RefusesToRun, Ran, CountsReader, CountsWriter};
-ghost use Rattle.sched_engine.specs.CodeTexts.{RefusesText};
-ghost use Rattle.sched_engine.specs.own.CodeTexts.{IsCodeOfText};
+ghost use Rattle.sched_engine.specs.CodeTexts.{IsCodeOfText, RefusesText};
 ghost use Rattle.sched_engine.specs.own.Turns.{Done, IsBetweenTurns, IsCut, IsPieceEnd, StandsAfterEvents, Opens, Progress, Setting, Turns};
 ghost use Rattle.sched_engine.specs.declared.engine.Turn.TheVariants as t;
 
@@ -56,7 +55,7 @@ pub fn run<A: HeapAllocator, S: Source, W: Sink>(
 }
 
 /// The code of the plan that a text writes.
-pub(crate) fn code_of<A: HeapAllocator>(alloc: A, plan_text: &[u8]) -> Result<Code<A>, RunError>
+pub fn code_of<A: HeapAllocator>(alloc: A, plan_text: &[u8]) -> Result<Code<A>, RunError>
     ensures code { IfOk result (IsCodeOfText plan_text.now) }
     ensures refuses { IfErr result (RefusesText plan_text.now) }
 {

@@ -1,5 +1,5 @@
 ghost use Rattle.std.specs.Prelude.{◌≡◌, ◌<◌, ◌≤◌, [], length, drop, IfOk};
-ghost use Rattle.sched_engine.specs.own.Pieces.{Fills, CountsFill};
+ghost use Rattle.sched_engine.specs.Pieces.{Fills, CountsFill};
 
 use crate::ends::{Source, read_some};
 use std::alloc::{AllocError, Allocator};

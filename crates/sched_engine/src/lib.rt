@@ -78,10 +78,15 @@ mod report;
 mod tests;
 mod writers;
 
+pub use draft::Draft;
 pub use ends::{Sink, Source, read_some, write_some, write_text};
-pub use engine::run;
+pub use engine::{code_of, run};
+pub use held::{Filled, Held, PIECE};
 pub use in_memory::run_in_memory;
-pub use laws::{events_are_one, front_is_one, report_equality_tells, run_error_equality_tells};
+pub use laws::{
+    events_are_one, filled_equality_tells, front_is_one, report_equality_tells,
+    run_error_equality_tells,
+};
 pub use listing::write_listing;
 pub use memory::Pieces;
 pub use plan_read::HeapAllocator;

@@ -35,6 +35,9 @@ pub enum RunError {
     /// The writer was at fault, took nothing, or was interrupted 1,000 times in a row.
     #[error("write fault")]
     Write,
+    /// A run by a pool did not come to what it was to come to. No other run answers so.
+    #[error("lost")]
+    Lost,
     /// Memory ran out.
     #[error("out of memory")]
     Memory,

@@ -286,6 +286,7 @@ fn tells_each_fault_in_words(rt: HostRuntime) -> Result<(), Fail> {
         (RunError::Full, "full"),
         (RunError::Read, "read fault"),
         (RunError::Write, "write fault"),
+        (RunError::Lost, "lost"),
         (RunError::Memory, "out of memory"),
     ] {
         let told = format!(in rt.alloc(); "{fault}")?;

@@ -11,6 +11,9 @@ fn in_words(alloc: Global, arguments: &[String]) -> Result<String, Fail> {
         Ok(Asked::Run(asked)) => {
             format!(in alloc; "run {} {} {}", asked.path, asked.workers, asked.limit)?
         }
+        Ok(Asked::Pool(asked)) => {
+            format!(in alloc; "pool {} {} {}", asked.path, asked.workers, asked.limit)?
+        }
         Ok(Asked::Code(asked)) => format!(in alloc; "code {}", asked.path)?,
         Ok(Asked::Check(asked)) => {
             format!(in alloc; "check {} {} {}", asked.path, asked.trace, asked.workers)?
@@ -50,6 +53,15 @@ fn takes_a_name_and_two_numbers(rt: HostRuntime) -> Result<(), Fail> {
     tells_each(&rt, RUNS)
 }
 
+/// Runs by a pool.
+const POOLS: &str = "pool p 64 1000000 | sched pool p --workers 64
+pool q 1 4294967295 | x pool --limit 4294967295 --workers=1 q";
+
+#[test]
+fn takes_a_name_and_two_numbers_for_a_pool(rt: HostRuntime) -> Result<(), Fail> {
+    tells_each(&rt, POOLS)
+}
+
 #[test]
 fn takes_a_name_for_the_code(rt: HostRuntime) -> Result<(), Fail> {
     tells_each(&rt, "code p | sched code p")
@@ -75,7 +87,13 @@ status 2 | sched run p q --workers 1
 status 2 | sched run p --workers 0
 status 2 | sched run p --workers 65
 status 2 | sched run p --workers 1 --limit 0
-status 2 | sched run p --workers 1 --limit 4294967296";
+status 2 | sched run p --workers 1 --limit 4294967296
+status 2 | sched pool
+status 2 | sched pool p
+status 2 | sched pool p --workers 0
+status 2 | sched pool p --workers 65
+status 2 | sched pool p --workers 1 --limit 0
+status 2 | sched pool p q --workers 1";
 
 #[test]
 fn refuses_what_is_missing_too_much_or_out_of_range(rt: HostRuntime) -> Result<(), Fail> {
@@ -99,6 +117,10 @@ fn shows_what_is_asked_for_to_programmers(rt: HostRuntime) -> Result<(), Fail> {
         (
             Asked::Run(run),
             "Run(RunArguments { path: \"p\", workers: 2, limit: 3 })",
+        ),
+        (
+            Asked::Pool(run),
+            "Pool(RunArguments { path: \"p\", workers: 2, limit: 3 })",
         ),
         (
             Asked::Code(CodeArguments { path: "p" }),

@@ -67,6 +67,7 @@ fn tells_each_end_of_a_run(rt: HostRuntime) {
         (RunError::Full, "sched: full\n"),
         (RunError::Read, "sched: read fault\n"),
         (RunError::Write, "sched: write fault\n"),
+        (RunError::Lost, "sched: lost\n"),
         (RunError::Memory, "sched: out of memory\n"),
         (
             RunError::Workers,

@@ -3,11 +3,18 @@
 use super::given;
 use super::world::run_in;
 use std::process::{Abort, ExitCode};
+use std::sync::Wait;
+use std::thread::Threads;
 
 /// Checks that a command line is answered by a text with each of these parts: on standard output
 /// with status 0, or on standard error with status 2.
-fn shows(rt: &(impl AllocGlobal + Abort), arguments: &[&[u8]], status: u8, parts: &[&str]) {
-    let ended = run_in(rt.alloc(), given(arguments, ""));
+fn shows<R: AllocGlobal + Abort + Threads + Wait + Sync>(
+    rt: &R,
+    arguments: &[&[u8]],
+    status: u8,
+    parts: &[&str],
+) {
+    let ended = run_in(rt, given(arguments, ""));
     assert_eq!(rt; ended.status, ExitCode::from(status));
     let (shown, other) = if status == 0 {
         (&ended.out, &ended.err)
@@ -34,11 +41,39 @@ fn help_names_the_command_and_the_statuses(rt: HostRuntime) {
         &[
             "Usage: sched <COMMAND>\n",
             "  run    Runs a plan over the events on standard input",
+            "  pool   Runs a plan by threads through the clocks on standard input",
             "  code   Prints the queue code of a plan to standard output",
             "  check  Checks that a trace is one that a plan allows",
             "'sched run --help' tells what a plan, an event and a trace look like.\n",
             "  0  done\n",
             "  1  a fault, told by a line on standard error, or a trace that breaks\n",
+            "  2  a fault of the command line\n",
+        ],
+    );
+}
+
+#[test]
+fn help_of_pool_names_its_input_and_its_faults(rt: HostRuntime) {
+    shows(
+        &rt,
+        &[b"sched", b"pool", b"--help"],
+        0,
+        &[
+            "Usage: sched pool [OPTIONS] --workers <N> <PLAN>\n",
+            "How many workers there are, 1 to 64",
+            "How many events are taken at most, 1 to 4,294,967,295",
+            "[default: 1000000]",
+            "  clock T  ",
+            "All of them are read first.",
+            "  0  all was run\n",
+            "sched: plan file not read\n",
+            "sched: plan: KIND block B call C",
+            "sched: event line N                line N, counted from 1, is no clock\n",
+            "sched: full",
+            "sched: read fault\n",
+            "sched: write fault\n",
+            "sched: lost",
+            "sched: out of memory\n",
             "  2  a fault of the command line\n",
         ],
     );

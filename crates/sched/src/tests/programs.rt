@@ -64,6 +64,58 @@ fn tells_faults_of_the_events_and_of_standard_output(rt: HostRuntime) {
     ends_given(&rt, help, 1, "", "sched: write fault\n");
 }
 
+/// The command line of a run by a pool of one worker, of at most four events.
+const POOL: [&[u8]; 7] = [
+    b"sched",
+    b"pool",
+    b"plan.toml",
+    b"--workers",
+    b"1",
+    b"--limit",
+    b"4",
+];
+
+#[test]
+fn runs_by_a_pool(rt: HostRuntime) {
+    ends_given(
+        &rt,
+        given(
+            &[b"sched", b"pool", b"--workers=1", b"plan.toml"],
+            "clock 0\nclock 5\n",
+        ),
+        0,
+        "0 submit 0 schedule due 5\n0 clock\n5 clock\n\
+5 start 0 task 0 run 0 due 5\n5 finish 0 task 0 run 0 done 0\n",
+        "",
+    );
+    ends_given(&rt, given(&POOL, ""), 0, "", "");
+    ends_given(
+        &rt,
+        given(&POOL, "clock 0\nclock 4\nclock 5\n"),
+        1,
+        "0 submit 0 schedule due 5\n0 clock\n4 clock\n5 clock\n5 start 0 task 0 run 0 due 5\n",
+        "sched: full\n",
+    );
+}
+
+#[test]
+fn tells_faults_of_a_run_by_a_pool(rt: HostRuntime) {
+    let mut pool = given(&POOL, "clock 0\nstart 0\n");
+    ends_given(&rt, pool, 1, "", "sched: event line 2\n");
+    pool.events = b"clock 0\nclock 1\nclock 2\nclock 3\nclock 4\n";
+    ends_given(&rt, pool, 1, "", "sched: full\n");
+    pool.events = b"clock 0\n";
+    pool.is_closed = true;
+    ends_given(&rt, pool, 1, "", "sched: write fault\n");
+    let wrong = Given {
+        plan: file(b"version = 2\n"),
+        ..given(&POOL, "start 0\n")
+    };
+    ends_given(&rt, wrong, 1, "", "sched: plan: Version block 0 call 0\n");
+    let missing = given(&[b"sched", b"pool", b"other.toml", b"--workers", b"2"], "");
+    ends_given(&rt, missing, 1, "", "sched: plan file not read\n");
+}
+
 #[test]
 fn tells_arguments_that_are_not_utf_8(rt: HostRuntime) {
     ends_given(

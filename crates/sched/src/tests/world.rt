@@ -12,6 +12,8 @@ use std::io;
 use std::io::{BufRead, ErrorKind, Lines, Read, Seek, SeekFrom, Write};
 use std::process::ExitCode;
 use std::rt::{Env, Files};
+use std::sync::Wait;
+use std::thread::Threads;
 
 /// A file: its bytes, and whether it is at fault after them.
 #[derive(Clone, Copy)]
@@ -70,10 +72,10 @@ impl<'a> World<'a> {
     }
 }
 
-/// Runs the program in a world of what is given.
-pub fn run_in(alloc: Global, given: Given<'_>) -> Ended {
-    let world = World::new(alloc, given);
-    let status = program(&world);
+/// Runs the program in a world of what is given, with the threads of `rt`.
+pub fn run_in<R: AllocGlobal + Threads + Wait + Sync>(rt: &R, given: Given<'_>) -> Ended {
+    let world = World::new(rt.alloc(), given);
+    let status = program(&world, rt);
     world.end(status)
 }
 

@@ -18,7 +18,7 @@ use Rattle.sched_engine.specs.declared.engine.Turn.{Turn}
 use Rattle.sched_engine.specs.declared.engine.Turn.TheVariants as t
 use Rattle.sched_engine.specs.declared.report.RunError.{RunError}
 use Rattle.sched_engine.specs.Inputs.{input_of, AreEvents, BeginsWithEvent}
-use Rattle.sched_engine.specs.own.Pieces.{Gives, Output}
+use Rattle.sched_engine.specs.Pieces.{Gives, Output}
 use Rattle.sched_engine.specs.Running.{IsAccepted, Runs, text_of}
 
 -- ---- some happenings

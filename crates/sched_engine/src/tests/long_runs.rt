@@ -1,7 +1,8 @@
 //! Long runs through [`Reading`] and [`Writing`], as the program has them.
-use super::scripted::{Script, ScriptedRow, Trouble, plays};
+use super::scripted::{ScriptedRow, plays};
 use super::*;
 use crate::in_memory::run_in_memory;
+use scripted_ends::{Script, Trouble};
 
 /// An event of 8 bytes, and the line of 18 bytes that answers it.
 const EVENT: &str = "start 9\n";

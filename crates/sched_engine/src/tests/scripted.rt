@@ -1,131 +1,7 @@
 //! Runs whose ends follow a script: they give and take a few bytes at a time, are interrupted, are in trouble at one call, and
 //! give without end.
-ghost use Rattle.std.specs.Prelude.{◌≤◌, IfOk};
-
 use super::*;
-
-/// What an end does at the call at which it is in trouble.
-#[derive(Clone, Copy)]
-pub enum Trouble {
-    Fails(ErrorKind),
-    TakesNothing,
-}
-
-/// What an end does at its calls.
-#[derive(Clone, Copy)]
-pub struct Script {
-    /// How many bytes a call gives or takes at most.
-    pub most: usize,
-    /// How many calls in a row are interrupted before each other one.
-    pub interrupts: u32,
-    /// Which of these others is in trouble, counted from 1; 0 is none.
-    pub trouble_at: u32,
-    pub trouble: Trouble,
-}
-
-impl Script {
-    /// So many bytes a call, with no trouble.
-    pub fn smooth(most: usize) -> Script {
-        Script {
-            most,
-            interrupts: 0,
-            trouble_at: 0,
-            trouble: Trouble::TakesNothing,
-        }
-    }
-
-    /// How often an end is called, up to its fault: the 1,000th interrupt in a row, or the trouble.
-    fn calls(&self) -> u32 {
-        if self.interrupts >= 1_000 {
-            return 1_000;
-        }
-        self.trouble_at
-            .saturating_mul(self.interrupts.saturating_add(1))
-    }
-}
-
-/// How far an end is in its script.
-#[derive(Drop)]
-struct Playing {
-    script: Script,
-    /// How often it was called.
-    calls: u32,
-    /// How many of these calls were interrupted, since the last other one.
-    interrupted: u32,
-    /// How many were not.
-    done: u32,
-}
-
-impl Playing {
-    fn new(script: Script) -> Playing {
-        Playing {
-            script,
-            calls: 0,
-            interrupted: 0,
-            done: 0,
-        }
-    }
-
-    /// How many of `len` bytes the next call gives or takes.
-    fn call(&mut self, len: usize) -> io::Result<usize>
-        ensures { IfOk result (λ n. n ≤ len) }
-    {
-        self.calls = self.calls.saturating_add(1);
-        if self.interrupted < self.script.interrupts {
-            self.interrupted += 1;
-            return Err(io::Error::from(ErrorKind::Interrupted));
-        }
-        self.interrupted = 0;
-        self.done = self.done.saturating_add(1);
-        if self.done != self.script.trouble_at {
-            return Ok(len.min(self.script.most));
-        }
-        match self.script.trouble {
-            Trouble::Fails(kind) => Err(io::Error::from(kind)),
-            Trouble::TakesNothing => Ok(0),
-        }
-    }
-}
-
-/// A reader that gives some bytes, and then others again and again.
-#[derive(Drop)]
-struct Giving<'a> {
-    rest: &'a [u8],
-    again: &'a [u8],
-    playing: Playing,
-}
-
-impl Read for Giving<'_> {
-    fn read(&mut self, buf: &mut [u8]) -> io::Result<usize> {
-        if self.rest.is_empty() {
-            self.rest = self.again;
-        }
-        let n = self.playing.call(self.rest.len().min(buf.len()))?;
-        let (front, rest) = self.rest.split_at(n);
-        buf[..n].copy_from_slice(front);
-        self.rest = rest;
-        Ok(n)
-    }
-}
-
-/// A writer that keeps what it takes.
-#[derive(Drop)]
-struct Taking {
-    taken: Vec<u8>,
-    playing: Playing,
-}
-
-impl Write for Taking {
-    fn write(&mut self, buf: &[u8]) -> io::Result<usize> {
-        let n = self.playing.call(buf.len())?;
-        self.taken.extend_from_slice(&buf[..n])?;
-        Ok(n)
-    }
-
-    fn flush(&mut self) -> io::Result<()> {
-        Ok(())
-    }
-}
+use scripted_ends::{Giving, Script, Taking, Trouble};
 
 /// A run by 9 workers between ends with a script, and what it has to come to.
 #[derive(Clone, Copy)]
@@ -162,15 +38,9 @@ fn came_to(
 
 /// Checks a run.
 pub fn plays(rt: &(impl AllocGlobal + Abort), row: &ScriptedRow<'_>) {
-    let mut reader = Reading::new(Giving {
-        rest: row.events.as_bytes(),
-        again: row.again.as_bytes(),
-        playing: Playing::new(row.reader),
-    });
-    let mut writer = Writing::new(Taking {
-        taken: Vec::new(rt.alloc()),
-        playing: Playing::new(row.writer),
-    });
+    let (events, again) = (row.events.as_bytes(), row.again.as_bytes());
+    let mut reader = Reading::new(Giving::new(events, again, row.reader));
+    let mut writer = Writing::new(Taking::new(rt.alloc(), row.writer));
     let answer = run(
         rt.alloc(),
         row.plan.as_bytes(),
@@ -179,9 +49,9 @@ pub fn plays(rt: &(impl AllocGlobal + Abort), row: &ScriptedRow<'_>) {
         &mut reader,
         &mut writer,
     );
-    let reads = reader.into_inner().playing.calls;
-    let Taking { taken, playing } = writer.into_inner();
-    came_to(rt, row, answer, reads, playing.calls, &taken);
+    let reads = reader.into_inner().calls();
+    let sink = writer.into_inner();
+    came_to(rt, row, answer, reads, sink.calls(), sink.taken());
 }
 
 /// The example, read in pieces of 8 bytes, which are its first lines.

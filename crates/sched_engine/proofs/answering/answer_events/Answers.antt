@@ -3,7 +3,7 @@ use Rattle.std.specs.Prelude.{vec_capacity}
 use Rattle.std.proofs.lemmas.Bool.{false≢true}
 use Rattle.trace_text.specs.Spelling.{event_line}
 use Rattle.sched_engine.specs.Inputs.{BeginsWithEvent}
-use Rattle.sched_engine.specs.own.Pieces.{Output}
+use Rattle.sched_engine.specs.Pieces.{Output}
 use Rattle.executor_core.specs.CoreView.{CoreView}
 use Rattle.sched_engine.specs.declared.answering.PieceEnd.{PieceEnd}
 use Rattle.sched_engine.specs.declared.answering.PieceEnd.TheVariants as e

@@ -3,7 +3,8 @@ use Rattle.executor_core.specs.declared.Happening.{Happening}
 use Rattle.executor_core.specs.declared.Happening.TheVariants as h
 use Rattle.executor_core.specs.CoreView.{CoreView, room_of}
 use Rattle.executor_core.proofs.Parts.{all_happened, left_after, none_happened, part_from}
-use Rattle.sched_engine.specs.own.Pieces.{CountsLines, Output}
+use Rattle.sched_engine.specs.Pieces.{Output}
+use Rattle.sched_engine.specs.own.Pieces.{CountsLines}
 use Rattle.sched_engine.specs.own.Turns.{CutsSteps, GivesSteps, answers_to}
 use Rattle.sched_engine.proofs.Stepping.{cuts_then, cuts_within, gives_nothing, gives_then, takes}
 use Rattle.sched_engine.proofs.Tries.{good_then_bad, good_then_good, no_try}

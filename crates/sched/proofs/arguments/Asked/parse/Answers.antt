@@ -1,6 +1,6 @@
 use Rattle.std.proofs.Common.{ap, ap₂, sym, map, string_bytes, Option, Some, None, List, true, false, ◌≡◌, ◌∙◌}
 use Rattle.std.specs.Prelude.{IsSome, option_map}
-use Rattle.std.proofs.lemmas.Bool.{and_parts}
+use Rattle.std.proofs.lemmas.Bool.{and_parts, not-true}
 use Rattle.std.proofs.lemmas.Option.{none-some, same_Some}
 use Rattle.clap.specs.Words.{App, Row, Text, fault_of, found_of, is_simple, is_simple_and_free, rows_of, subcommand_of}
 use Rattle.sched.proofs.KnownCommand.{is_known}
@@ -14,6 +14,12 @@ returns-in-Some-clause-fails c =
 
 pub returns-in-Some-subcommand_matches-clause-fails : goal.returns-in-Some-subcommand_matches-clause-fails
 returns-in-Some-subcommand_matches-clause-fails c =
+    let app = c.in_ok-command.ensures.app in
+    let none = c.in_ok-matches.ensures.kinds (ap is_simple_and_free app ∙ is_known) in
+    ap (λ (a : App). fault_of a (map string_bytes c.args.arguments.now)) (sym app) ∙ none
+
+pub returns-in-Some-subcommand_matches-2-clause-fails : goal.returns-in-Some-subcommand_matches-2-clause-fails
+returns-in-Some-subcommand_matches-2-clause-fails c =
     let app = c.in_ok-command.ensures.app in
     let none = c.in_ok-matches.ensures.kinds (ap is_simple_and_free app ∙ is_known) in
     ap (λ (a : App). fault_of a (map string_bytes c.args.arguments.now)) (sym app) ∙ none
@@ -55,5 +61,17 @@ returns-clause-asked c =
       sym found ∙ pair_of _ _ _ _ _ name c.in-Some-subcommand.ensures.rows,
       λ q. absurd (no_truth (c.in_default.ensures.found.1 (sym name ∙ ap Some q))),
       λ q. none_found _ c.in_default-subcommand_matches.is (c.subcommand_matches-2.ensures.found.1 (sym name ∙ ap Some q)),
+      λ q. none_found _ c.in_default-subcommand_matches-2.is (c.subcommand_matches-3.ensures.found.1 (sym name ∙ ap Some q)),
       c.of_matches-in-Some-subcommand.ensures,
     )
+
+-- the command line wants a command, so one was found
+pub unreachable-requires : goal.unreachable-requires
+unreachable-requires c =
+    let app = c.in_ok-command.ensures.app in
+    let plain = ap (λ (a : App). a.top.is_plain) app in
+    let local = not-true _ (and_parts _ _ (and_parts _ _ (and_parts _ _ plain).1).1).0 in
+    let needs = ap (λ (a : App). a.top.subcommand_required) app in
+    let parsed = c.in_ok-matches.ensures.parsed in
+    let has = (parsed.parsed (parsed.from.globals ∙ local)).checked.subcommand (parsed.from.needs_subcommand ∙ needs) in
+    no_truth (c.in-None.ensures.variant ∙ has)

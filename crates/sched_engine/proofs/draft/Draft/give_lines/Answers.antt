@@ -1,6 +1,6 @@
 use Rattle.std.proofs.Common.{[], take, drop, subst, sym, append-nil, rules}
 use Rattle.trace_text.specs.Spelling.{lines_text}
-use Rattle.sched_engine.specs.own.Pieces.{Gives, Output}
+use Rattle.sched_engine.specs.Pieces.{Gives, Output}
 use Rattle.sched_engine.proofs.Giving.{gives_both, gives_front, gives_put, lines_on, lines_split}
 use Rattle.sched_engine.proofs.Tries.{good_then_bad, good_then_good, no_try}
 use Rattle.sched_engine.proofs.draft.Draft.give_lines.Goals as goal

@@ -1,7 +1,7 @@
 use Rattle.std.proofs.Common.{take}
 use Rattle.trace_text.specs.Spelling.{lines_text}
 use Rattle.sched_engine.specs.Ends.{AllGood}
-use Rattle.sched_engine.specs.own.Pieces.{Gives}
+use Rattle.sched_engine.specs.Pieces.{Gives}
 use Rattle.sched_engine.proofs.draft.Draft.give_lines.Given as goal
 
 -- the text of the lines so far was given out, and each try was good

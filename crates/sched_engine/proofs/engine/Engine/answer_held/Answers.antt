@@ -1,5 +1,5 @@
 use Rattle.std.proofs.Common.{ℕ, ◌+◌, List, drop, ap, ◌∙◌, sym, subst, arith}
-use Rattle.sched_engine.specs.own.Pieces.{Output}
+use Rattle.sched_engine.specs.Pieces.{Output}
 use Rattle.sched_engine.specs.own.Turns.{Done, IsAnswered, Progress}
 use Rattle.sched_engine.proofs.Inputs.{count_fits}
 use Rattle.sched_engine.proofs.Turns.{answered, nothing_taken}

@@ -1,0 +1,7 @@
+pub mod ClockLists
+pub mod Taking
+pub mod Reading
+pub mod Courses
+pub mod Texts
+pub mod Runs
+pub mod Whole

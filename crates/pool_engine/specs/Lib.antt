@@ -1,0 +1,12 @@
+pub use Rattle.queue_code.specs.Calls
+pub use Rattle.executor_core.specs.Histories
+pub use Rattle.executor_core.specs.Flows
+pub use Rattle.executor_core.specs.State
+pub use Rattle.executor_core.specs.Needs
+pub use Rattle.trace_text.specs.Spelling
+pub use Rattle.trace_text.specs.Reading
+pub use Rattle.sched_engine.specs.Inputs
+pub use Rattle.sched_engine.specs.Running
+pub mod ClockLines
+pub mod PoolRuns
+pub mod own

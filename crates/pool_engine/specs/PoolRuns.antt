@@ -1,0 +1,99 @@
+-- What a run by a pool reads and writes.
+-- All of it is this project's rule.
+use Rattle.std.specs.Prelude.{◌≡◌, ℕ, ◌≤◌, Bool, true, false, List, [], ◌∷◌, ◌⊎◌, Option, Result, Ok, Err, length, reverse, take}
+use Rattle.std.specs.Io.KnownBytes.{Appends, Keeps}
+use Rattle.executor_core.specs.declared.Happening.{Happening}
+use Rattle.executor_core.specs.declared.Happening.TheVariants as h
+use Rattle.executor_core.specs.Histories.{HistoryEntry, IsHistoryOf, happenings}
+use Rattle.executor_core.specs.Flows.{lines_of}
+use Rattle.executor_core.specs.Needs.{IsRipe}
+use Rattle.executor_core.specs.State.{after, view_of_state}
+use Rattle.queue_code.specs.Calls.{Planned, how_many}
+use Rattle.sched_engine.specs.declared.report.Report.{Report}
+use Rattle.sched_engine.specs.declared.report.RunError.{RunError}
+use Rattle.sched_engine.specs.declared.report.RunError.TheVariants as x
+use Rattle.sched_engine.specs.Running.{IsAccepted, IsUntouched, RefusesToRun, text_of}
+use Rattle.pool_engine.specs.ClockLines.{AreAllClocks, EndsReading}
+
+-- ---- what happened in a history
+
+-- what happened in a history, the oldest first
+abbrev pub course_of : List HistoryEntry → List Happening
+course_of past = reverse (happenings past)
+
+-- the moments that the clocks among some happenings show
+abbrev pub clocks_of : List Happening → List ℕ
+clocks_of [] = []
+clocks_of (h.Clock t ∷ later) = t ∷ clocks_of later
+clocks_of (_ ∷ later) = clocks_of later
+
+-- a happening is an event that a pool takes: the calls of the plan are none, and a cancel from outside is that of a handle
+abbrev pub is_taken : Happening → Bool
+is_taken (h.Clock t) = true
+is_taken (h.Start worker) = true
+is_taken (h.Finish worker ending) = true
+is_taken _ = false
+
+-- how many of some happenings are events
+abbrev pub event_count : List Happening → ℕ
+event_count happened = how_many is_taken happened
+
+-- no task that waits or is kept is due once a history has happened
+abbrev pub IsAtRest : List Planned → ℕ → List HistoryEntry → Type 0
+IsAtRest calls workers past = IsRipe calls (view_of_state calls (after calls workers (happenings past))) → ⊥
+
+-- a history is one that the calls allow, with the clocks of the input, within the limit, and nothing is due after it
+pub record RunsToRest (calls : List Planned) (workers limit : ℕ) (moments : List ℕ) (past : List HistoryEntry) : Type 0 where
+  pub means : IsHistoryOf calls workers past
+  pub clocks : clocks_of (course_of past) ≡ moments
+  pub rests : IsAtRest calls workers past
+  pub within : event_count (course_of past) ≤ limit
+
+-- a history is one that the calls allow, with as many events as the limit allows
+pub record RunsToLimit (calls : List Planned) (workers limit : ℕ) (past : List HistoryEntry) : Type 0 where
+  pub means : IsHistoryOf calls workers past
+  pub full : event_count (course_of past) ≡ limit
+
+-- ---- a run
+
+-- what a pool wrote that ran over these calls and moments
+abbrev pub PoolWrote : Result Report RunError → List Planned → ℕ → ℕ → List ℕ → Option (List ℕ) → Option (List ℕ) → Type 0
+PoolWrote (Ok r) calls workers limit moments old new =
+    (past : List HistoryEntry) × RunsToRest calls workers limit moments past
+    × (r.events ≡ event_count (course_of past)) × (r.lines ≡ length (lines_of calls past)) × Appends old new (text_of calls past)
+PoolWrote (Err x.Full) calls workers limit moments old new =
+    (past : List HistoryEntry) × RunsToLimit calls workers limit past × Appends old new (text_of calls past)
+PoolWrote (Err x.Write) calls workers limit moments old new =
+    (past : List HistoryEntry) × (RunsToRest calls workers limit moments past ⊎ RunsToLimit calls workers limit past)
+    × (n : ℕ) × Appends old new (take n (text_of calls past))
+PoolWrote (Err x.Lost) calls workers limit moments old new = Keeps old new
+PoolWrote (Err x.Memory) calls workers limit moments old new = Keeps old new
+PoolWrote (Err _) calls workers limit moments old new = ⊥
+
+-- the reading ended before the input did, and nothing was written
+abbrev pub EndsUnwritten : RunError → List ℕ → ℕ → ℕ → Option (List ℕ) → Option (List ℕ) → Option (List ℕ) → Option (List ℕ) → Type 0
+EndsUnwritten e text workers limit input left old new =
+    (calls : List Planned) × IsAccepted text calls workers limit × EndsReading e limit input left × Keeps old new
+
+-- all of the input was read, and a pool ran over it
+abbrev pub RunsAll : Result Report RunError → List ℕ → ℕ → ℕ → Option (List ℕ) → Option (List ℕ) → Option (List ℕ) → Option (List ℕ) → Type 0
+RunsAll result text workers limit input left old new =
+    (calls : List Planned) × IsAccepted text calls workers limit
+    × (moments : List ℕ) × AreAllClocks limit input left moments × PoolWrote result calls workers limit moments old new
+
+-- what a run by a pool did: it refused, with nothing read or written; or the reading ended early, and nothing was written; or all
+-- was read, and the pool ran
+abbrev pub PoolRan : Result Report RunError → List ℕ → ℕ → ℕ → Option (List ℕ) → Option (List ℕ) → Option (List ℕ) → Option (List ℕ) → Type 0
+PoolRan (Ok r) text workers limit input left old new = RunsAll (Ok r) text workers limit input left old new
+PoolRan (Err (x.Plan fault)) text workers limit input left old new = RefusesToRun (x.Plan fault) text workers limit × IsUntouched input left old new
+PoolRan (Err x.Workers) text workers limit input left old new = RefusesToRun x.Workers text workers limit × IsUntouched input left old new
+PoolRan (Err x.Limit) text workers limit input left old new = RefusesToRun x.Limit text workers limit × IsUntouched input left old new
+PoolRan (Err (x.EventLine n)) text workers limit input left old new = EndsUnwritten (x.EventLine n) text workers limit input left old new
+PoolRan (Err x.Full) text workers limit input left old new =
+    EndsUnwritten x.Full text workers limit input left old new ⊎ RunsAll (Err x.Full) text workers limit input left old new
+PoolRan (Err x.Read) text workers limit input left old new = EndsUnwritten x.Read text workers limit input left old new
+PoolRan (Err x.Write) text workers limit input left old new = RunsAll (Err x.Write) text workers limit input left old new
+PoolRan (Err x.Lost) text workers limit input left old new = RunsAll (Err x.Lost) text workers limit input left old new
+PoolRan (Err x.Memory) text workers limit input left old new =
+    (RefusesToRun x.Memory text workers limit × IsUntouched input left old new)
+    ⊎ (EndsUnwritten x.Memory text workers limit input left old new ⊎ RunsAll (Err x.Memory) text workers limit input left old new)

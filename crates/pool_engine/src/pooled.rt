@@ -1,0 +1,171 @@
+//! A run by a pool: it reads all of its input, runs the plan, and writes the trace.
+ghost use Rattle.std.specs.Prelude.{◌≡◌, ◌<◌, [], Ok, Err};
+ghost use Rattle.queue_code.specs.Calls.{task_count};
+ghost use Rattle.queue_code.specs.Codes.{calls_of};
+ghost use Rattle.task_word.specs.Views.{new_core};
+ghost use Rattle.executor_core.specs.Counts.{IsWorkerCount};
+ghost use Rattle.sched_engine.specs.Running.{CountsReader, CountsWriter};
+ghost use Rattle.pool_engine.specs.PoolRuns.{PoolRan, PoolWrote};
+
+use crate::clocks::read_clocks;
+use crate::ended::{count_events, is_rested, write_lines};
+use executor_core::MOST_WORKERS;
+use queue_code::Code;
+use sched_engine::{Draft, HeapAllocator, Report, RunError, Sink, Source, code_of};
+use sched_time::Ending;
+use std::alloc::Allocator;
+use std::marker::Brand;
+use std::sync::Wait;
+use std::thread::Threads;
+use task_word::CoreSeat;
+use worker_pool::{Book, Job, Named, Pool, PoolError, Shared};
+
+/// The job of each run: its value is the number of the run.
+struct RunNumber;
+
+impl Job for RunNumber {
+    fn run(&self, _task: u32, run: u64) -> Ending {
+        Ending::Value(run)
+    }
+}
+
+/// How many workers a pool has, how many events it takes at most, and which moments its clock shows.
+#[derive(Clone, Copy)]
+struct Asked<'m> {
+    workers: u8,
+    limit: u32,
+    moments: &'m [u64],
+}
+
+/// Runs a plan by a pool of workers over the clock lines of the reader, and writes its trace once the pool has ended.
+///
+/// `plan_text` is the plan's TOML, at most 1,048,576 bytes; `workers` is the number of workers, 1 to 64, and `limit` the
+/// greatest number of events, 1 to 4,294,967,295: clocks, starts and finishes. Moments are nanoseconds. All of the input is read
+/// before a worker starts. The job of a run is done at once, and its value is the number of the run.
+///
+/// On [`RunError::Plan`], [`RunError::Workers`] and [`RunError::Limit`], found in this order, nothing is read or written. On
+/// [`RunError::EventLine`] and [`RunError::Read`] nothing was run or written. On [`RunError::Full`] a further clock line follows
+/// `limit` of them, and nothing was run or written; or the pool took `limit` events, and their text was written. On
+/// [`RunError::Write`] a front of the text was written. On [`RunError::Memory`] and [`RunError::Lost`] nothing was written.
+///
+/// A read or write that fails by `Interrupted` is tried again, up to the 1,000th in a row. That one, any other fault, and a write
+/// that takes nothing, is [`RunError::Read`] or [`RunError::Write`], and that end is not called again.
+pub fn run_pool<A: HeapAllocator + Send + Sync, R: Threads + Wait + Sync, S: Source, W: Sink>(
+    rt: &R,
+    alloc: A,
+    plan_text: &[u8],
+    workers: u8,
+    limit: u32,
+    reader: &mut S,
+    writer: &mut W,
+) -> Result<Report, RunError>
+    ensures ran { PoolRan result plan_text.now workers limit (S.remaining reader.old) (S.remaining reader.new) (W.contents writer.old) (W.contents writer.new) }
+    ensures read { CountsReader result (S.failed reader.old) (S.fruitless reader.old) (S.failed reader.new) (S.fruitless reader.new) }
+    ensures write { CountsWriter result (W.failed writer.old) (W.fruitless writer.old) (W.failed writer.new) (W.fruitless writer.new) }
+{
+    let code = code_of(alloc, plan_text)?;
+    if workers == 0 || workers > MOST_WORKERS {
+        return Err(RunError::Workers);
+    }
+    if limit == 0 {
+        return Err(RunError::Limit);
+    }
+    let moments = read_clocks(alloc, limit, reader)?;
+    let mut draft = Draft::new(alloc)?;
+    let Ok((shared, seat)) = Shared::new(alloc, code.tasks()) else {
+        return Err(RunError::Memory);
+    };
+    let asked = Asked {
+        workers,
+        limit,
+        moments: &moments,
+    };
+    run_named::<Brand, A, R, W>(rt, alloc, &shared, seat, code, &asked, &mut draft, writer)
+}
+
+/// Runs a code by a pool of these names, and writes the trace.
+fn run_named<
+    N: Named + Send + Sync,
+    A: HeapAllocator + Send + Sync,
+    R: Threads + Wait + Sync,
+    W: Sink,
+>(
+    rt: &R,
+    alloc: A,
+    shared: &Shared<A>,
+    seat: CoreSeat<A>,
+    code: Code<A>,
+    asked: &Asked<'_>,
+    draft: &mut Draft<A>,
+    writer: &mut W,
+) -> Result<Report, RunError>
+    requires shared { (shared.now.table ≡ N.table) × (shared.now.cells ≡ N.cells) }
+    requires seat { (seat.table ≡ shared.now.table) × (seat.view ≡ new_core shared.now.tasks) }
+    requires tasks { shared.now.tasks ≡ task_count (calls_of code) }
+    requires named { (calls_of code ≡ N.calls) × (asked.now.workers ≡ N.workers) }
+    requires draft { draft.old ≡ [] }
+    ensures wrote { PoolWrote result N.calls N.workers asked.now.limit asked.now.moments.now (W.contents writer.old) (W.contents writer.new) }
+    ensures write { CountsWriter result (W.failed writer.old) (W.fruitless writer.old) (W.failed writer.new) (W.fruitless writer.new) }
+{
+    let made = Pool::<N, A>::new(alloc, shared, seat, code, asked.workers, asked.limit);
+    let Ok(pool) = made else {
+        // The numbers are in range, so this is want of memory.
+        return Err(RunError::Memory);
+    };
+    let ran = pool.run(rt, &RunNumber, asked.moments);
+    let book = pool.end();
+    match ran {
+        Ok(()) => write_rested(&book, asked, draft, writer),
+        Err(PoolError::Full) => write_full(&book, asked, draft, writer),
+        Err(PoolError::Memory) => Err(RunError::Memory),
+        Err(_) => Err(RunError::Lost),
+    }
+}
+
+/// Writes the trace of a book whose pool ended well, if it has come to what it was to come to.
+fn write_rested<N: Named, A: Allocator, W: Sink>(
+    book: &Book<N, A>,
+    asked: &Asked<'_>,
+    draft: &mut Draft<A>,
+    writer: &mut W,
+) -> Result<Report, RunError>
+    requires draft { draft.old ≡ [] }
+    ensures wrote { PoolWrote result N.calls N.workers asked.now.limit asked.now.moments.now (W.contents writer.old) (W.contents writer.new) }
+    ensures write { CountsWriter result (W.failed writer.old) (W.fruitless writer.old) (W.failed writer.new) (W.fruitless writer.new) }
+{
+    let events = count_events(book.happenings());
+    if !is_rested(book, asked.moments) || events > asked.limit as usize {
+        return Err(RunError::Lost);
+    }
+    let lines = book.lines();
+    if !write_lines(draft, lines, writer) {
+        return Err(RunError::Write);
+    }
+    Ok(Report {
+        events: events as u32,
+        lines: lines.len() as u64,
+    })
+}
+
+/// Writes the trace of a book whose pool ended at its limit, if it has as many events.
+fn write_full<N: Named, A: Allocator, W: Sink>(
+    book: &Book<N, A>,
+    asked: &Asked<'_>,
+    draft: &mut Draft<A>,
+    writer: &mut W,
+) -> Result<Report, RunError>
+    requires draft { draft.old ≡ [] }
+    ensures wrote { PoolWrote result N.calls N.workers asked.now.limit asked.now.moments.now (W.contents writer.old) (W.contents writer.new) }
+    ensures write { CountsWriter result (W.failed writer.old) (W.fruitless writer.old) (W.failed writer.new) (W.fruitless writer.new) }
+{
+    if count_events(book.happenings()) != asked.limit as usize {
+        return Err(RunError::Lost);
+    }
+    if !write_lines(draft, book.lines(), writer) {
+        return Err(RunError::Write);
+    }
+    Err(RunError::Full)
+}
+
+#[cfg(test)]
+mod tests;

@@ -1,0 +1,112 @@
+//! What is told of ended books, also of such as no pool leaves.
+ghost use Rattle.std.specs.Prelude.{◌≡◌};
+ghost use Rattle.queue_code.specs.Calls.{task_count};
+ghost use Rattle.queue_code.specs.Codes.{calls_of};
+ghost use Rattle.task_word.specs.Views.{new_core};
+
+use super::{Asked, write_full, write_rested};
+use executor_core::Event;
+use queue_code::{Code, Instr};
+use sched_engine::{Draft, Report, RunError, Writing};
+use sched_time::{Ending, Timing};
+use std::alloc::Global;
+use std::marker::Brand;
+use std::process::Abort;
+use std::test::Fail;
+use task_word::CoreSeat;
+use worker_pool::{Book, Named, Shared};
+
+/// The text of a book after a clock, a start and a finish.
+const TEXT: &str = "\
+0 submit 0 schedule due 0
+0 clock
+0 start 0 task 0 run 0 due 0
+0 finish 0 task 0 run 0 done 0
+";
+
+/// What is told of a book whose pool ended well, with the text that is written.
+fn told_rested<N: Named>(
+    alloc: Global,
+    book: &Book<N, Global>,
+    limit: u32,
+    moments: &[u64],
+) -> Result<(Result<Report, RunError>, Vec<u8>), Fail> {
+    let asked = Asked {
+        workers: 1,
+        limit,
+        moments,
+    };
+    let mut draft = Draft::new(alloc)?;
+    let mut writer = Writing::new(Vec::new(alloc));
+    let told = write_rested(book, &asked, &mut draft, &mut writer);
+    Ok((told, writer.into_inner()))
+}
+
+/// What is told of a book whose pool ended at its limit, with the text that is written.
+fn told_full<N: Named>(
+    alloc: Global,
+    book: &Book<N, Global>,
+    limit: u32,
+) -> Result<(Result<Report, RunError>, Vec<u8>), Fail> {
+    let asked = Asked {
+        workers: 1,
+        limit,
+        moments: &[],
+    };
+    let mut draft = Draft::new(alloc)?;
+    let mut writer = Writing::new(Vec::new(alloc));
+    let told = write_full(book, &asked, &mut draft, &mut writer);
+    Ok((told, writer.into_inner()))
+}
+
+/// Checks what is told of a book that shows the moment 0 and has a task due then, before and after its run.
+fn tells<N: Named>(
+    rt: &(impl AllocGlobal + Abort),
+    shared: &Shared<Global>,
+    seat: CoreSeat<Global>,
+    code: Code<Global>,
+) -> Result<(), Fail>
+    requires shared { (shared.now.table ≡ N.table) × (shared.now.cells ≡ N.cells) }
+    requires seat { (seat.table ≡ shared.now.table) × (seat.view ≡ new_core shared.now.tasks) }
+    requires tasks { shared.now.tasks ≡ task_count (calls_of code) }
+    requires named { (calls_of code ≡ N.calls) × (1 ≡ N.workers) }
+{
+    let alloc = rt.alloc();
+    let mut book = Book::<N, Global>::new(alloc, shared, seat, code, 1, 100)?;
+    book.apply(shared, Event::Clock(0))?;
+    let (told, text) = told_rested(alloc, &book, 100, &[0])?;
+    assert!(rt; told == Err(RunError::Lost) && text.is_empty());
+    book.apply(shared, Event::Start(0))?;
+    book.apply(shared, Event::Finish(0, Ending::Value(0)))?;
+    let moments: [&[u64]; 4] = [&[], &[1], &[0, 0], &[0, 1]];
+    for others in moments {
+        let (told, text) = told_rested(alloc, &book, 100, others)?;
+        assert!(rt; told == Err(RunError::Lost) && text.is_empty());
+    }
+    for (limit, fault, written) in [
+        (2u32, RunError::Lost, ""),
+        (3, RunError::Full, TEXT),
+        (4, RunError::Lost, ""),
+    ] {
+        let (told, text) = told_full(alloc, &book, limit)?;
+        assert!(rt; told == Err(fault) && text.as_slice() == written.as_bytes());
+    }
+    let (told, text) = told_rested(alloc, &book, 2, &[0])?;
+    assert!(rt; told == Err(RunError::Lost) && text.is_empty());
+    let (told, text) = told_rested(alloc, &book, 3, &[0])?;
+    let report = Report {
+        events: 3,
+        lines: 4,
+    };
+    assert!(rt; told == Ok(report) && text.as_slice() == TEXT.as_bytes());
+    Ok(())
+}
+
+#[test]
+fn lost_books_are_told_so(rt: HostRuntime) -> Result<(), Fail> {
+    let alloc = rt.alloc();
+    let instrs = vec![in alloc; Instr::Submit(0, Timing::Once, 0), Instr::Halt]?;
+    let code = Code::check(alloc, instrs)?;
+    let (shared, seat) = Shared::new(alloc, code.tasks())?;
+    tells::<Brand>(&rt, &shared, seat, code)
+}

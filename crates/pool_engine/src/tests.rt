@@ -1,0 +1,259 @@
+//! Tests of a run by a pool, from bytes in to bytes out.
+mod ends;
+mod example;
+
+use crate::run_pool;
+use plan_read::{PlanFault, PlanFaultKind, read_plan};
+use sched_engine::{Pieces, Report, RunError, Writing};
+use std::alloc::Global;
+use std::process::Abort;
+use std::sync::Wait;
+use std::test::Fail;
+use std::thread::Threads;
+use trace_check::{Finding, MOST_BYTES, check};
+
+/// The plan of one delayed task.
+const ONE_DELAY: &str =
+    "version = 1\n\n[[block]]\n\n[[block.call]]\nop = \"schedule\"\nname = \"a\"\ndelay = 5\n";
+
+/// The clocks of its example.
+const CLOCKS: &str = "clock 0\nclock 5\n";
+
+/// The trace of its example.
+const TRACE: &str = "\
+0 submit 0 schedule due 5
+0 clock
+5 clock
+5 start 0 task 0 run 0 due 5
+5 finish 0 task 0 run 0 done 0
+";
+
+/// What its run answers.
+const REPORT: Report = Report {
+    events: 4,
+    lines: 5,
+};
+
+/// The answer of a run over memory that reads at most `most` bytes at a time, and what it wrote.
+fn ran<R: Threads + Wait + Sync>(
+    rt: &R,
+    alloc: Global,
+    plan: &str,
+    workers: u8,
+    limit: u32,
+    clocks: &str,
+    most: usize,
+) -> (Result<Report, RunError>, Vec<u8>) {
+    let mut reader = Pieces::new(clocks.as_bytes(), most);
+    let mut writer = Writing::new(Vec::new(alloc));
+    let plan = plan.as_bytes();
+    let answer = run_pool(rt, alloc, plan, workers, limit, &mut reader, &mut writer);
+    (answer, writer.into_inner())
+}
+
+/// Checks the answer and the bytes of a run by one worker, read at once and a few bytes at a time.
+fn answers<R: Threads + Wait + Sync + AllocGlobal + Abort>(
+    rt: &R,
+    plan: &str,
+    limit: u32,
+    clocks: &str,
+    answer: Result<Report, RunError>,
+    trace: &str,
+) {
+    for most in [65_536usize, 1, 7] {
+        let (told, text) = ran(rt, rt.alloc(), plan, 1, limit, clocks, most);
+        assert!(rt; told == answer, "{clocks}: {told:?}");
+        assert!(rt; text.as_slice() == trace.as_bytes(), "{clocks}");
+    }
+}
+
+/// Checks that a text is a trace of a plan.
+fn conforms(
+    rt: &(impl AllocGlobal + Abort),
+    plan: &str,
+    workers: u8,
+    text: &[u8],
+) -> Result<(), Fail> {
+    let plan = read_plan(rt.alloc(), plan.as_bytes())?;
+    assert!(rt; text.len() <= MOST_BYTES);
+    let finding = check(rt.alloc(), &plan, workers, text)?;
+    assert_eq!(rt; finding, Finding::Conforms);
+    Ok(())
+}
+
+#[test]
+fn writes_the_trace(rt: HostRuntime) -> Result<(), Fail> {
+    answers(&rt, ONE_DELAY, 4, CLOCKS, Ok(REPORT), TRACE);
+    conforms(&rt, ONE_DELAY, 1, TRACE.as_bytes())?;
+    let none = Report {
+        events: 0,
+        lines: 0,
+    };
+    answers(&rt, ONE_DELAY, 1, "", Ok(none), "");
+    answers(
+        &rt,
+        "version = 1",
+        3,
+        "clock 5\nclock 4\nclock 4611686018427387905\n",
+        Ok(Report {
+            events: 3,
+            lines: 3,
+        }),
+        "5 clock\n5 error backward\n5 error too far\n",
+    );
+    Ok(())
+}
+
+/// The run of a task that goes on at a fixed rate has the number of the run for its value, and goes on until nothing is due.
+#[test]
+fn runs_what_is_due_at_each_moment(rt: HostRuntime) {
+    answers(
+        &rt,
+        "version = 1
+[[block]]
+call = [
+  { op = \"rate\", name = \"a\", first = 1, period = 2 },
+  { at = 4, op = \"shutdown\" },
+  { at = 4, op = \"ask\" },
+]
+",
+        100,
+        "clock 3\nclock 9\n",
+        Ok(Report {
+            events: 6,
+            lines: 10,
+        }),
+        "0 submit 0 rate due 1
+3 clock
+3 start 0 task 0 run 0 due 1
+3 finish 0 task 0 run 0 again due 3
+3 start 0 task 0 run 1 due 3
+3 finish 0 task 0 run 1 again due 5
+4 shutdown
+4 end 0
+4 ask queue 0 running 0 shutdown yes terminated yes
+9 clock
+",
+    );
+}
+
+#[test]
+fn ends_at_the_limit(rt: HostRuntime) {
+    answers(
+        &rt,
+        ONE_DELAY,
+        3,
+        CLOCKS,
+        Err(RunError::Full),
+        "0 submit 0 schedule due 5\n0 clock\n5 clock\n5 start 0 task 0 run 0 due 5\n",
+    );
+    answers(
+        &rt,
+        ONE_DELAY,
+        2,
+        CLOCKS,
+        Err(RunError::Full),
+        "0 submit 0 schedule due 5\n0 clock\n5 clock\n",
+    );
+    answers(&rt, ONE_DELAY, 1, CLOCKS, Err(RunError::Full), "");
+    answers(
+        &rt,
+        ONE_DELAY,
+        2,
+        "clock 0\nclock 5\nclock 5\n",
+        Err(RunError::Full),
+        "",
+    );
+}
+
+#[test]
+fn ends_at_a_line_that_is_no_clock(rt: HostRuntime) {
+    for line in [
+        "start 0\n",
+        "finish 0 ok 1\n",
+        "cancel 0\n",
+        "clock 1",
+        "clock 01\n",
+        "clock 1\r\n",
+        "\n",
+        // 62 bytes and a newline, and 63 bytes and a newline
+        "clock 1                                                       \n",
+        "clock 1                                                        \n",
+        "clock 18446744073709551616\n",
+    ] {
+        for (first, n) in [("", 1u64), ("clock 0\n", 2), ("clock 0\nclock 9\n", 3)] {
+            let mut text = String::new(rt.alloc());
+            assert!(&rt; text.push_str(first).is_ok() && text.push_str(line).is_ok());
+            answers(
+                &rt,
+                ONE_DELAY,
+                2,
+                text.as_str(),
+                Err(RunError::EventLine(n)),
+                "",
+            );
+        }
+    }
+    // The first fault of the two is told.
+    answers(
+        &rt,
+        ONE_DELAY,
+        1,
+        "clock 0\nclock 5\nstart 0\n",
+        Err(RunError::Full),
+        "",
+    );
+    answers(
+        &rt,
+        ONE_DELAY,
+        1,
+        "clock 0\nstart 0\nclock 5\n",
+        Err(RunError::EventLine(2)),
+        "",
+    );
+}
+
+#[test]
+fn refuses_plans_workers_and_limits(rt: HostRuntime) {
+    let version = RunError::Plan(PlanFault {
+        kind: PlanFaultKind::Version,
+        block: 0,
+        call: 0,
+    });
+    for (plan, workers, limit, fault) in [
+        ("", 0u8, 0u32, version),
+        ("", 1, 1, version),
+        (ONE_DELAY, 0, 0, RunError::Workers),
+        (ONE_DELAY, 65, 1, RunError::Workers),
+        (ONE_DELAY, 255, 0, RunError::Workers),
+        (ONE_DELAY, 64, 0, RunError::Limit),
+    ] {
+        let (answer, text) = ran(&rt, rt.alloc(), plan, workers, limit, "start 0\n", 7);
+        assert_eq!(&rt; answer, Err(fault));
+        assert!(&rt; text.is_empty());
+    }
+    let (answer, _) = ran(&rt, rt.alloc(), ONE_DELAY, 64, 4, CLOCKS, 7);
+    assert_eq!(&rt; answer, Ok(REPORT));
+}
+
+/// Tasks that many workers share.
+#[test]
+fn traces_of_many_workers_conform(rt: HostRuntime) -> Result<(), Fail> {
+    let plan = "version = 1
+[[block]]
+times = 20
+every = 31
+call = [
+  { op = \"schedule\", name = \"a\", delay = 3 },
+  { op = \"fixed\", name = \"b\", first = 1, delay = 25 },
+  { at = 30, op = \"cancel\", name = \"b\" },
+]
+";
+    for workers in [1u8, 2, 8, 64] {
+        let clocks = "clock 0\nclock 1\nclock 50\nclock 51\nclock 90\nclock 700\n";
+        let (answer, text) = ran(&rt, rt.alloc(), plan, workers, 10_000, clocks, 65_536);
+        assert!(&rt; answer.is_ok(), "{answer:?}");
+        conforms(&rt, plan, workers, &text)?;
+    }
+    Ok(())
+}
