@@ -1,6 +1,9 @@
 //! Tests of the pool: jobs, and scripts of what is done with a pool by one thread.
 mod beside;
+mod race;
 mod rows;
+mod stress;
+mod usage;
 
 ghost use Rattle.std.specs.Prelude.{◌≡◌};
 ghost use Rattle.queue_code.specs.Calls.{task_count};
@@ -14,15 +17,51 @@ use result_cell::Verdict;
 use sched_time::{Ending, Timing};
 use std::alloc::{AllocError, Global};
 use std::marker::Brand;
+use std::process::Abort;
 use std::sync::Wait;
 use std::sync::atomic::{AtomicU64, Ordering};
 use std::test::Fail;
+use std::thread;
 use std::thread::Threads;
+use std::time::{Clock, Duration};
 use task_word::CoreSeat;
 use trace_text::write_line;
 
 /// How often a test looks whether what it waits for came, before it gives up.
 const MOST_LOADS: u64 = 1_000_000_000;
+
+/// How many milliseconds a test has.
+const MOST_MILLISECONDS: u32 = 45_000;
+
+/// Ends the test as failed where what it does is not done in time.
+fn watch<R: Clock + Abort>(rt: &R, done: &AtomicU64) {
+    for _look in 0..MOST_MILLISECONDS {
+        if done.load(Ordering::SeqCst) == 1 {
+            return;
+        }
+        thread::sleep(rt, Duration::from_millis(1));
+    }
+    panic!(rt; "a call of the pool has not returned");
+}
+
+/// Does it, and ends the test as failed where it is not done in time: a call that waits for good is seen so.
+fn in_time<R: Threads + Clock + Abort + Sync, T, F: FnOnce() -> T>(rt: &R, work: F) -> T
+    requires { F.pre work }
+{
+    let done = AtomicU64::new(0);
+    let ((), came) = thread::join(
+        rt,
+        || watch(rt, &done),
+        || -> T
+            requires { F.pre work }
+        {
+            let came = work();
+            done.store(1, Ordering::SeqCst);
+            came
+        },
+    );
+    came
+}
 
 /// A job whose value is the number of the run.
 struct RunNumber;
@@ -169,7 +208,7 @@ fn pool_of<N: Named + Send + Sync, R: Threads + Wait + Sync, J: Job + Sync>(
 }
 
 /// Does the calls with a new pool for these instructions.
-fn play<R: Threads + Wait + Sync, J: Job + Sync>(
+fn play_once<R: Threads + Wait + Sync, J: Job + Sync>(
     rt: &R,
     alloc: Global,
     instrs: &[Instr],
@@ -181,4 +220,20 @@ fn play<R: Threads + Wait + Sync, J: Job + Sync>(
     let code = code_of(alloc, instrs)?;
     let (shared, seat) = Shared::new(alloc, code.tasks())?;
     pool_of::<Brand, _, _>(rt, alloc, &shared, seat, code, workers, limit, job, calls)
+}
+
+/// Does the calls with a new pool for these instructions, in time.
+fn play<R: Threads + Wait + Sync + Clock + Abort, J: Job + Sync>(
+    rt: &R,
+    alloc: Global,
+    instrs: &[Instr],
+    workers: u8,
+    limit: u32,
+    job: &J,
+    calls: &[Call<'_>],
+) -> Result<Played, Fail> {
+    in_time(
+        rt,
+        || play_once(rt, alloc, instrs, workers, limit, job, calls),
+    )
 }

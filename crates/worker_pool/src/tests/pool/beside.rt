@@ -4,11 +4,11 @@ ghost use Rattle.queue_code.specs.Calls.{task_count};
 ghost use Rattle.queue_code.specs.Codes.{calls_of};
 ghost use Rattle.task_word.specs.Views.{new_core};
 
-use super::{Call, RunNumber, Said, call_of, code_of, saw, tasks_of, text_of};
+use super::{Call, RunNumber, Said, call_of, code_of, in_time, saw, tasks_of, text_of};
 use crate::{Applied, Job, Named, Pool, PoolError, Shared};
-use executor_core::Line;
-use queue_code::Code;
-use sched_time::Ending;
+use executor_core::{Answer, Line, Message, Outcome};
+use queue_code::{Code, Instr};
+use sched_time::{Ending, Timing};
 use std::alloc::{AllocError, Global};
 use std::marker::Brand;
 use std::sync::Wait;
@@ -23,11 +23,27 @@ use task_word::CoreSeat;
 struct Held {
     began: AtomicU64,
     may_end: AtomicU64,
+    /// The task whose job lets all jobs end. Where it is `None`, who calls beside them does.
+    opener: Option<u32>,
+}
+
+impl Held {
+    /// Jobs none of which has begun.
+    fn new(opener: Option<u32>) -> Held {
+        Held {
+            began: AtomicU64::new(0),
+            may_end: AtomicU64::new(0),
+            opener,
+        }
+    }
 }
 
 impl Job for Held {
-    fn run(&self, _task: u32, _run: u64) -> Ending {
+    fn run(&self, task: u32, _run: u64) -> Ending {
         self.began.store(1, Ordering::SeqCst);
+        if self.opener == Some(task) {
+            self.may_end.store(1, Ordering::SeqCst);
+        }
         if saw(&self.may_end, 1) {
             Ending::Value(1)
         } else {
@@ -58,7 +74,9 @@ fn call_beside<N: Named + Send + Sync, R: Threads + Wait + Sync>(
             said.push(call_of(rt, pool, &RunNumber, call))?;
         }
     }
-    held.may_end.store(1, Ordering::SeqCst);
+    if held.opener.is_none() {
+        held.may_end.store(1, Ordering::SeqCst);
+    }
     Ok(said)
 }
 
@@ -69,22 +87,20 @@ fn beside_of<N: Named + Send + Sync, R: Threads + Wait + Sync>(
     shared: &Shared<Global>,
     seat: CoreSeat<Global>,
     code: Code<Global>,
+    workers: u8,
+    held: &Held,
     calls: &[Call<'_>],
 ) -> Result<Beside, Fail>
     requires shared { (shared.now.table ≡ N.table) × (shared.now.cells ≡ N.cells) }
     requires seat { (seat.table ≡ shared.now.table) × (seat.view ≡ new_core shared.now.tasks) }
     requires tasks { shared.now.tasks ≡ task_count (calls_of code) }
-    requires named { (calls_of code ≡ N.calls) × (1 ≡ N.workers) }
+    requires named { (calls_of code ≡ N.calls) × (workers ≡ N.workers) }
 {
-    let pool = Pool::<N, Global>::new(alloc, shared, seat, code, 1, 1_000)?;
-    let held = Held {
-        began: AtomicU64::new(0),
-        may_end: AtomicU64::new(0),
-    };
+    let pool = Pool::<N, Global>::new(alloc, shared, seat, code, workers, 1_000)?;
     let (ran, said) = thread::join(
         rt,
-        || pool.run(rt, &held, &[0]),
-        || call_beside(rt, alloc, &pool, &held, calls),
+        || pool.run(rt, held, &[0]),
+        || call_beside(rt, alloc, &pool, held, calls),
     );
     let book = pool.end();
     let mut lines = Vec::new(alloc);
@@ -96,18 +112,32 @@ fn beside_of<N: Named + Send + Sync, R: Threads + Wait + Sync>(
     })
 }
 
+/// The same with a new pool for these instructions.
+fn play_beside<R: Threads + Wait + Sync>(
+    rt: &R,
+    alloc: Global,
+    instrs: &[Instr],
+    workers: u8,
+    held: &Held,
+    calls: &[Call<'_>],
+) -> Result<Beside, Fail> {
+    let code = code_of(alloc, instrs)?;
+    let (shared, seat) = Shared::new(alloc, code.tasks())?;
+    beside_of::<Brand, _>(rt, alloc, &shared, seat, code, workers, held, calls)
+}
+
 #[test]
 fn a_second_run_is_told_so(rt: HostRuntime) -> Result<(), Fail> {
     let alloc = rt.alloc();
-    let code = code_of(alloc, &tasks_of(alloc, 2, 0)?)?;
-    let (shared, seat) = Shared::new(alloc, code.tasks())?;
+    let instrs = tasks_of(alloc, 2, 0)?;
+    let held = Held::new(None);
     let calls = [
         Call::Run(&[1]),
         Call::Run(&[]),
         Call::Advance(7),
         Call::Run(&[8]),
     ];
-    let beside = beside_of::<Brand, _>(&rt, alloc, &shared, seat, code, &calls)?;
+    let beside = in_time(&rt, || play_beside(&rt, alloc, &instrs, 1, &held, &calls))?;
     assert_eq!(rt; beside.ran, Ok(()));
     let running = Said::Ran(Err(PoolError::Running));
     let applied = Applied {
@@ -124,5 +154,32 @@ fn a_second_run_is_told_so(rt: HostRuntime) -> Result<(), Fail> {
                   0 start 0 task 0 run 0 due 0\n7 clock\n7 finish 0 task 0 run 0 done 1\n\
                   7 start 0 task 1 run 0 due 0\n7 finish 0 task 1 run 0 done 1\n";
     assert!(rt; text.as_slice() == wanted.as_bytes());
+    Ok(())
+}
+
+/// Whether a line says that a task is done, and its job was let end.
+fn is_done(line: &Line) -> bool {
+    matches!(
+        line.message,
+        Message::Answer(Answer::Finish {
+            outcome: Outcome::Done(1),
+            ..
+        })
+    )
+}
+
+#[test]
+fn a_clock_from_elsewhere_wakes_a_worker(rt: HostRuntime) -> Result<(), Fail> {
+    let alloc = rt.alloc();
+    let instrs = [
+        Instr::Submit(0, Timing::Once, 0),
+        Instr::Submit(0, Timing::Once, 1),
+    ];
+    // The job of the task that is due at moment 1 lets both end.
+    let held = Held::new(Some(1));
+    let calls = [Call::Advance(1)];
+    let beside = in_time(&rt, || play_beside(&rt, alloc, &instrs, 2, &held, &calls))?;
+    assert_eq!(rt; beside.ran, Ok(()));
+    assert_eq!(rt; beside.lines.iter().filter(|line| is_done(line)).count(), 2);
     Ok(())
 }

@@ -125,7 +125,7 @@ fn nothing_starts_before_a_clock_of_the_run(rt: HostRuntime) -> Result<(), Fail>
     )
 }
 
-/// A job that waits until so many of them run at once.
+/// A job that waits until so many of them run at once; those of later tasks, until so many of them do so again.
 #[derive(Drop)]
 struct Gate {
     wanted: u64,
@@ -133,9 +133,14 @@ struct Gate {
 }
 
 impl Job for Gate {
-    fn run(&self, _task: u32, _run: u64) -> Ending {
+    fn run(&self, task: u32, _run: u64) -> Ending {
         self.inside.fetch_add(1, Ordering::SeqCst);
-        if super::saw(&self.inside, self.wanted) {
+        let wanted = if (task as u64) < self.wanted {
+            self.wanted
+        } else {
+            self.wanted.saturating_mul(2)
+        };
+        if super::saw(&self.inside, wanted) {
             Ending::Value(1)
         } else {
             Ending::Fault(1)
@@ -150,11 +155,13 @@ fn workers_run_jobs_at_the_same_time(rt: HostRuntime) -> Result<(), Fail> {
             wanted: workers as u64,
             inside: AtomicU64::new(0),
         };
-        let instrs = tasks_of(rt.alloc(), workers as usize, 0)?;
-        let calls = [Call::Run(&[0])];
+        // At moment 5 all workers are asleep, since they have run the tasks that are due at moment 0.
+        let mut instrs = tasks_of(rt.alloc(), workers as usize, 0)?;
+        instrs.extend_from_slice(&tasks_of(rt.alloc(), workers as usize, 5)?)?;
+        let calls = [Call::Run(&[0, 5])];
         let played = play(&rt, rt.alloc(), &instrs, workers, 1_000_000, &gate, &calls)?;
         assert_eq!(rt; played.said.as_slice(), [Said::Ran(Ok(()))].as_slice());
-        assert_eq!(rt; played.results.len(), workers as usize);
+        assert_eq!(rt; played.results.len(), 2 * workers as usize);
         for (task, result) in played.results.iter().enumerate() {
             let verdict = Verdict {
                 task: task as u32,

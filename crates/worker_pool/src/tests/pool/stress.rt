@@ -1,0 +1,100 @@
+//! Races of workers, handles and a clock, over and over: each task ends once, each cancel that is won has its line, and the lines
+//! conform, whoever comes first.
+use super::race::{Race, run_races};
+use crate::PoolError;
+use std::test::Fail;
+
+/// Tasks with one run.
+const ONCE: &str = "version = 1\n[[block]]\ntimes = 64\nevery = 0\n\
+                    call = [{ op = \"schedule\", name = \"a\", delay = 0 }]\n";
+
+/// Tasks that run again and again.
+const PERIODIC: &str = "version = 1\n[[block]]\ntimes = 32\nevery = 0\n\
+                        call = [{ op = \"rate\", name = \"a\", first = 0, period = 1 },\n\
+                        { op = \"fixed\", name = \"b\", first = 0, delay = 2 }]\n";
+
+/// A shutdown ends tasks of each kind that wait: those with one run, since it is a second one, and the others.
+const SHUT: &str = "version = 1\n[[block]]\ntimes = 16\nevery = 0\n\
+                    call = [{ op = \"schedule\", name = \"a\", delay = 0 },\n\
+                    { op = \"schedule\", name = \"b\", delay = 9 },\n\
+                    { op = \"rate\", name = \"c\", first = 0, period = 1 },\n\
+                    { op = \"fixed\", name = \"d\", first = 0, delay = 1 }]\n\
+                    [[block]]\nat = 1\n\
+                    call = [{ op = \"policy\", which = \"execute\", value = false },\n\
+                    { op = \"policy\", which = \"continue\", value = true },\n\
+                    { op = \"shutdown\" },\n\
+                    { op = \"policy\", which = \"continue\", value = false, at = 1 }]\n";
+
+/// Two workers and two handles over tasks with one run.
+const RACE: Race<'static> = Race {
+    plan: ONCE,
+    workers: 2,
+    handles: 2,
+    limit: 100_000,
+    moments: &[0],
+    beside: 0,
+    turns: 0,
+    ran: Ok(()),
+    all_end: true,
+};
+
+#[test]
+fn each_task_is_done_or_cancelled(rt: HostRuntime) -> Result<(), Fail> {
+    run_races(&rt, &RACE)
+}
+
+#[test]
+fn many_handles_race_many_workers(rt: HostRuntime) -> Result<(), Fail> {
+    let race = Race {
+        workers: 8,
+        handles: 16,
+        ..RACE
+    };
+    run_races(&rt, &race)
+}
+
+#[test]
+fn jobs_may_take_long(rt: HostRuntime) -> Result<(), Fail> {
+    let race = Race {
+        turns: 2_000,
+        ..RACE
+    };
+    run_races(&rt, &race)
+}
+
+#[test]
+fn periodic_tasks_are_cancelled_between_runs(rt: HostRuntime) -> Result<(), Fail> {
+    let race = Race {
+        plan: PERIODIC,
+        moments: &[0, 1, 2, 5],
+        beside: 1,
+        all_end: false,
+        ..RACE
+    };
+    run_races(&rt, &race)
+}
+
+#[test]
+fn a_shutdown_comes_in_between(rt: HostRuntime) -> Result<(), Fail> {
+    let race = Race {
+        plan: SHUT,
+        moments: &[0, 1, 2, 9],
+        beside: 1,
+        all_end: false,
+        ..RACE
+    };
+    run_races(&rt, &race)
+}
+
+#[test]
+fn a_limit_ends_all(rt: HostRuntime) -> Result<(), Fail> {
+    let race = Race {
+        limit: 40,
+        moments: &[0; 40],
+        beside: 1,
+        ran: Err(PoolError::Full),
+        all_end: false,
+        ..RACE
+    };
+    run_races(&rt, &race)
+}
