@@ -51,7 +51,7 @@ took_counted old counted core seat happened lines event counts same handles kept
 }
 
 -- the history is that of the old calls and workers too
-history_same : (old : BookView) (core : CoreView) (seat : CoreSeatView) (happened : List Happening) (lines : List Line) (event : Event) → Took old core seat happened lines event → IsHistoryOf old.core.calls (workers_of old.core) (past_in core happened)
+pub history_same : (old : BookView) (core : CoreView) (seat : CoreSeatView) (happened : List Happening) (lines : List Line) (event : Event) → Took old core seat happened lines event → IsHistoryOf old.core.calls (workers_of old.core) (past_in core happened)
 history_same old core seat happened lines event t = subst (λ c. IsHistoryOf c (workers_of old.core) (past_in core happened)) t.calls (subst (λ w. IsHistoryOf core.calls w (past_in core happened)) t.workers t.kept.means)
 
 -- the last entry is the event's

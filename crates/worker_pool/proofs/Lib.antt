@@ -10,6 +10,7 @@ pub mod Entries
 pub mod Settling
 pub mod Booking
 pub mod Applying
+pub mod Verdicts
 pub mod Looking
 pub mod Retiring
 pub mod Shifting

@@ -1,12 +1,15 @@
 //! The verdicts on tasks that are done or have failed, and the notes of their cells.
-ghost use Rattle.std.specs.Prelude.{◌≡◌, ◌≢◌, ◌⊎◌, ℕ, ◌<◌, ◌≤◌, Some, None, IfOk, IfSome, IfNone, IsSome, length, replicate, slice_index, slice_index_or};
+ghost use Rattle.std.specs.Prelude.{◌≡◌, ◌≢◌, ◌⊎◌, ◌↔◌, ℕ, ◌<◌, ◌≤◌, true, Some, None, IfOk, IfSome, IfNone, IsSome, length, replicate, slice_index, slice_index_or};
 ghost use Rattle.once_cell.specs.declared.race.note.Note.{Note as CellNote};
 ghost use Rattle.result_cell.specs.declared.verdict.Verdict.{Verdict as Put};
 ghost use Rattle.result_cell.specs.Cells.{AreNotesOf, StaysKnown, known_at};
 ghost use Rattle.executor_core.specs.declared.types.Answer.{Answer as OneAnswer};
+ghost use Rattle.executor_core.specs.declared.types.Event.TheVariants as v;
+ghost use Rattle.executor_core.specs.declared.types.Happening.TheVariants as h;
 ghost use Rattle.sched_time.specs.declared.timing.Ending.{Ending as Ended};
 ghost use Rattle.worker_pool.specs.Books.{ending_in, ending_of_outcome};
-ghost use Rattle.worker_pool.specs.own.Results.{HasNoteOf, TookVerdict, verdict_told};
+ghost use Rattle.worker_pool.specs.own.Results.{HasNoteOf, TookVerdict, puts_verdict, verdict_told};
+ghost use Rattle.worker_pool.specs.own.Steps.{need_in};
 
 use executor_core::{Answer, Core, Event, Need, Outcome};
 use heap_allocator::HeapAllocator;
@@ -14,12 +17,15 @@ use result_cell::{Note, ResultCell, Verdict, same};
 use sched_time::Ending;
 use std::alloc::{AllocError, Allocator};
 
-/// A box for the verdict that an event may put, as that is told before it.
+/// A box for the verdict that an event may put, as that is told before it: there is one exactly where the event is a finish
+/// that puts one, if no cancel is noted in front of it.
 pub fn verdict_room<A: HeapAllocator>(
     alloc: A,
     core: &Core<A>,
     event: Event,
-) -> Result<Option<Box<Verdict>>, AllocError> {
+) -> Result<Option<Box<Verdict>>, AllocError>
+    ensures finish { (worker : ℕ) (ending : Ended) → event ≡ v.Finish worker ending → IfOk result (λ room. IsSome room ↔ (puts_verdict (need_in core.now (h.Finish worker ending)) ≡ true)) }
+{
     let Event::Finish(worker, ending) = event else {
         return Ok(None);
     };
@@ -80,11 +86,12 @@ pub fn settle<A: Allocator>(
 ) -> Option<Box<Verdict>>
     requires below { (task : ℕ) (ending : Ended) (said : OneAnswer) → answer ≡ Some said → ending_in task said ≡ Some ending → task < length cells.now }
     requires count { length notes.old.items ≡ length cells.now }
+    requires room { IsSome (verdict_told answer) → IsSome room }
     ensures count { length notes.new.items ≡ length notes.old.items }
     ensures each { (k : ℕ) → (slice_index_or notes.new.items k None ≡ slice_index_or notes.old.items k None)
         ⊎ ((note : CellNote Put) × (slice_index_or notes.new.items k None ≡ Some note) × TookVerdict cells.now answer k note) }
     ensures untold { verdict_told answer ≡ None → (result ≡ room) × (notes.new.items ≡ notes.old.items) }
-    ensures told { IfSome (verdict_told answer) (λ v. IsSome room → IfNone result (HasNoteOf cells.now notes.new.items v) × IfSome result (λ back. back.value ≡ v)) }
+    ensures told { IfSome (verdict_told answer) (λ v. IfNone result (HasNoteOf cells.now notes.new.items v) × IfSome result (λ back. back.value ≡ v)) }
 {
     let Some(verdict) = verdict_of(answer) else {
         return room;

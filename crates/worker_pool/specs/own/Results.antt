@@ -1,10 +1,12 @@
 -- What becomes of the verdict that an answer tells.
-use Rattle.std.specs.Prelude.{◌≡◌, ℕ, List, Option, Some, None, option_map, slice_index, slice_index_or}
+use Rattle.std.specs.Prelude.{◌≡◌, ℕ, Bool, true, false, List, Option, Some, None, option_map, slice_index, slice_index_or}
 use Rattle.once_cell.specs.declared.race.note.Note.{Note}
 use Rattle.sched_time.specs.declared.timing.Ending.{Ending}
 use Rattle.result_cell.specs.declared.verdict.Verdict.{Verdict}
 use Rattle.executor_core.specs.declared.types.Answer.{Answer}
 use Rattle.executor_core.specs.declared.types.Answer.TheVariants as a
+use Rattle.executor_core.specs.declared.types.Need.{Need}
+use Rattle.executor_core.specs.declared.types.Need.TheVariants as n
 use Rattle.worker_pool.specs.Books.{ending_in, ending_of_outcome}
 
 -- the verdict that an answer tells: of a task that is done, or has failed
@@ -15,6 +17,12 @@ verdict_in _ = None
 abbrev pub verdict_told : Option Answer → Option Verdict
 verdict_told None = None
 verdict_told (Some answer) = verdict_in answer
+
+-- a finish with this need puts a verdict: its task is done, or has failed
+abbrev pub puts_verdict : Need → Bool
+puts_verdict (n.Done k) = true
+puts_verdict (n.Fail k) = true
+puts_verdict _ = false
 
 -- there is a note of the cell of a verdict's task, and it knows that verdict
 abbrev pub HasNoteOf : List ℕ → List (Option (Note Verdict)) → Verdict → Type 0

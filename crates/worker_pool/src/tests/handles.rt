@@ -1,10 +1,10 @@
-//! Several handles, cancels in the midst of a sweep, and a handle that outlives the end of a task.
+//! Several handles, cancels in the midst of a sweep, cancels that no move meets, and a handle that outlives the end of a task.
 use super::{Step, Told, check, lines, play};
 use crate::{PoolError, Work};
-use executor_core::Event;
+use executor_core::{Event, Happening};
 use queue_code::Instr;
-use sched_time::{Ending, Timing, Which};
-use std::alloc::AllocGlobal;
+use sched_time::{Ending, Timing, Unit, Which, span};
+use std::alloc::{AllocGlobal, Global};
 use std::process::Abort;
 use std::test::Fail;
 use task_word::{CancelAnswer, TaskState};
@@ -152,6 +152,83 @@ fn handles_come_back_in_both_orders(rt: HostRuntime) -> Result<(), Fail> {
         "0 submit 0 schedule due 0\n0 submit 1 schedule due 0\n0 clock\n0 outside 0 yes\n0 outside 1 yes\n";
     retired_in(&rt, 0, 1, text)?;
     retired_in(&rt, 1, 0, text)
+}
+
+/// The tasks of the cancels that are noted by a last step, where a handle cancelled nine tasks before it.
+fn noted_by(alloc: Global, last: Step) -> Result<Vec<u32>, Fail> {
+    let mut instrs = Vec::new(alloc);
+    instrs.push(Instr::SetPolicy(0, Which::Execute, false))?;
+    for _task in 0..9u8 {
+        instrs.push(once(9))?;
+    }
+    instrs.push(Instr::Shutdown(5))?;
+    let mut steps = Vec::new(alloc);
+    steps.push(Step::Apply(Event::Clock(0)))?;
+    steps.push(Step::Admit)?;
+    for task in [7, 2, 8, 0, 5, 1, 6, 3, 4] {
+        steps.push(Step::Cancel(0, task))?;
+    }
+    steps.push(last)?;
+    let played = play(alloc, &instrs, 1, 1_000_000, &steps)?;
+    let mut tasks = Vec::new(alloc);
+    for happening in &played.happened {
+        if let Happening::Cancel(task) = happening {
+            tasks.push(*task)?;
+        }
+    }
+    Ok(tasks)
+}
+
+#[test]
+fn cancels_are_noted_in_ascending_number(rt: HostRuntime) -> Result<(), Fail> {
+    for last in [
+        Step::NoteCancels,
+        Step::Retire(0),
+        Step::Apply(Event::Clock(5)),
+    ] {
+        let tasks = noted_by(rt.alloc(), last)?;
+        assert_eq!(rt; tasks.as_slice(), &[0, 1, 2, 3, 4, 5, 6, 7, 8]);
+    }
+    Ok(())
+}
+
+// A start, a cancel, a finish and a sweep move words of other tasks, and leave the cancel to the look at each word.
+#[test]
+fn what_no_move_meets_is_not_noted(rt: HostRuntime) -> Result<(), Fail> {
+    let instrs = [
+        once(0),
+        once(9),
+        Instr::Submit(0, Timing::Rate(span(5, Unit::Ns)?), 9),
+        Instr::Shutdown(5),
+    ];
+    let steps = [
+        Step::Apply(Event::Clock(0)),
+        Step::Admit,
+        Step::Cancel(0, 1),
+        Step::Apply(Event::Start(0)),
+        Step::Apply(Event::Cancel(0)),
+        Step::Apply(Event::Finish(0, Ending::Value(7))),
+        Step::Apply(Event::Clock(5)),
+        Step::NoteCancels,
+    ];
+    let played = play(rt.alloc(), &instrs, 1, 1_000_000, &steps)?;
+    check(
+        &rt,
+        &played,
+        &[
+            lines(4),
+            Told::Admitted,
+            Told::Cancel(CancelAnswer::Yes),
+            Told::Lines(1, Some(Work { task: 0, run: 0 })),
+            lines(1),
+            lines(1),
+            lines(3),
+            Told::Noted(1),
+        ],
+        "0 submit 0 schedule due 0\n0 submit 1 schedule due 9\n0 submit 2 rate due 9\n0 clock\n\
+         0 start 0 task 0 run 0 due 0\n0 outside 0 yes\n0 finish 0 task 0 run 0 dropped\n\
+         5 shutdown\n5 end 2\n5 clock\n5 outside 1 yes\n",
+    )
 }
 
 #[test]

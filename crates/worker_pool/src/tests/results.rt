@@ -111,3 +111,39 @@ fn a_dropped_run_has_no_verdict(rt: HostRuntime) -> Result<(), Fail> {
         "0 submit 0 schedule due 0\n0 clock\n0 start 0 task 0 run 0 due 0\n0 outside 0 yes\n0 finish 0 task 0 run 0 dropped\n",
     )
 }
+
+/// How the run of a task ends.
+fn ending_of(task: u32) -> Ending {
+    if task % 2 == 0 {
+        Ending::Value(task as u64)
+    } else {
+        Ending::Fault(task)
+    }
+}
+
+#[test]
+fn each_of_many_tasks_has_its_verdict(rt: HostRuntime) -> Result<(), Fail> {
+    let alloc = rt.alloc();
+    let instrs = Vec::from_elem(alloc, Instr::Submit(0, Timing::Once, 0), 70)?;
+    let mut steps = Vec::new(alloc);
+    let mut told = Vec::new(alloc);
+    steps.push(Step::Admit)?;
+    told.push(Told::Admitted)?;
+    steps.push(Step::Apply(Event::Clock(0)))?;
+    told.push(lines(71))?;
+    for task in 0..70u32 {
+        steps.push(Step::Apply(Event::Start(0)))?;
+        told.push(started(task))?;
+        steps.push(Step::Apply(Event::Finish(0, ending_of(task))))?;
+        told.push(lines(1))?;
+    }
+    for task in 0..70u32 {
+        steps.push(Step::Agrees(0, task))?;
+        told.push(ended(task, ending_of(task)))?;
+        steps.push(Step::Result(0, task))?;
+        told.push(ended(task, ending_of(task)))?;
+    }
+    let played = play(alloc, &instrs, 1, 1_000_000, &steps)?;
+    assert_eq!(rt; played.told.as_slice(), told.as_slice());
+    Ok(())
+}

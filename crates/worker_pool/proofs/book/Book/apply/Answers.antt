@@ -1,5 +1,5 @@
 use Rattle.std.proofs.Common.{◌≡◌, ◌⊎◌, ◌<◌, ◌-◌, ◌∙◌, ℕ, List, Option, Some, None, sym, ap, subst, length, length-append, arith}
-use Rattle.std.specs.Prelude.{slice_index_or}
+use Rattle.std.specs.Prelude.{IsSome, slice_index_or}
 use Rattle.once_cell.specs.declared.race.note.Note.{Note}
 use Rattle.result_cell.specs.declared.verdict.Verdict.{Verdict}
 use Rattle.queue_code.specs.Calls.{task_count}
@@ -7,8 +7,9 @@ use Rattle.executor_core.specs.declared.types.Answer.{Answer}
 use Rattle.worker_pool.specs.declared.applied.Applied.{Applied}
 use Rattle.worker_pool.specs.Books.{BookView, ending_in}
 use Rattle.worker_pool.specs.Applies.{Applies, Tells, work_started}
-use Rattle.worker_pool.specs.own.Results.{TookVerdict}
+use Rattle.worker_pool.specs.own.Results.{TookVerdict, verdict_told}
 use Rattle.worker_pool.proofs.Applying.{Took, book_of, took_room, last_said, lines_added, verdict_fits, settled, took_book, took_applies}
+use Rattle.worker_pool.proofs.Verdicts.{room_there}
 use Rattle.worker_pool.proofs.book.Book.apply.Goals as goal
 
 pub overflow_sub-count : goal.overflow_sub-count
@@ -44,6 +45,20 @@ settle-requires-clause-below g c = λ task ending said is tells.
   where
     some_same : (x y : Answer) → Some x ≡ Some y → x ≡ y
     some_same x y q = ap (λ (o : Option Answer). Rattle.std.specs.Option.option_map_or (λ n. n) o x) q
+
+pub settle-requires-clause-room : goal.settle-requires-clause-room
+settle-requires-clause-room g c = λ tells.
+    let desk = c.self.inside.desk in
+    let b = book_of desk.seat.table desk.core desk.seat.view desk.happenings.items desk.lines.items c.self.inside.notes.items in
+    let roomy = c.make_room.new.self in
+    let new = c.take.new.self in
+    let t : Took b new.core new.seat.view new.happenings.items new.lines.items c.args.event =
+    took_room b roomy.core c.count.new.self new.core roomy.seat.view new.seat.view roomy.happenings.items new.happenings.items new.lines.items c.args.event
+    c.make_room.ensures.core (ap (λ s. s.view) c.make_room.ensures.seat) c.make_room.ensures.happenings c.count.ensures.same c.take.ensures.same c.take.ensures.handles c.take.ensures.kept c.take.ensures.took
+    in
+    let last = last_said b new.core new.seat.view new.happenings.items new.lines.items c.args.event t in
+    let answer = c.last_answer-answer.ensures last.0 last.1 t.took.last.answer last.2 in
+    room_there g.N.Named.cells b new.core new.seat.view new.happenings.items new.lines.items c.args.event c.in-Ok.room c.self.invariant.5 t (subst (λ o. IsSome (verdict_told o)) answer tells) c.in-Ok.ensures.finish
 
 pub invariant_of-self-2 : goal.invariant_of-self-2
 invariant_of-self-2 g c =
