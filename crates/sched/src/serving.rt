@@ -48,10 +48,14 @@ pub fn serve<
 {
     match Asked::parse(alloc, arguments)? {
         Asked::Run(asked) => Ok(run_file(alloc, &asked, open_file(asked.path), reader, writer)),
-        Asked::Pool(asked) => {
-            let plan = open_file(asked.path);
-            Ok(pool_file(rt, alloc, &asked, plan, reader, writer))
-        }
+        Asked::Pool(asked) => Ok(pool_file(
+            rt,
+            alloc,
+            &asked,
+            open_file(asked.path),
+            reader,
+            writer,
+        )),
         Asked::Code(asked) => Ok(list_file(alloc, open_file(asked.path), writer)),
         Asked::Check(asked) => {
             let plan = open_file(asked.path);
