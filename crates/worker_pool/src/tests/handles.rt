@@ -187,7 +187,7 @@ fn cancels_are_noted_in_ascending_number(rt: HostRuntime) -> Result<(), Fail> {
         Step::Apply(Event::Clock(5)),
     ] {
         let tasks = noted_by(rt.alloc(), last)?;
-        assert_eq!(rt; tasks.as_slice(), &[0, 1, 2, 3, 4, 5, 6, 7, 8]);
+        assert_eq!(rt; tasks.as_slice(), [0u32, 1, 2, 3, 4, 5, 6, 7, 8].as_slice());
     }
     Ok(())
 }
