@@ -71,34 +71,67 @@ fn tells<N: Named>(
     requires tasks { shared.now.tasks ≡ task_count (calls_of code) }
     requires named { (calls_of code ≡ N.calls) × (1 ≡ N.workers) }
 {
+    let mut book = Book::<N, Global>::new(rt.alloc(), shared, seat, code, 1, 100)?;
+    tells_of(rt, shared, &mut book)
+}
+
+/// Checks what is told of that book.
+fn tells_of<N: Named>(
+    rt: &(impl AllocGlobal + Abort),
+    shared: &Shared<Global>,
+    book: &mut Book<N, Global>,
+) -> Result<(), Fail>
+    requires shared { (shared.now.table ≡ N.table) × (shared.now.cells ≡ N.cells) }
+{
     let alloc = rt.alloc();
-    let mut book = Book::<N, Global>::new(alloc, shared, seat, code, 1, 100)?;
     book.apply(shared, Event::Clock(0))?;
-    let (told, text) = told_rested(alloc, &book, 100, &[0])?;
+    let (told, text) = told_rested(alloc, book, 100, &[0])?;
     assert!(rt; told == Err(RunError::Lost) && text.is_empty());
     book.apply(shared, Event::Start(0))?;
     book.apply(shared, Event::Finish(0, Ending::Value(0)))?;
-    let moments: [&[u64]; 4] = [&[], &[1], &[0, 0], &[0, 1]];
-    for others in moments {
-        let (told, text) = told_rested(alloc, &book, 100, others)?;
-        assert!(rt; told == Err(RunError::Lost) && text.is_empty());
+    tells_rested(rt, book)?;
+    tells_full(rt, book)
+}
+
+/// Checks what is told of a book with the moment 0, a start and a finish, whose pool ended well.
+fn tells_rested<N: Named>(
+    rt: &(impl AllocGlobal + Abort),
+    book: &Book<N, Global>,
+) -> Result<(), Fail> {
+    let alloc = rt.alloc();
+    let report = Report {
+        events: 3,
+        lines: 4,
+    };
+    let lost = (Err(RunError::Lost), "");
+    let moments: [(u32, &[u64], (Result<Report, RunError>, &str)); 6] = [
+        (100, &[], lost),
+        (100, &[1], lost),
+        (100, &[0, 0], lost),
+        (100, &[0, 1], lost),
+        (2, &[0], lost),
+        (3, &[0], (Ok(report), TEXT)),
+    ];
+    for (limit, moments, (answer, written)) in moments {
+        let (told, text) = told_rested(alloc, book, limit, moments)?;
+        assert!(rt; told == answer && text.as_slice() == written.as_bytes());
     }
+    Ok(())
+}
+
+/// Checks what is told of that book, where its pool ended at its limit.
+fn tells_full<N: Named>(
+    rt: &(impl AllocGlobal + Abort),
+    book: &Book<N, Global>,
+) -> Result<(), Fail> {
     for (limit, fault, written) in [
         (2u32, RunError::Lost, ""),
         (3, RunError::Full, TEXT),
         (4, RunError::Lost, ""),
     ] {
-        let (told, text) = told_full(alloc, &book, limit)?;
+        let (told, text) = told_full(rt.alloc(), book, limit)?;
         assert!(rt; told == Err(fault) && text.as_slice() == written.as_bytes());
     }
-    let (told, text) = told_rested(alloc, &book, 2, &[0])?;
-    assert!(rt; told == Err(RunError::Lost) && text.is_empty());
-    let (told, text) = told_rested(alloc, &book, 3, &[0])?;
-    let report = Report {
-        events: 3,
-        lines: 4,
-    };
-    assert!(rt; told == Ok(report) && text.as_slice() == TEXT.as_bytes());
     Ok(())
 }
 
