@@ -10,7 +10,7 @@ use crate::held::PIECE;
 use executor_core::Line;
 use std::alloc::{AllocError, Allocator};
 use std::marker::Model;
-use trace_text::{LINE_ROOM, put_line};
+use trace_text::{LINE_ROOM, Stamp, put_line};
 
 /// A text of lines, which are put where they stand: no line is copied. It has room for [`PIECE`]
 /// bytes, and takes no memory once it is made. Contracts see the text.
@@ -18,6 +18,8 @@ use trace_text::{LINE_ROOM, put_line};
 pub struct Draft<A: Allocator> {
     buffer: Vec<u8, A>,
     end: usize,
+    /// Of the moment of the last line.
+    stamp: Stamp,
 }
 
 impl<A: Allocator> Model for Draft<A> {
@@ -39,6 +41,7 @@ impl<A: Allocator> Draft<A> {
         Ok(Draft {
             buffer: Vec::from_elem(alloc, 0u8, PIECE)?,
             end: 0,
+            stamp: Stamp::new(0),
         })
     }
 
@@ -70,7 +73,7 @@ impl<A: Allocator> Draft<A> {
         requires { length self.old + LINE_ROOM ≤ PIECE }
         ensures { self.new ≡ self.old ++ line_text line.now }
     {
-        self.end = put_line(&mut self.buffer, self.end, line);
+        self.end = put_line(&mut self.buffer, self.end, &mut self.stamp, line);
     }
 
     /// Writes the text and lets go of it. `false` is a fault of the sink, after a front of the text

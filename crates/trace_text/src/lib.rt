@@ -93,6 +93,7 @@ mod message;
 mod message_text;
 mod put;
 mod scan;
+mod stamp;
 mod text_error;
 mod words;
 
@@ -104,4 +105,5 @@ pub use laws::{
 };
 pub use line::{read_line, split_line};
 pub use line_text::{LINE_ROOM, put_line, write_line};
+pub use stamp::Stamp;
 pub use text_error::TextError;

@@ -4,7 +4,7 @@ ghost use Rattle.trace_text.specs.Spelling.{line_text};
 ghost use Rattle.trace_text.specs.Writing.{Puts};
 
 use crate::message_text::put_message;
-use crate::put::put_number;
+use crate::stamp::Stamp;
 use crate::text_error::TextError;
 use executor_core::Line;
 use std::alloc::Allocator;
@@ -60,19 +60,24 @@ fn write_line_with_room<A: Allocator>(out: &mut Vec<u8, A>, line: &Line)
     let Ok(()) = out.resize(at + LINE_ROOM, 0) else {
         unreachable!();
     };
-    let end = put_line(out, at, line);
+    let end = put_line(out, at, &mut Stamp::new(line.moment), line);
     out.truncate(end);
 }
 
 /// Puts the text of a line at a place of a buffer, with its newline, and returns where it ends: at most [`LINE_ROOM`] bytes
 /// on, which have to be there. What stands before that place stays; what stands behind the line is lost.
+///
+/// The stamp is that of the line's moment afterwards. A line of the moment that it has copies its digits; any stamp gives the
+/// same text.
 #[inline(always)]
-pub fn put_line(buffer: &mut [u8], at: usize, line: &Line) -> usize
+pub fn put_line(buffer: &mut [u8], at: usize, stamp: &mut Stamp, line: &Line) -> usize
     requires { at + LINE_ROOM ≤ length buffer.old }
     ensures end { result ≤ at + LINE_ROOM }
     ensures put { Puts (take at buffer.old) (take result buffer.new) (line_text line.now) }
+    ensures stamp { stamp.new ≡ line.now.moment }
 {
-    let at = put_number(buffer, at, line.moment);
+    stamp.turn_to(line.moment);
+    let at = stamp.put(buffer, at);
     put_message(buffer, at, line.message)
 }
 

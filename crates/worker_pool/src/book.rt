@@ -113,6 +113,7 @@ impl<N: Named, A: HeapAllocator> Book<N, A> {
     ///
     /// [`PoolError::Full`], exactly where as many events were taken as the limit allows; then [`PoolError::Memory`]. At both
     /// the book is as it was, and the event may be given again.
+    #[inline(always)]
     pub fn apply(&mut self, shared: &Shared<A>, event: Event) -> Result<Applied, PoolError>
         requires shared { (shared.now.table ≡ N.table) × (shared.now.cells ≡ N.cells) }
         ensures full { IsErrOf result PoolError.Full ↔ (self.old.core.taken ≡ self.old.core.limit) }

@@ -55,6 +55,7 @@ impl<A: Allocator> Desk<A> {
 
     /// Takes the words of a happening, and lets it happen; or notes the cancel of a task whose word was met cancelled. Says
     /// whether it happened.
+    #[inline(always)]
     fn attempt(&mut self, words: &TaskWords<A>, happening: Happening) -> bool
         requires table { self.old.seat.table ≡ words.now.table }
         requires tasks { words.now.tasks ≡ task_count self.old.core.calls }
@@ -157,6 +158,7 @@ impl<A: Allocator> Desk<A> {
 
 impl<A: Allocator> Desk<A> {
     /// Makes the calls that come before an event.
+    #[inline(always)]
     fn make_calls(&mut self, words: &TaskWords<A>, event: Event)
         requires table { self.old.seat.table ≡ words.now.table }
         requires tasks { words.now.tasks ≡ task_count self.old.core.calls }
@@ -179,6 +181,7 @@ impl<A: Allocator> Desk<A> {
     }
 
     /// Takes an event that comes next.
+    #[inline(always)]
     fn take_last(&mut self, words: &TaskWords<A>, event: Event)
         requires table { self.old.seat.table ≡ words.now.table }
         requires tasks { words.now.tasks ≡ task_count self.old.core.calls }
@@ -198,6 +201,7 @@ impl<A: Allocator> Desk<A> {
 
     /// Takes an event: the calls that come before it, and then the event itself. Before each of them the cancels are noted
     /// that stand in its way.
+    #[inline(always)]
     pub fn take(&mut self, words: &TaskWords<A>, event: Event)
         requires table { self.old.seat.table ≡ words.now.table }
         requires tasks { words.now.tasks ≡ task_count self.old.core.calls }

@@ -8,6 +8,7 @@ use task_word::{CoreCancel, CoreSeat, Moved, TaskWords};
 
 /// Makes the moves of a need; those of a sweep are made one by one, and not here. Where the word was met cancelled nothing
 /// moved, and its task is answered.
+#[inline(always)]
 pub fn move_word<A: Allocator>(
     seat: &mut CoreSeat<A>,
     words: &TaskWords<A>,
