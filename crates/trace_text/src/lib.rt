@@ -8,6 +8,7 @@
 //!   follows, so that a trace is read line by line with no search for newlines.
 //! - [`write_line`] appends to a `Vec<u8>`: it makes room and calls [`put_line`], which writes at a place of any slice. In a
 //!   buffer that keeps its bytes [`put_line`] alone is the faster of the two, as none is cleared before it is written.
+//!   Its [`Stamp`] keeps the digits of the last line's moment, so that lines of one moment, one behind the other, copy them.
 //!
 //! ```rust
 //! read_event(b"finish 0 ok 7\n");    // Some(Event::Finish(0, Ending::Value(7)))

@@ -65,3 +65,6 @@ impl Stamp {
         at + self.count
     }
 }
+
+#[cfg(test)]
+mod tests;

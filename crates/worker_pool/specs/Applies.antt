@@ -61,7 +61,7 @@ KnowsCancels b = (k : ℕ) → is_cancelled (entry b.seat k) ≡ true → was_ca
 abbrev pub TellsUpTo : CoreSeatView → ℕ → Type 0
 TellsUpTo v i = (k : ℕ) → k < i → CoreTells v k (entry v k)
 
--- the word of each task was looked at: the seat's lists and ranks say of its entry what a look tells of a word
+-- of the entry of each task the seat's lists and ranks say what a look tells of a word, as they do once it was looked at
 abbrev pub AllAreLookedAt : BookView → Type 0
 AllAreLookedAt b = TellsUpTo b.seat (task_count b.core.calls)
 

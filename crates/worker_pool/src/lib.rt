@@ -98,7 +98,7 @@
 //!
 //! A handle's calls are one atomic step each. An event costs what it costs the core, and an atomic step for each word that it
 //! moves; a sweep looks at each task; `note_cancels` and `retire` load each word. A clock that makes n submissions, with no
-//! handle out, takes 1.29 times the instructions of [`Core::event`](executor_core::Core::event): 287 for a call in place of
+//! handle out, takes at most 1.29 times the instructions of [`Core::event`](executor_core::Core::event): 287 for a call in place of
 //! 223, at 2,000 calls as at 20,000.
 //!
 //! A pool takes no memory of its own but for its threads. A worker takes the lock once for a finish and the start after it.
@@ -114,8 +114,9 @@
 //!
 //! `handles.rt`, `limits.rt` and `results.rt` are about several handles, errors and verdicts. `table.rt` plays all short sequences
 //! of steps over one plan, beside the plain program; the text of the lines of each goes through
-//! [`check`](trace_check::check), which knows nothing of the book, and conforms. `pool` has rows of calls of a pool, and what is
-//! answered to another thread while a job is run. `refusing_allocator`, `plan_read`,
+//! [`check`](trace_check::check), which knows nothing of the book, and conforms. `pool` has rows of calls of a pool, what is
+//! answered to another thread while a job is run, and races of workers with handles and a clock, 200 rounds each, whose traces
+//! go through `check` too; a thread beside each test fails it when it takes too long. `refusing_allocator`, `plan_read`,
 //! `plan_compile`, `executor_plain`, `trace_text` and `trace_check` are for tests alone.
 #![tactic(auto)]
 

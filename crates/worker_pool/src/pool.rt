@@ -40,13 +40,15 @@
 //!
 //! No lock is held while a job runs. So a job may call the pool: [`Pool::advance`], [`Pool::handle`]; and [`Pool::run`], which
 //! answers that a run is under way.
-ghost use Rattle.std.specs.Prelude.{◌≡◌, ◌⊎◌, ◌↔◌, IsErrOf, IfErr, IfOk, length};
+ghost use Rattle.std.specs.Prelude.{◌≡◌, ◌⊎◌, ◌↔◌, ℕ, None, IsErrOf, IfErr, IfOk, length};
 ghost use Rattle.queue_code.specs.Calls.{task_count};
 ghost use Rattle.queue_code.specs.Codes.{calls_of};
 ghost use Rattle.task_word.specs.Views.{new_core, new_handle};
+ghost use Rattle.result_cell.specs.Cells.{AreNotesOf};
 ghost use Rattle.executor_core.specs.Counts.{IsWorkerCount};
 ghost use Rattle.executor_core.specs.CoreView.{workers_of};
 ghost use Rattle.worker_pool.specs.Books.{IsBook};
+ghost use Rattle.worker_pool.specs.Shares.{known_to};
 
 mod shift;
 
@@ -93,7 +95,7 @@ impl<'s, N: Named, A: Allocator> Model for Pool<'s, N, A> {
 
     ghost view = { λ p. p.shared.now };
 
-    ghost invariant = { λ p. (p.shared.now.table ≡ N.table) × (p.shared.now.cells ≡ N.cells) };
+    ghost invariant = { λ p. (p.shared.now.table ≡ N.table) × (p.shared.now.cells ≡ N.cells) × (p.workers ≡ N.workers) };
 }
 
 impl<'s, N: Named, A: HeapAllocator> Pool<'s, N, A> {
@@ -239,6 +241,7 @@ impl<'s, N: Named, A: HeapAllocator> Pool<'s, N, A> {
     pub fn handle<R: Wait>(&self, rt: &R) -> Result<Handle<'s, N, A>, PoolError>
         ensures others { IfErr result (λ e. (e ≡ PoolError.Seats) ⊎ (e ≡ PoolError.Memory)) }
         ensures handle { IfOk result (λ h. h.seat ≡ new_handle (length N.cells)) }
+        ensures notes { IfOk result (λ h. AreNotesOf h.notes N.cells × ((k : ℕ) → known_to h k ≡ None)) }
     {
         self.shift.lock(rt).book.admit(self.shared)
     }
