@@ -1,14 +1,15 @@
 -- Courses: what happened in the history of a book, its clocks and its events.
-use Rattle.std.proofs.Common.{◌≡◌, ℕ, ◌+◌, ◌<◌, ◌≤◌, Bool, true, false, cond, List, [], ◌∷◌, ◌++◌, reverse, take, length, refl, ap, ◌∙◌, sym, subst, arith, append-nil}
+use Rattle.std.proofs.Common.{◌≡◌, ◌≢◌, ℕ, ◌+◌, ◌<◌, ◌≤◌, Bool, true, false, cond, List, [], ◌∷◌, ◌++◌, reverse, take, drop, length, refl, ap, ◌∙◌, sym, subst, arith, append_assoc, append-nil, take-append-drop}
 use mir.Val.{bool_byte}
 use Rattle.std.specs.Prelude.{slice_index_or}
-use Rattle.std.proofs.lemmas.List.{reverse-reverse, take_more}
+use Rattle.std.proofs.lemmas.List.{append_cancel_left, reverse-reverse, take_more}
 use Rattle.executor_core.specs.declared.Happening.{Happening}
 use Rattle.executor_core.specs.declared.Happening.TheVariants as h
 use Rattle.executor_core.proofs.Flowing.{happenings_from, how_many-more}
 use Rattle.queue_code.specs.Calls.{Planned}
 use Rattle.worker_pool.specs.Books.{history_for}
 use Rattle.pool_engine.specs.PoolRuns.{clocks_of, course_of, event_count, is_taken}
+use Rattle.pool_engine.specs.own.Ended.{ShowsAnother}
 
 -- what happened in the history of some happenings is these
 pub course_is : (calls : List Planned) (workers : ℕ) (happened : List Happening) → course_of (history_for calls workers happened) ≡ happened
@@ -26,6 +27,24 @@ clocks_of-append (h.Cancel k ∷ xs) ys = clocks_of-append xs ys
 -- the clocks of one happening more
 pub clocks_on : (happened : List Happening) (i : ℕ) (d : Happening) → i < length happened → clocks_of (take (i + 1) happened) ≡ clocks_of (take i happened) ++ clocks_of (slice_index_or happened i d ∷ [])
 clocks_on happened i d low = ap clocks_of (take_more happened i d low) ∙ clocks_of-append (take i happened) (slice_index_or happened i d ∷ [])
+
+-- the clocks of some happenings are those of the first of them, of the next, and of the others
+clocks_around : (happened : List Happening) (i : ℕ) (d : Happening) → i < length happened
+    → clocks_of happened ≡ clocks_of (take i happened) ++ (clocks_of (slice_index_or happened i d ∷ []) ++ clocks_of (drop (i + 1) happened))
+clocks_around happened i d low =
+    ap clocks_of (sym (take-append-drop (i + 1) happened)) ∙ (clocks_of-append (take (i + 1) happened) (drop (i + 1) happened)
+    ∙ (ap (λ l. l ++ clocks_of (drop (i + 1) happened)) (clocks_on happened i d low) ∙ append_assoc (clocks_of (take i happened)) _ _))
+
+-- where the next happening shows another moment than the first that is left, the clocks do not show all moments
+shows_another : (happening : Happening) (left later : List ℕ) → ShowsAnother happening left → left ≢ clocks_of (happening ∷ []) ++ later
+shows_another happening left later another same =
+    another.2 later (same ∙ ap (λ (x : Happening). clocks_of (x ∷ []) ++ later) another.1)
+
+pub not_shown : (happened : List Happening) (i : ℕ) (d : Happening) (left moments : List ℕ) → i < length happened → clocks_of (take i happened) ++ left ≡ moments → ShowsAnother (slice_index_or happened i d) left
+    → clocks_of happened ≢ moments
+not_shown happened i d left moments low shown another same =
+    shows_another (slice_index_or happened i d) left (clocks_of (drop (i + 1) happened)) another
+    (append_cancel_left (clocks_of (take i happened)) left _ (shown ∙ (sym same ∙ clocks_around happened i d low)))
 
 -- one happening more is counted
 pub event_on : (happened : List Happening) (i : ℕ) (d : Happening) (count byte : ℕ) (b : Bool) → i < length happened → count ≡ event_count (take i happened) → b ≡ is_taken (slice_index_or happened i d) → byte ≡ bool_byte b

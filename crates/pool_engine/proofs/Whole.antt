@@ -12,7 +12,7 @@ use Rattle.sched_engine.specs.declared.report.RunError.{RunError}
 use Rattle.sched_engine.specs.declared.report.RunError.TheVariants as x
 use Rattle.sched_engine.proofs.Tries.{no_try}
 use Rattle.pool_engine.specs.ClockLines.{AreAllClocks, EndsReading}
-use Rattle.pool_engine.specs.PoolRuns.{PoolRan, PoolWrote}
+use Rattle.pool_engine.specs.PoolRuns.{LeavesWriter, PoolRan, PoolWrote}
 
 -- what stays is kept
 pub kept : (contents : Option (List ℕ)) → Keeps contents contents
@@ -47,6 +47,19 @@ unwritten x.Workers limit failed fruitless input left ends = absurd ends
 unwritten x.Limit limit failed fruitless input left ends = absurd ends
 unwritten x.Write limit failed fruitless input left ends = absurd ends
 unwritten x.Lost limit failed fruitless input left ends = absurd ends
+
+-- counts that stay say that the writer was not called
+pub uncalled : (result : Result Report RunError) (failed fruitless : ℕ) → LeavesWriter result failed fruitless failed fruitless
+uncalled (Ok r) failed fruitless = tt
+uncalled (Err x.Full) failed fruitless = tt
+uncalled (Err x.Write) failed fruitless = tt
+uncalled (Err x.Lost) failed fruitless = (refl, refl)
+uncalled (Err x.Memory) failed fruitless = (refl, refl)
+uncalled (Err x.Read) failed fruitless = (refl, refl)
+uncalled (Err (x.EventLine n)) failed fruitless = (refl, refl)
+uncalled (Err (x.Plan fault)) failed fruitless = (refl, refl)
+uncalled (Err x.Workers) failed fruitless = (refl, refl)
+uncalled (Err x.Limit) failed fruitless = (refl, refl)
 
 -- all of the input was read, and the pool ran
 pub runs_all : (result : Result Report RunError) (text : List ℕ) (calls : List Planned) (workers limit : ℕ) (input left old new : Option (List ℕ)) (moments : List ℕ) → IsAccepted text calls workers limit

@@ -70,6 +70,14 @@ PoolWrote (Err x.Lost) calls workers limit moments old new = Keeps old new
 PoolWrote (Err x.Memory) calls workers limit moments old new = Keeps old new
 PoolWrote (Err _) calls workers limit moments old new = ⊥
 
+-- at each error with which nothing is written, the counts of the writer stay, as it was not called. With `Full` the text of a run may
+-- be written, so it is left out here
+abbrev pub LeavesWriter : Result Report RunError → ℕ → ℕ → ℕ → ℕ → Type 0
+LeavesWriter (Ok r) failed fruitless failed' fruitless' = Unit {0}
+LeavesWriter (Err x.Full) failed fruitless failed' fruitless' = Unit {0}
+LeavesWriter (Err x.Write) failed fruitless failed' fruitless' = Unit {0}
+LeavesWriter (Err _) failed fruitless failed' fruitless' = (failed' ≡ failed) × (fruitless' ≡ fruitless)
+
 -- the reading ended before the input did, and nothing was written
 abbrev pub EndsUnwritten : RunError → List ℕ → ℕ → ℕ → Option (List ℕ) → Option (List ℕ) → Option (List ℕ) → Option (List ℕ) → Type 0
 EndsUnwritten e text workers limit input left old new =

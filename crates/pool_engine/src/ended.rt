@@ -1,9 +1,9 @@
 //! What is asked of a book once its pool has ended, and its text.
-ghost use Rattle.std.specs.Prelude.{◌≡◌, IfSome, IsTrue, [], ◌∷◌, ◌++◌};
+ghost use Rattle.std.specs.Prelude.{◌≡◌, ◌↔◌, IsTrue, MatchOption, [], ◌∷◌, ◌++◌};
 ghost use Rattle.trace_text.specs.Spelling.{lines_text};
 ghost use Rattle.sched_engine.specs.Ends.{CountsTries};
 ghost use Rattle.pool_engine.specs.PoolRuns.{clocks_of, event_count, is_taken};
-ghost use Rattle.pool_engine.specs.own.Ended.{IsRested, TextWritten};
+ghost use Rattle.pool_engine.specs.own.Ended.{IsRested, ShowsAnother, TextWritten};
 
 use executor_core::{Happening, Line};
 use sched_engine::{Draft, Sink, write_text};
@@ -12,14 +12,14 @@ use worker_pool::{Book, Named};
 
 /// Whether the clocks of a book show just these moments, in order, and nothing is due in it.
 pub fn is_rested<N: Named, A: Allocator>(book: &Book<N, A>, moments: &[u64]) -> bool
-    ensures { IsTrue result → IsRested book.now moments.now }
+    ensures { IsTrue result ↔ IsRested book.now moments.now }
 {
     shows(book.happenings(), moments) && !book.ripe()
 }
 
 /// Whether the clocks among some happenings show just these moments, in order.
 fn shows(happened: &[Happening], moments: &[u64]) -> bool
-    ensures { IsTrue result → clocks_of happened.now ≡ moments.now }
+    ensures { IsTrue result ↔ (clocks_of happened.now ≡ moments.now) }
 {
     let mut left = moments;
     for happening in happened {
@@ -33,7 +33,7 @@ fn shows(happened: &[Happening], moments: &[u64]) -> bool
 
 /// The moments that are left behind those that a happening shows. `None`: it shows another one.
 fn left_behind<'a>(happening: &Happening, moments: &'a [u64]) -> Option<&'a [u64]>
-    ensures { IfSome result (λ rest. clocks_of (happening.now ∷ []) ++ rest.now ≡ moments.now) }
+    ensures { MatchOption result (ShowsAnother happening.now moments.now) (λ rest. clocks_of (happening.now ∷ []) ++ rest.now ≡ moments.now) }
 {
     let Happening::Clock(moment) = *happening else {
         return Some(moments);

@@ -1,11 +1,12 @@
 //! A run by a pool: it reads all of its input, runs the plan, and writes the trace.
-ghost use Rattle.std.specs.Prelude.{◌≡◌, ◌<◌, [], Ok, Err};
+ghost use Rattle.std.specs.Prelude.{◌≡◌, ◌<◌, ◌≤◌, ◌↔◌, ◌⊎◌, [], Ok, Err, IfErr, IsErrOf, MatchResult};
 ghost use Rattle.queue_code.specs.Calls.{task_count};
 ghost use Rattle.queue_code.specs.Codes.{calls_of};
 ghost use Rattle.task_word.specs.Views.{new_core};
 ghost use Rattle.executor_core.specs.Counts.{IsWorkerCount};
 ghost use Rattle.sched_engine.specs.Running.{CountsReader, CountsWriter};
-ghost use Rattle.pool_engine.specs.PoolRuns.{PoolRan, PoolWrote};
+ghost use Rattle.pool_engine.specs.PoolRuns.{LeavesWriter, PoolRan, PoolWrote, event_count};
+ghost use Rattle.pool_engine.specs.own.Ended.{IsRested};
 
 use crate::clocks::read_clocks;
 use crate::ended::{count_events, is_rested, write_lines};
@@ -24,7 +25,9 @@ use worker_pool::{Book, Job, Named, Pool, PoolError, Shared};
 struct RunNumber;
 
 impl Job for RunNumber {
-    fn run(&self, _task: u32, run: u64) -> Ending {
+    fn run(&self, _task: u32, run: u64) -> Ending
+        ensures { result ≡ Ending.Value run }
+    {
         Ending::Value(run)
     }
 }
@@ -50,6 +53,7 @@ struct Asked<'m> {
 ///
 /// A read or write that fails by `Interrupted` is tried again, up to the 1,000th in a row. That one, any other fault, and a write
 /// that takes nothing, is [`RunError::Read`] or [`RunError::Write`], and that end is not called again.
+#[tactic(auto, using(crate::proofs::Whole::uncalled))]
 pub fn run_pool<A: HeapAllocator + Send + Sync, R: Threads + Wait + Sync, S: Source, W: Sink>(
     rt: &R,
     alloc: A,
@@ -62,6 +66,7 @@ pub fn run_pool<A: HeapAllocator + Send + Sync, R: Threads + Wait + Sync, S: Sou
     ensures ran { PoolRan result plan_text.now workers limit (S.remaining reader.old) (S.remaining reader.new) (W.contents writer.old) (W.contents writer.new) }
     ensures read { CountsReader result (S.failed reader.old) (S.fruitless reader.old) (S.failed reader.new) (S.fruitless reader.new) }
     ensures write { CountsWriter result (W.failed writer.old) (W.fruitless writer.old) (W.failed writer.new) (W.fruitless writer.new) }
+    ensures uncalled { LeavesWriter result (W.failed writer.old) (W.fruitless writer.old) (W.failed writer.new) (W.fruitless writer.new) }
 {
     let code = code_of(alloc, plan_text)?;
     if workers == 0 || workers > MOST_WORKERS {
@@ -106,6 +111,7 @@ fn run_named<
     requires draft { draft.old ≡ [] }
     ensures wrote { PoolWrote result N.calls N.workers asked.now.limit asked.now.moments.now (W.contents writer.old) (W.contents writer.new) }
     ensures write { CountsWriter result (W.failed writer.old) (W.fruitless writer.old) (W.failed writer.new) (W.fruitless writer.new) }
+    ensures uncalled { LeavesWriter result (W.failed writer.old) (W.fruitless writer.old) (W.failed writer.new) (W.fruitless writer.new) }
 {
     let made = Pool::<N, A>::new(alloc, shared, seat, code, asked.workers, asked.limit);
     let Ok(pool) = made else {
@@ -132,6 +138,9 @@ fn write_rested<N: Named, A: Allocator, W: Sink>(
     requires draft { draft.old ≡ [] }
     ensures wrote { PoolWrote result N.calls N.workers asked.now.limit asked.now.moments.now (W.contents writer.old) (W.contents writer.new) }
     ensures write { CountsWriter result (W.failed writer.old) (W.fruitless writer.old) (W.failed writer.new) (W.fruitless writer.new) }
+    ensures uncalled { LeavesWriter result (W.failed writer.old) (W.fruitless writer.old) (W.failed writer.new) (W.fruitless writer.new) }
+    ensures lost { IsErrOf result RunError.Lost ↔ ¬ (IsRested book.now asked.now.moments.now × (event_count book.now.happened ≤ asked.now.limit)) }
+    ensures others { IfErr result (λ e. (e ≡ RunError.Lost) ⊎ (e ≡ RunError.Write)) }
 {
     let events = count_events(book.happenings());
     if !is_rested(book, asked.moments) || events > asked.limit as usize {
@@ -157,6 +166,9 @@ fn write_full<N: Named, A: Allocator, W: Sink>(
     requires draft { draft.old ≡ [] }
     ensures wrote { PoolWrote result N.calls N.workers asked.now.limit asked.now.moments.now (W.contents writer.old) (W.contents writer.new) }
     ensures write { CountsWriter result (W.failed writer.old) (W.fruitless writer.old) (W.failed writer.new) (W.fruitless writer.new) }
+    ensures uncalled { LeavesWriter result (W.failed writer.old) (W.fruitless writer.old) (W.failed writer.new) (W.fruitless writer.new) }
+    ensures lost { IsErrOf result RunError.Lost ↔ ¬ (event_count book.now.happened ≡ asked.now.limit) }
+    ensures others { MatchResult result (λ _. ⊥) (λ e. (e ≡ RunError.Lost) ⊎ ((e ≡ RunError.Write) ⊎ (e ≡ RunError.Full))) }
 {
     if count_events(book.happenings()) != asked.limit as usize {
         return Err(RunError::Lost);
