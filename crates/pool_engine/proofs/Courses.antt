@@ -8,11 +8,11 @@ use Rattle.executor_core.specs.declared.Happening.TheVariants as h
 use Rattle.executor_core.proofs.Flowing.{happenings_from, how_many-more}
 use Rattle.queue_code.specs.Calls.{Planned}
 use Rattle.worker_pool.specs.Books.{history_for}
-use Rattle.pool_engine.specs.PoolRuns.{clocks_of, course_of, event_count, is_taken}
+use Rattle.pool_engine.specs.PoolRuns.{clocks_of, happened_in, event_count, is_taken}
 use Rattle.pool_engine.specs.own.Ended.{ShowsAnother}
 
 -- what happened in the history of some happenings is these
-pub course_is : (calls : List Planned) (workers : ℕ) (happened : List Happening) → course_of (history_for calls workers happened) ≡ happened
+pub course_is : (calls : List Planned) (workers : ℕ) (happened : List Happening) → happened_in (history_for calls workers happened) ≡ happened
 course_is calls workers happened =
     ap reverse (happenings_from calls workers [] (reverse happened) ∙ append-nil (reverse happened)) ∙ reverse-reverse happened
 

@@ -18,8 +18,8 @@ use Rattle.pool_engine.specs.ClockLines.{AreAllClocks, EndsReading}
 -- ---- what happened in a history
 
 -- what happened in a history, the oldest first
-abbrev pub course_of : List HistoryEntry → List Happening
-course_of past = reverse (happenings past)
+abbrev pub happened_in : List HistoryEntry → List Happening
+happened_in past = reverse (happenings past)
 
 -- the moments that the clocks among some happenings show
 abbrev pub clocks_of : List Happening → List ℕ
@@ -45,14 +45,14 @@ IsAtRest calls workers past = IsRipe calls (view_of_state calls (after calls wor
 -- a history is one that the calls allow, with the clocks of the input, within the limit, and nothing is due after it
 pub record RunsToRest (calls : List Planned) (workers limit : ℕ) (moments : List ℕ) (past : List HistoryEntry) : Type 0 where
   pub means : IsHistoryOf calls workers past
-  pub clocks : clocks_of (course_of past) ≡ moments
+  pub clocks : clocks_of (happened_in past) ≡ moments
   pub rests : IsAtRest calls workers past
-  pub within : event_count (course_of past) ≤ limit
+  pub within : event_count (happened_in past) ≤ limit
 
 -- a history is one that the calls allow, with as many events as the limit allows
 pub record RunsToLimit (calls : List Planned) (workers limit : ℕ) (past : List HistoryEntry) : Type 0 where
   pub means : IsHistoryOf calls workers past
-  pub full : event_count (course_of past) ≡ limit
+  pub full : event_count (happened_in past) ≡ limit
 
 -- ---- a run
 
@@ -60,7 +60,7 @@ pub record RunsToLimit (calls : List Planned) (workers limit : ℕ) (past : List
 abbrev pub PoolWrote : Result Report RunError → List Planned → ℕ → ℕ → List ℕ → Option (List ℕ) → Option (List ℕ) → Type 0
 PoolWrote (Ok r) calls workers limit moments old new =
     (past : List HistoryEntry) × RunsToRest calls workers limit moments past
-    × (r.events ≡ event_count (course_of past)) × (r.lines ≡ length (lines_of calls past)) × Appends old new (text_of calls past)
+    × (r.events ≡ event_count (happened_in past)) × (r.lines ≡ length (lines_of calls past)) × Appends old new (text_of calls past)
 PoolWrote (Err x.Full) calls workers limit moments old new =
     (past : List HistoryEntry) × RunsToLimit calls workers limit past × Appends old new (text_of calls past)
 PoolWrote (Err x.Write) calls workers limit moments old new =
