@@ -49,7 +49,8 @@ impl Stamp {
         ensures { self.new ≡ moment }
     {
         if self.moment != moment {
-            *self = Stamp::new(moment);
+            self.count = put_number(&mut self.digits, 0, moment);
+            self.moment = moment;
         }
     }
 
