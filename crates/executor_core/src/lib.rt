@@ -103,6 +103,7 @@ mod laws;
 mod limits;
 mod machine;
 mod policies;
+mod room;
 mod sought;
 mod tallies;
 mod task;
@@ -114,6 +115,7 @@ pub use laws::most_workers_is_the_limit;
 pub use limits::MOST_WORKERS;
 pub use machine::Core;
 pub use policies::Policies;
+pub use room::make_room;
 pub use task::{Stage, Task};
 pub use types::{
     Answer, CancelEffect, Event, EventError, Happening, Kind, Line, Message, Need, Outcome, Refusal,

@@ -19,6 +19,7 @@ use crate::agenda::Agenda;
 use crate::error::CoreError;
 use crate::limits::MOST_WORKERS;
 use crate::policies::Policies;
+use crate::room::make_room;
 use crate::sought::Sought;
 use crate::tasks::Tasks;
 use crate::types::{Event, Happening, Line};
@@ -216,19 +217,4 @@ impl<A: Allocator> Core<A> {
             taken: 0,
         })
     }
-}
-
-/// Makes room for `lines` more lines, where there is less.
-fn make_room<B: Allocator>(out: &mut Vec<Line, B>, lines: usize) -> Result<(), AllocError>
-    ensures items { out.new.items ≡ out.old.items }
-    ensures len { vec_len out.new ≡ vec_len out.old }
-    ensures room { OnOk result (vec_len out.new + lines ≤ vec_capacity out.new) }
-    ensures keeps { vec_capacity out.old ≤ vec_capacity out.new }
-    ensures enough { vec_len out.old + lines ≤ vec_capacity out.old → IsOk result × (vec_capacity out.new ≡ vec_capacity out.old) }
-    ensures refused { OnErr result (vec_capacity out.new ≡ vec_capacity out.old) }
-{
-    if lines <= out.capacity() - out.len() {
-        return Ok(());
-    }
-    out.reserve(lines)
 }

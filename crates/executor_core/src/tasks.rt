@@ -130,13 +130,50 @@ impl<A: Allocator> Tasks<A> {
         }
     }
 
+    /// The task of this number, which is not cancelled. What the caller knows of it need not be looked up.
+    fn get_live(&self, task: usize) -> Task
+        requires known { task < length self.now }
+        requires live { (slice_index_or self.now task vacant).cancelled ≡ false }
+        ensures { result ≡ slice_index_or self.now task vacant }
+    {
+        Task {
+            cancelled: false,
+            ..self.get(task)
+        }
+    }
+
+    /// The task of this number, which waits and is not cancelled. What the caller knows of it need not be looked up.
+    fn get_waiting(&self, task: usize) -> Task
+        requires known { task < length self.now }
+        requires phase { (slice_index_or self.now task vacant).phase ≡ ph.Waiting }
+        requires live { (slice_index_or self.now task vacant).cancelled ≡ false }
+        ensures { result ≡ slice_index_or self.now task vacant }
+    {
+        Task {
+            phase: Stage::Waiting,
+            ..self.get_live(task)
+        }
+    }
+
+    /// The task of this number, of which a run is under way. What the caller knows of it need not be looked up.
+    fn get_running(&self, task: usize) -> Task
+        requires known { task < length self.now }
+        requires phase { (slice_index_or self.now task vacant).phase ≡ ph.Running }
+        ensures { result ≡ slice_index_or self.now task vacant }
+    {
+        Task {
+            phase: Stage::Running,
+            ..self.get(task)
+        }
+    }
+
     /// A task is submitted, timed so, and first due at this moment.
     pub(crate) fn submit(&mut self, task: usize, timing: Timing, due: u64)
         requires known { task < length self.old }
         requires vacant { slice_index_or self.old task vacant ≡ vacant }
         ensures { self.new ≡ slice_set self.old task (submit_task timing due vacant) }
     {
-        let before = self.get(task);
+        let before = vacant();
         let after = Task {
             phase: Stage::Waiting,
             timing,
@@ -160,7 +197,7 @@ impl<A: Allocator> Tasks<A> {
         requires live { (slice_index_or self.old task vacant).cancelled ≡ false }
         ensures { self.new ≡ slice_set self.old task (record (slice_index_or self.old task vacant) { phase = ph.Running }) }
     {
-        let before = self.get(task);
+        let before = self.get_waiting(task);
         let after = Task {
             phase: Stage::Running,
             ..before
@@ -171,6 +208,7 @@ impl<A: Allocator> Tasks<A> {
     }
 
     /// The run of a task ends with this outcome, and the run after it is due at this moment.
+    #[inline(always)]
     pub(crate) fn finish(&mut self, task: usize, outcome: Outcome, due: u64)
         requires known { task < length self.old }
         requires phase { (slice_index_or self.old task vacant).phase ≡ ph.Running }
@@ -178,7 +216,7 @@ impl<A: Allocator> Tasks<A> {
         requires run { (slice_index_or self.old task vacant).run + 1 < 2 ^ 32 }
         ensures { self.new ≡ slice_set self.old task (end_task outcome due (slice_index_or self.old task vacant)) }
     {
-        let before = self.get(task);
+        let before = self.get_running(task);
         let after = end_task(outcome, due, before);
         let word = self.words[task];
         self.words[task] = match outcome {
@@ -202,7 +240,7 @@ impl<A: Allocator> Tasks<A> {
         requires live { (slice_index_or self.old task vacant).cancelled ≡ false }
         ensures { self.new ≡ slice_set self.old task (record (slice_index_or self.old task vacant) { cancelled = true }) }
     {
-        let before = self.get(task);
+        let before = self.get_live(task);
         let after = Task {
             cancelled: true,
             ..before
@@ -217,6 +255,20 @@ impl<A: Allocator> Tasks<A> {
         ensures { self.new ≡ slice_set self.old task (record (slice_index_or self.old task vacant) { kept = kept }) }
     {
         self.details[task].kept = kept;
+    }
+}
+
+/// A task that was not submitted.
+fn vacant() -> Task
+    ensures { result ≡ vacant }
+{
+    Task {
+        phase: Stage::Vacant,
+        run: 0,
+        due: 0,
+        timing: Timing::Once,
+        cancelled: false,
+        kept: false,
     }
 }
 

@@ -14,7 +14,7 @@ ghost use Rattle.worker_pool.specs.own.Moves.{WasMet};
 ghost use Rattle.worker_pool.specs.own.Steps.{IsKept, past_in, Comes, need_in, HasRoom, SamePlan, OnlyOwnGrows, OnlyNoted, Notes, Passes, Completes, MovesOn, part_in, SweepsUpTo};
 
 use crate::moving::move_word;
-use executor_core::{Answer, Core, Event, Happening, Line, Message, Need};
+use executor_core::{Answer, Core, Event, Happening, Line, Message, Need, make_room};
 use std::alloc::{AllocError, Allocator};
 use task_word::{CoreCancel, CoreSeat, TaskWords};
 
@@ -37,8 +37,8 @@ impl<A: Allocator> Desk<A> {
         ensures room { OnOk result (HasRoom self.new.core (vec_len self.new.lines) (vec_capacity self.new.lines) (vec_len self.new.happenings) (vec_capacity self.new.happenings)) }
     {
         let room = self.core.room();
-        self.happenings.reserve(room)?;
-        self.lines.reserve(room)
+        make_room(&mut self.happenings, room)?;
+        make_room(&mut self.lines, room)
     }
 
     /// Notes a cancel that the seat met: the core cancels the task from outside.

@@ -59,6 +59,7 @@ impl<A: Allocator> Core<A> {
     }
 
     /// The word moves of a happening; of a call where none is left, `Nothing`.
+    #[inline(always)]
     pub fn need(&self, happening: Happening) -> Need
         ensures { result ≡ need_of self.now.calls (workers_of self.now) (state_of self.now) happening }
     {

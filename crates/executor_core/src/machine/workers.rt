@@ -45,6 +45,7 @@ impl<A: Allocator> Core<A> {
     }
 
     /// What a worker that asks for work is answered.
+    #[inline(always)]
     fn answer_start(&mut self, worker: u8) -> Answer
         requires { RunsBelowTaken self.old (need_of self.old.calls (workers_of self.old) (state_of self.old) (happening.Start worker)) }
         ensures step { Takes self.old self.new (happening.Start worker) result }
@@ -106,6 +107,7 @@ impl<A: Allocator> Core<A> {
     }
 
     /// What a worker whose run ended is answered.
+    #[inline(always)]
     fn answer_finish(&mut self, worker: u8, ending: Ending) -> Answer
         ensures step { Takes self.old self.new (happening.Finish worker ending) result }
         ensures size { length self.new.tasks ≡ length self.old.tasks }
@@ -161,6 +163,7 @@ fn outcome_in(cancelled: bool, stops: bool, next: Option<u64>, ending: Ending) -
 
 /// The run of a task ends with this outcome, and the run after it is due at this moment: the task is cancelled where
 /// it does not go on.
+#[inline(always)]
 fn end_run<A: Allocator>(tasks: &mut Tasks<A>, task: usize, outcome: Outcome, due: u64)
     requires known { task < length tasks.old }
     requires phase { (slice_index_or tasks.old task vacant).phase ≡ ph.Running }

@@ -1,6 +1,6 @@
 //! Which calls take memory, and what a refusal gives back, over a heap of fixed size.
 use super::{code_of, core_of, give, nanos, refusal_of, submission, submissions};
-use executor_core::{Core, CoreError, Event, Line};
+use executor_core::{Core, CoreError, Event, Line, make_room};
 use linked_list_allocator::LocalHeap;
 use queue_code::Instr;
 use sched_time::{Ending, Timing, Which};
@@ -89,6 +89,24 @@ fn events_with_room_take_no_memory(rt: HostRuntime) -> Result<(), Fail> {
         Event::Clock(1),
     ];
     takes_no_memory(&rt, &instrs, 20, &events, (13, 9, 9, 3))
+}
+
+#[test]
+fn room_is_made_where_there_is_less(rt: HostRuntime) -> Result<(), Fail> {
+    let heap = LocalHeap::new(rt.alloc(), 1 << 10)?;
+    let mut list = Vec::with_capacity(&heap, 4)?;
+    list.push(7u64)?;
+    list.push(8)?;
+    let used = heap.used();
+    make_room(&mut list, 2)?;
+    assert_eq!(rt; (list.capacity(), heap.used()), (4, used));
+    make_room(&mut list, 3)?;
+    let grown = (list.capacity(), heap.used());
+    assert!(rt; grown.0 >= 5);
+    assert!(rt; make_room(&mut list, 1 << 10).is_err());
+    assert_eq!(rt; (list.capacity(), heap.used()), grown);
+    assert_eq!(rt; &list[..], &[7, 8][..]);
+    Ok(())
 }
 
 /// Three tasks, and then what ends them all: five calls.

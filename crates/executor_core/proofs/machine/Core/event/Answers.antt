@@ -15,13 +15,13 @@ pub loop-self-init : goal.loop-self-init
 loop-self-init g c =
     let old = c.args.self.now in
     let counted = c.count.new.self in
-    let lines = c.make_room.new.out.items in
-    let fits : vec_len c.make_room.new.out + room_of old ≤ vec_capacity c.make_room.new.out = search rules in
+    let lines = c.make_room.new.list.items in
+    let fits : vec_len c.make_room.new.list + room_of old ≤ vec_capacity c.make_room.new.list = search rules in
     record {
       taken = refl;
       counted = c.count.ensures.runs;
       capacity = refl;
-      room = subst (λ (m : CoreView). vec_len c.make_room.new.out + room_of m ≤ vec_capacity c.make_room.new.out) (sym c.count.ensures.same) fits;
+      room = subst (λ (m : CoreView). vec_len c.make_room.new.list + room_of m ≤ vec_capacity c.make_room.new.list) (sym c.count.ensures.same) fits;
       steps = (
         [],
         subst (λ l. Steps old counted l lines []) c.make_room.ensures.items (uncounted old counted counted lines lines [] c.count.ensures.same (no_steps counted lines)),

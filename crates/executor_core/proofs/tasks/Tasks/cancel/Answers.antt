@@ -24,10 +24,10 @@ returns g c =
 pub recount-self-inside-requires : goal.recount-self-inside-requires
 recount-self-inside-requires g c =
     let m = c.self.inside in
-    tables_count m.words.items m.details.items c.args.self.now m.tallies c.args.task c.get-before.result c.self.invariant c.self.view_is c.requires.known c.get-before.ensures
+    tables_count m.words.items m.details.items c.args.self.now m.tallies c.args.task c.get_live-before.result c.self.invariant c.self.view_is c.requires.known c.get_live-before.ensures
 
 pub invariant_of-self : goal.invariant_of-self
 invariant_of-self g c =
     let m = c.self.inside in
-    tables_recounted m.words.items _ m.details.items m.details.items c.args.self.now m.tallies c.recount-self-inside.result c.args.task c.get-before.result _ c.self.invariant c.self.view_is (length-set m.words.items c.args.task c.with_cancel_bit.result) refl
-    (returns g c ∙ ap (λ (t : Task). slice_set c.args.self.now c.args.task (record t { cancelled = true })) (sym c.get-before.ensures)) c.requires.known c.get-before.ensures c.recount-self-inside.ensures
+    tables_recounted m.words.items _ m.details.items m.details.items c.args.self.now m.tallies c.recount-self-inside.result c.args.task c.get_live-before.result _ c.self.invariant c.self.view_is (length-set m.words.items c.args.task c.with_cancel_bit.result) refl
+    (returns g c ∙ ap (λ (t : Task). slice_set c.args.self.now c.args.task (record t { cancelled = true })) (sym c.get_live-before.ensures)) c.requires.known c.get_live-before.ensures c.recount-self-inside.ensures

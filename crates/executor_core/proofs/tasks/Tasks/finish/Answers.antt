@@ -65,16 +65,16 @@ index_mut-requires-2 g c =
 pub recount-self-inside-requires : goal.recount-self-inside-requires
 recount-self-inside-requires g c =
     let m = c.self.inside in
-    tables_count m.words.items m.details.items c.args.self.now m.tallies c.args.task c.get-before.result c.self.invariant c.self.view_is c.requires.known c.get-before.ensures
+    tables_count m.words.items m.details.items c.args.self.now m.tallies c.args.task c.get_running-before.result c.self.invariant c.self.view_is c.requires.known c.get_running-before.ensures
 
 pub returns : goal.returns
 returns g c =
     let m = c.self.inside in
     let word = c.index-word.result.now in
-    let before = c.get-before.result in
+    let before = c.get_running-before.result in
     let over = c.eq.result in
     let runs = word_runs m.words.items m.details.items c.args.self.now c.args.task word c.self.invariant.paired c.self.view_is c.requires.known c.index-word.ensures c.requires.phase in
-    let there = word_there m.words.items m.details.items c.args.self.now c.args.task word before c.self.invariant.paired c.self.view_is c.requires.known c.index-word.ensures c.get-before.ensures in
+    let there = word_there m.words.items m.details.items c.args.self.now c.args.task word before c.self.invariant.paired c.self.view_is c.requires.known c.index-word.ensures c.get_running-before.ensures in
     both_sets m.words.items m.details.items c.args.self.now c.args.task _ (detail_past before c.args.due over) _ c.self.invariant.paired c.self.view_is
     (elim c.match-outcome.branch [
       | in-Done w ↦ ended_done c.args.due word _ over c.args.outcome before there w.in-Done.is (w.t-18-is ∙ w.done.ensures)
@@ -84,12 +84,12 @@ returns g c =
           let ended = end_over c.args.outcome c.args.due before w.in-Dropped.is in
           let phase : c.end_task-after.result.phase ≡ ph.Dropped = ap (λ (t : Task). t.phase) (c.end_task-after.ensures ∙ ended) in
           ended_over c.args.due word _ over c.args.outcome before there ended (rw phase at c.eq.ensures) runs w.t-18-is
-    ] ∙ ap (end_task c.args.outcome c.args.due) c.get-before.ensures)
+    ] ∙ ap (end_task c.args.outcome c.args.due) c.get_running-before.ensures)
 
 pub invariant_of-self : goal.invariant_of-self
 invariant_of-self g c =
     let m = c.self.inside in
-    let after = c.end_task-after.ensures ∙ ap (end_task c.args.outcome c.args.due) c.get-before.ensures in
-    tables_recounted m.words.items _ m.details.items _ c.args.self.now m.tallies c.recount-self-inside.result c.args.task c.get-before.result c.end_task-after.result c.self.invariant c.self.view_is (length-set m.words.items c.args.task _) (length-set m.details.items c.args.task _)
+    let after = c.end_task-after.ensures ∙ ap (end_task c.args.outcome c.args.due) c.get_running-before.ensures in
+    tables_recounted m.words.items _ m.details.items _ c.args.self.now m.tallies c.recount-self-inside.result c.args.task c.get_running-before.result c.end_task-after.result c.self.invariant c.self.view_is (length-set m.words.items c.args.task _) (length-set m.details.items c.args.task _)
     (returns g c ∙ ap (slice_set c.args.self.now c.args.task) (sym after))
-    c.requires.known c.get-before.ensures c.recount-self-inside.ensures
+    c.requires.known c.get_running-before.ensures c.recount-self-inside.ensures

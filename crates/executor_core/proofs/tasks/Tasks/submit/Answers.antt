@@ -1,6 +1,5 @@
-use Rattle.std.proofs.Common.{◌≡◌, ap, arith, sym, ◌∙◌}
+use Rattle.std.proofs.Common.{ap, arith, sym, ◌∙◌}
 use Rattle.std.specs.Prelude.{slice_set}
-use Rattle.executor_core.specs.State.{vacant}
 use Rattle.executor_core.specs.declared.task.Stage.TheVariants as ph
 use Rattle.executor_core.specs.declared.task.Task.{Task}
 use Rattle.executor_core.proofs.Pairs.{is_in, word_vacant, submit_sets}
@@ -36,12 +35,11 @@ returns g c =
 pub recount-self-inside-requires : goal.recount-self-inside-requires
 recount-self-inside-requires g c =
     let m = c.self.inside in
-    tables_count m.words.items m.details.items c.args.self.now m.tallies c.args.task c.get-before.result c.self.invariant c.self.view_is c.requires.known c.get-before.ensures
+    tables_count m.words.items m.details.items c.args.self.now m.tallies c.args.task c.vacant-before.result c.self.invariant c.self.view_is c.requires.known (c.vacant-before.ensures ∙ sym c.requires.vacant)
 
 pub invariant_of-self : goal.invariant_of-self
 invariant_of-self g c =
     let m = c.self.inside in
-    let vacant : c.get-before.result ≡ vacant = c.get-before.ensures ∙ c.requires.vacant in
-    tables_recounted m.words.items _ m.details.items _ c.args.self.now m.tallies c.recount-self-inside.result c.args.task c.get-before.result _ c.self.invariant c.self.view_is (length-set m.words.items c.args.task c.submitted.result) (length-set m.details.items c.args.task _)
-    (returns g c ∙ ap (λ (t : Task). slice_set c.args.self.now c.args.task (record t { phase = ph.Waiting; timing = c.args.timing; due = c.args.due })) (sym vacant))
-    c.requires.known c.get-before.ensures c.recount-self-inside.ensures
+    tables_recounted m.words.items _ m.details.items _ c.args.self.now m.tallies c.recount-self-inside.result c.args.task c.vacant-before.result _ c.self.invariant c.self.view_is (length-set m.words.items c.args.task c.submitted.result) (length-set m.details.items c.args.task _)
+    (returns g c ∙ ap (λ (t : Task). slice_set c.args.self.now c.args.task (record t { phase = ph.Waiting; timing = c.args.timing; due = c.args.due })) (sym c.vacant-before.ensures))
+    c.requires.known (c.vacant-before.ensures ∙ sym c.requires.vacant) c.recount-self-inside.ensures
