@@ -1,6 +1,9 @@
 -- Runs: what an ended book tells of the run of its pool.
-use Rattle.std.proofs.Common.{◌≡◌, ℕ, ◌≤◌, List, Option, Ok, Err, length, take, inl, inr, ap, ◌∙◌, sym, subst, arith}
+use Rattle.std.proofs.Common.{◌≡◌, ℕ, ◌^◌, ◌≤◌, List, Option, Ok, Err, length, take, inl, inr, ap, ◌∙◌, sym, subst, arith}
+use Rattle.std.specs.Prelude.{All}
 use Rattle.std.specs.Io.KnownBytes.{Appends}
+use Rattle.executor_core.specs.declared.Happening.{Happening}
+use Rattle.trace_check.specs.Laws.{FitsHappening}
 use Rattle.executor_core.specs.declared.Line.{Line}
 use Rattle.executor_core.specs.CoreView.{workers_of}
 use Rattle.executor_core.specs.Needs.{IsRipe}
@@ -14,6 +17,7 @@ use Rattle.sched_engine.specs.Running.{text_of}
 use Rattle.pool_engine.specs.PoolRuns.{PoolWrote, RunsToLimit, RunsToRest, clocks_of, event_count}
 use Rattle.pool_engine.specs.own.Ended.{IsRested}
 use Rattle.pool_engine.proofs.Courses.{course_is}
+use Rattle.pool_engine.proofs.Fits.{history_fits, history_short}
 
 -- what holds of the calls and the workers of a book, holds of those that have their names
 named : (P : List Planned → ℕ → Type 0) (b : BookView) (calls : List Planned) (workers : ℕ) → (b.core.calls ≡ calls) × (workers_of b.core ≡ workers) → P b.core.calls (workers_of b.core) → P calls workers
@@ -23,22 +27,35 @@ named P b calls workers is p = subst (P calls) is.1 (subst (λ (cs : List Planne
 text_is : (cells : List ℕ) (b : BookView) (lines : List Line) → IsBook cells b → lines ≡ b.lines → lines_text lines ≡ text_of b.core.calls (past_of b)
 text_is cells b lines book same = ap lines_text (same ∙ book.written)
 
+-- what happened in a book fits, and is not too much
+pub record FitsBook (b : BookView) : Type 0 where
+  pub fit : All FitsHappening b.happened
+  pub short : length b.happened ≤ 2 ^ 64
+
+-- what a list shows that is a book's
+pub book_fits : (b : BookView) (happened : List Happening) → happened ≡ b.happened → All FitsHappening happened → length happened ≤ 2 ^ 64 → FitsBook b
+book_fits b happened same fit short = record { fit = subst (All FitsHappening) same fit; short = subst (λ (l : List Happening). length l ≤ 2 ^ 64) same short }
+
 -- a book is at rest, and has no more events than the limit allows
-rested : (cells : List ℕ) (b : BookView) (limit events : ℕ) (moments : List ℕ) → IsBook cells b → IsRested b moments → events ≡ event_count b.happened → events ≤ limit
+rested : (cells : List ℕ) (b : BookView) (limit events : ℕ) (moments : List ℕ) → IsBook cells b → FitsBook b → IsRested b moments → events ≡ event_count b.happened → events ≤ limit
     → RunsToRest b.core.calls (workers_of b.core) limit moments (past_of b)
-rested cells b limit events moments book at_rest count few =
+rested cells b limit events moments book fits at_rest count few =
     let course = course_is b.core.calls (workers_of b.core) b.happened in
     record {
       means = book.means;
+      fit = history_fits b.core.calls (workers_of b.core) b.happened fits.fit;
+      short = history_short b.core.calls (workers_of b.core) b.happened fits.short;
       clocks = ap clocks_of course ∙ at_rest.clocks;
       rests = λ due. at_rest.rests (subst (λ s. IsRipe b.core.calls (view_of_state b.core.calls s)) (sym book.stands) due);
       within = omega (arith, few, count, ap event_count course);
     }
 
 -- a book has as many events as the limit allows
-at_limit : (cells : List ℕ) (b : BookView) (limit : ℕ) → IsBook cells b → event_count b.happened ≡ limit → RunsToLimit b.core.calls (workers_of b.core) limit (past_of b)
-at_limit cells b limit book full = record {
+at_limit : (cells : List ℕ) (b : BookView) (limit : ℕ) → IsBook cells b → FitsBook b → event_count b.happened ≡ limit → RunsToLimit b.core.calls (workers_of b.core) limit (past_of b)
+at_limit cells b limit book fits full = record {
   means = book.means;
+  fit = history_fits b.core.calls (workers_of b.core) b.happened fits.fit;
+  short = history_short b.core.calls (workers_of b.core) b.happened fits.short;
   full = ap event_count (course_is b.core.calls (workers_of b.core) b.happened) ∙ full;
 }
 
@@ -46,12 +63,12 @@ at_limit cells b limit book full = record {
 
 -- the whole text of a book at rest
 pub wrote_rested : (cells : List ℕ) (b : BookView) (calls : List Planned) (workers limit : ℕ) (moments : List ℕ) (lines : List Line) (report : Report) (old new : Option (List ℕ))
-    → IsBook cells b → (b.core.calls ≡ calls) × (workers_of b.core ≡ workers) → IsRested b moments → report.events ≡ event_count b.happened → report.events ≤ limit → lines ≡ b.lines → report.lines ≡ length lines
+    → IsBook cells b → FitsBook b → (b.core.calls ≡ calls) × (workers_of b.core ≡ workers) → IsRested b moments → report.events ≡ event_count b.happened → report.events ≤ limit → lines ≡ b.lines → report.lines ≡ length lines
     → Appends old new (lines_text lines) → PoolWrote (Ok report) calls workers limit moments old new
-wrote_rested cells b calls workers limit moments lines report old new book is at_rest count few said long wrote =
+wrote_rested cells b calls workers limit moments lines report old new book fits is at_rest count few said long wrote =
     named (λ cs k. PoolWrote (Ok report) cs k limit moments old new) b calls workers is (
       past_of b,
-      rested cells b limit report.events moments book at_rest count few,
+      rested cells b limit report.events moments book fits at_rest count few,
       count ∙ ap event_count (sym (course_is b.core.calls (workers_of b.core) b.happened)),
       long ∙ ap length (said ∙ book.written),
       subst (Appends old new) (text_is cells b lines book said) wrote,
@@ -59,35 +76,35 @@ wrote_rested cells b calls workers limit moments lines report old new book is at
 
 -- a front of it
 pub cut_rested : (cells : List ℕ) (b : BookView) (calls : List Planned) (workers limit events : ℕ) (moments : List ℕ) (lines : List Line) (old new : Option (List ℕ))
-    → IsBook cells b → (b.core.calls ≡ calls) × (workers_of b.core ≡ workers) → IsRested b moments → events ≡ event_count b.happened → events ≤ limit → lines ≡ b.lines
+    → IsBook cells b → FitsBook b → (b.core.calls ≡ calls) × (workers_of b.core ≡ workers) → IsRested b moments → events ≡ event_count b.happened → events ≤ limit → lines ≡ b.lines
     → (n : ℕ) × Appends old new (take n (lines_text lines)) → PoolWrote (Err x.Write) calls workers limit moments old new
-cut_rested cells b calls workers limit events moments lines old new book is at_rest count few said wrote =
+cut_rested cells b calls workers limit events moments lines old new book fits is at_rest count few said wrote =
     named (λ cs k. PoolWrote (Err x.Write) cs k limit moments old new) b calls workers is (
       past_of b,
-      inl (rested cells b limit events moments book at_rest count few),
+      inl (rested cells b limit events moments book fits at_rest count few),
       wrote.0,
       subst (λ (l : List ℕ). Appends old new (take wrote.0 l)) (text_is cells b lines book said) wrote.1,
     )
 
 -- the whole text of a book at its limit
 pub wrote_full : (cells : List ℕ) (b : BookView) (calls : List Planned) (workers limit : ℕ) (moments : List ℕ) (lines : List Line) (old new : Option (List ℕ))
-    → IsBook cells b → (b.core.calls ≡ calls) × (workers_of b.core ≡ workers) → event_count b.happened ≡ limit → lines ≡ b.lines
+    → IsBook cells b → FitsBook b → (b.core.calls ≡ calls) × (workers_of b.core ≡ workers) → event_count b.happened ≡ limit → lines ≡ b.lines
     → Appends old new (lines_text lines) → PoolWrote (Err x.Full) calls workers limit moments old new
-wrote_full cells b calls workers limit moments lines old new book is full said wrote =
+wrote_full cells b calls workers limit moments lines old new book fits is full said wrote =
     named (λ cs k. PoolWrote (Err x.Full) cs k limit moments old new) b calls workers is (
       past_of b,
-      at_limit cells b limit book full,
+      at_limit cells b limit book fits full,
       subst (Appends old new) (text_is cells b lines book said) wrote,
     )
 
 -- a front of it
 pub cut_full : (cells : List ℕ) (b : BookView) (calls : List Planned) (workers limit : ℕ) (moments : List ℕ) (lines : List Line) (old new : Option (List ℕ))
-    → IsBook cells b → (b.core.calls ≡ calls) × (workers_of b.core ≡ workers) → event_count b.happened ≡ limit → lines ≡ b.lines
+    → IsBook cells b → FitsBook b → (b.core.calls ≡ calls) × (workers_of b.core ≡ workers) → event_count b.happened ≡ limit → lines ≡ b.lines
     → (n : ℕ) × Appends old new (take n (lines_text lines)) → PoolWrote (Err x.Write) calls workers limit moments old new
-cut_full cells b calls workers limit moments lines old new book is full said wrote =
+cut_full cells b calls workers limit moments lines old new book fits is full said wrote =
     named (λ cs k. PoolWrote (Err x.Write) cs k limit moments old new) b calls workers is (
       past_of b,
-      inr (at_limit cells b limit book full),
+      inr (at_limit cells b limit book fits full),
       wrote.0,
       subst (λ (l : List ℕ). Appends old new (take wrote.0 l)) (text_is cells b lines book said) wrote.1,
     )

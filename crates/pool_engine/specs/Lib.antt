@@ -9,4 +9,5 @@ pub use Rattle.sched_engine.specs.Inputs
 pub use Rattle.sched_engine.specs.Running
 pub mod ClockLines
 pub mod PoolRuns
+pub mod Laws
 pub mod own

@@ -1,6 +1,6 @@
 -- What a run by a pool reads and writes.
 -- All of it is this project's rule.
-use Rattle.std.specs.Prelude.{◌≡◌, ℕ, ◌≤◌, Bool, true, false, List, [], ◌∷◌, ◌⊎◌, Option, Result, Ok, Err, length, reverse, take}
+use Rattle.std.specs.Prelude.{◌≡◌, ℕ, ◌^◌, ◌≤◌, All, Bool, true, false, List, [], ◌∷◌, ◌⊎◌, Option, Result, Ok, Err, length, reverse, take}
 use Rattle.std.specs.Io.KnownBytes.{Appends, Keeps}
 use Rattle.executor_core.specs.declared.Happening.{Happening}
 use Rattle.executor_core.specs.declared.Happening.TheVariants as h
@@ -9,6 +9,7 @@ use Rattle.executor_core.specs.Flows.{lines_of}
 use Rattle.executor_core.specs.Needs.{IsRipe}
 use Rattle.executor_core.specs.State.{after, view_of_state}
 use Rattle.queue_code.specs.Calls.{Planned, how_many}
+use Rattle.trace_check.specs.Laws.{FitsHappening}
 use Rattle.sched_engine.specs.declared.report.Report.{Report}
 use Rattle.sched_engine.specs.declared.report.RunError.{RunError}
 use Rattle.sched_engine.specs.declared.report.RunError.TheVariants as x
@@ -42,16 +43,22 @@ event_count happened = how_many is_taken happened
 abbrev pub IsAtRest : List Planned → ℕ → List HistoryEntry → Type 0
 IsAtRest calls workers past = IsRipe calls (view_of_state calls (after calls workers (happenings past))) → ⊥
 
--- a history is one that the calls allow, with the clocks of the input, within the limit, and nothing is due after it
+-- a history is one that the calls allow, with the clocks of the input, within the limit, and nothing is due after it. What it
+-- hands in fits, and it is no longer than 2^64: so its text conforms, as a law says
 pub record RunsToRest (calls : List Planned) (workers limit : ℕ) (moments : List ℕ) (past : List HistoryEntry) : Type 0 where
   pub means : IsHistoryOf calls workers past
+  pub fit : All FitsHappening (happenings past)
+  pub short : length past ≤ 2 ^ 64
   pub clocks : clocks_of (happened_in past) ≡ moments
   pub rests : IsAtRest calls workers past
   pub within : event_count (happened_in past) ≤ limit
 
--- a history is one that the calls allow, with as many events as the limit allows
+-- a history is one that the calls allow, with as many events as the limit allows; what it hands in fits, and it is no longer
+-- than 2^64
 pub record RunsToLimit (calls : List Planned) (workers limit : ℕ) (past : List HistoryEntry) : Type 0 where
   pub means : IsHistoryOf calls workers past
+  pub fit : All FitsHappening (happenings past)
+  pub short : length past ≤ 2 ^ 64
   pub full : event_count (happened_in past) ≡ limit
 
 -- ---- a run

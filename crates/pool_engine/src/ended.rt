@@ -1,12 +1,14 @@
 //! What is asked of a book once its pool has ended, and its text.
-ghost use Rattle.std.specs.Prelude.{◌≡◌, ◌↔◌, IsTrue, MatchOption, [], ◌∷◌, ◌++◌};
+ghost use Rattle.std.specs.Prelude.{◌≡◌, ◌^◌, ◌≤◌, ◌↔◌, All, length, IsTrue, MatchOption, [], ◌∷◌, ◌++◌};
 ghost use Rattle.trace_text.specs.Spelling.{lines_text};
+ghost use Rattle.trace_check.specs.Laws.{FitsHappening};
 ghost use Rattle.sched_engine.specs.Ends.{CountsTries};
 ghost use Rattle.pool_engine.specs.PoolRuns.{clocks_of, event_count, is_taken};
 ghost use Rattle.pool_engine.specs.own.Ended.{IsRested, ShowsAnother, TextWritten};
 
 use executor_core::{Happening, Line};
 use sched_engine::{Draft, Sink, write_text};
+use sched_time::Ending;
 use std::alloc::Allocator;
 use worker_pool::{Book, Named};
 
@@ -47,10 +49,14 @@ fn left_behind<'a>(happening: &Happening, moments: &'a [u64]) -> Option<&'a [u64
 
 /// How many of some happenings are events.
 pub fn count_events(happened: &[Happening]) -> usize
-    ensures { result ≡ event_count happened.now }
+    ensures count { result ≡ event_count happened.now }
+    ensures fit { All FitsHappening happened.now }
+    ensures short { length happened.now ≤ 2 ^ 64 }
 {
+    let _length = happened.len();
     let mut count = 0;
     for happening in happened {
+        prove_fits(happening);
         count += usize::from(is_taken(happening));
     }
     count
@@ -64,6 +70,18 @@ fn is_taken(happening: &Happening) -> bool
         happening,
         Happening::Clock(_) | Happening::Start(_) | Happening::Finish(..)
     )
+}
+
+/// What a happening hands in is in the range of its type.
+fn prove_fits(happening: &Happening)
+    ensures { FitsHappening happening.now }
+{
+    if let Happening::Finish(_, ending) = *happening {
+        match ending {
+            Ending::Value(_value) => {}
+            Ending::Fault(_code) => {}
+        }
+    }
 }
 
 /// Writes the text of some lines. `false` is a fault of the sink, after a front of the text was written.

@@ -52,14 +52,16 @@
 //! # Tests
 //!
 //! They stand in `src/tests.rt` and `src/tests`: answers and texts of runs by one worker, runs by many, whose texts go through
-//! [`check`](trace_check::check), and ends that follow a script, of the crate `scripted_ends`. `plan_read` and
-//! `trace_check` are for tests alone.
+//! [`check`](trace_check::check), and ends that follow a script, of the crate `scripted_ends`. `plan_read` is for tests alone, and
+//! `trace_check` for them and for the law [`pool_runs_conform`].
 #![tactic(auto)]
 
 mod clocks;
 mod ended;
+mod laws;
 mod pooled;
 #[cfg(test)]
 mod tests;
 
+pub use laws::pool_runs_conform;
 pub use pooled::run_pool;

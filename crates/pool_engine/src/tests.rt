@@ -104,6 +104,36 @@ fn writes_the_trace(rt: HostRuntime) -> Result<(), Fail> {
     Ok(())
 }
 
+/// The clock shows a moment once all that is due at the one before has run; and the value is the run's number, not the task's.
+#[test]
+fn a_clock_waits_for_the_moment_before(rt: HostRuntime) {
+    answers(
+        &rt,
+        "version = 1
+[[block]]
+call = [
+  { op = \"schedule\", name = \"a\", delay = 0 },
+  { op = \"schedule\", name = \"b\", delay = 5 },
+]
+",
+        100,
+        CLOCKS,
+        Ok(Report {
+            events: 6,
+            lines: 8,
+        }),
+        "0 submit 0 schedule due 0
+0 submit 1 schedule due 5
+0 clock
+0 start 0 task 0 run 0 due 0
+0 finish 0 task 0 run 0 done 0
+5 clock
+5 start 0 task 1 run 0 due 5
+5 finish 0 task 1 run 0 done 0
+",
+    );
+}
+
 /// The run of a task that goes on at a fixed rate has the number of the run for its value, and goes on until nothing is due.
 #[test]
 fn runs_what_is_due_at_each_moment(rt: HostRuntime) {
