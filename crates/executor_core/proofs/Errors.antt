@@ -4,7 +4,6 @@ use Rattle.std.specs.Prelude.{slice_get, slice_index_or, max, replicate}
 use Rattle.std.specs.Option.{option_map_or}
 use Rattle.std.proofs.lemmas.Bool.Decides.{nat_tests}
 use Rattle.queue_code.specs.declared.call.CodeCall.{CodeCall}
-use Rattle.queue_code.specs.declared.call.CodeCall.TheVariants as c
 use Rattle.executor_core.specs.declared.types.Event.{Event}
 use Rattle.executor_core.specs.declared.types.Event.TheVariants as v
 use Rattle.executor_core.specs.declared.types.EventError.{EventError}
@@ -14,16 +13,16 @@ use Rattle.executor_core.specs.declared.types.Happening.TheVariants as h
 use Rattle.executor_core.specs.declared.types.Line.{Line}
 use Rattle.executor_core.specs.declared.types.Answer.{Answer}
 use Rattle.executor_core.specs.declared.types.Answer.TheVariants as a
-use Rattle.executor_core.specs.declared.types.Refusal.TheVariants as refusal
-use Rattle.queue_code.specs.Calls.{Planned, terms_of, due_at}
+use Rattle.queue_code.specs.Calls.{Planned, terms_of}
 use Rattle.executor_core.specs.View.{View}
 use Rattle.executor_core.specs.own.OwnSteps.{Takes}
-use Rattle.executor_core.specs.Answers.{Reply, bare, called, kind_of, swept, is_accepted, moment_after}
+use Rattle.executor_core.specs.Answers.{Reply, bare, called, is_accepted, moment_after}
 use Rattle.executor_core.specs.Histories.{is_call, cancels, kept_after, policies_after, is_shutdown, work_after}
 use Rattle.executor_core.specs.State.{State, vacant, view_of_state, move_task, state_after, reply_of, next, after_from}
 use Rattle.executor_core.specs.Flows.{happening_of, reached, calls_before, part_of, lines_at, lines_from}
 use Rattle.executor_core.specs.CoreView.{CoreView, workers_of, state_of, Steps, ErrorOnlyCounts}
 use Rattle.executor_core.proofs.Keeping.{kept_stays}
+use Rattle.executor_core.proofs.Replies.{IsAnswerTo, by_answer}
 
 -- a state after an error that is no call and does not move the clock
 unmoved : (calls : List Planned) (s : State) (x : Happening) (answer : Answer) (error : EventError) → answer ≡ a.Error error → is_call x ≡ false → moment_after s.moment (slice_get calls s.made) x ≡ s.moment →
@@ -42,16 +41,11 @@ unmoved calls s x answer error q event still =
 
 -- a call is not answered by an error
 no_error : (calls : List Planned) (v : View) (call : CodeCall) (error : EventError) → (called calls v call).answer ≡ a.Error error → ⊥
-no_error calls v (c.Submit task timing delay) error q =
-    let pick : (b : Bool) → cond b (a.Refuse task refusal.Rejected) (a.Submit task (kind_of timing) (due_at (terms_of calls task) 0 None)) ≡ a.Error error → ⊥ = elim [ true ↦ λ q. cc | false ↦ λ q. cc ] in
-    pick v.shut q
-no_error calls v (c.Illegal task) error q = cc
-no_error calls v (c.Cancel task) error q = cc
-no_error calls v (c.SetPolicy which value) error q = cc
-no_error calls v c.Shutdown error q =
-    let pick : (b : Bool) → (cond b (bare a.ShutdownAgain) (record { answer = a.Shutdown; ends = swept calls v v.policies })).answer ≡ a.Error error → ⊥ = elim [ true ↦ λ q. cc | false ↦ λ q. cc ] in
-    pick v.shut q
-no_error calls v c.Ask error q = cc
+no_error calls v call error = by_answer (λ x. x ≡ a.Error error → ⊥) calls v call (errs call)
+  where
+    errs : (call : CodeCall) (x : Answer) → IsAnswerTo x call → x ≡ a.Error error → ⊥
+    errs call (a.Error e) is q = is
+    errs call x is q = cc
 
 -- a clock that is answered by an error is not accepted
 pub refused_clock : (now t : ℕ) (error : EventError) → cond (nat_lt t now) (a.Error x.Backward) (cond (nat_lt (2 ^ 62) t) (a.Error x.TooFar) a.Clock) ≡ a.Error error → is_accepted now t ≡ false

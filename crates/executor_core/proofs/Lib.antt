@@ -3,6 +3,7 @@ pub mod Keeping
 pub mod Moves
 pub mod Views
 pub mod Sound
+pub mod Replies
 pub mod SoundSteps
 pub mod Agree
 pub mod First
