@@ -19,9 +19,9 @@ use Rattle.executor_core.specs.declared.types.Answer.TheVariants as a
 use Rattle.executor_core.specs.declared.task.Stage.{Stage}
 use Rattle.executor_core.specs.declared.task.Stage.TheVariants as ph
 use Rattle.executor_core.specs.declared.task.Task.{Task}
-use Rattle.queue_code.specs.Calls.{Planned, terms_of, due_at, numbers, task_count}
+use Rattle.queue_code.specs.Calls.{submits_task, Planned, terms_of, due_at, numbers, task_count}
 use Rattle.executor_core.specs.View.{first_enabled}
-use Rattle.executor_core.specs.Answers.{reply, bare, called, kind_of, swept, start_answer, finish_answer, effect_on, Reply}
+use Rattle.executor_core.specs.Answers.{reply, bare, called, kind_of, start_answer, finish_answer, effect_on, Reply}
 use Rattle.executor_core.specs.Histories.{HistoryEntry, entry_of, happenings, IsHistoryOf, view_of_history, answer, cancels, is_shutdown}
 use Rattle.executor_core.specs.State.{State, view_of_state, next, after, opening, reply_of, move_task, submit_phase, finish_task, task_after}
 use Rattle.executor_core.specs.CoreView.{CoreView, workers_of, state_of}
@@ -32,6 +32,7 @@ use Rattle.executor_core.proofs.Sound.{Finds, IsPeriodicAgain, reply_finds, fits
 use Rattle.executor_core.proofs.SoundSteps.{sound_stays, later}
 use Rattle.executor_core.specs.own.Tables.{goes_on, is_live_phase, is_periodic}
 use Rattle.executor_core.proofs.Tables.{goes_parts, goes_from}
+use Rattle.executor_core.proofs.Replies.{IsAnswerTo, accepts_by, by_answer}
 
 -- a state shows what a history shows by counting, and is sound
 pub record Agrees (calls : List Planned) (s : State) (past : List HistoryEntry) : Type 0 where
@@ -163,13 +164,11 @@ shut_call : (calls : List Planned) (s : State) (moment : ℕ) (call : CodeCall) 
 shut_call calls s moment (c.Submit task timing delay) shut =
     subst (λ b. SubmitsNone (cond b (a.Refuse task refusal.Rejected) (a.Submit task (kind_of timing) (due_at (terms_of calls task) 0 None)))) (sym shut) tt
 shut_call calls s moment (c.Illegal task) shut = tt
-shut_call calls s moment (c.Cancel task) shut = tt
-shut_call calls s moment (c.SetPolicy which value) shut = tt
-shut_call calls s moment c.Shutdown shut =
-    let v = record (view_of_state calls s) { moment = moment } in
-    let pick : (b : Bool) → SubmitsNone (cond b (bare a.ShutdownAgain) (record { answer = a.Shutdown; ends = swept calls v s.policies })).answer = elim [ true ↦ tt | false ↦ tt ] in
-    pick s.shut
-shut_call calls s moment c.Ask shut = tt
+shut_call calls s moment call shut = by_answer SubmitsNone calls (record (view_of_state calls s) { moment = moment }) call (none call refl)
+  where
+    none : (call : CodeCall) → submits_task call ≡ false → (x : Answer) → IsAnswerTo x call → SubmitsNone x
+    none call unsubmitted (a.Submit k kind due) is = false≢true (sym unsubmitted ∙ accepts_by call k due kind is)
+    none call unsubmitted x is = tt
 
 -- nothing that happens submits a task where the executor is shut
 shut_submits_none : (calls : List Planned) (workers : ℕ) (s : State) (happening : Happening) → s.shut ≡ true → SubmitsNone (reply_of calls workers s happening).answer

@@ -330,10 +330,7 @@ names_a_task (p ∷ calls) count moment (suc n) at k o is = counted p.1 (names_a
     counted : (call : CodeCall) → k < count_after count call + task_count calls → k < count + cond (submits_task call) (1 + task_count calls) (task_count calls)
     counted (c.Submit task timing delay) l = omega (arith, l)
     counted (c.Illegal task) l = omega (arith, l)
-    counted (c.Cancel task) l = l
-    counted (c.SetPolicy which value) l = l
-    counted c.Shutdown l = l
-    counted c.Ask l = l
+    counted call l = l
 
 -- the core after a cancel, by what it did
 pub is_cancelled_so : (m new : CoreView) (k : ℕ) (effect : CancelEffect) → (effect ≡ f.Yes → new ≡ with_tasks m (set m.tasks k (cancelled_task m.policies.removes (slice_index_or m.tasks k vacant)))) → (effect ≢ f.Yes → new ≡ m) →

@@ -4,8 +4,9 @@ use Rattle.std.specs.List.{filter}
 use Rattle.std.proofs.lemmas.Bool.{false≢true, and_parts}
 use Rattle.queue_code.specs.declared.call.CodeCall.{CodeCall}
 use Rattle.queue_code.specs.declared.call.CodeCall.TheVariants as c
-use Rattle.queue_code.specs.Calls.{Planned, numbers, terms_of, due_at}
+use Rattle.queue_code.specs.Calls.{Planned, numbers, submits_task, terms_of, due_at}
 use Rattle.executor_core.specs.declared.policies.Policies.{Policies}
+use Rattle.executor_core.specs.declared.types.Kind.{Kind}
 use Rattle.executor_core.specs.declared.types.Refusal.TheVariants as refusal
 use Rattle.executor_core.specs.declared.types.Answer.{Answer}
 use Rattle.executor_core.specs.declared.types.Answer.TheVariants as a
@@ -46,6 +47,11 @@ answers_call calls v c.Ask = tt
 -- what holds of each answer that a call may have, holds of that which it has
 pub by_answer : (P : Answer → Type 0) (calls : List Planned) (v : View) (call : CodeCall) → ((x : Answer) → IsAnswerTo x call → P x) → P (called calls v call).answer
 by_answer P calls v call each = each (called calls v call).answer (answers_call calls v call)
+
+-- a call that submits no task accepts none
+pub accepts_by : (call : CodeCall) (k due : ℕ) (kind : Kind) → IsAnswerTo (a.Submit k kind due) call → submits_task call ≡ true
+accepts_by (c.Submit task timing delay) k due kind is = refl
+accepts_by call k due kind is = absurd is
 
 -- ---- the tasks that calls end
 

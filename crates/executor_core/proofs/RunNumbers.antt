@@ -4,22 +4,21 @@ use Rattle.std.specs.Prelude.{slice_get}
 use Rattle.std.specs.Option.{option_map_or}
 use Rattle.sched_time.specs.declared.timing.Timing.{Timing}
 use Rattle.queue_code.specs.declared.call.CodeCall.{CodeCall}
-use Rattle.queue_code.specs.declared.call.CodeCall.TheVariants as c
-use Rattle.queue_code.specs.Calls.{Planned, terms_of, task_count, due_at}
+use Rattle.queue_code.specs.Calls.{Planned, terms_of, task_count}
 use Rattle.executor_core.specs.declared.task.Stage.{Stage}
 use Rattle.executor_core.specs.declared.task.Stage.TheVariants as ph
 use Rattle.executor_core.specs.declared.task.Task.{Task}
 use Rattle.executor_core.specs.declared.types.Answer.{Answer}
 use Rattle.executor_core.specs.declared.types.Answer.TheVariants as a
 use Rattle.executor_core.specs.declared.types.EventError.TheVariants as x
-use Rattle.executor_core.specs.declared.types.Refusal.TheVariants as refusal
 use Rattle.executor_core.specs.declared.types.Happening.{Happening}
 use Rattle.executor_core.specs.declared.types.Happening.TheVariants as h
 use Rattle.executor_core.specs.declared.types.Line.{Line}
 use Rattle.executor_core.specs.View.{View}
-use Rattle.executor_core.specs.Answers.{bare, called, kind_of, effect_on, swept}
+use Rattle.executor_core.specs.Answers.{bare, called, effect_on}
 use Rattle.executor_core.specs.State.{State, view_of_state, move_task, submit_phase, reply_of}
 use Rattle.executor_core.specs.CoreView.{CoreView, workers_of, state_of, Steps, IsCounted}
+use Rattle.executor_core.proofs.Replies.{IsAnswerTo, by_answer}
 
 -- an answer says that some run was finished
 abbrev pub finishes_some : Answer → Bool
@@ -41,31 +40,17 @@ either false one other n l m = m
 -- an answer that finishes no run leaves no task with a greater one
 run_stays : (timing : Timing) (now k : ℕ) (task : Task) (answer : Answer) → finishes_some answer ≡ false → (move_task timing now k answer task).run ≤ task.run
 run_stays timing now k task (a.Submit j kind due) q = either (j == k) (submit_phase timing due task.phase task) task task.run (submitted_run timing due task.phase task) (omega arith)
-run_stays timing now k task (a.Refuse j why) q = omega arith
-run_stays timing now k task (a.Cancel j effect) q = omega arith
-run_stays timing now k task (a.Outside j effect) q = omega arith
-run_stays timing now k task (a.Policy which value) q = omega arith
-run_stays timing now k task a.Shutdown q = omega arith
-run_stays timing now k task a.ShutdownAgain q = omega arith
-run_stays timing now k task (a.Ask queue running shut over) q = omega arith
-run_stays timing now k task a.Clock q = omega arith
 run_stays timing now k task (a.Start w j run due) q = either (j == k) (record task { phase = ph.Running }) task task.run (omega arith) (omega arith)
-run_stays timing now k task (a.Idle w) q = omega arith
 run_stays timing now k task (a.Finish w j run outcome) q = absurd cc
-run_stays timing now k task (a.Error error) q = omega arith
+run_stays timing now k task answer q = omega arith
 
 -- a call finishes no run
 call_finishes : (calls : List Planned) (v : View) (call : CodeCall) → finishes_some (called calls v call).answer ≡ false
-call_finishes calls v (c.Submit task timing delay) =
-    let pick : (b : Bool) → finishes_some (cond b (a.Refuse task refusal.Rejected) (a.Submit task (kind_of timing) (due_at (terms_of calls task) 0 None))) ≡ false = elim [ true ↦ refl | false ↦ refl ] in
-    pick v.shut
-call_finishes calls v (c.Illegal task) = refl
-call_finishes calls v (c.Cancel task) = refl
-call_finishes calls v (c.SetPolicy which value) = refl
-call_finishes calls v c.Shutdown =
-    let pick : (b : Bool) → finishes_some (cond b (bare a.ShutdownAgain) (record { answer = a.Shutdown; ends = swept calls v v.policies })).answer ≡ false = elim [ true ↦ refl | false ↦ refl ] in
-    pick v.shut
-call_finishes calls v c.Ask = refl
+call_finishes calls v call = by_answer (λ x. finishes_some x ≡ false) calls v call (finishes call)
+  where
+    finishes : (call : CodeCall) (x : Answer) → IsAnswerTo x call → finishes_some x ≡ false
+    finishes call (a.Finish w k run outcome) is = absurd is
+    finishes call x is = refl
 
 next_finishes : (calls : List Planned) (workers : ℕ) (s : State) → finishes_some (reply_of calls workers s h.Call).answer ≡ false
 next_finishes calls workers s = by (slice_get calls s.made)

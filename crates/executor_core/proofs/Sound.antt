@@ -21,12 +21,13 @@ use Rattle.sched_time.specs.declared.timing.Timing.{Timing}
 use Rattle.sched_time.specs.declared.timing.Timing.TheVariants as t
 use Rattle.sched_time.specs.declared.timing.Ending.{Ending}
 use Rattle.sched_time.specs.declared.timing.Ending.TheVariants as e
-use Rattle.queue_code.specs.Calls.{Planned, Terms, terms_of, due_at, numbers, task_count}
+use Rattle.queue_code.specs.Calls.{submits_task, Planned, Terms, terms_of, due_at, numbers, task_count}
 use Rattle.executor_core.specs.View.{View, is_enabled, is_running, is_waiting, first_enabled, earlier, precedes}
-use Rattle.executor_core.specs.Answers.{bare, called, kind_of, swept, start_answer, finish_answer, effect_on, outcome_in, stops_periodic, due_next}
+use Rattle.executor_core.specs.Answers.{bare, called, kind_of, start_answer, finish_answer, effect_on, outcome_in, stops_periodic, due_next}
 use Rattle.executor_core.specs.State.{State, view_of_state, seen_phase, was_submitted, due_seen, reply_of}
 use Rattle.executor_core.specs.own.Invariants.{IsSound}
 use Rattle.executor_core.proofs.Moves.{Fits}
+use Rattle.executor_core.proofs.Replies.{IsAnswerTo, accepts_by, by_answer}
 
 -- only a periodic task waits for a further run
 abbrev pub IsPeriodicAgain : Timing → Outcome → Type 0
@@ -100,13 +101,13 @@ call_finds calls s moment (c.Submit task timing delay) =
     let pick : (b : Bool) → Finds calls s (cond b (a.Refuse task refusal.Rejected) (a.Submit task (kind_of timing) (due_at (terms_of calls task) 0 None))) = elim [ true ↦ tt | false ↦ refl ] in
     pick s.shut
 call_finds calls s moment (c.Illegal task) = tt
-call_finds calls s moment (c.Cancel task) = tt
-call_finds calls s moment (c.SetPolicy which value) = tt
-call_finds calls s moment c.Shutdown =
-    let v = record (view_of_state calls s) { moment = moment } in
-    let pick : (b : Bool) → Finds calls s (cond b (bare a.ShutdownAgain) (record { answer = a.Shutdown; ends = swept calls v s.policies })).answer = elim [ true ↦ tt | false ↦ tt ] in
-    pick s.shut
-call_finds calls s moment c.Ask = tt
+call_finds calls s moment call = by_answer (Finds calls s) calls (record (view_of_state calls s) { moment = moment }) call (finds call refl)
+  where
+    finds : (call : CodeCall) → submits_task call ≡ false → (x : Answer) → IsAnswerTo x call → Finds calls s x
+    finds call unsubmitted (a.Submit k kind due) is = absurd (false≢true (sym unsubmitted ∙ accepts_by call k due kind is))
+    finds call unsubmitted (a.Start w k n due) is = absurd is
+    finds call unsubmitted (a.Finish w k n outcome) is = absurd is
+    finds call unsubmitted x is = tt
 
 -- an enabled task waits, and its due moment is reached
 pub enabled_in : (calls : List Planned) (s : State) (k : ℕ) → IsSound s → is_enabled (view_of_state calls s) k ≡ true → ((s.tasks k).phase ≡ ph.Waiting) × ((s.tasks k).cancelled ≡ false) × ((s.tasks k).due ≤ s.moment)

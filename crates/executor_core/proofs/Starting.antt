@@ -3,15 +3,15 @@ use Rattle.std.proofs.Common.{◌≡◌, ℕ, Bool, true, false, cond, List, Opt
 use Rattle.std.specs.Prelude.{slice_get, max}
 use Rattle.std.specs.Option.{option_map_or}
 use Rattle.queue_code.specs.declared.call.CodeCall.{CodeCall}
-use Rattle.queue_code.specs.declared.call.CodeCall.TheVariants as c
 use Rattle.executor_core.specs.declared.types.EventError.TheVariants as x
-use Rattle.executor_core.specs.declared.types.Refusal.TheVariants as refusal
 use Rattle.executor_core.specs.declared.types.Happening.{Happening}
 use Rattle.executor_core.specs.declared.types.Happening.TheVariants as h
+use Rattle.executor_core.specs.declared.types.Answer.{Answer}
 use Rattle.executor_core.specs.declared.types.Answer.TheVariants as a
-use Rattle.queue_code.specs.Calls.{Planned, numbers, terms_of, due_at}
+use Rattle.queue_code.specs.Calls.{Planned, numbers}
 use Rattle.executor_core.specs.View.{View, first_enabled}
-use Rattle.executor_core.specs.Answers.{bare, reply, called, kind_of, swept, start_answer, finish_answer, moment_after, effect_on}
+use Rattle.executor_core.specs.Answers.{bare, reply, called, start_answer, finish_answer, moment_after, effect_on}
+use Rattle.executor_core.proofs.Replies.{IsAnswerTo, by_answer}
 
 -- what an answer that starts a task says of the view that it was given on, and of what happened
 pub record StartsFirst (calls : List Planned) (v : View) (happening : Happening) (k n d : ℕ) : Type 0 where
@@ -21,16 +21,11 @@ pub record StartsFirst (calls : List Planned) (v : View) (happening : Happening)
   pub still : (now : ℕ) (next : Option Planned) → moment_after now next happening ≡ now
 
 no_call_starts : (calls : List Planned) (v : View) (call : CodeCall) (w k n d : ℕ) → (called calls v call).answer ≡ a.Start w k n d → ⊥
-no_call_starts calls v (c.Submit task timing delay) w k n d q =
-    let pick : (b : Bool) → cond b (a.Refuse task refusal.Rejected) (a.Submit task (kind_of timing) (due_at (terms_of calls task) 0 None)) ≡ a.Start w k n d → ⊥ = elim [ true ↦ λ q. cc | false ↦ λ q. cc ] in
-    pick v.shut q
-no_call_starts calls v (c.Illegal task) w k n d q = cc
-no_call_starts calls v (c.Cancel task) w k n d q = cc
-no_call_starts calls v (c.SetPolicy which value) w k n d q = cc
-no_call_starts calls v c.Shutdown w k n d q =
-    let pick : (b : Bool) → (cond b (bare a.ShutdownAgain) (record { answer = a.Shutdown; ends = swept calls v v.policies })).answer ≡ a.Start w k n d → ⊥ = elim [ true ↦ λ q. cc | false ↦ λ q. cc ] in
-    pick v.shut q
-no_call_starts calls v c.Ask w k n d q = cc
+no_call_starts calls v call w k n d = by_answer (λ x. x ≡ a.Start w k n d → ⊥) calls v call (starts call)
+  where
+    starts : (call : CodeCall) (x : Answer) → IsAnswerTo x call → x ≡ a.Start w k n d → ⊥
+    starts call (a.Start u j run due) is q = is
+    starts call x is q = cc
 
 -- what the answer to a start says of the view it was given in
 pub start_says : (calls : List Planned) (workers : ℕ) (v : View) (y : Happening) (w k n d : ℕ) → (reply calls workers v y).answer ≡ a.Start w k n d → StartsFirst calls v y k n d

@@ -67,10 +67,7 @@ later_submission calls first count n at task (c.Illegal j) timing delay o rest =
   moment = rest.moment;
   within = rest.within;
 }
-later_submission calls first count n at task (c.Cancel j) timing delay o rest = record { terms = rest.terms; number = rest.number; more = rest.more; below = rest.below; moment = rest.moment; within = rest.within }
-later_submission calls first count n at task (c.SetPolicy which value) timing delay o rest = record { terms = rest.terms; number = rest.number; more = rest.more; below = rest.below; moment = rest.moment; within = rest.within }
-later_submission calls first count n at task c.Shutdown timing delay o rest = record { terms = rest.terms; number = rest.number; more = rest.more; below = rest.below; moment = rest.moment; within = rest.within }
-later_submission calls first count n at task c.Ask timing delay o rest = record { terms = rest.terms; number = rest.number; more = rest.more; below = rest.below; moment = rest.moment; within = rest.within }
+later_submission calls first count n at task call timing delay o rest = record { terms = rest.terms; number = rest.number; more = rest.more; below = rest.below; moment = rest.moment; within = rest.within }
 
 -- where the first call is it
 first_submission : (calls : List Planned) (count at task : ℕ) (timing : Timing) (delay : ℕ) → at ≤ 2 ^ 62 → IsOrderlyCall count (c.Submit task timing delay) → Submission ((at, c.Submit task timing delay) ∷ calls) count zero at task timing delay

@@ -31,11 +31,7 @@ call_due : (count k moment : ℕ) (call : CodeCall) (rest : Terms) → IsOrderly
 call_due count k moment (c.Submit task timing delay) rest o l m =
     let pick : (b : Bool) → (cond b (record { timing = timing; first = moment + delay }) rest).first ≤ 2 ^ 63 = elim [ true ↦ omega (arith, o.1, l) | false ↦ m ] in
     pick (task == k)
-call_due count k moment (c.Illegal task) rest o l m = m
-call_due count k moment (c.Cancel task) rest o l m = m
-call_due count k moment (c.SetPolicy which value) rest o l m = m
-call_due count k moment c.Shutdown rest o l m = m
-call_due count k moment c.Ask rest o l m = m
+call_due count k moment call rest o l m = m
 
 -- the first run of each task is due in time
 pub first_within : (count moment : ℕ) (calls : List Planned) (k : ℕ) → IsOrderlyFrom count moment calls → (terms_of calls k).first ≤ 2 ^ 63
@@ -46,11 +42,7 @@ call_timed : (count k moment : ℕ) (call : CodeCall) (rest : Terms) → IsOrder
 call_timed count k moment (c.Submit task timing delay) rest o l =
     let pick : (b : Bool) → IsTimed (cond b (record { timing = timing; first = moment + delay }) rest).timing = elim [ true ↦ o.2 | false ↦ l ] in
     pick (task == k)
-call_timed count k moment (c.Illegal task) rest o l = l
-call_timed count k moment (c.Cancel task) rest o l = l
-call_timed count k moment (c.SetPolicy which value) rest o l = l
-call_timed count k moment c.Shutdown rest o l = l
-call_timed count k moment c.Ask rest o l = l
+call_timed count k moment call rest o l = l
 
 -- the period, or the fixed delay, of each task is within the limit
 pub timed_within : (count moment : ℕ) (calls : List Planned) (k : ℕ) → IsOrderlyFrom count moment calls → IsTimed (terms_of calls k).timing
@@ -81,22 +73,11 @@ now_within calls (y ∷ past) o = moment_within calls (made past) (now_of calls 
 
 -- a task that starts was due
 start_was_due : (calls : List Planned) (workers : ℕ) (v : View) (y : Happening) (k : ℕ) (answer : Answer) → answer ≡ (reply calls workers v y).answer → is_start k answer ≡ true → (v.fate k).due ≤ v.moment
-start_was_due calls workers v y k (a.Submit j kind due) is q = absurd (false≢true q)
-start_was_due calls workers v y k (a.Refuse j refusal) is q = absurd (false≢true q)
-start_was_due calls workers v y k (a.Cancel j effect) is q = absurd (false≢true q)
-start_was_due calls workers v y k (a.Outside j effect) is q = absurd (false≢true q)
-start_was_due calls workers v y k (a.Policy which value) is q = absurd (false≢true q)
-start_was_due calls workers v y k a.Shutdown is q = absurd (false≢true q)
-start_was_due calls workers v y k a.ShutdownAgain is q = absurd (false≢true q)
-start_was_due calls workers v y k (a.Ask queue running shutdown terminated) is q = absurd (false≢true q)
-start_was_due calls workers v y k a.Clock is q = absurd (false≢true q)
 start_was_due calls workers v y k (a.Start w j n d) is q =
     let said = start_says calls workers v y w j n d (sym is) in
     let parts = and_parts (is_waiting (v.fate j)) (nat_le (v.fate j).due v.moment) (first_is_enabled v (numbers calls) j said.first) in
     subst (λ i. (v.fate i).due ≤ v.moment) (eqb-true j k q) (leb-true (v.fate j).due v.moment parts.1)
-start_was_due calls workers v y k (a.Idle w) is q = absurd (false≢true q)
-start_was_due calls workers v y k (a.Finish w j n outcome) is q = absurd (false≢true q)
-start_was_due calls workers v y k (a.Error x) is q = absurd (false≢true q)
+start_was_due calls workers v y k answer is q = absurd (false≢true q)
 
 -- ---- the due moments
 
