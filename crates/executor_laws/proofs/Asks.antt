@@ -1,72 +1,20 @@
 -- What an ask tells, by the positions before it.
-use Rattle.std.proofs.Common.{◌≡◌, ℕ, ◌+◌, ◌<◌, ◌==◌, ◌&&◌, ◌||◌, ◌⊎◌, nat_lt, Bool, true, false, cond, inl, inr, List, [], ◌∷◌, length, Option, Some, None, refl, sym, ap, ◌∙◌, arith, subst}
-use Rattle.std.specs.Prelude.{◌↔◌, slice_get, max, not}
-use Rattle.std.specs.Option.{option_map_or}
+use Rattle.std.proofs.Common.{◌≡◌, ℕ, ◌+◌, ◌<◌, ◌==◌, ◌&&◌, ◌||◌, ◌⊎◌, nat_lt, Bool, true, false, cond, inl, inr, List, [], ◌∷◌, length, refl, sym, ap, ◌∙◌, arith, subst}
+use Rattle.std.specs.Prelude.{◌↔◌, not}
 use Rattle.std.specs.List.{filter}
 use Rattle.std.proofs.lemmas.Bool.{not-true, not-false, and_from, and_parts, or_cases, or_left, or_right, or_parts, or_from, not_from_false, eqb-true, eqb-false, eq-eqb, ne_eqb, lt-ltb}
-use Rattle.queue_code.specs.declared.call.CodeCall.{CodeCall}
-use Rattle.queue_code.specs.declared.call.CodeCall.TheVariants as c
-use Rattle.executor_core.specs.declared.types.EventError.TheVariants as x
-use Rattle.executor_core.specs.declared.types.Refusal.TheVariants as refusal
-use Rattle.executor_core.specs.declared.types.Happening.{Happening}
-use Rattle.executor_core.specs.declared.types.Happening.TheVariants as h
-use Rattle.executor_core.specs.declared.types.Answer.{Answer}
 use Rattle.executor_core.specs.declared.types.Answer.TheVariants as a
-use Rattle.queue_code.specs.Calls.{Planned, how_many, numbers, task_count, terms_of, due_at}
-use Rattle.executor_core.specs.View.{View, is_running, is_over, is_waiting, first_enabled}
-use Rattle.executor_core.specs.Answers.{bare, reply, called, kind_of, swept, start_answer, finish_answer, is_queued, queue_size, running_count, is_terminated, effect_on}
+use Rattle.queue_code.specs.Calls.{Planned, how_many, numbers, task_count}
+use Rattle.executor_core.specs.View.{is_running, is_over, is_waiting}
+use Rattle.executor_core.specs.Answers.{reply, is_queued, queue_size, running_count, is_terminated}
 use Rattle.executor_core.specs.Histories.{HistoryEntry, IsHistoryOf, view_of_history, starts, finishes, was_shut}
 use Rattle.executor_laws.specs.Policies.{KeptSince}
 use Rattle.executor_laws.specs.Asks.{Waits, IsUnderWay, IsCountOf, AsksByPosition}
 use Rattle.executor_laws.proofs.StartLaws.{means_front}
-use Rattle.executor_laws.proofs.Replies.{end_parts}
+use Rattle.executor_laws.proofs.Replies.{IsAsk, told, ask_says, end_parts}
 use Rattle.executor_laws.proofs.Policies.{ascends, ends_within, shut_is_a_shutdown}
 use Rattle.executor_laws.proofs.Termination.{queued_and_running_are_tasks}
 use Rattle.executor_laws.proofs.Kept.{kept_by_positions}
-
--- ---- what an answer to an ask tells of the view
-
-abbrev IsAsk : Answer → Type 0
-IsAsk (a.Ask queue running shut terminated) = Unit {0}
-IsAsk _ = ⊥
-
-abbrev told : List Planned → View → Answer
-told calls v = a.Ask (queue_size calls v) (running_count calls v) v.shut (is_terminated v.shut (queue_size calls v) (running_count calls v))
-
-call_asks : (calls : List Planned) (v : View) (call : CodeCall) → IsAsk (called calls v call).answer → (called calls v call).answer ≡ told calls v
-call_asks calls v (c.Submit task timing delay) q =
-    let pick : (b : Bool) → IsAsk (cond b (a.Refuse task refusal.Rejected) (a.Submit task (kind_of timing) (due_at (terms_of calls task) 0 None))) → ⊥ = elim [ true ↦ λ q. q | false ↦ λ q. q ] in
-    absurd (pick v.shut q)
-call_asks calls v (c.Illegal task) q = absurd q
-call_asks calls v (c.Cancel task) q = absurd q
-call_asks calls v (c.SetPolicy which value) q = absurd q
-call_asks calls v c.Shutdown q =
-    let pick : (b : Bool) → IsAsk (cond b (bare a.ShutdownAgain) (record { answer = a.Shutdown; ends = swept calls v v.policies })).answer → ⊥ = elim [ true ↦ λ q. q | false ↦ λ q. q ] in
-    absurd (pick v.shut q)
-call_asks calls v c.Ask q = refl
-
-ask_says : (calls : List Planned) (workers : ℕ) (v : View) (y : Happening) → IsAsk (reply calls workers v y).answer → (reply calls workers v y).answer ≡ told calls v
-ask_says calls workers v h.Call q =
-    let answer : Option Planned → Answer = λ o. (option_map_or (λ p. called calls (record v { moment = max v.moment p.0 }) p.1) o (bare a.Clock)).answer in
-    let pick : (o : Option Planned) → IsAsk (answer o) → answer o ≡ told calls v = elim [ None ↦ λ q. absurd q | Some p ↦ call_asks calls (record v { moment = max v.moment p.0 }) p.1 ] in
-    pick (slice_get calls v.made) q
-ask_says calls workers v (h.Clock t) q =
-    let pick : (b d : Bool) → IsAsk (cond b (a.Error x.Backward) (cond d (a.Error x.TooFar) a.Clock)) → ⊥ = elim [ true ↦ λ d q. q | false ↦ elim [ true ↦ λ q. q | false ↦ λ q. q ] ] in
-    absurd (pick _ _ q)
-ask_says calls workers v (h.Start u) q =
-    let start : (o : Option ℕ) → IsAsk (start_answer v u o) → ⊥ = elim [ None ↦ λ q. q | Some j ↦ λ q. q ] in
-    let pick : (b : Bool) (o : Option ℕ) → IsAsk (cond b (option_map_or (λ _. a.Error x.Busy) o (start_answer v u (first_enabled v (numbers calls)))) (a.Error x.NoWorker)) → ⊥ =
-    elim [ true ↦ elim [ None ↦ start (first_enabled v (numbers calls)) | Some j ↦ λ q. q ] | false ↦ λ o q. q ]
-    in
-    absurd (pick _ _ q)
-ask_says calls workers v (h.Finish u ending) q =
-    let pick : (b : Bool) (o : Option ℕ) → IsAsk (cond b (finish_answer calls v u ending o) (a.Error x.NoWorker)) → ⊥ =
-    elim [ true ↦ elim [ None ↦ λ q. q | Some j ↦ λ q. q ] | false ↦ λ o q. q ]
-    in
-    absurd (pick _ _ q)
-ask_says calls workers v (h.Cancel j) q =
-    let pick : (b : Bool) → IsAsk (cond b (a.Outside j (effect_on (v.fate j))) (a.Error x.NoTask)) → ⊥ = elim [ true ↦ λ q. q | false ↦ λ q. q ] in
-    absurd (pick _ q)
 
 -- ---- the numbers that are counted
 

@@ -1,5 +1,5 @@
 -- What is answered after a cancel from outside that has an effect.
-use Rattle.std.proofs.Common.{◌≡◌, ◌≢◌, ℕ, ◌==◌, ◌&&◌, nat_lt, Bool, true, false, cond, List, Option, Some, None, refl, sym, ap, ◌∙◌}
+use Rattle.std.proofs.Common.{◌≡◌, ℕ, ◌==◌, ◌&&◌, nat_lt, Bool, true, false, cond, List, Option, Some, None, refl, sym, ap, ◌∙◌, subst}
 use Rattle.std.specs.Prelude.{slice_get, max, not, ◌-◌}
 use Rattle.std.specs.Option.{option_map_or}
 use Rattle.std.proofs.lemmas.Bool.{false≢true, and_parts, and_from, not_from_false, ne_eqb, eq-eqb}
@@ -7,19 +7,19 @@ use Rattle.std.proofs.lemmas.Option.{none-some, same_Some}
 use Rattle.sched_time.specs.declared.timing.Ending.{Ending}
 use Rattle.queue_code.specs.declared.call.CodeCall.{CodeCall}
 use Rattle.queue_code.specs.declared.call.CodeCall.TheVariants as c
-use Rattle.queue_code.specs.Calls.{Planned, numbers, task_count, terms_of, due_at}
+use Rattle.queue_code.specs.Calls.{Planned, numbers, task_count, terms_of}
 use Rattle.executor_core.specs.declared.types.EventError.TheVariants as x
-use Rattle.executor_core.specs.declared.types.Refusal.TheVariants as refusal
 use Rattle.executor_core.specs.declared.types.Happening.{Happening}
 use Rattle.executor_core.specs.declared.types.Happening.TheVariants as h
 use Rattle.executor_core.specs.declared.types.Answer.{Answer}
 use Rattle.executor_core.specs.declared.types.Answer.TheVariants as a
 use Rattle.executor_core.specs.View.{is_enabled, first_enabled}
-use Rattle.executor_core.specs.Answers.{called, kind_of, start_answer, finish_answer, queue_size, running_count, is_terminated, outcome_in, stops_periodic, due_next, effect_on}
-use Rattle.executor_core.specs.State.{State, view_of_state, seen_task, after, reply_of}
+use Rattle.executor_core.specs.Answers.{called, start_answer, finish_answer, queue_size, running_count, is_terminated, outcome_in, stops_periodic, due_next, effect_on}
+use Rattle.executor_core.specs.State.{State, view_of_state, seen_task, reply_of}
 use Rattle.executor_laws.specs.Cancels.{tells_of}
+use Rattle.executor_laws.proofs.Replies.{IsAsk, asks}
 use Rattle.executor_laws.proofs.Places.{first_is_the_least, none_is_enabled}
-use Rattle.executor_laws.proofs.CancelledTasks.{eqb_turns, cancelled_at, marks, others_stay, enabled_but, at, shutdown_reply, call_reply}
+use Rattle.executor_laws.proofs.CancelledTasks.{eqb_turns, cancelled_at, marks, others_stay, enabled_but, at, reply_where, call_reply}
 
 -- the first enabled task stays, where it is not that one
 pub first_stays : (calls : List Planned) (s : State) (j : ℕ) (first : Option ℕ) → (first ≡ Some j → ⊥) → first_enabled (view_of_state calls s) (numbers calls) ≡ first →
@@ -51,16 +51,13 @@ finish_with calls s v ending k bit =
 
 call_answers : (calls : List Planned) (s : State) (j moment : ℕ) (call : CodeCall) → tells_of j (called calls (at (view_of_state calls s) moment) call).answer ≡ false →
     (called calls (at (view_of_state calls (cancelled_at calls s j)) moment) call).answer ≡ (called calls (at (view_of_state calls s) moment) call).answer
-call_answers calls s j moment (c.Submit task timing delay) q = refl
-call_answers calls s j moment (c.Illegal task) q = refl
-call_answers calls s j moment (c.Cancel task) q = ap (a.Cancel task) (effect_stays calls s j task q)
-call_answers calls s j moment (c.SetPolicy which value) q = refl
-call_answers calls s j moment c.Shutdown q = by s.shut
+call_answers calls s j moment call = by s.shut call
   where
-    by : (b : Bool) → (shutdown_reply calls (at (view_of_state calls (cancelled_at calls s j)) moment) s.policies b).answer ≡ (shutdown_reply calls (at (view_of_state calls s) moment) s.policies b).answer
-    by true = refl
-    by false = refl
-call_answers calls s j moment c.Ask q = absurd (false≢true (sym q))
+    by : (shut : Bool) (call : CodeCall) → tells_of j (reply_where calls s moment shut call).answer ≡ false → (reply_where calls (cancelled_at calls s j) moment shut call).answer ≡ (reply_where calls s moment shut call).answer
+    by shut (c.Cancel task) q = ap (a.Cancel task) (effect_stays calls s j task q)
+    by shut c.Ask q = absurd (false≢true (sym q))
+    by true call q = refl
+    by false call q = refl
 
 -- each happening that tells nothing of that task is answered the same
 pub answers_stay : (calls : List Planned) (workers : ℕ) (s : State) (j : ℕ) (happening : Happening) → tells_of j (reply_of calls workers s happening).answer ≡ false →
@@ -104,23 +101,13 @@ left_at calls s j = queue_size calls (view_of_state calls (cancelled_at calls s 
 
 call_asks : (calls : List Planned) (s : State) (j moment queue running : ℕ) (shut terminated : Bool) (call : CodeCall) → (called calls (at (view_of_state calls s) moment) call).answer ≡ a.Ask queue running shut terminated →
     (called calls (at (view_of_state calls (cancelled_at calls s j)) moment) call).answer ≡ a.Ask (left_at calls s j) running shut (is_terminated shut (left_at calls s j) running)
-call_asks calls s j moment queue running shut terminated (c.Submit task timing delay) q = absurd (by s.shut q)
-  where
-    by : (b : Bool) → cond b (a.Refuse task refusal.Rejected) (a.Submit task (kind_of timing) (due_at (terms_of calls task) 0 None)) ≡ a.Ask queue running shut terminated → ⊥
-    by true q = cc
-    by false q = cc
-call_asks calls s j moment queue running shut terminated (c.Illegal task) q = absurd cc
-call_asks calls s j moment queue running shut terminated (c.Cancel task) q = absurd cc
-call_asks calls s j moment queue running shut terminated (c.SetPolicy which value) q = absurd cc
-call_asks calls s j moment queue running shut terminated c.Shutdown q = absurd (by s.shut q)
-  where
-    by : (b : Bool) → (shutdown_reply calls (at (view_of_state calls s) moment) s.policies b).answer ≡ a.Ask queue running shut terminated → ⊥
-    by true q = cc
-    by false q = cc
 call_asks calls s j moment queue running shut terminated c.Ask q =
     let left = left_at calls s j in
     let runs : running_count calls (view_of_state calls s) ≡ running = cc in
     let closed : s.shut ≡ shut = cc in λ i. a.Ask left (runs i) (closed i) (is_terminated (closed i) left (runs i))
+call_asks calls s j moment queue running shut terminated call q =
+    let is = asks calls (at (view_of_state calls s) moment) call (subst IsAsk (sym q) tt) in
+    absurd cc
 
 -- what an `ask` counts is fewer by that task, where it waited
 pub asks_stay : (calls : List Planned) (workers : ℕ) (s : State) (j : ℕ) (happening : Happening) (queue running : ℕ) (shut terminated : Bool) → (reply_of calls workers s happening).answer ≡ a.Ask queue running shut terminated →

@@ -1,15 +1,14 @@
 -- What a happening needs after a cancel from outside that has an effect; what needs a sweep, and what a cancel from outside needs.
-use Rattle.std.proofs.Common.{◌≡◌, ◌≢◌, ℕ, ◌==◌, ◌&&◌, ◌||◌, nat_lt, Bool, true, false, cond, List, Option, Some, None, refl, sym, ap, ◌∙◌, subst}
-use Rattle.std.specs.Prelude.{slice_get, max, not, ◌-◌}
+use Rattle.std.proofs.Common.{◌≡◌, ℕ, ◌==◌, ◌&&◌, ◌||◌, nat_lt, Bool, true, false, cond, List, Option, Some, None, refl, sym, ap, ◌∙◌, subst}
+use Rattle.std.specs.Prelude.{slice_get, max, not}
 use Rattle.std.specs.Option.{option_map_or}
 use Rattle.std.proofs.lemmas.Bool.{false≢true}
 use Rattle.std.proofs.lemmas.Option.{none-some}
 use Rattle.sched_time.specs.declared.timing.Ending.{Ending}
 use Rattle.queue_code.specs.declared.call.CodeCall.{CodeCall}
 use Rattle.queue_code.specs.declared.call.CodeCall.TheVariants as c
-use Rattle.queue_code.specs.Calls.{Planned, numbers, task_count, terms_of, due_at}
+use Rattle.queue_code.specs.Calls.{Planned, numbers, task_count, terms_of}
 use Rattle.executor_core.specs.declared.types.EventError.TheVariants as x
-use Rattle.executor_core.specs.declared.types.Refusal.TheVariants as refusal
 use Rattle.executor_core.specs.declared.types.CancelEffect.{CancelEffect}
 use Rattle.executor_core.specs.declared.types.CancelEffect.TheVariants as f
 use Rattle.executor_core.specs.declared.types.Outcome.{Outcome}
@@ -20,12 +19,12 @@ use Rattle.executor_core.specs.declared.types.Answer.TheVariants as a
 use Rattle.executor_core.specs.declared.types.Need.{Need}
 use Rattle.executor_core.specs.declared.types.Need.TheVariants as n
 use Rattle.executor_core.specs.View.{Fate, View, is_running, first_enabled}
-use Rattle.executor_core.specs.Answers.{called, kind_of, setting_sweeps, start_answer, finish_answer, outcome_in, stops_periodic, due_next, effect_on}
+use Rattle.executor_core.specs.Answers.{called, setting_sweeps, start_answer, finish_answer, outcome_in, stops_periodic, due_next, effect_on}
 use Rattle.executor_core.specs.Histories.{is_submit}
 use Rattle.executor_core.specs.State.{State, view_of_state, reply_of}
 use Rattle.executor_core.specs.Needs.{need_of, need_of_answer, need_of_cancel, need_of_finish}
 use Rattle.executor_laws.specs.Cancels.{is_needed, need_instead, OnlyCallsSweep, OutsideNeedsItsCancel}
-use Rattle.executor_laws.proofs.CancelledTasks.{or_none, eqb_turns, cancelled_at, marks, at, shutdown_reply, call_reply}
+use Rattle.executor_laws.proofs.CancelledTasks.{or_none, eqb_turns, cancelled_at, marks, at, reply_where, call_reply}
 use Rattle.executor_laws.proofs.CancelAnswers.{first_stays, not_that, effect_stays}
 
 -- a need stays where it does not name task j, and else another one stands for it
@@ -120,27 +119,19 @@ cancel_turns calls s j k =
 
 call_turns : (calls : List Planned) (s : State) (j moment : ℕ) (call : CodeCall) → (is_submit j (called calls (at (view_of_state calls s) moment) call).answer ≡ true → ⊥) →
     Turns j (need_of_answer s.shut (called calls (at (view_of_state calls s) moment) call).answer) n.Nothing (need_of_answer s.shut (called calls (at (view_of_state calls (cancelled_at calls s j)) moment) call).answer)
-call_turns calls s j moment (c.Submit task timing delay) used = by s.shut used
+call_turns calls s j moment call = by s.shut call
   where
-    by : (shut : Bool) → (is_submit j (cond shut (a.Refuse task refusal.Rejected) (a.Submit task (kind_of timing) (due_at (terms_of calls task) 0 None))) ≡ true → ⊥) →
-        Turns j (need_of_answer s.shut (cond shut (a.Refuse task refusal.Rejected) (a.Submit task (kind_of timing) (due_at (terms_of calls task) 0 None)))) n.Nothing
-        (need_of_answer s.shut (cond shut (a.Refuse task refusal.Rejected) (a.Submit task (kind_of timing) (due_at (terms_of calls task) 0 None))))
-    by true used = stays_so j n.Nothing n.Nothing (λ q. false≢true q)
-    by false used = stays_so j (n.Submit task) n.Nothing (λ q. used (sym (or_none (task == j)) ∙ q))
-call_turns calls s j moment (c.Illegal task) used = stays_so j n.Nothing n.Nothing (λ q. false≢true q)
-call_turns calls s j moment (c.Cancel task) used = cancel_turns calls s j task
-call_turns calls s j moment (c.SetPolicy which value) used = by (setting_sweeps s.shut which value)
-  where
-    by : (b : Bool) → Turns j (cond b n.Sweep n.Nothing) n.Nothing (cond b n.Sweep n.Nothing)
-    by true = stays_so j n.Sweep n.Nothing (λ q. false≢true q)
-    by false = stays_so j n.Nothing n.Nothing (λ q. false≢true q)
-call_turns calls s j moment c.Shutdown used = by s.shut
-  where
-    by : (b : Bool) → Turns j (need_of_answer s.shut (shutdown_reply calls (at (view_of_state calls s) moment) s.policies b).answer) n.Nothing
-        (need_of_answer s.shut (shutdown_reply calls (at (view_of_state calls (cancelled_at calls s j)) moment) s.policies b).answer)
-    by true = stays_so j n.Nothing n.Nothing (λ q. false≢true q)
-    by false = stays_so j n.Sweep n.Nothing (λ q. false≢true q)
-call_turns calls s j moment c.Ask used = stays_so j n.Nothing n.Nothing (λ q. false≢true q)
+    set : (b : Bool) → Turns j (cond b n.Sweep n.Nothing) n.Nothing (cond b n.Sweep n.Nothing)
+    set true = stays_so j n.Sweep n.Nothing (λ q. false≢true q)
+    set false = stays_so j n.Nothing n.Nothing (λ q. false≢true q)
+
+    by : (shut : Bool) (call : CodeCall) → (is_submit j (reply_where calls s moment shut call).answer ≡ true → ⊥) →
+        Turns j (need_of_answer s.shut (reply_where calls s moment shut call).answer) n.Nothing (need_of_answer s.shut (reply_where calls (cancelled_at calls s j) moment shut call).answer)
+    by shut (c.Cancel task) used = cancel_turns calls s j task
+    by shut (c.SetPolicy which value) used = set (setting_sweeps s.shut which value)
+    by false (c.Submit task timing delay) used = stays_so j (n.Submit task) n.Nothing (λ q. used (sym (or_none (task == j)) ∙ q))
+    by true call used = stays_so j _ n.Nothing (λ q. false≢true q)
+    by false call used = stays_so j _ n.Nothing (λ q. false≢true q)
 
 -- what a start needs
 start_need : (shut : Bool) (v : View) (worker : ℕ) (first : Option ℕ) → need_of_answer shut (start_answer v worker first) ≡ option_map_or (λ k. n.Start k) first n.Nothing

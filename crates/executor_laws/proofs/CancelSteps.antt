@@ -1,6 +1,6 @@
 -- A cancel from outside with an effect touches its task alone.
 use Rattle.std.proofs.Common.{◌≡◌, ℕ, ◌&&◌, ◌||◌, true, false, List, refl, sym, ap, subst}
-use Rattle.std.specs.Prelude.{not, ◌-◌}
+use Rattle.std.specs.Prelude.{not}
 use Rattle.std.proofs.lemmas.Bool.{ne_eqb, eq-eqb}
 use Rattle.queue_code.specs.Calls.{Planned, terms_of}
 use Rattle.executor_core.specs.declared.types.CancelEffect.TheVariants as f

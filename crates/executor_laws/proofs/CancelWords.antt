@@ -1,6 +1,5 @@
 -- What a cancel is answered, by the word of its task.
 use Rattle.std.proofs.Common.{◌≡◌, ◌≢◌, nat_lt, Bool, true, false, cond, refl, sym, ap, ◌∙◌, subst}
-use Rattle.std.specs.Prelude.{not, ◌-◌}
 use Rattle.std.proofs.lemmas.Bool.{false≢true}
 use Rattle.task_word.specs.declared.phases.Phase.TheVariants as w
 use Rattle.queue_code.specs.Calls.{Terms, task_count, terms_of}

@@ -1,6 +1,6 @@
 -- The state after a cancel from outside that has an effect: each other task stays, that one no longer waits, and a sweep ends the same ones but that one.
 use Rattle.std.proofs.Common.{[], ◌≡◌, ℕ, ◌==◌, ◌&&◌, ◌||◌, nat_lt, nat_le, Bool, true, false, cond, List, Option, Some, None, refl, sym, ap, ◌∙◌, arith}
-use Rattle.std.specs.Prelude.{slice_get, max, not, ◌-◌}
+use Rattle.std.specs.Prelude.{slice_get, max, not}
 use Rattle.std.specs.Option.{option_map_or}
 use Rattle.std.proofs.lemmas.Bool.Decides.{nat_tests}
 use Rattle.queue_code.specs.declared.call.CodeCall.{CodeCall}
@@ -15,7 +15,7 @@ use Rattle.executor_core.specs.declared.types.Answer.TheVariants as a
 use Rattle.executor_core.specs.View.{View, is_running, is_waiting, is_enabled}
 use Rattle.executor_core.specs.Answers.{Reply, bare, called, swept, is_swept, is_ended_by, set_policy, setting_sweeps}
 use Rattle.executor_core.specs.Histories.{is_end}
-use Rattle.executor_core.specs.State.{State, view_of_state, seen_task, was_submitted, after, reply_of, state_after}
+use Rattle.executor_core.specs.State.{State, view_of_state, seen_task, was_submitted, reply_of, state_after}
 use Rattle.executor_laws.proofs.Policies.{ends_within}
 
 -- ---- the state after a cancel with an effect
@@ -107,28 +107,23 @@ swept_but calls s j k moment policies =
     ends_within (is_swept calls u policies) count k
     ∙ (ap (λ b. nat_lt k count && b) test ∙ (and_groups (nat_lt k count) (is_swept calls v policies k) (not (j == k)) ∙ ap (λ b. b && not (j == k)) (sym (ends_within (is_swept calls v policies) count k))))
 
--- the reply to a shutdown, where the executor was shut before it or not
-abbrev pub shutdown_reply : List Planned → View → Policies → Bool → Reply
-shutdown_reply calls v policies shut = cond shut (bare a.ShutdownAgain) (record { answer = a.Shutdown; ends = swept calls v policies })
+-- the reply to a call at a moment, where the executor was shut before it or not
+abbrev pub reply_where : List Planned → State → ℕ → Bool → CodeCall → Reply
+reply_where calls s moment shut call = called calls (record (view_of_state calls s) { moment = moment; shut = shut }) call
 
 call_ends_but : (calls : List Planned) (s : State) (j k moment : ℕ) (call : CodeCall) →
     is_end k (called calls (at (view_of_state calls (cancelled_at calls s j)) moment) call).ends ≡ (is_end k (called calls (at (view_of_state calls s) moment) call).ends && not (j == k))
-call_ends_but calls s j k moment (c.Submit task timing delay) = refl
-call_ends_but calls s j k moment (c.Illegal task) = refl
-call_ends_but calls s j k moment (c.Cancel task) = refl
-call_ends_but calls s j k moment (c.SetPolicy which value) = by (setting_sweeps s.shut which value)
+call_ends_but calls s j k moment call = by s.shut call
   where
-    by : (b : Bool) → is_end k (cond b (swept calls (at (view_of_state calls (cancelled_at calls s j)) moment) (set_policy which value s.policies)) [])
-        ≡ (is_end k (cond b (swept calls (at (view_of_state calls s) moment) (set_policy which value s.policies)) []) && not (j == k))
-    by true = swept_but calls s j k moment (set_policy which value s.policies)
-    by false = refl
-call_ends_but calls s j k moment c.Shutdown = by s.shut
-  where
-    by : (b : Bool) → is_end k (shutdown_reply calls (at (view_of_state calls (cancelled_at calls s j)) moment) s.policies b).ends
-        ≡ (is_end k (shutdown_reply calls (at (view_of_state calls s) moment) s.policies b).ends && not (j == k))
-    by true = refl
-    by false = swept_but calls s j k moment s.policies
-call_ends_but calls s j k moment c.Ask = refl
+    set : (b : Bool) (policies : Policies) → is_end k (cond b (swept calls (at (view_of_state calls (cancelled_at calls s j)) moment) policies) [])
+        ≡ (is_end k (cond b (swept calls (at (view_of_state calls s) moment) policies) []) && not (j == k))
+    set true policies = swept_but calls s j k moment policies
+    set false policies = refl
+
+    by : (shut : Bool) (call : CodeCall) → is_end k (reply_where calls (cancelled_at calls s j) moment shut call).ends ≡ (is_end k (reply_where calls s moment shut call).ends && not (j == k))
+    by shut (c.SetPolicy which value) = set (setting_sweeps shut which value) (set_policy which value s.policies)
+    by true call = refl
+    by false call = assumption (swept_but calls s j k moment s.policies)
 
 -- the reply to the next call in a state, where this is the call
 abbrev pub call_reply : List Planned → State → Option Planned → Reply

@@ -3,7 +3,6 @@ use Rattle.std.proofs.Common.{◌≡◌, ℕ, ◌||◌, ◌==◌, Bool, true, fa
 use Rattle.std.proofs.lemmas.Bool.{false≢true, and_parts}
 use Rattle.task_word.specs.Words.{is_cancelled, is_live}
 use Rattle.sched_time.specs.declared.timing.Timing.{Timing}
-use Rattle.executor_core.specs.declared.types.EventError.TheVariants as x
 use Rattle.executor_core.specs.declared.types.Outcome.TheVariants as o
 use Rattle.executor_core.specs.declared.types.Answer.{Answer}
 use Rattle.executor_core.specs.declared.types.Answer.TheVariants as a

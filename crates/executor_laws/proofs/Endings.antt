@@ -187,10 +187,7 @@ record WasLegal (calls : List Planned) (k : ℕ) : Type 0 where
 call_is_legal : (calls : List Planned) (v : View) (call : CodeCall) (k : ℕ) → is_submit k (called calls v call).answer ≡ true → IsLegalSubmissionOf k call
 call_is_legal calls v (c.Submit task timing delay) k q = call_submits calls v (c.Submit task timing delay) k q
 call_is_legal calls v (c.Illegal task) k q = false≢true q
-call_is_legal calls v (c.Cancel task) k q = false≢true q
-call_is_legal calls v (c.SetPolicy which value) k q = false≢true q
-call_is_legal calls v c.Shutdown k q = call_submits calls v c.Shutdown k q
-call_is_legal calls v c.Ask k q = false≢true q
+call_is_legal calls v call k q = call_submits calls v call k q
 
 submit_is_legal : (calls : List Planned) (workers : ℕ) (v : View) (y : Happening) (k : ℕ) → is_submit k (reply calls workers v y).answer ≡ true → WasLegal calls k
 submit_is_legal calls workers v y k q =

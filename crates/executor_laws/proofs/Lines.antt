@@ -11,9 +11,8 @@ use Rattle.sched_time.specs.declared.timing.Ending.{Ending}
 use Rattle.sched_time.specs.declared.timing.Ending.TheVariants as e
 use Rattle.queue_code.specs.declared.call.CodeCall.{CodeCall}
 use Rattle.queue_code.specs.declared.call.CodeCall.TheVariants as c
-use Rattle.queue_code.specs.Calls.{Planned, IsOrderly, IsOrderlyCall, IsOrderlyFrom, submits_task, count_after, how_many, numbers, task_count, terms_of, due_at}
+use Rattle.queue_code.specs.Calls.{Planned, IsOrderly, IsOrderlyCall, IsOrderlyFrom, submits_task, count_after, how_many, numbers, task_count, terms_of}
 use Rattle.executor_core.specs.declared.types.EventError.TheVariants as x
-use Rattle.executor_core.specs.declared.types.Refusal.TheVariants as refusal
 use Rattle.executor_core.specs.declared.types.Happening.{Happening}
 use Rattle.executor_core.specs.declared.types.Happening.TheVariants as h
 use Rattle.executor_core.specs.declared.types.Outcome.{Outcome}
@@ -24,7 +23,7 @@ use Rattle.executor_core.specs.declared.types.Line.{Line}
 use Rattle.executor_core.specs.declared.types.Message.{Message}
 use Rattle.executor_core.specs.declared.types.Message.TheVariants as m
 use Rattle.executor_core.specs.View.{View, is_running, first_enabled}
-use Rattle.executor_core.specs.Answers.{Reply, bare, reply, called, kind_of, swept, start_answer, finish_answer, is_queued, due_next, outcome_in, stops_periodic, effect_on}
+use Rattle.executor_core.specs.Answers.{bare, reply, called, start_answer, finish_answer, is_queued, due_next, outcome_in, stops_periodic, effect_on}
 use Rattle.executor_core.specs.Histories.{HistoryEntry, IsHistoryOf, view_of_history, happenings, now_of, is_start, is_end}
 use Rattle.executor_core.specs.State.{was_submitted}
 use Rattle.executor_core.specs.Flows.{end_line, lines_of, lines_at, reply_in}
@@ -63,10 +62,7 @@ message_behind calls workers past y (m.End task) r = r
 counts_on : (count : ℕ) (call : CodeCall) (n : ℕ) → count_after count call + n ≡ count + cond (submits_task call) (1 + n) n
 counts_on count (c.Submit task timing delay) n = omega arith
 counts_on count (c.Illegal task) n = omega arith
-counts_on count (c.Cancel task) n = refl
-counts_on count (c.SetPolicy which value) n = refl
-counts_on count c.Shutdown n = refl
-counts_on count c.Ask n = refl
+counts_on count call n = refl
 
 -- a call stands behind this many submissions, and with its own there are no more of them than tasks
 call_in_order : (calls : List Planned) (count moment n : ℕ) (p : Planned) → IsOrderlyFrom count moment calls → slice_get calls n ≡ Some p → (before : ℕ) × (count_after before p.1 ≤ count + task_count calls) × IsOrderlyCall before p.1
@@ -93,20 +89,15 @@ counted calls test = omega (arith, how_many-le test (numbers calls), length-rang
 
 called_in_range : (calls : List Planned) (workers : ℕ) (past : List HistoryEntry) (view : View) (before : ℕ) (call : CodeCall) → IsOrderly calls → count_after before call ≤ task_count calls → IsOrderlyCall before call →
     IsAnswerInRange calls workers past (called calls view call).answer
-called_in_range calls workers past view before (c.Submit task timing delay) orderly few is = by view.shut
+called_in_range calls workers past view before call orderly = by view.shut call
   where
-    by : (shut : Bool) → IsAnswerInRange calls workers past (cond shut (a.Refuse task refusal.Rejected) (a.Submit task (kind_of timing) (due_at (terms_of calls task) 0 None)))
-    by true = omega (arith, is.0, few)
-    by false = (omega (arith, is.0, few), omega (arith, none_within calls task orderly))
-called_in_range calls workers past view before (c.Illegal task) orderly few is = omega (arith, is, few)
-called_in_range calls workers past view before (c.Cancel task) orderly few is = omega (arith, is, few)
-called_in_range calls workers past view before (c.SetPolicy which value) orderly few is = tt
-called_in_range calls workers past view before c.Shutdown orderly few is = by view.shut
-  where
-    by : (shut : Bool) → IsAnswerInRange calls workers past (let r : Reply = cond shut (bare a.ShutdownAgain) (record { answer = a.Shutdown; ends = swept calls view view.policies }) in r.answer)
-    by true = tt
-    by false = tt
-called_in_range calls workers past view before c.Ask orderly few is = (counted calls (λ k. is_queued (view.fate k)), counted calls (λ k. is_running (view.fate k)))
+    by : (shut : Bool) (call : CodeCall) → count_after before call ≤ task_count calls → IsOrderlyCall before call → IsAnswerInRange calls workers past (called calls (record view { shut = shut }) call).answer
+    by true (c.Submit task timing delay) few is = omega (arith, is.0, few)
+    by false (c.Submit task timing delay) few is = (omega (arith, is.0, few), omega (arith, none_within calls task orderly))
+    by shut (c.Illegal task) few is = omega (arith, is, few)
+    by shut (c.Cancel task) few is = omega (arith, is, few)
+    by shut c.Ask few is = (counted calls (λ k. is_queued (view.fate k)), counted calls (λ k. is_running (view.fate k)))
+    by shut call few is = tt
 
 outcome_in_range : (past : List HistoryEntry) (cancelled stops : Bool) (timing : Timing) (due : ℕ) (ending : Ending) → due ≤ 2 ^ 63 → RunEnded past ending → IsOutcomeInRange past (outcome_in cancelled stops timing due ending)
 outcome_in_range past true stops timing due ending within ended = tt

@@ -3,7 +3,6 @@ use Rattle.std.proofs.Common.{◌≡◌, ℕ, ◌||◌, ◌==◌, Bool, true, fa
 use Rattle.std.proofs.lemmas.Bool.{false≢true, and_parts, or_cases}
 use Rattle.task_word.specs.Words.{is_live}
 use Rattle.sched_time.specs.declared.timing.Timing.{Timing}
-use Rattle.executor_core.specs.declared.types.EventError.TheVariants as x
 use Rattle.executor_core.specs.declared.types.CancelEffect.{CancelEffect}
 use Rattle.executor_core.specs.declared.types.CancelEffect.TheVariants as f
 use Rattle.executor_core.specs.declared.types.Happening.{Happening}
@@ -15,14 +14,14 @@ use Rattle.executor_core.specs.declared.task.Stage.{Stage}
 use Rattle.executor_core.specs.declared.task.Stage.TheVariants as ph
 use Rattle.executor_core.specs.declared.task.Task.{Task}
 use Rattle.queue_code.specs.Calls.{Planned, terms_of}
-use Rattle.executor_core.specs.Histories.{HistoryEntry, IsHistoryOf, happenings, had_effect, is_cancel, is_end, is_finish_with, is_ended, cancels, kept_after}
+use Rattle.executor_core.specs.Histories.{HistoryEntry, IsHistoryOf, happenings, had_effect, is_cancel, is_end, is_finish_with, is_ended, is_sweep, cancels, kept_after}
 use Rattle.executor_core.specs.State.{State, view_of_state, reply_of, after, move_task, submit_phase, end_task, finish_task, due_past}
 use Rattle.executor_core.specs.Tasks.{word_phase}
 use Rattle.executor_core.specs.own.Invariants.{IsSound}
 use Rattle.executor_core.proofs.Moves.{moved_task}
 use Rattle.executor_core.proofs.Sound.{waits_in}
 use Rattle.executor_core.proofs.Agree.{after_agrees}
-use Rattle.executor_laws.proofs.Replies.{MaySweep, ends_say}
+use Rattle.executor_laws.proofs.Replies.{ends_say}
 use Rattle.executor_laws.proofs.WordAnswers.{Meets, meets}
 
 -- only a live word is cancelled, and a vacant one has run 0
@@ -41,10 +40,11 @@ cancel_live timing now k task (a.Outside j effect) met q = let parts = and_parts
 cancel_live timing now k task _ met q = absurd (false≢true q)
 
 -- a sweep leaves each task in its phase
-swept_still : (timing : Timing) (now k : ℕ) (task : Task) (answer : Answer) → MaySweep answer → move_task timing now k answer task ≡ task
-swept_still timing now k task a.Shutdown sweeps = refl
-swept_still timing now k task (a.Policy which value) sweeps = refl
-swept_still timing now k task _ sweeps = absurd sweeps
+swept_still : (timing : Timing) (now k : ℕ) (task : Task) (shut : Bool) (answer : Answer) → is_sweep shut answer ≡ true → move_task timing now k answer task ≡ task
+swept_still timing now k task shut (a.Submit j kind due) q = absurd (false≢true q)
+swept_still timing now k task shut (a.Start u j run due) q = absurd (false≢true q)
+swept_still timing now k task shut (a.Finish u j run outcome) q = absurd (false≢true q)
+swept_still timing now k task shut _ q = refl
 
 outcome_live : (timing : Timing) (now : ℕ) (task : Task) (outcome : Outcome) → is_ended outcome ≡ true → is_live (word_phase (finish_task timing now outcome task).phase) ≡ true
 outcome_live timing now task o.Ended q = refl
@@ -72,7 +72,7 @@ cancels_live calls workers s y k sound q =
       | inr other ↦ elim (or_cases (is_end k r.ends) (is_finish_with is_ended k r.answer) other) [
         | inl end ↦
             let said = ends_say calls workers (view_of_state calls s) y k end in
-            ap (λ (x : Task). is_live (word_phase x.phase)) (swept_still timing s.moment k task r.answer said.sweeps) ∙ ap (λ p. is_live (word_phase p)) (waits_in calls s k sound said.waited).0
+            ap (λ (x : Task). is_live (word_phase x.phase)) (swept_still timing s.moment k task s.shut r.answer said.sweeps) ∙ ap (λ p. is_live (word_phase p)) (waits_in calls s k sound said.waited).0
         | inr last ↦ ended_live timing s.moment k task r.answer last
       ]
     ]

@@ -118,41 +118,23 @@ started_here past e w k j n d is same = record {
   unfinished = refl;
 }
 
+-- the start is that of an entry, or stands behind it
+last_or_behind : (past : List HistoryEntry) (e : HistoryEntry) (w k : ℕ) → (work_of w past ≡ Some k → StartedLast past w k) → (answer : Answer) → e.answer ≡ answer → work_after w answer (work_of w past) ≡ Some k → StartedLast (e ∷ past) w k
+last_or_behind past e w k before (a.Start u j n d) is q = by (u == w) refl q
+  where
+    by : (b : Bool) → (u == w) ≡ b → cond b (Some j) (work_of w past) ≡ Some k → StartedLast (e ∷ past) w k
+    by true same q = started_here past e w k j n d (is ∙ ap (λ i. a.Start i j n d) (eqb-true u w same)) (same_Some j k q)
+    by false other q = behind past e w k (ap (finishes_by w) is) (before q)
+last_or_behind past e w k before (a.Finish u j n o) is q = by (u == w) refl q
+  where
+    by : (b : Bool) → (u == w) ≡ b → cond b None (work_of w past) ≡ Some k → StartedLast (e ∷ past) w k
+    by true same q = absurd (none-some k q)
+    by false other q = behind past e w k (ap (finishes_by w) is ∙ other) (before q)
+last_or_behind past e w k before answer is q = behind past e w k (ap (finishes_by w) is) (before q)
+
 last_start : (past : List HistoryEntry) (w k : ℕ) → work_of w past ≡ Some k → StartedLast past w k
 last_start [] w k q = absurd (none-some k q)
-last_start (e ∷ past) w k q =
-    let go : (r : Answer) → e.answer ≡ r → work_after w r (work_of w past) ≡ Some k → StartedLast (e ∷ past) w k =
-    elim [
-      | a.Start u j n d ↦ λ is q.
-          let by : (b : Bool) → (u == w) ≡ b → cond b (Some j) (work_of w past) ≡ Some k → StartedLast (e ∷ past) w k =
-          elim [
-            | true ↦ λ same q. started_here past e w k j n d (is ∙ ap (λ i. a.Start i j n d) (eqb-true u w same)) (same_Some j k q)
-            | false ↦ λ other q. behind past e w k (ap (finishes_by w) is) (last_start past w k q)
-          ]
-          in
-          by (u == w) refl q
-      | a.Finish u j n o ↦ λ is q.
-          let by : (b : Bool) → (u == w) ≡ b → cond b None (work_of w past) ≡ Some k → StartedLast (e ∷ past) w k =
-          elim [
-            | true ↦ λ same q. absurd (none-some k q)
-            | false ↦ λ other q. behind past e w k (ap (finishes_by w) is ∙ other) (last_start past w k q)
-          ]
-          in
-          by (u == w) refl q
-      | a.Submit j kind due ↦ λ is q. behind past e w k (ap (finishes_by w) is) (last_start past w k q)
-      | a.Refuse j refusal ↦ λ is q. behind past e w k (ap (finishes_by w) is) (last_start past w k q)
-      | a.Cancel j effect ↦ λ is q. behind past e w k (ap (finishes_by w) is) (last_start past w k q)
-      | a.Outside j effect ↦ λ is q. behind past e w k (ap (finishes_by w) is) (last_start past w k q)
-      | a.Policy which value ↦ λ is q. behind past e w k (ap (finishes_by w) is) (last_start past w k q)
-      | a.Shutdown ↦ λ is q. behind past e w k (ap (finishes_by w) is) (last_start past w k q)
-      | a.ShutdownAgain ↦ λ is q. behind past e w k (ap (finishes_by w) is) (last_start past w k q)
-      | a.Ask queue running shutdown terminated ↦ λ is q. behind past e w k (ap (finishes_by w) is) (last_start past w k q)
-      | a.Clock ↦ λ is q. behind past e w k (ap (finishes_by w) is) (last_start past w k q)
-      | a.Idle u ↦ λ is q. behind past e w k (ap (finishes_by w) is) (last_start past w k q)
-      | a.Error y ↦ λ is q. behind past e w k (ap (finishes_by w) is) (last_start past w k q)
-    ]
-    in
-    go e.answer refl q
+last_start (e ∷ past) w k q = last_or_behind past e w k (last_start past w k) e.answer refl q
 
 -- an entry that is no finish by the worker leaves its work, since no start by it can come
 keeps : (w k : ℕ) (r : Answer) (work : Option ℕ) → Told w work r → finishes_by w r ≡ false → work ≡ Some k → work_after w r work ≡ Some k

@@ -1,6 +1,6 @@
 -- What holds of policies, the shutdown, sweeps and ended tasks.
 use Rattle.std.proofs.Common.{zero, suc, ◌≡◌, ℕ, ◌+◌, ◌<◌, ◌≤◌, ◌==◌, ◌&&◌, ◌||◌, nat_lt, Bool, true, false, cond, inl, inr, List, [], ◌∷◌, ◌++◌, Option, Some, None, refl, sym, ap, ◌∙◌, arith, subst}
-use Rattle.std.specs.Prelude.{slice_get, max, not}
+use Rattle.std.specs.Prelude.{slice_get, max}
 use Rattle.std.specs.Option.{option_map_or}
 use Rattle.std.specs.List.{list_any, filter, range_with_len}
 use Rattle.std.proofs.lemmas.Bool.{false≢true, false_from_ne_true, eqb-true, eqb-false, and_parts, or_cases, or_parts, or_left, or_right}
@@ -12,17 +12,17 @@ use Rattle.queue_code.specs.declared.call.CodeCall.{CodeCall}
 use Rattle.queue_code.specs.declared.call.CodeCall.TheVariants as c
 use Rattle.executor_core.specs.declared.policies.Policies.{Policies}
 use Rattle.executor_core.specs.declared.types.EventError.TheVariants as x
-use Rattle.executor_core.specs.declared.types.Refusal.TheVariants as refusal
 use Rattle.executor_core.specs.declared.types.Happening.{Happening}
 use Rattle.executor_core.specs.declared.types.Happening.TheVariants as h
 use Rattle.executor_core.specs.declared.types.Answer.{Answer}
 use Rattle.executor_core.specs.declared.types.Answer.TheVariants as a
-use Rattle.queue_code.specs.Calls.{Planned, numbers, task_count, terms_of, due_at}
+use Rattle.queue_code.specs.Calls.{Planned, numbers, task_count, terms_of}
 use Rattle.executor_core.specs.View.{View, first_enabled}
-use Rattle.executor_core.specs.Answers.{Reply, bare, reply, called, kind_of, set_policy, setting_sweeps, moment_after, is_swept, swept, start_answer, finish_answer, outcome_in, stops_periodic, due_next, effect_on}
+use Rattle.executor_core.specs.Answers.{Reply, bare, reply, called, set_policy, setting_sweeps, moment_after, is_swept, swept, start_answer, finish_answer, outcome_in, stops_periodic, due_next, effect_on}
 use Rattle.executor_core.specs.Histories.{HistoryEntry, IsHistoryOf, view_of_history, happenings, made, now_of, answer, is_cancel, is_end, is_finish_with, is_ended, is_shutdown, is_sweep, cancels, was_shut, was_cancelled, policies_after, policies_of}
 use Rattle.executor_laws.specs.Policies.{NothingStartsAfterAnEnd, TasksAreCancelledOnce, value_of, is_same, sets, PoliciesAreTheLastSet, ShutdownWasMade, ShutIsAShutdown, AscendsFrom, SweptAreThose, SweepsEndThose}
 use Rattle.executor_core.proofs.First.{range_below}
+use Rattle.executor_core.proofs.Replies.{IsAnswerTo, by_answer}
 use Rattle.executor_core.proofs.Sweeping.{ends_are}
 use Rattle.executor_laws.proofs.Replies.{IsOfCall, call_answer, end_parts, ends_say}
 use Rattle.executor_laws.proofs.Waiting.{made_more}
@@ -140,14 +140,13 @@ record Shuts (calls : List Planned) (v : View) (y : Happening) : Type 0 where
   there : slice_get calls v.made ≡ Some (moment, c.Shutdown)
 
 call_shuts : (calls : List Planned) (v : View) (call : CodeCall) → is_shutdown (called calls v call).answer ≡ true → call ≡ c.Shutdown
-call_shuts calls v (c.Submit task timing delay) q =
-    let pick : (b : Bool) → is_shutdown (cond b (a.Refuse task refusal.Rejected) (a.Submit task (kind_of timing) (due_at (terms_of calls task) 0 None))) ≡ true → ⊥ = elim [ true ↦ λ q. false≢true q | false ↦ λ q. false≢true q ] in
-    absurd (pick v.shut q)
-call_shuts calls v (c.Illegal task) q = absurd (false≢true q)
-call_shuts calls v (c.Cancel task) q = absurd (false≢true q)
-call_shuts calls v (c.SetPolicy which value) q = absurd (false≢true q)
-call_shuts calls v c.Shutdown q = refl
-call_shuts calls v c.Ask q = absurd (false≢true q)
+call_shuts calls v call = by_answer (λ x. is_shutdown x ≡ true → call ≡ c.Shutdown) calls v call (by call)
+  where
+    by : (call : CodeCall) (x : Answer) → IsAnswerTo x call → is_shutdown x ≡ true → call ≡ c.Shutdown
+    by c.Shutdown x is q = refl
+    by call a.Shutdown is q = absurd is
+    by call a.ShutdownAgain is q = absurd is
+    by call x is q = absurd (false≢true q)
 
 -- an answer to a shutdown is that of the call
 shut_says : (calls : List Planned) (workers : ℕ) (v : View) (y : Happening) → is_shutdown (reply calls workers v y).answer ≡ true → Shuts calls v y
@@ -256,23 +255,16 @@ abbrev SweepsThose : List Planned → View → Reply → Type 0
 SweepsThose calls v r = (is_sweep v.shut r.answer ≡ true → r.ends ≡ swept calls v (policies_after r.answer v.policies)) × (is_sweep v.shut r.answer ≡ false → r.ends ≡ [])
 
 call_sweeps : (calls : List Planned) (v : View) (call : CodeCall) → SweepsThose calls v (called calls v call)
-call_sweeps calls v (c.Submit task timing delay) =
-    let pick : (b : Bool) → SweepsThose calls v (bare (cond b (a.Refuse task refusal.Rejected) (a.Submit task (kind_of timing) (due_at (terms_of calls task) 0 None)))) =
-    elim [ true ↦ (λ q. absurd (false≢true q), λ q. refl) | false ↦ (λ q. absurd (false≢true q), λ q. refl) ]
-    in
-    pick v.shut
-call_sweeps calls v (c.Illegal task) = (λ q. absurd (false≢true q), λ q. refl)
-call_sweeps calls v (c.Cancel task) = (λ q. absurd (false≢true q), λ q. refl)
-call_sweeps calls v (c.SetPolicy which value) =
-    let those = swept calls v (set_policy which value v.policies) in
-    let pick : (b : Bool) → (b ≡ true → cond b those [] ≡ those) × (b ≡ false → cond b those [] ≡ []) = elim [ true ↦ (λ q. refl, λ q. absurd (false≢true (sym q))) | false ↦ (λ q. absurd (false≢true q), λ q. refl) ] in
-    pick (setting_sweeps v.shut which value)
-call_sweeps calls v c.Shutdown =
-    let pick : (b : Bool) → v.shut ≡ b → SweepsThose calls v (cond b (bare a.ShutdownAgain) (record { answer = a.Shutdown; ends = swept calls v v.policies })) =
-    elim [ true ↦ λ shut. (λ q. absurd (false≢true q), λ q. refl) | false ↦ λ unshut. (λ q. refl, λ q. absurd (false≢true (sym q ∙ ap not unshut))) ]
-    in
-    pick v.shut refl
-call_sweeps calls v c.Ask = (λ q. absurd (false≢true q), λ q. refl)
+call_sweeps calls v call = by v.shut call
+  where
+    by : (shut : Bool) (call : CodeCall) → SweepsThose calls (record v { shut = shut }) (called calls (record v { shut = shut }) call)
+    by shut (c.SetPolicy which value) =
+        let those = swept calls v (set_policy which value v.policies) in
+        let pick : (b : Bool) → (b ≡ true → cond b those [] ≡ those) × (b ≡ false → cond b those [] ≡ []) = elim [ true ↦ (λ q. refl, λ q. absurd (false≢true (sym q))) | false ↦ (λ q. absurd (false≢true q), λ q. refl) ] in
+        pick (setting_sweeps shut which value)
+    by false c.Shutdown = (λ q. refl, λ q. absurd (false≢true (sym q)))
+    by true call = (λ q. absurd (false≢true q), λ q. refl)
+    by false call = (λ q. absurd (false≢true q), λ q. refl)
 
 -- the same of each answer, at the moment after it
 sweeps_those : (calls : List Planned) (workers : ℕ) (v : View) (y : Happening) → SweepsThose calls (record v { moment = moment_after v.moment (slice_get calls v.made) y }) (reply calls workers v y)

@@ -78,34 +78,22 @@ submitted call = cond (submits_task call) 1 0
 after_call : (count : ℕ) (call : CodeCall) → count_after count call ≡ count + submitted call
 after_call count (c.Submit task timing delay) = refl
 after_call count (c.Illegal task) = refl
-after_call count (c.Cancel task) = omega arith
-after_call count (c.SetPolicy which value) = omega arith
-after_call count c.Shutdown = omega arith
-after_call count c.Ask = omega arith
+after_call count call = omega arith
 
 one_task : (call : CodeCall) (n : ℕ) → cond (submits_task call) (1 + n) n ≡ submitted call + n
 one_task (c.Submit task timing delay) n = refl
 one_task (c.Illegal task) n = refl
-one_task (c.Cancel task) n = omega arith
-one_task (c.SetPolicy which value) n = omega arith
-one_task c.Shutdown n = omega arith
-one_task c.Ask n = omega arith
+one_task call n = omega arith
 
 its_number : (count k : ℕ) (call : CodeCall) → IsOrderlyCall count call → IsSubmissionOf k call → (k ≡ count) × (submitted call ≡ 1)
 its_number count k (c.Submit task timing delay) o s = (sym s ∙ o.0, refl)
 its_number count k (c.Illegal task) o s = (sym s ∙ o, refl)
-its_number count k (c.Cancel task) o s = absurd s
-its_number count k (c.SetPolicy which value) o s = absurd s
-its_number count k c.Shutdown o s = absurd s
-its_number count k c.Ask o s = absurd s
+its_number count k call o s = absurd s
 
 next_number : (count : ℕ) (call : CodeCall) → IsOrderlyCall count call → submitted call ≡ 1 → IsSubmissionOf count call
 next_number count (c.Submit task timing delay) o one = o.0
 next_number count (c.Illegal task) o one = o
-next_number count (c.Cancel task) o one = absurd (omega (arith, one))
-next_number count (c.SetPolicy which value) o one = absurd (omega (arith, one))
-next_number count c.Shutdown o one = absurd (omega (arith, one))
-next_number count c.Ask o one = absurd (omega (arith, one))
+next_number count call o one = absurd (omega (arith, one))
 
 -- a submission has the number of the submissions before it
 numbered : (count moment : ℕ) (calls : List Planned) (n k : ℕ) (p : Planned) → IsOrderlyFrom count moment calls → slice_get calls n ≡ Some p → IsSubmissionOf k p.1 →

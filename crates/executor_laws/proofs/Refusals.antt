@@ -14,14 +14,15 @@ use Rattle.executor_core.specs.declared.types.Answer.{Answer}
 use Rattle.executor_core.specs.declared.types.Answer.TheVariants as a
 use Rattle.queue_code.specs.Calls.{Planned, IsOrderly, numbers, terms_of, due_at}
 use Rattle.executor_core.specs.View.{View, first_enabled}
-use Rattle.executor_core.specs.Answers.{bare, reply, called, kind_of, swept, start_answer, finish_answer, effect_on}
+use Rattle.executor_core.specs.Answers.{bare, reply, called, kind_of, start_answer, finish_answer, effect_on}
 use Rattle.executor_core.specs.Histories.{HistoryEntry, IsHistoryOf, view_of_history, happenings, made, is_submit, was_accepted}
+use Rattle.executor_core.proofs.Replies.{IsAnswerTo, by_answer}
 use Rattle.executor_laws.specs.Positions.{IsSubmissionOf}
 use Rattle.executor_laws.specs.TaskWords.{word_after, starts_of_word}
 use Rattle.executor_laws.specs.Policies.{NothingIsAcceptedOnceShut, RefusedTasksDoNotStart}
 use Rattle.executor_laws.proofs.StartLaws.{means_front}
 use Rattle.executor_laws.proofs.Reading.{tasks_are_submitted}
-use Rattle.executor_laws.proofs.Waiting.{Submits, submit_says, made_more, was_submitted}
+use Rattle.executor_laws.proofs.Waiting.{Submits, call_submits, submit_says, made_more, was_submitted}
 use Rattle.executor_laws.proofs.TaskWords.{words_tell_the_history}
 
 -- ---- a shut executor accepts no task
@@ -31,12 +32,7 @@ shut_call calls v (c.Submit task timing delay) k shut q =
     let answer : Bool → Answer = λ b. cond b (a.Refuse task refusal.Rejected) (a.Submit task (kind_of timing) (due_at (terms_of calls task) 0 None)) in
     false≢true (ap (λ b. is_submit k (answer b)) (sym shut) ∙ q)
 shut_call calls v (c.Illegal task) k shut q = false≢true q
-shut_call calls v (c.Cancel task) k shut q = false≢true q
-shut_call calls v (c.SetPolicy which value) k shut q = false≢true q
-shut_call calls v c.Shutdown k shut q =
-    let pick : (b : Bool) → is_submit k (cond b (bare a.ShutdownAgain) (record { answer = a.Shutdown; ends = swept calls v v.policies })).answer ≡ true → ⊥ = elim [ true ↦ λ q. false≢true q | false ↦ λ q. false≢true q ] in
-    pick v.shut q
-shut_call calls v c.Ask k shut q = false≢true q
+shut_call calls v call k shut q = call_submits calls v call k q
 
 -- once the executor is shut, no answer accepts a task
 pub accepts_none : (calls : List Planned) (workers : ℕ) (v : View) (y : Happening) (k : ℕ) → v.shut ≡ true → is_submit k (reply calls workers v y).answer ≡ true → ⊥
@@ -53,16 +49,13 @@ nothing_is_accepted_once_shut calls workers past e k m shut q = accepts_none cal
 -- ---- a task that is refused does not start
 
 call_refuses : (calls : List Planned) (v : View) (call : CodeCall) (k : ℕ) (why : Refusal) → (called calls v call).answer ≡ a.Refuse k why → IsSubmissionOf k call
-call_refuses calls v (c.Submit task timing delay) k why q =
-    let pick : (b : Bool) → cond b (a.Refuse task refusal.Rejected) (a.Submit task (kind_of timing) (due_at (terms_of calls task) 0 None)) ≡ a.Refuse k why → task ≡ k = elim [ true ↦ λ q. cc | false ↦ λ q. absurd cc ] in
-    pick v.shut q
-call_refuses calls v (c.Illegal task) k why q = cc
-call_refuses calls v (c.Cancel task) k why q = absurd cc
-call_refuses calls v (c.SetPolicy which value) k why q = absurd cc
-call_refuses calls v c.Shutdown k why q =
-    let pick : (b : Bool) → (cond b (bare a.ShutdownAgain) (record { answer = a.Shutdown; ends = swept calls v v.policies })).answer ≡ a.Refuse k why → ⊥ = elim [ true ↦ λ q. cc | false ↦ λ q. cc ] in
-    pick v.shut q
-call_refuses calls v c.Ask k why q = absurd cc
+call_refuses calls v call k why = by_answer (λ x. x ≡ a.Refuse k why → IsSubmissionOf k call) calls v call (by call)
+  where
+    by : (call : CodeCall) (x : Answer) → IsAnswerTo x call → x ≡ a.Refuse k why → IsSubmissionOf k call
+    by (c.Submit task timing delay) (a.Refuse j other) is q = cc
+    by (c.Illegal task) (a.Refuse j other) is q = cc
+    by call (a.Refuse j other) is q = absurd is
+    by call x is q = absurd cc
 
 -- a refusal is the answer to a call that submits the task
 refuse_says : (calls : List Planned) (workers : ℕ) (v : View) (y : Happening) (k : ℕ) (why : Refusal) → (reply calls workers v y).answer ≡ a.Refuse k why → Submits calls v y k

@@ -10,23 +10,23 @@ use Rattle.sched_time.specs.declared.timing.Timing.TheVariants as t
 use Rattle.sched_time.specs.declared.timing.Ending.{Ending}
 use Rattle.sched_time.specs.declared.timing.Ending.TheVariants as e
 use Rattle.queue_code.specs.declared.call.CodeCall.{CodeCall}
-use Rattle.queue_code.specs.declared.call.CodeCall.TheVariants as c
 use Rattle.executor_core.specs.declared.types.EventError.TheVariants as x
-use Rattle.executor_core.specs.declared.types.Refusal.TheVariants as refusal
 use Rattle.executor_core.specs.declared.types.Happening.{Happening}
 use Rattle.executor_core.specs.declared.types.Happening.TheVariants as h
 use Rattle.executor_core.specs.declared.types.CancelEffect.{CancelEffect}
 use Rattle.executor_core.specs.declared.types.CancelEffect.TheVariants as f
 use Rattle.executor_core.specs.declared.types.Outcome.TheVariants as o
+use Rattle.executor_core.specs.declared.types.Answer.{Answer}
 use Rattle.executor_core.specs.declared.types.Answer.TheVariants as a
 use Rattle.queue_code.specs.Calls.{Planned, Terms, numbers, task_count, terms_of, due_at}
 use Rattle.executor_core.specs.View.{Fate, View, is_running, is_over, is_waiting, first_enabled}
-use Rattle.executor_core.specs.Answers.{bare, reply, called, kind_of, swept, start_answer, finish_answer, outcome_of, due_next, stops_periodic, effect_on, outcome_in}
+use Rattle.executor_core.specs.Answers.{bare, reply, called, start_answer, finish_answer, outcome_of, due_next, stops_periodic, effect_on, outcome_in}
 use Rattle.executor_core.specs.Histories.{HistoryEntry, view_of_history, happenings, now_of, is_cancel, cancels, had_effect, is_start, is_finish, is_finish_with, is_failed, starts, finishes, last_finish, was_cancelled, was_failed, due_of}
 use Rattle.executor_laws.specs.Laws.{Starts, TiesGoBySubmission, RateRunsAreDue, FixedRunsAreDue, AgainIsDue, RunsDoNotOverlap, NothingStartsAfterAFailure, NothingStartsAfterACancel, CancelsHaveOneEffect}
+use Rattle.executor_core.proofs.Replies.{IsAnswerTo, answers_call}
 use Rattle.executor_core.proofs.Tables.{submission}
 use Rattle.executor_core.proofs.Sound.{first_is_enabled}
-use Rattle.executor_laws.proofs.Replies.{IsOfCall, call_answer}
+use Rattle.executor_laws.proofs.Replies.{IsOfCall, call_answer, SaysEffect, call_effect}
 use Rattle.executor_laws.proofs.StartLaws.{start_is_first, starts_are_in_order, means_front}
 use Rattle.executor_laws.proofs.Waiting.{finish_found}
 
@@ -269,16 +269,12 @@ effect_live v j k q =
     ap (λ i. (v.fate i).cancelled) (sym (eqb-true j k parts.0)) ∙ yes_live fate.accepted (is_running fate) fate.cancelled (fate.failed || fate.done) parts.1
 
 call_cancels : (calls : List Planned) (v : View) (call : CodeCall) (k : ℕ) → is_cancel k (called calls v call).answer ≡ true → (v.fate k).cancelled ≡ false
-call_cancels calls v (c.Submit task timing delay) k q =
-    let pick : (b : Bool) → is_cancel k (cond b (a.Refuse task refusal.Rejected) (a.Submit task (kind_of timing) (due_at (terms_of calls task) 0 None))) ≡ true → ⊥ = elim [ true ↦ λ q. false≢true q | false ↦ λ q. false≢true q ] in
-    absurd (pick v.shut q)
-call_cancels calls v (c.Illegal task) k q = absurd (false≢true q)
-call_cancels calls v (c.Cancel task) k q = effect_live v task k q
-call_cancels calls v (c.SetPolicy which value) k q = absurd (false≢true q)
-call_cancels calls v c.Shutdown k q =
-    let pick : (b : Bool) → is_cancel k (cond b (bare a.ShutdownAgain) (record { answer = a.Shutdown; ends = swept calls v v.policies })).answer ≡ true → ⊥ = elim [ true ↦ λ q. false≢true q | false ↦ λ q. false≢true q ] in
-    absurd (pick v.shut q)
-call_cancels calls v c.Ask k q = absurd (false≢true q)
+call_cancels calls v call k = by (called calls v call).answer (answers_call calls v call) (call_effect calls v call)
+  where
+    by : (x : Answer) → IsAnswerTo x call → SaysEffect v x → is_cancel k x ≡ true → (v.fate k).cancelled ≡ false
+    by (a.Cancel j effect) is says q = effect_live v j k (sym (ap (λ e. (j == k) && had_effect e) says) ∙ q)
+    by (a.Outside j effect) is says q = absurd is
+    by x is says q = absurd (false≢true q)
 
 -- a cancel that has an effect finds the task not cancelled
 pub cancel_says : (calls : List Planned) (workers : ℕ) (v : View) (y : Happening) (k : ℕ) → is_cancel k (reply calls workers v y).answer ≡ true → (v.fate k).cancelled ≡ false

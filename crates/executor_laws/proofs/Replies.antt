@@ -3,19 +3,19 @@ use Rattle.std.proofs.Common.{◌≡◌, ℕ, ◌==◌, Bool, true, false, cond,
 use Rattle.std.specs.Prelude.{slice_get, max}
 use Rattle.std.specs.Option.{option_map_or}
 use Rattle.std.specs.List.{filter}
-use Rattle.std.proofs.lemmas.Bool.{false≢true, eqb-true, and_parts, or_cases, or_left, or_right}
+use Rattle.std.proofs.lemmas.Bool.{false≢true, eqb-true, or_cases, or_left, or_right}
 use Rattle.queue_code.specs.declared.call.CodeCall.{CodeCall}
 use Rattle.queue_code.specs.declared.call.CodeCall.TheVariants as c
-use Rattle.executor_core.specs.declared.policies.Policies.{Policies}
-use Rattle.executor_core.specs.declared.types.Refusal.TheVariants as refusal
+use Rattle.executor_core.specs.declared.types.EventError.TheVariants as x
 use Rattle.executor_core.specs.declared.types.Happening.{Happening}
 use Rattle.executor_core.specs.declared.types.Happening.TheVariants as h
 use Rattle.executor_core.specs.declared.types.Answer.{Answer}
 use Rattle.executor_core.specs.declared.types.Answer.TheVariants as a
-use Rattle.queue_code.specs.Calls.{Planned, numbers, terms_of, due_at}
-use Rattle.executor_core.specs.View.{Fate, View, is_waiting}
-use Rattle.executor_core.specs.Answers.{Reply, bare, reply, called, kind_of, set_policy, setting_sweeps, is_swept, is_ended_by, swept}
-use Rattle.executor_core.specs.Histories.{is_end}
+use Rattle.queue_code.specs.Calls.{Planned, numbers}
+use Rattle.executor_core.specs.View.{Fate, View, is_waiting, first_enabled}
+use Rattle.executor_core.specs.Answers.{Reply, bare, reply, called, set_policy, setting_sweeps, swept, start_answer, finish_answer, queue_size, running_count, is_terminated, effect_on}
+use Rattle.executor_core.specs.Histories.{is_end, is_sweep}
+use Rattle.executor_core.proofs.Replies.{IsAnswerTo, by_answer, call_ends_waiting}
 
 -- ---- the answers to calls
 
@@ -27,29 +27,78 @@ IsOfCall _ = Unit {0}
 
 -- as none does that a call has
 pub call_answer : (calls : List Planned) (v : View) (call : CodeCall) → IsOfCall (called calls v call).answer
-call_answer calls v (c.Submit task timing delay) =
-    let pick : (b : Bool) → IsOfCall (cond b (a.Refuse task refusal.Rejected) (a.Submit task (kind_of timing) (due_at (terms_of calls task) 0 None))) = elim [ true ↦ tt | false ↦ tt ] in
-    pick v.shut
-call_answer calls v (c.Illegal task) = tt
-call_answer calls v (c.Cancel task) = tt
-call_answer calls v (c.SetPolicy which value) = tt
-call_answer calls v c.Shutdown =
-    let pick : (b : Bool) → IsOfCall (cond b (bare a.ShutdownAgain) (record { answer = a.Shutdown; ends = swept calls v v.policies })).answer = elim [ true ↦ tt | false ↦ tt ] in
-    pick v.shut
-call_answer calls v c.Ask = tt
+call_answer calls v call = by_answer IsOfCall calls v call of_call
+  where
+    of_call : (x : Answer) → IsAnswerTo x call → IsOfCall x
+    of_call (a.Start worker task run due) is = is
+    of_call (a.Finish worker task run outcome) is = is
+    of_call x is = tt
+
+-- an answer says of a cancel of the plan what that does
+abbrev pub SaysEffect : View → Answer → Type 0
+SaysEffect v (a.Cancel task effect) = effect ≡ effect_on (v.fate task)
+SaysEffect v _ = Unit {0}
+
+-- as each does that a call has
+pub call_effect : (calls : List Planned) (v : View) (call : CodeCall) → SaysEffect v (called calls v call).answer
+call_effect calls v call = by_answer (λ x. (called calls v call).answer ≡ x → SaysEffect v x) calls v call (says call) refl
+  where
+    says : (call : CodeCall) (x : Answer) → IsAnswerTo x call → (called calls v call).answer ≡ x → SaysEffect v x
+    says (c.Cancel task) (a.Cancel j effect) is q = cc
+    says call (a.Cancel j effect) is q = absurd is
+    says call x is q = tt
+
+-- an answer tells what an `ask` does
+abbrev pub IsAsk : Answer → Type 0
+IsAsk (a.Ask queue running shut terminated) = Unit {0}
+IsAsk _ = ⊥
+
+-- what the answer to an `ask` tells of a view
+abbrev pub told : List Planned → View → Answer
+told calls v = a.Ask (queue_size calls v) (running_count calls v) v.shut (is_terminated v.shut (queue_size calls v) (running_count calls v))
+
+-- one call alone has such an answer
+pub asks : (calls : List Planned) (v : View) (call : CodeCall) → IsAsk (called calls v call).answer → call ≡ c.Ask
+asks calls v call = by_answer (λ x. IsAsk x → call ≡ c.Ask) calls v call (by call)
+  where
+    by : (call : CodeCall) (x : Answer) → IsAnswerTo x call → IsAsk x → call ≡ c.Ask
+    by c.Ask x is ask = refl
+    by call (a.Ask queue running shut terminated) is ask = absurd is
+    by call x is ask = absurd ask
+
+call_asks : (calls : List Planned) (v : View) (call : CodeCall) → IsAsk (called calls v call).answer → (called calls v call).answer ≡ told calls v
+call_asks calls v call q = ap (λ c. (called calls v c).answer) (asks calls v call q)
+
+-- such an answer tells of the view
+pub ask_says : (calls : List Planned) (workers : ℕ) (v : View) (y : Happening) → IsAsk (reply calls workers v y).answer → (reply calls workers v y).answer ≡ told calls v
+ask_says calls workers v h.Call q =
+    let answer : Option Planned → Answer = λ o. (option_map_or (λ p. called calls (record v { moment = max v.moment p.0 }) p.1) o (bare a.Clock)).answer in
+    let pick : (o : Option Planned) → IsAsk (answer o) → answer o ≡ told calls v = elim [ None ↦ λ q. absurd q | Some p ↦ call_asks calls (record v { moment = max v.moment p.0 }) p.1 ] in
+    pick (slice_get calls v.made) q
+ask_says calls workers v (h.Clock t) q =
+    let pick : (b d : Bool) → IsAsk (cond b (a.Error x.Backward) (cond d (a.Error x.TooFar) a.Clock)) → ⊥ = elim [ true ↦ λ d q. q | false ↦ elim [ true ↦ λ q. q | false ↦ λ q. q ] ] in
+    absurd (pick _ _ q)
+ask_says calls workers v (h.Start u) q =
+    let start : (o : Option ℕ) → IsAsk (start_answer v u o) → ⊥ = elim [ None ↦ λ q. q | Some j ↦ λ q. q ] in
+    let pick : (b : Bool) (o : Option ℕ) → IsAsk (cond b (option_map_or (λ _. a.Error x.Busy) o (start_answer v u (first_enabled v (numbers calls)))) (a.Error x.NoWorker)) → ⊥ =
+    elim [ true ↦ elim [ None ↦ start (first_enabled v (numbers calls)) | Some j ↦ λ q. q ] | false ↦ λ o q. q ]
+    in
+    absurd (pick _ _ q)
+ask_says calls workers v (h.Finish u ending) q =
+    let pick : (b : Bool) (o : Option ℕ) → IsAsk (cond b (finish_answer calls v u ending o) (a.Error x.NoWorker)) → ⊥ =
+    elim [ true ↦ elim [ None ↦ λ q. q | Some j ↦ λ q. q ] | false ↦ λ o q. q ]
+    in
+    absurd (pick _ _ q)
+ask_says calls workers v (h.Cancel j) q =
+    let pick : (b : Bool) → IsAsk (cond b (a.Outside j (effect_on (v.fate j))) (a.Error x.NoTask)) → ⊥ = elim [ true ↦ λ q. q | false ↦ λ q. q ] in
+    absurd (pick _ q)
 
 -- ---- the tasks that an answer ends
 
--- an answer is one of those that may sweep
-abbrev pub MaySweep : Answer → Type 0
-MaySweep a.Shutdown = Unit {0}
-MaySweep (a.Policy which value) = Unit {0}
-MaySweep _ = ⊥
-
--- what an answer that ends a task says of it
-pub record EndsTask (fate : Fate) (answer : Answer) : Type 0 where
+-- what an answer that ends a task says of it, where the executor was shut before it or not
+pub record EndsTask (fate : Fate) (shut : Bool) (answer : Answer) : Type 0 where
   pub waited : is_waiting fate ≡ true
-  pub sweeps : MaySweep answer
+  pub sweeps : is_sweep shut answer ≡ true
 
 -- a number of a filtered list is one of the list, and passes the test
 pub end_parts : (test : ℕ → Bool) (ks : List ℕ) (k : ℕ) → is_end k (filter test ks) ≡ true → (is_end k ks ≡ true) × (test k ≡ true)
@@ -64,32 +113,28 @@ end_parts test (x ∷ ks) k q =
     in
     pick (test x) refl q
 
--- a sweep ends tasks that wait
-swept_waits : (calls : List Planned) (v : View) (policies : Policies) (k : ℕ) → is_end k (swept calls v policies) ≡ true → is_waiting (v.fate k) ≡ true
-swept_waits calls v policies k q =
-    (and_parts (is_waiting (v.fate k)) (is_ended_by policies v.moment (terms_of calls k).timing (v.fate k).due) (end_parts (is_swept calls v policies) (numbers calls) k q).1).0
+-- a call that ends a task sweeps
+call_sweeps : (calls : List Planned) (v : View) (call : CodeCall) (k : ℕ) → is_end k (called calls v call).ends ≡ true → is_sweep v.shut (called calls v call).answer ≡ true
+call_sweeps calls v call k q = by v.shut call q
+  where
+    by : (shut : Bool) (call : CodeCall) → is_end k (called calls (record v { shut = shut }) call).ends ≡ true → is_sweep shut (called calls (record v { shut = shut }) call).answer ≡ true
+    by shut (c.SetPolicy which value) q =
+        let those = swept calls v (set_policy which value v.policies) in
+        let pick : (b : Bool) → is_end k (cond b those []) ≡ true → b ≡ true = elim [ true ↦ λ q. refl | false ↦ λ q. q ] in
+        pick (setting_sweeps shut which value) q
+    by true call q = cc
+    by false call q = cc
 
-call_ends : (calls : List Planned) (v : View) (call : CodeCall) (k : ℕ) → is_end k (called calls v call).ends ≡ true → EndsTask (v.fate k) (called calls v call).answer
-call_ends calls v (c.Submit task timing delay) k q = absurd (false≢true q)
-call_ends calls v (c.Illegal task) k q = absurd (false≢true q)
-call_ends calls v (c.Cancel task) k q = absurd (false≢true q)
-call_ends calls v (c.SetPolicy which value) k q =
-    let policies = set_policy which value v.policies in
-    let pick : (b : Bool) → is_end k (cond b (swept calls v policies) []) ≡ true → is_waiting (v.fate k) ≡ true = elim [ true ↦ swept_waits calls v policies k | false ↦ λ q. absurd (false≢true q) ] in
-    record { waited = pick (setting_sweeps v.shut which value) q; sweeps = tt }
-call_ends calls v c.Shutdown k q =
-    let both : Bool → Reply = λ b. cond b (bare a.ShutdownAgain) (record { answer = a.Shutdown; ends = swept calls v v.policies }) in
-    let pick : (b : Bool) → is_end k (both b).ends ≡ true → EndsTask (v.fate k) (both b).answer =
-    elim [ true ↦ λ q. absurd (false≢true q) | false ↦ λ q. record { waited = swept_waits calls v v.policies k q; sweeps = tt } ]
-    in
-    pick v.shut q
-call_ends calls v c.Ask k q = absurd (false≢true q)
+call_ends : (calls : List Planned) (v : View) (call : CodeCall) (k : ℕ) → is_end k (called calls v call).ends ≡ true → EndsTask (v.fate k) v.shut (called calls v call).answer
+call_ends calls v call k q =
+    let those = call_ends_waiting calls v call in
+    record { waited = those.wait k (end_parts those.test (numbers calls) k (sym (ap (is_end k) those.are) ∙ q)).1; sweeps = call_sweeps calls v call k q }
 
 -- a task that an answer ends waited, and the answer is a sweep's
-pub ends_say : (calls : List Planned) (workers : ℕ) (v : View) (y : Happening) (k : ℕ) → is_end k (reply calls workers v y).ends ≡ true → EndsTask (v.fate k) (reply calls workers v y).answer
+pub ends_say : (calls : List Planned) (workers : ℕ) (v : View) (y : Happening) (k : ℕ) → is_end k (reply calls workers v y).ends ≡ true → EndsTask (v.fate k) v.shut (reply calls workers v y).answer
 ends_say calls workers v h.Call k q =
     let made : Option Planned → Reply = λ o. option_map_or (λ p. called calls (record v { moment = max v.moment p.0 }) p.1) o (bare a.Clock) in
-    let pick : (o : Option Planned) → is_end k (made o).ends ≡ true → EndsTask (v.fate k) (made o).answer =
+    let pick : (o : Option Planned) → is_end k (made o).ends ≡ true → EndsTask (v.fate k) v.shut (made o).answer =
     elim [ None ↦ λ q. absurd (false≢true q) | Some p ↦ call_ends calls (record v { moment = max v.moment p.0 }) p.1 k ]
     in
     pick (slice_get calls v.made) q

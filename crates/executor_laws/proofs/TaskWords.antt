@@ -3,10 +3,8 @@ use Rattle.std.proofs.Common.{◌≡◌, ℕ, ◌+◌, ◌↔◌, ◌&&◌, ◌=
 use Rattle.std.specs.Prelude.{not}
 use Rattle.std.proofs.lemmas.Bool.{false≢true, false_from_ne_true}
 use Rattle.std.proofs.lemmas.Bool.Decides.{nat_tests}
-use Rattle.queue_code.specs.declared.call.CodeCall.TheVariants as c
 use Rattle.task_word.specs.Words.{is_live}
 use Rattle.task_word.specs.declared.phases.Phase.TheVariants as w
-use Rattle.executor_core.specs.declared.types.EventError.TheVariants as x
 use Rattle.executor_core.specs.declared.task.Stage.{Stage}
 use Rattle.executor_core.specs.declared.task.Stage.TheVariants as ph
 use Rattle.queue_code.specs.Calls.{Planned, Terms, terms_of}

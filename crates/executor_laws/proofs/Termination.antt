@@ -1,21 +1,15 @@
 -- Which tasks an ask counts, and that a terminated executor starts none.
-use Rattle.std.proofs.Common.{◌≡◌, ℕ, ◌+◌, ◌==◌, ◌&&◌, Bool, true, false, cond, inl, inr, List, [], ◌∷◌, ◌++◌, Option, Some, None, refl, sym, ap, ◌∙◌, arith, subst}
-use Rattle.std.specs.Prelude.{slice_get, max, ◌<◌}
-use Rattle.std.specs.Option.{option_map_or}
+use Rattle.std.proofs.Common.{◌≡◌, ℕ, ◌+◌, ◌==◌, ◌&&◌, Bool, true, false, cond, inl, inr, List, [], ◌∷◌, ◌++◌, refl, sym, ap, ◌∙◌, arith, subst}
+use Rattle.std.specs.Prelude.{◌<◌}
 use Rattle.std.proofs.lemmas.Bool.{false≢true, and_parts, or_cases, or_right, or_parts, eqb-true}
 use Rattle.std.proofs.lemmas.Bool.Decides.{nat_tests}
-use Rattle.queue_code.specs.declared.call.CodeCall.{CodeCall}
-use Rattle.queue_code.specs.declared.call.CodeCall.TheVariants as c
-use Rattle.executor_core.specs.declared.types.EventError.TheVariants as x
-use Rattle.executor_core.specs.declared.types.Refusal.TheVariants as refusal
 use Rattle.executor_core.specs.declared.types.Happening.{Happening}
-use Rattle.executor_core.specs.declared.types.Happening.TheVariants as h
 use Rattle.executor_core.specs.declared.types.Answer.{Answer}
 use Rattle.executor_core.specs.declared.types.Answer.TheVariants as a
 use Rattle.executor_core.specs.declared.task.Stage.TheVariants as ph
-use Rattle.queue_code.specs.Calls.{Planned, IsOrderly, how_many, numbers, task_count, terms_of, due_at}
-use Rattle.executor_core.specs.View.{Fate, View, is_running, is_waiting, first_enabled}
-use Rattle.executor_core.specs.Answers.{Reply, bare, reply, called, kind_of, swept, start_answer, finish_answer, is_queued, queue_size, running_count, is_terminated, effect_on}
+use Rattle.queue_code.specs.Calls.{Planned, IsOrderly, how_many, numbers, task_count, terms_of}
+use Rattle.executor_core.specs.View.{Fate, View, is_running, is_waiting}
+use Rattle.executor_core.specs.Answers.{Reply, is_queued, queue_size, running_count, is_terminated}
 use Rattle.executor_core.specs.Histories.{HistoryEntry, IsHistoryOf, view_of_history, happenings, is_submit, is_shutdown, cancels, was_accepted}
 use Rattle.executor_core.specs.State.{State, view_of_state, was_submitted, reply_of, next, after, move_task}
 use Rattle.executor_core.specs.own.Invariants.{IsSound}
@@ -23,6 +17,7 @@ use Rattle.executor_laws.specs.Policies.{QueuedAndRunningAreTasks, NothingStarts
 use Rattle.executor_core.proofs.First.{is_in, in_range}
 use Rattle.executor_core.proofs.Sound.{Finds, reply_finds, waits_in}
 use Rattle.executor_core.proofs.Agree.{after_agrees, answers_alike}
+use Rattle.executor_laws.proofs.Replies.{IsAsk, told, ask_says}
 use Rattle.executor_laws.proofs.StartLaws.{means_front}
 use Rattle.executor_laws.proofs.Reading.{tasks_are_submitted}
 use Rattle.executor_laws.proofs.Waiting.{was_submitted as call_was_made}
@@ -56,50 +51,8 @@ queued_and_running_are_tasks calls workers past k o m =
 
 -- ---- what an answer that says so says
 
-abbrev AsksTerminated : Answer → Type 0
-AsksTerminated (a.Ask queue running shut true) = Unit {0}
-AsksTerminated _ = ⊥
-
 abbrev IsOver : List Planned → View → Type 0
 IsOver calls v = is_terminated v.shut (queue_size calls v) (running_count calls v) ≡ true
-
-call_over : (calls : List Planned) (v : View) (call : CodeCall) → AsksTerminated (called calls v call).answer → IsOver calls v
-call_over calls v (c.Submit task timing delay) q =
-    let pick : (b : Bool) → AsksTerminated (cond b (a.Refuse task refusal.Rejected) (a.Submit task (kind_of timing) (due_at (terms_of calls task) 0 None))) → ⊥ = elim [ true ↦ λ q. q | false ↦ λ q. q ] in
-    absurd (pick v.shut q)
-call_over calls v (c.Illegal task) q = absurd q
-call_over calls v (c.Cancel task) q = absurd q
-call_over calls v (c.SetPolicy which value) q = absurd q
-call_over calls v c.Shutdown q =
-    let pick : (b : Bool) → AsksTerminated (cond b (bare a.ShutdownAgain) (record { answer = a.Shutdown; ends = swept calls v v.policies })).answer → ⊥ = elim [ true ↦ λ q. q | false ↦ λ q. q ] in
-    absurd (pick v.shut q)
-call_over calls v c.Ask q =
-    let pick : (b : Bool) → AsksTerminated (a.Ask (queue_size calls v) (running_count calls v) v.shut b) → b ≡ true = elim [ true ↦ λ q. refl | false ↦ λ q. absurd q ] in
-    pick (is_terminated v.shut (queue_size calls v) (running_count calls v)) q
-
-over_says : (calls : List Planned) (workers : ℕ) (v : View) (y : Happening) → AsksTerminated (reply calls workers v y).answer → IsOver calls v
-over_says calls workers v h.Call =
-    let pick : (o : Option Planned) → AsksTerminated (option_map_or (λ p. called calls (record v { moment = max v.moment p.0 }) p.1) o (bare a.Clock)).answer → IsOver calls v =
-    elim [ None ↦ λ q. absurd q | Some p ↦ call_over calls (record v { moment = max v.moment p.0 }) p.1 ]
-    in
-    pick (slice_get calls v.made)
-over_says calls workers v (h.Clock t) =
-    let pick : (b d : Bool) → AsksTerminated (cond b (a.Error x.Backward) (cond d (a.Error x.TooFar) a.Clock)) → IsOver calls v = elim [ true ↦ λ d q. absurd q | false ↦ elim [ true ↦ λ q. absurd q | false ↦ λ q. absurd q ] ] in
-    pick _ _
-over_says calls workers v (h.Start u) =
-    let start : (o : Option ℕ) → AsksTerminated (start_answer v u o) → IsOver calls v = elim [ None ↦ λ q. absurd q | Some j ↦ λ q. absurd q ] in
-    let pick : (b : Bool) (o : Option ℕ) → AsksTerminated (cond b (option_map_or (λ _. a.Error x.Busy) o (start_answer v u (first_enabled v (numbers calls)))) (a.Error x.NoWorker)) → IsOver calls v =
-    elim [ true ↦ elim [ None ↦ start (first_enabled v (numbers calls)) | Some j ↦ λ q. absurd q ] | false ↦ λ o q. absurd q ]
-    in
-    pick _ _
-over_says calls workers v (h.Finish u ending) =
-    let pick : (b : Bool) (o : Option ℕ) → AsksTerminated (cond b (finish_answer calls v u ending o) (a.Error x.NoWorker)) → IsOver calls v =
-    elim [ true ↦ elim [ None ↦ λ q. absurd q | Some j ↦ λ q. absurd q ] | false ↦ λ o q. absurd q ]
-    in
-    pick _ _
-over_says calls workers v (h.Cancel j) =
-    let pick : (b : Bool) → AsksTerminated (cond b (a.Outside j (effect_on (v.fate j))) (a.Error x.NoTask)) → IsOver calls v = elim [ true ↦ λ q. absurd q | false ↦ λ q. absurd q ] in
-    pick _
 
 -- where none of some numbers is counted, each fails the test
 none_counted : (test : ℕ → Bool) (ks : List ℕ) (k : ℕ) → how_many test ks ≡ 0 → is_in k ks ≡ true → test k ≡ false
@@ -174,7 +127,9 @@ nothing_starts_once_terminated calls workers past between asked start w k n d qu
     let first = after calls workers (happenings past) in
     let agrees = after_agrees calls workers past asked_means in
     let said : a.Ask queue running shut true ≡ (reply_of calls workers first asked.happening).answer = sym is ∙ (replied ∙ ap (λ (r : Reply). r.answer) (sym (answers_alike calls workers first past asked.happening agrees))) in
-    let over = over_says calls workers (view_of_state calls first) asked.happening (subst AsksTerminated said tt) in
+    let view = view_of_state calls first in
+    let tells : a.Ask queue running shut true ≡ told calls view = said ∙ ask_says calls workers view asked.happening (subst IsAsk said tt) in
+    let over : IsOver calls view = cc in
     let then = quiet_stays calls workers first asked.happening agrees.sound (quiet_at calls workers past o asked_means over) in
     let quiet = quiet_since calls workers (asked ∷ past) between means.0 then in
     let last = after calls workers (happenings before) in

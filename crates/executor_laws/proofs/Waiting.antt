@@ -10,16 +10,16 @@ use Rattle.queue_code.specs.declared.call.CodeCall.TheVariants as c
 use Rattle.executor_core.specs.declared.types.EventError.TheVariants as x
 use Rattle.executor_core.specs.declared.types.Happening.{Happening}
 use Rattle.executor_core.specs.declared.types.Happening.TheVariants as h
-use Rattle.executor_core.specs.declared.types.Refusal.TheVariants as refusal
 use Rattle.executor_core.specs.declared.types.Answer.{Answer}
 use Rattle.executor_core.specs.declared.types.Answer.TheVariants as a
-use Rattle.queue_code.specs.Calls.{Planned, numbers, terms_of, due_at}
+use Rattle.queue_code.specs.Calls.{Planned, numbers}
 use Rattle.executor_core.specs.View.{View, is_running, is_over, first_enabled}
-use Rattle.executor_core.specs.Answers.{bare, reply, called, kind_of, swept, start_answer, finish_answer, moment_after, effect_on}
+use Rattle.executor_core.specs.Answers.{bare, reply, called, start_answer, finish_answer, moment_after, effect_on}
 use Rattle.executor_core.specs.Histories.{HistoryEntry, IsHistoryOf, view_of_history, happenings, made, now_of, is_submit, is_finish, was_accepted, last_finish}
 use Rattle.executor_laws.specs.Positions.{IsSubmissionOf, WasSubmitted, WaitingIsATask, WaitingIsDueInTime, FinishedLast, LastFinishIsTheLast, FinishKeepsNow}
 use Rattle.executor_laws.proofs.Replies.{IsOfCall, call_answer}
 use Rattle.executor_laws.proofs.Reading.{tasks_are_submitted}
+use Rattle.executor_core.proofs.Replies.{IsAnswerTo, by_answer}
 use Rattle.executor_core.proofs.Within.{dues_within}
 
 -- ---- what an answer that submits a task says of what happened
@@ -33,18 +33,12 @@ pub record Submits (calls : List Planned) (v : View) (happening : Happening) (k 
 
 -- a call whose answer accepts task k is the submission of task k
 pub call_submits : (calls : List Planned) (v : View) (call : CodeCall) (k : ℕ) → is_submit k (called calls v call).answer ≡ true → IsSubmissionOf k call
-call_submits calls v (c.Submit task timing delay) k q =
-    let pick : (b : Bool) → is_submit k (cond b (a.Refuse task refusal.Rejected) (a.Submit task (kind_of timing) (due_at (terms_of calls task) 0 None))) ≡ true → task ≡ k =
-    elim [ true ↦ λ q. absurd (false≢true q) | false ↦ eqb-true task k ]
-    in
-    pick v.shut q
-call_submits calls v (c.Illegal task) k q = absurd (false≢true q)
-call_submits calls v (c.Cancel task) k q = absurd (false≢true q)
-call_submits calls v (c.SetPolicy which value) k q = absurd (false≢true q)
-call_submits calls v c.Shutdown k q =
-    let pick : (b : Bool) → is_submit k (cond b (bare a.ShutdownAgain) (record { answer = a.Shutdown; ends = swept calls v v.policies })).answer ≡ true → ⊥ = elim [ true ↦ λ q. false≢true q | false ↦ λ q. false≢true q ] in
-    pick v.shut q
-call_submits calls v c.Ask k q = absurd (false≢true q)
+call_submits calls v call k = by_answer (λ x. is_submit k x ≡ true → IsSubmissionOf k call) calls v call (by call)
+  where
+    by : (call : CodeCall) (x : Answer) → IsAnswerTo x call → is_submit k x ≡ true → IsSubmissionOf k call
+    by (c.Submit task timing delay) (a.Submit j kind due) is q = sym is ∙ eqb-true j k q
+    by call (a.Submit j kind due) is q = absurd is
+    by call x is q = absurd (false≢true q)
 
 -- an answer that submits a task is that of a call that does
 pub submit_says : (calls : List Planned) (workers : ℕ) (v : View) (y : Happening) (k : ℕ) → is_submit k (reply calls workers v y).answer ≡ true → Submits calls v y k

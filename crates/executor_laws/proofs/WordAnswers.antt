@@ -4,10 +4,8 @@ use Rattle.std.specs.Prelude.{slice_get, max}
 use Rattle.std.specs.Option.{option_map_or}
 use Rattle.std.proofs.lemmas.Bool.{false≢true, eqb-true}
 use Rattle.queue_code.specs.declared.call.CodeCall.{CodeCall}
-use Rattle.queue_code.specs.declared.call.CodeCall.TheVariants as c
 use Rattle.task_word.specs.Words.{is_live}
 use Rattle.executor_core.specs.declared.types.EventError.TheVariants as x
-use Rattle.executor_core.specs.declared.types.Refusal.TheVariants as refusal
 use Rattle.executor_core.specs.declared.types.CancelEffect.TheVariants as f
 use Rattle.executor_core.specs.declared.types.Happening.{Happening}
 use Rattle.executor_core.specs.declared.types.Happening.TheVariants as h
@@ -17,14 +15,16 @@ use Rattle.executor_core.specs.declared.types.Answer.TheVariants as a
 use Rattle.executor_core.specs.declared.task.Stage.{Stage}
 use Rattle.executor_core.specs.declared.task.Stage.TheVariants as ph
 use Rattle.executor_core.specs.declared.task.Task.{Task}
-use Rattle.queue_code.specs.Calls.{Planned, Terms, numbers, task_count, terms_of, due_at}
+use Rattle.queue_code.specs.Calls.{Planned, Terms, numbers, task_count, terms_of}
 use Rattle.executor_core.specs.View.{first_enabled}
-use Rattle.executor_core.specs.Answers.{bare, called, kind_of, swept, start_answer, finish_answer, outcome_in, stops_periodic, due_next, effect_on}
+use Rattle.executor_core.specs.Answers.{bare, called, start_answer, finish_answer, outcome_in, stops_periodic, due_next, effect_on}
 use Rattle.executor_core.specs.State.{State, view_of_state, seen_task, reply_of}
 use Rattle.executor_core.specs.Tasks.{word_phase}
 use Rattle.executor_core.specs.own.Invariants.{IsSound}
+use Rattle.executor_core.proofs.Replies.{IsAnswerTo, answers_call}
 use Rattle.executor_core.proofs.Sound.{Finds, reply_finds}
 use Rattle.executor_core.proofs.Cancels.{of_vacant, of_done, of_failed}
+use Rattle.executor_laws.proofs.Replies.{SaysEffect, call_effect}
 
 -- what an answer finds of task k
 abbrev pub Meets : ℕ → Task → Answer → Type 0
@@ -54,17 +54,15 @@ Says calls s (a.Finish worker j run outcome) = (s.tasks j).cancelled ≡ true �
 Says calls s _ = Unit {0}
 
 call_says : (calls : List Planned) (s : State) (moment : ℕ) (call : CodeCall) → Says calls s (called calls (record (view_of_state calls s) { moment = moment }) call).answer
-call_says calls s moment (c.Submit task timing delay) =
-    let pick : (b : Bool) → Says calls s (cond b (a.Refuse task refusal.Rejected) (a.Submit task (kind_of timing) (due_at (terms_of calls task) 0 None))) = elim [ true ↦ tt | false ↦ tt ] in
-    pick s.shut
-call_says calls s moment (c.Illegal task) = tt
-call_says calls s moment (c.Cancel task) = refl
-call_says calls s moment (c.SetPolicy which value) = tt
-call_says calls s moment c.Shutdown =
+call_says calls s moment call =
     let v = record (view_of_state calls s) { moment = moment } in
-    let pick : (b : Bool) → Says calls s (cond b (bare a.ShutdownAgain) (record { answer = a.Shutdown; ends = swept calls v s.policies })).answer = elim [ true ↦ tt | false ↦ tt ] in
-    pick s.shut
-call_says calls s moment c.Ask = tt
+    by (called calls v call).answer (answers_call calls v call) (call_effect calls v call)
+  where
+    by : (x : Answer) → IsAnswerTo x call → SaysEffect (record (view_of_state calls s) { moment = moment }) x → Says calls s x
+    by (a.Cancel j effect) is says = says
+    by (a.Outside j effect) is says = absurd is
+    by (a.Finish worker j run outcome) is says = absurd is
+    by x is says = tt
 
 -- what each reply says of a cancel and of the end of a run
 pub says : (calls : List Planned) (workers : ℕ) (s : State) (happening : Happening) → Says calls s (reply_of calls workers s happening).answer

@@ -1,13 +1,8 @@
 -- Each step makes the writes of words that its need names, and no other.
-use Rattle.std.proofs.Common.{◌≡◌, ℕ, ◌<◌, ◌==◌, ◌&&◌, ◌||◌, Bool, true, false, cond, List, [], ◌∷◌, map, Option, Some, None, refl, sym, ap, ◌∙◌, arith}
-use Rattle.std.specs.Prelude.{slice_get, max}
-use Rattle.std.specs.Option.{option_map_or}
+use Rattle.std.proofs.Common.{◌≡◌, ℕ, ◌<◌, ◌==◌, ◌&&◌, ◌||◌, Bool, true, false, cond, List, [], ◌∷◌, map, refl, sym, ap, ◌∙◌, arith}
 use Rattle.std.specs.List.{list_any}
 use Rattle.std.proofs.lemmas.Bool.{false≢true, false_from_ne_true, or_parts, or_from}
-use Rattle.task_word.specs.Words.{marked}
 use Rattle.task_word.specs.Writes.{Kind, submit, start, done, fail, rearm, core_cancel}
-use Rattle.queue_code.specs.declared.call.CodeCall.{CodeCall}
-use Rattle.queue_code.specs.declared.call.CodeCall.TheVariants as c
 use Rattle.queue_code.specs.Calls.{Planned, IsOrderly, task_count, terms_of}
 use Rattle.executor_core.specs.declared.task.Stage.{Stage}
 use Rattle.executor_core.specs.declared.task.Stage.TheVariants as ph
@@ -19,12 +14,10 @@ use Rattle.executor_core.specs.declared.types.Outcome.TheVariants as o
 use Rattle.executor_core.specs.declared.types.Answer.{Answer}
 use Rattle.executor_core.specs.declared.types.Answer.TheVariants as a
 use Rattle.executor_core.specs.declared.types.Happening.{Happening}
-use Rattle.executor_core.specs.declared.types.Happening.TheVariants as h
 use Rattle.executor_core.specs.declared.types.Need.{Need}
 use Rattle.executor_core.specs.declared.types.Need.TheVariants as n
 use Rattle.executor_core.specs.View.{View}
-use Rattle.executor_core.specs.Answers.{Reply, bare, called, swept, set_policy, setting_sweeps}
-use Rattle.executor_core.specs.Histories.{HistoryEntry, IsHistoryOf, happenings, made, is_submit, had_effect, is_end, is_ended, was_accepted}
+use Rattle.executor_core.specs.Histories.{HistoryEntry, IsHistoryOf, happenings, made, is_submit, had_effect, is_end, is_ended, is_sweep, was_accepted}
 use Rattle.executor_core.specs.State.{State, view_of_state, was_submitted, reply_of, after, submit_phase, finish_task}
 use Rattle.executor_core.specs.Tasks.{word_of_task, word_phase}
 use Rattle.executor_core.specs.Needs.{need_of, need_of_answer, need_of_cancel, need_of_finish}
@@ -107,46 +100,18 @@ others_stay calls s (a.Start v j run due) ends k none met unnamed =
     let t = s.tasks k in
     let apart = named j k start unnamed in λ i. word_with ((false || (none i || false)) || t.cancelled) (cond (apart i) (record t { phase = ph.Running }) t)
 others_stay calls s (a.Finish v j run outcome) ends k none met unnamed = finish_stays calls s ends v j run k outcome none met unnamed
-others_stay calls s (a.Refuse j why) ends k none met unnamed = λ i. word_with ((false || (none i || false)) || (s.tasks k).cancelled) (s.tasks k)
-others_stay calls s (a.Policy which value) ends k none met unnamed = λ i. word_with ((false || (none i || false)) || (s.tasks k).cancelled) (s.tasks k)
-others_stay calls s a.Shutdown ends k none met unnamed = λ i. word_with ((false || (none i || false)) || (s.tasks k).cancelled) (s.tasks k)
-others_stay calls s a.ShutdownAgain ends k none met unnamed = λ i. word_with ((false || (none i || false)) || (s.tasks k).cancelled) (s.tasks k)
-others_stay calls s (a.Ask queue running shut terminated) ends k none met unnamed = λ i. word_with ((false || (none i || false)) || (s.tasks k).cancelled) (s.tasks k)
-others_stay calls s a.Clock ends k none met unnamed = λ i. word_with ((false || (none i || false)) || (s.tasks k).cancelled) (s.tasks k)
-others_stay calls s (a.Idle v) ends k none met unnamed = λ i. word_with ((false || (none i || false)) || (s.tasks k).cancelled) (s.tasks k)
-others_stay calls s (a.Error why) ends k none met unnamed = λ i. word_with ((false || (none i || false)) || (s.tasks k).cancelled) (s.tasks k)
+others_stay calls s _ ends k none met unnamed = λ i. word_with ((false || (none i || false)) || (s.tasks k).cancelled) (s.tasks k)
 
 -- ---- what is known after a history
 
--- the reply to a call at some moment
-abbrev reply_at : List Planned → State → ℕ → CodeCall → Reply
-reply_at calls s moment call = called calls (record (view_of_state calls s) { moment = moment }) call
-
-call_sweeps : (calls : List Planned) (s : State) (moment : ℕ) (call : CodeCall) (k : ℕ) → is_end k (reply_at calls s moment call).ends ≡ true → need_of_answer s.shut (reply_at calls s moment call).answer ≡ n.Sweep
-call_sweeps calls s moment (c.Submit task timing delay) k q = absurd (false≢true q)
-call_sweeps calls s moment (c.Illegal task) k q = absurd (false≢true q)
-call_sweeps calls s moment (c.Cancel task) k q = absurd (false≢true q)
-call_sweeps calls s moment (c.SetPolicy which value) k q =
-    let all = swept calls (record (view_of_state calls s) { moment = moment }) (set_policy which value s.policies) in
-    let pick : (b : Bool) → is_end k (cond b all []) ≡ true → cond b n.Sweep n.Nothing ≡ n.Sweep = elim [ true ↦ λ q. refl | false ↦ λ q. absurd (false≢true q) ] in
-    pick (setting_sweeps s.shut which value) q
-call_sweeps calls s moment c.Shutdown k q =
-    let all = swept calls (record (view_of_state calls s) { moment = moment }) s.policies in
-    let reply : Bool → Reply = λ b. cond b (bare a.ShutdownAgain) (record { answer = a.Shutdown; ends = all }) in
-    let pick : (b : Bool) → is_end k (reply b).ends ≡ true → need_of_answer s.shut (reply b).answer ≡ n.Sweep = elim [ true ↦ λ q. absurd (false≢true q) | false ↦ λ q. refl ] in
-    pick s.shut q
-call_sweeps calls s moment c.Ask k q = absurd (false≢true q)
+-- the need of a sweep
+sweep_needed : (shut : Bool) (answer : Answer) → is_sweep shut answer ≡ true → need_of_answer shut answer ≡ n.Sweep
+sweep_needed shut (a.Policy which value) q = ap (λ b. cond b n.Sweep n.Nothing) q
+sweep_needed shut answer q = cc
 
 -- where the step of a happening ends a task, its need is a sweep
 end_sweeps : (calls : List Planned) (workers : ℕ) (s : State) (happening : Happening) (k : ℕ) → is_end k (reply_of calls workers s happening).ends ≡ true → need_of calls workers s happening ≡ n.Sweep
-end_sweeps calls workers s h.Call k q =
-    let reply : Option Planned → Reply = λ p. option_map_or (λ (p : Planned). reply_at calls s (max s.moment p.0) p.1) p (bare a.Clock) in
-    let pick : (p : Option Planned) → is_end k (reply p).ends ≡ true → need_of_answer s.shut (reply p).answer ≡ n.Sweep = elim [ None ↦ λ q. absurd (false≢true q) | Some p ↦ call_sweeps calls s (max s.moment p.0) p.1 k ] in
-    pick (slice_get calls s.made) q
-end_sweeps calls workers s (h.Clock moment) k q = absurd (false≢true q)
-end_sweeps calls workers s (h.Start v) k q = absurd (false≢true q)
-end_sweeps calls workers s (h.Finish v ending) k q = absurd (false≢true q)
-end_sweeps calls workers s (h.Cancel j) k q = absurd (false≢true q)
+end_sweeps calls workers s happening k q = sweep_needed s.shut (reply_of calls workers s happening).answer (ends_say calls workers (view_of_state calls s) happening k q).sweeps
 
 is_vacant : (p : Stage) → was_submitted p ≡ false → p ≡ ph.Vacant
 is_vacant ph.Vacant q = refl

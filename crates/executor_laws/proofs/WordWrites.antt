@@ -20,13 +20,13 @@ use Rattle.executor_core.specs.declared.types.Answer.{Answer}
 use Rattle.executor_core.specs.declared.types.Answer.TheVariants as a
 use Rattle.executor_core.specs.declared.types.Need.TheVariants as n
 use Rattle.executor_core.specs.Answers.{setting_sweeps, effect_on}
-use Rattle.executor_core.specs.Histories.{made, is_submit, had_effect, is_end}
-use Rattle.executor_core.specs.State.{State, seen_task, was_submitted, after, task_after, submit_phase, finish_task}
+use Rattle.executor_core.specs.Histories.{is_submit, had_effect, is_end}
+use Rattle.executor_core.specs.State.{State, seen_task, was_submitted, task_after, submit_phase, finish_task}
 use Rattle.executor_core.specs.Tasks.{word_of_task, word_phase}
 use Rattle.executor_core.specs.Needs.{need_of_answer, need_of_cancel, need_of_finish}
 use Rattle.executor_core.proofs.Cancels.{live_is_uncancelled}
 use Rattle.executor_laws.specs.NeedWrites.{writes_of, IsWritten}
-use Rattle.executor_laws.proofs.WordAnswers.{Meets, meets, Says, says}
+use Rattle.executor_laws.proofs.WordAnswers.{Meets, Says, says}
 
 -- ---- words
 
@@ -211,18 +211,12 @@ sweep_written calls s answer ends knows goes = All-map (Written calls s answer e
 -- each write that the need of an answer names is made
 pub all_written : (calls : List Planned) (s : State) (answer : Answer) (ends : List ℕ) → Knows calls s answer ends → All (Written calls s answer ends) (writes_of (need_of_answer s.shut answer) ends)
 all_written calls s (a.Submit j kind due) ends knows = submit_written calls s ends j due kind knows
-all_written calls s (a.Refuse j why) ends knows = All-nil (Written calls s (a.Refuse j why) ends)
 all_written calls s (a.Cancel j effect) ends knows = cancel_written calls s (a.Cancel j effect) ends j effect knows knows.says (knows.meets j (same_eqb j)) (cancelled_word ends j effect (s.tasks j))
 all_written calls s (a.Outside j effect) ends knows = cancel_written calls s (a.Outside j effect) ends j effect knows knows.says (knows.meets j (same_eqb j)) (cancelled_word ends j effect (s.tasks j))
 all_written calls s (a.Policy which value) ends knows =
     let all = sweep_written calls s (a.Policy which value) ends knows (λ k e i. word_with ((false || (e i || false)) || (s.tasks k).cancelled) (s.tasks k)) in
     let pick : (b : Bool) → All (Written calls s (a.Policy which value) ends) (writes_of (cond b n.Sweep n.Nothing) ends) = elim [ true ↦ all | false ↦ All-nil (Written calls s (a.Policy which value) ends) ] in
     pick (setting_sweeps s.shut which value)
-all_written calls s a.Shutdown ends knows = sweep_written calls s a.Shutdown ends knows (λ k e i. word_with ((false || (e i || false)) || (s.tasks k).cancelled) (s.tasks k))
-all_written calls s a.ShutdownAgain ends knows = All-nil (Written calls s a.ShutdownAgain ends)
-all_written calls s (a.Ask queue running shut terminated) ends knows = All-nil (Written calls s (a.Ask queue running shut terminated) ends)
-all_written calls s a.Clock ends knows = All-nil (Written calls s a.Clock ends)
 all_written calls s (a.Start v j run due) ends knows = start_written calls s ends v j run due knows
-all_written calls s (a.Idle v) ends knows = All-nil (Written calls s (a.Idle v) ends)
 all_written calls s (a.Finish v j run outcome) ends knows = finish_written calls s ends v j run outcome (finish_finds calls s ends v j run outcome knows)
-all_written calls s (a.Error why) ends knows = All-nil (Written calls s (a.Error why) ends)
+all_written calls s answer ends knows = assumption (All-nil (Written calls s answer ends), sweep_written calls s answer ends knows (λ k e i. word_with ((false || (e i || false)) || (s.tasks k).cancelled) (s.tasks k)))

@@ -40,15 +40,11 @@ IsAnswerInRange calls workers past (a.Submit task kind due) = (task < task_count
 IsAnswerInRange calls workers past (a.Refuse task refusal) = task < task_count calls
 IsAnswerInRange calls workers past (a.Cancel task effect) = task < task_count calls
 IsAnswerInRange calls workers past (a.Outside task effect) = task < task_count calls
-IsAnswerInRange calls workers past (a.Policy which value) = Unit {0}
-IsAnswerInRange calls workers past a.Shutdown = Unit {0}
-IsAnswerInRange calls workers past a.ShutdownAgain = Unit {0}
 IsAnswerInRange calls workers past (a.Ask queue running shut terminated) = (queue ≤ task_count calls) × (running ≤ task_count calls)
-IsAnswerInRange calls workers past a.Clock = Unit {0}
 IsAnswerInRange calls workers past (a.Start worker task run due) = (worker < workers) × (task < task_count calls) × (run < length past) × (due ≤ latest_due)
 IsAnswerInRange calls workers past (a.Idle worker) = worker < workers
 IsAnswerInRange calls workers past (a.Finish worker task run outcome) = (worker < workers) × (task < task_count calls) × (run < length past) × IsOutcomeInRange past outcome
-IsAnswerInRange calls workers past (a.Error error) = Unit {0}
+IsAnswerInRange calls workers past _ = Unit {0}
 
 -- the same of what a line says
 abbrev pub IsMessageInRange : List Planned → ℕ → List HistoryEntry → Message → Type 0

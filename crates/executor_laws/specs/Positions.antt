@@ -114,10 +114,7 @@ ReachedIsAFront = (calls : List Planned) (first t : ℕ) → IsOrderly calls
 abbrev pub IsSubmissionOf : ℕ → CodeCall → Type 0
 IsSubmissionOf k (c.Submit task timing delay) = task ≡ k
 IsSubmissionOf k (c.Illegal task) = task ≡ k
-IsSubmissionOf k (c.Cancel task) = ⊥
-IsSubmissionOf k (c.SetPolicy which value) = ⊥
-IsSubmissionOf k c.Shutdown = ⊥
-IsSubmissionOf k c.Ask = ⊥
+IsSubmissionOf k _ = ⊥
 
 -- a call is the submission of task k, and no other call is; k submissions stand before it
 pub record HasSubmission (calls : List Planned) (k : ℕ) : Type 0 where
