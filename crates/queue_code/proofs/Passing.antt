@@ -4,7 +4,7 @@ use Rattle.std.proofs.lemmas.Bool.{leb-false, ltb-false, or_parts}
 use Rattle.queue_code.specs.declared.fault.CodeFault.{CodeFault}
 use Rattle.queue_code.specs.declared.call.CodeCall.{CodeCall}
 use Rattle.queue_code.specs.declared.instr.Instr.{Instr}
-use Rattle.queue_code.specs.declared.instr.Instr.TheVariants.{Submit, Illegal, CancelFixed, CancelHere, SetPolicy, Shutdown, Ask, Loop, EndLoop, Halt}
+use Rattle.queue_code.specs.declared.instr.Instr.TheVariants.{Submit, Illegal, CancelFixed, CancelHere, Loop, EndLoop, Halt}
 use Rattle.queue_code.specs.declared.progress.Progress.{Progress}
 use Rattle.queue_code.specs.Calls.{Planned, IsOrderlyCall, count_after}
 use Rattle.queue_code.specs.Codes.{call_by, in_front, tasks_by}
@@ -65,9 +65,7 @@ called p (Submit offset timing delay) base start count call timed task large low
 called p (Illegal offset) base start count call timed task large low here = record { what = _; is = refl; next = refl; orderly = refl }
 called p (CancelFixed offset k) base start count call timed task large low here = record { what = _; is = refl; next = omega arith; orderly = omega (arith, leb-false p.tasks k task, low) }
 called p (CancelHere offset nth) base start count call timed task large low here = record { what = _; is = refl; next = omega arith; orderly = here nth task }
-called p (SetPolicy offset which value) base start count call timed task large low here = record { what = _; is = refl; next = omega arith; orderly = tt }
-called p (Shutdown offset) base start count call timed task large low here = record { what = _; is = refl; next = omega arith; orderly = tt }
-called p (Ask offset) base start count call timed task large low here = record { what = _; is = refl; next = omega arith; orderly = tt }
+called p i base start count call timed task large low here = record { what = _; is = refl; next = omega arith; orderly = tt }
 
 -- a call is made within the limit in each iteration
 pub moment_low : (p : Progress) (i : Instr) → makes_call i ≡ true → walk_too_large p i ≡ false → last_shift p.open_loop + offset_of i ≤ 2 ^ 62

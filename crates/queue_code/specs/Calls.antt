@@ -28,10 +28,7 @@ how_many test (x ∷ xs) = if test x then 1 + how_many test xs else how_many tes
 abbrev pub submits_task : CodeCall → Bool
 submits_task (c.Submit task timing delay) = true
 submits_task (c.Illegal task) = true
-submits_task (c.Cancel task) = false
-submits_task (c.SetPolicy which value) = false
-submits_task c.Shutdown = false
-submits_task c.Ask = false
+submits_task _ = false
 
 -- how many tasks some calls submit: submissions are numbered 0, 1, .. in the order of their
 -- calls, and each is a task, also one that is not accepted
@@ -47,10 +44,7 @@ numbers calls = range_with_len 0 (task_count calls)
 abbrev pub count_after : ℕ → CodeCall → ℕ
 count_after count (c.Submit task timing delay) = count + 1
 count_after count (c.Illegal task) = count + 1
-count_after count (c.Cancel task) = count
-count_after count (c.SetPolicy which value) = count
-count_after count c.Shutdown = count
-count_after count c.Ask = count
+count_after count _ = count
 
 -- a period, or a fixed delay, is within the limit, as each span is
 abbrev pub IsTimed : Timing → Type 0
@@ -59,14 +53,12 @@ IsTimed (t.Rate period) = period ≤ longest
 IsTimed (t.Fixed delay) = delay ≤ longest
 
 -- a submission has the next number, and its delay and its timing are within the limit; a cancel names an
--- earlier submission; a policy, a shutdown and a question may stand anywhere
+-- earlier submission; every other call may stand anywhere
 abbrev pub IsOrderlyCall : ℕ → CodeCall → Type 0
 IsOrderlyCall count (c.Submit task timing delay) = (task ≡ count) × (delay ≤ longest) × IsTimed timing
 IsOrderlyCall count (c.Illegal task) = task ≡ count
 IsOrderlyCall count (c.Cancel task) = task < count
-IsOrderlyCall count (c.SetPolicy which value) = Unit {0}
-IsOrderlyCall count c.Shutdown = Unit {0}
-IsOrderlyCall count c.Ask = Unit {0}
+IsOrderlyCall count _ = Unit {0}
 
 -- after `count` submissions and this moment: moments do not fall and are within the limit,
 -- and each call is in order
@@ -89,11 +81,7 @@ pub record Terms : Type 0 where
 abbrev pub terms_in : ℕ → ℕ → CodeCall → Terms → Terms
 terms_in k moment (c.Submit task timing delay) rest =
     if task == k then record { timing = timing; first = moment + delay } else rest
-terms_in k moment (c.Illegal task) rest = rest
-terms_in k moment (c.Cancel task) rest = rest
-terms_in k moment (c.SetPolicy which value) rest = rest
-terms_in k moment c.Shutdown rest = rest
-terms_in k moment c.Ask rest = rest
+terms_in k moment _ rest = rest
 
 -- the terms of task k, by its submission
 abbrev pub terms_of : List Planned → ℕ → Terms

@@ -1,15 +1,15 @@
 -- What is wrong with a list of instructions: at each index a table of checks on the instruction that stands there, those in
 -- front of it and those behind it; and the fault of the list is that of the least index, and there the first of the table.
 -- All of it is this project's rule.
-use Rattle.std.specs.Prelude.{ℕ, ◌+◌, ◌-◌, ◌*◌, ◌==◌, nat_lt, nat_le, Bool, true, false, ◌&&◌, ◌||◌, if◌then◌else◌, List, [], ◌∷◌, ◌++◌, Option, Some, None, is_some, is_none, length, take, drop}
+use Rattle.std.specs.Prelude.{ℕ, ◌+◌, ◌-◌, ◌*◌, ◌==◌, nat_lt, nat_le, Bool, true, false, ◌&&◌, ◌||◌, if◌then◌else◌, List, [], ◌∷◌, ◌++◌, Option, Some, None, is_some, is_none, option_map, unwrap_or, length, take, drop}
 use Rattle.std.specs.List.{range_with_len}
 use Rattle.sched_time.specs.Times.{longest}
 use Rattle.queue_code.specs.declared.fault.CodeFault.{CodeFault}
 use Rattle.queue_code.specs.declared.fault.CodeFault.TheVariants as fault
 use Rattle.queue_code.specs.declared.instr.Instr.{Instr}
-use Rattle.queue_code.specs.declared.instr.Instr.TheVariants.{Submit, Illegal, CancelFixed, CancelHere, SetPolicy, Shutdown, Ask, Loop, EndLoop, Halt}
+use Rattle.queue_code.specs.declared.instr.Instr.TheVariants.{Submit, CancelFixed, CancelHere, Loop, EndLoop, Halt}
 use Rattle.queue_code.specs.Calls.{Planned, most_calls_of_code, task_count, IsTimed}
-use Rattle.queue_code.specs.Codes.{pass, calls_of}
+use Rattle.queue_code.specs.Codes.{call_with_offset, pass, calls_of}
 
 -- ---- what is in front of an instruction
 
@@ -72,14 +72,7 @@ latest_base (Some loop) = (loop.times - 1) * loop.every
 
 -- the offset of a call, and 0 of an instruction that makes none
 abbrev pub offset_of : Instr → ℕ
-offset_of (Submit offset timing delay) = offset
-offset_of (Illegal offset) = offset
-offset_of (CancelFixed offset task) = offset
-offset_of (CancelHere offset nth) = offset
-offset_of (SetPolicy offset which value) = offset
-offset_of (Shutdown offset) = offset
-offset_of (Ask offset) = offset
-offset_of _ = 0
+offset_of i = unwrap_or (option_map (λ p. p.0) (call_with_offset 0 0 i)) 0
 
 -- an instruction makes a call
 abbrev pub makes_call : Instr → Bool

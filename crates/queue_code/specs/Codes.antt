@@ -1,22 +1,27 @@
 -- The calls that a list of instructions makes: each loop written out, submissions numbered by counting.
 -- All of it is this project's rule.
-use Rattle.std.specs.Prelude.{ℕ, zero, suc, ◌+◌, ◌*◌, Bool, true, false, List, [], ◌∷◌, ◌++◌, Option, Some, None}
+use Rattle.std.specs.Prelude.{ℕ, zero, suc, ◌+◌, ◌*◌, Bool, true, false, List, [], ◌∷◌, ◌++◌, Option, Some, None, option_map}
+use Rattle.queue_code.specs.declared.call.CodeCall.{CodeCall}
 use Rattle.queue_code.specs.declared.call.CodeCall.TheVariants as call
 use Rattle.queue_code.specs.declared.instr.Instr.{Instr}
 use Rattle.queue_code.specs.declared.instr.Instr.TheVariants.{Submit, Illegal, CancelFixed, CancelHere, SetPolicy, Shutdown, Ask, Loop, EndLoop, Halt}
 use Rattle.queue_code.specs.Calls.{Planned}
 
--- the call of an instruction, if it makes one, at a base, where `count` tasks are made before it and `start` of
+-- the call of an instruction with its offset, if it makes one, where `count` tasks are made before it and `start` of
 -- them before its iteration
+abbrev pub call_with_offset : ℕ → ℕ → Instr → Option (ℕ × CodeCall)
+call_with_offset start count (Submit offset timing delay) = Some (offset, call.Submit count timing delay)
+call_with_offset start count (Illegal offset) = Some (offset, call.Illegal count)
+call_with_offset start count (CancelFixed offset task) = Some (offset, call.Cancel task)
+call_with_offset start count (CancelHere offset nth) = Some (offset, call.Cancel (start + nth))
+call_with_offset start count (SetPolicy offset which value) = Some (offset, call.SetPolicy which value)
+call_with_offset start count (Shutdown offset) = Some (offset, call.Shutdown)
+call_with_offset start count (Ask offset) = Some (offset, call.Ask)
+call_with_offset start count _ = None
+
+-- that call with its moment, which is its offset after a base
 abbrev pub call_by : ℕ → ℕ → ℕ → Instr → Option Planned
-call_by base start count (Submit offset timing delay) = Some (base + offset, call.Submit count timing delay)
-call_by base start count (Illegal offset) = Some (base + offset, call.Illegal count)
-call_by base start count (CancelFixed offset task) = Some (base + offset, call.Cancel task)
-call_by base start count (CancelHere offset nth) = Some (base + offset, call.Cancel (start + nth))
-call_by base start count (SetPolicy offset which value) = Some (base + offset, call.SetPolicy which value)
-call_by base start count (Shutdown offset) = Some (base + offset, call.Shutdown)
-call_by base start count (Ask offset) = Some (base + offset, call.Ask)
-call_by base start count _ = None
+call_by base start count i = option_map (λ p. (base + p.0, p.1)) (call_with_offset start count i)
 
 -- a call, if there is one, in front of others
 abbrev pub in_front : Option Planned → List Planned → List Planned

@@ -26,8 +26,8 @@
 //! An [`Instr`] makes a call at its offset from the base. `Loop(times, every)` and the next `EndLoop` stand around
 //! instructions that are made `times` times, at a base of 0, `every`, 2 * `every` and so on nanoseconds; outside a
 //! loop the base is 0. No loop stands in a loop. Tasks are numbered as the calls come. `CancelFixed` names a task by
-//! its number, and `CancelHere` by how many tasks of the same iteration come before it. `SetPolicy`, `Shutdown` and
-//! `Ask` name none. A `Halt` ends the code.
+//! its number, and `CancelHere` by how many tasks of the same iteration come before it. Every other call names
+//! none. A `Halt` ends the code.
 //!
 //! Contracts see a code as the list of its instructions, and by `calls_of` (`specs/Codes.antt`) as the list of its
 //! calls with their moments, in which each loop is written out.
