@@ -159,8 +159,7 @@ op_written p verbs.Policy block unit subs ms is k names short =
     let which = get_member (codes "which") ms in
     let word = text_or [] (codes "which") ms in
     (is, word, text_there which [] there.0 (policy_is_text which typed.0), some_of (which_of_word word) Continue (policy_word which there.0 typed.0), truth_there (get_member (codes "value") ms) there.1.0 typed.1.0)
-op_written p verbs.Shutdown block unit subs ms is k names short = is
-op_written p verbs.Ask block unit subs ms is k names short = is
+op_written p verb block unit subs ms is k names short = is
 
 or_le : (a b c d : ℕ) → (nat_le a b || nat_le c d) ≡ true → (a ≤ b) ⊎ (c ≤ d)
 or_le a b c d h = elim (cases_Bool (nat_le a b)) [ inl t ↦ inl (le_from_test a b t) | inr f ↦ inr (le_from_test c d (rw f at h)) ]
@@ -285,10 +284,7 @@ op_stands p block unit subs ms (ops.Policy which value) at w =
       short = refl;
       is = rw (w.2, w.3, w.4) refl;
     }
-op_stands p block unit subs ms ops.Shutdown at is =
-    record { verb = verbs.Shutdown; word = is; keys = keys_stand p verbs.Shutdown ms at is refl refl; names = refl; short = refl; is = refl }
-op_stands p block unit subs ms ops.Ask at is =
-    record { verb = verbs.Ask; word = is; keys = keys_stand p verbs.Ask ms at is refl refl; names = refl; short = refl; is = refl }
+op_stands p block unit subs ms op at is = record { verb = _; word = is; keys = keys_stand p _ ms at is refl refl; names = refl; short = refl; is = refl }
 
 or_back : (a b c d : ℕ) → (a ≤ b) ⊎ (c ≤ d) → (nat_le a b || nat_le c d) ≡ true
 or_back a b c d (inl h) = rw (test_from_le a b h) refl

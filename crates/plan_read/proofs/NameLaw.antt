@@ -25,10 +25,7 @@ distinct-named : (subs : List (List ℕ × Site)) (block : ℕ) (unit : TimeUnit
 distinct-named subs block unit ms (ops.Schedule name delay) s w d = distinct-added subs name s d w.1.2
 distinct-named subs block unit ms (ops.Rate name first period) s w d = distinct-added subs name s d w.1.2
 distinct-named subs block unit ms (ops.Fixed name first delay) s w d = distinct-added subs name s d w.1.2
-distinct-named subs block unit ms (ops.Cancel target) s w d = rw (append-nil subs) d
-distinct-named subs block unit ms (ops.Policy which value) s w d = rw (append-nil subs) d
-distinct-named subs block unit ms ops.Shutdown s w d = rw (append-nil subs) d
-distinct-named subs block unit ms ops.Ask s w d = rw (append-nil subs) d
+distinct-named subs block unit ms op s w d = rw (append-nil subs) d
 
 distinct-calls : (earlier : PlanTree) (h : Header) (before : List Call) (tables : List Members) (cs : List Call) → WritesCalls earlier h before tables cs
     → AreDistinct (submissions_before earlier h before) → AreDistinct (submissions_before earlier h (before ++ cs))

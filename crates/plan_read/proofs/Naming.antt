@@ -96,10 +96,7 @@ unfolding name_checks op_of
 fresh_by_verb p verbs.Schedule found block unit ms h s = (refl, fresh_name p found ms h)
 fresh_by_verb p verbs.Rate found block unit ms h s = (refl, fresh_name p found ms h)
 fresh_by_verb p verbs.Fixed found block unit ms h s = (refl, fresh_name p found ms h)
-fresh_by_verb p verbs.Cancel found block unit ms h s = absurd (cc)
-fresh_by_verb p verbs.Policy found block unit ms h s = absurd (cc)
-fresh_by_verb p verbs.Shutdown found block unit ms h s = absurd (cc)
-fresh_by_verb p verbs.Ask found block unit ms h s = absurd (cc)
+fresh_by_verb p verb found block unit ms h s = absurd (cc)
 
 -- an accepted call that submits has a new name
 pub fresh : (p : Place) (found : Option Site) (block : ℕ) (h : Header) (last : ℕ) (ms : Members) (c : Call) → place_fault p (call_checks found block h last ms) ≡ None
@@ -128,12 +125,7 @@ knows-unnamed names earlier h cs c known e q = known q ∙ sym (unnamed-one_more
 submits-op : (verb : Verb) (found : Option Site) (unit : TimeUnit) (ms : Members) → is_submission (op_of verb found unit ms) ≡ submits verb
 unfolding op_of
 submits-op verbs.Schedule found unit ms = refl
-submits-op verbs.Rate found unit ms = refl
-submits-op verbs.Fixed found unit ms = refl
-submits-op verbs.Cancel found unit ms = refl
-submits-op verbs.Policy found unit ms = refl
-submits-op verbs.Shutdown found unit ms = refl
-submits-op verbs.Ask found unit ms = refl
+submits-op verb found unit ms = refl
 
 -- after a call that was read, whose name was added where it submits
 pub knows-read : (names new : BTreeMap (Bor (List ℕ)) Site) (earlier : PlanTree) (h : Header) (cs : List Call) (s : Site) (found : Option Site) (p : Place) (last : ℕ) (ms : Members) (r : Result Call ReadError)

@@ -34,10 +34,7 @@ op_within : (block : ℕ) (unit : TimeUnit) (subs : List (List ℕ × Site)) (ms
 op_within block unit subs ms (ops.Schedule name delay) w = w.2.3
 op_within block unit subs ms (ops.Rate name first period) w = (w.2.3, written_in_range unit (codes "period") ms period w.3)
 op_within block unit subs ms (ops.Fixed name first delay) w = (w.2.3, written_in_range unit (codes "delay") ms delay w.3)
-op_within block unit subs ms (ops.Cancel target) w = tt
-op_within block unit subs ms (ops.Policy which value) w = tt
-op_within block unit subs ms ops.Shutdown w = tt
-op_within block unit subs ms ops.Ask w = tt
+op_within block unit subs ms op w = tt
 
 -- the target of a written cancel
 target_stands : (earlier : PlanTree) (h : Header) (before : List Call) (ms : Members) (target : Target) → HasNameOf (length earlier) (submissions_before earlier h before) ms target
@@ -45,13 +42,8 @@ target_stands : (earlier : PlanTree) (h : Header) (before : List Call) (ms : Mem
 target_stands earlier h before ms target w = (w.0, w.1, subst (λ (t : Target). StandsBefore earlier before w.0 t) (sym w.5) (stands_before earlier h before w.0 w.3 w.4 w.6))
 
 op_aimed : (earlier : PlanTree) (h : Header) (before : List Call) (ms : Members) (op : Op) → WritesOp (length earlier) h.unit (submissions_before earlier h before) ms op → IsAimed earlier before op
-op_aimed earlier h before ms (ops.Schedule name delay) w = tt
-op_aimed earlier h before ms (ops.Rate name first period) w = tt
-op_aimed earlier h before ms (ops.Fixed name first delay) w = tt
 op_aimed earlier h before ms (ops.Cancel target) w = let r = target_stands earlier h before ms target w.1 in (r.0, r.2)
-op_aimed earlier h before ms (ops.Policy which value) w = tt
-op_aimed earlier h before ms ops.Shutdown w = tt
-op_aimed earlier h before ms ops.Ask w = tt
+op_aimed earlier h before ms op w = tt
 
 -- the law on targets
 pub cancels_aimed : (earlier : PlanTree) (h : Header) (before : List Call) (ms : Members) (c : Call) (target : Target) → WritesCall earlier h before ms c → c.op ≡ ops.Cancel target

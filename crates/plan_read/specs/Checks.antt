@@ -105,10 +105,7 @@ abbrev pub are_spans_short : Verb → TimeUnit → Members → Bool
 are_spans_short verbs.Schedule unit ms = nat_le (span_at unit (codes "delay") ms) longest
 are_spans_short verbs.Rate unit ms = nat_le (span_at unit (codes "first") ms) longest && nat_le (span_at unit (codes "period") ms) longest
 are_spans_short verbs.Fixed unit ms = nat_le (span_at unit (codes "first") ms) longest && nat_le (span_at unit (codes "delay") ms) longest
-are_spans_short verbs.Cancel unit ms = true
-are_spans_short verbs.Policy unit ms = true
-are_spans_short verbs.Shutdown unit ms = true
-are_spans_short verbs.Ask unit ms = true
+are_spans_short _ unit ms = true
 
 -- on the operation
 unfoldable pub verb_checks : Members → List Check
@@ -146,9 +143,7 @@ name_checks verbs.Schedule found block ms = new_name_checks found ms
 name_checks verbs.Rate found block ms = new_name_checks found ms
 name_checks verbs.Fixed found block ms = new_name_checks found ms
 name_checks verbs.Cancel found block ms = known_name_checks found block ms
-name_checks verbs.Policy found block ms = []
-name_checks verbs.Shutdown found block ms = []
-name_checks verbs.Ask found block ms = []
+name_checks _ found block ms = []
 
 -- on the times
 unfoldable pub time_checks : Verb → Header → ℕ → Members → List Check

@@ -79,8 +79,7 @@ own_keys verbs.Rate = required (codes "name") Text ∷ required (codes "first") 
 own_keys verbs.Fixed = required (codes "name") Text ∷ required (codes "first") Integer ∷ required (codes "delay") Integer ∷ []
 own_keys verbs.Cancel = required (codes "name") Text ∷ []
 own_keys verbs.Policy = required (codes "which") Policy ∷ required (codes "value") Truth ∷ []
-own_keys verbs.Shutdown = []
-own_keys verbs.Ask = []
+own_keys _ = []
 
 -- those of a call, by its operation
 abbrev pub call_keys : Verb → List Key

@@ -41,10 +41,7 @@ abbrev pub name_of : Op → Option (List ℕ)
 name_of (ops.Schedule name delay) = Some name
 name_of (ops.Rate name first period) = Some name
 name_of (ops.Fixed name first delay) = Some name
-name_of (ops.Cancel target) = None
-name_of (ops.Policy which value) = None
-name_of ops.Shutdown = None
-name_of ops.Ask = None
+name_of _ = None
 
 -- an operation is a submission, also where it is an illegal one
 abbrev pub is_submission : Op → Bool
@@ -138,10 +135,7 @@ abbrev pub IsWithinLimits : Op → Type 0
 IsWithinLimits (ops.Schedule name delay) = delay ≤ longest
 IsWithinLimits (ops.Rate name first period) = (first ≤ longest) × IsPeriodInRange period
 IsWithinLimits (ops.Fixed name first delay) = (first ≤ longest) × IsPeriodInRange delay
-IsWithinLimits (ops.Cancel target) = Unit {0}
-IsWithinLimits (ops.Policy which value) = Unit {0}
-IsWithinLimits ops.Shutdown = Unit {0}
-IsWithinLimits ops.Ask = Unit {0}
+IsWithinLimits _ = Unit {0}
 
 -- some names behind one, if there is one
 abbrev pub behind_name : Option (List ℕ) → List (List ℕ) → List (List ℕ)
@@ -162,13 +156,8 @@ StandsBefore earlier before name target =
 
 -- the target of a cancel stands before it
 abbrev pub IsAimed : PlanTree → List Call → Op → Type 0
-IsAimed earlier before (ops.Schedule name delay) = Unit {0}
-IsAimed earlier before (ops.Rate name first period) = Unit {0}
-IsAimed earlier before (ops.Fixed name first delay) = Unit {0}
 IsAimed earlier before (ops.Cancel target) = (name : List ℕ) × StandsBefore earlier before name target
-IsAimed earlier before (ops.Policy which value) = Unit {0}
-IsAimed earlier before ops.Shutdown = Unit {0}
-IsAimed earlier before ops.Ask = Unit {0}
+IsAimed earlier before _ = Unit {0}
 
 -- a call after those before it: offsets do not fall, none is after the next iteration, and the last moment is at most 2^62
 pub record IsCallAfter (earlier : PlanTree) (h : Header) (before : List Call) (c : Call) : Type 0 where

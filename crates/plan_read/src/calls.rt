@@ -97,7 +97,7 @@ fn check_name(
     match verb {
         Verb::Schedule | Verb::Rate | Verb::Fixed => check_new_name(place, found, table),
         Verb::Cancel => check_known_name(place, found, block, table),
-        Verb::Policy | Verb::Shutdown | Verb::Ask => Ok(()),
+        _ => Ok(()),
     }
 }
 

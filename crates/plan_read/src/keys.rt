@@ -70,7 +70,7 @@ fn is_call_key(verb: Verb, key: &str) -> bool
         Verb::Fixed => matches!(key, "op" | "at" | "name" | "first" | "delay"),
         Verb::Cancel => matches!(key, "op" | "at" | "name"),
         Verb::Policy => matches!(key, "op" | "at" | "which" | "value"),
-        Verb::Shutdown | Verb::Ask => matches!(key, "op" | "at"),
+        _ => matches!(key, "op" | "at"),
     }
 }
 
@@ -89,7 +89,7 @@ pub fn has_required_keys(verb: Verb, table: &CallTable) -> bool
                 && table.has(CallKey::Delay),
             Verb::Cancel => table.has(CallKey::Name),
             Verb::Policy => table.has(CallKey::Which) && table.has(CallKey::Value),
-            Verb::Shutdown | Verb::Ask => true,
+            _ => true,
         }
 }
 
@@ -118,6 +118,6 @@ fn has_typed_values(verb: Verb, table: &CallTable) -> bool
         }
         Verb::Cancel => table.fits_text(CallKey::Name),
         Verb::Policy => table.fits_policy(CallKey::Which) && table.fits_truth(CallKey::Value),
-        Verb::Shutdown | Verb::Ask => true,
+        _ => true,
     }
 }

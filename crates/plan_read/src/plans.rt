@@ -67,10 +67,10 @@ impl Op {
     pub fn is_submission(&self) -> bool
         ensures { result ≡ is_submission self.now }
     {
-        match self {
-            Op::Schedule { .. } | Op::Rate { .. } | Op::Fixed { .. } => true,
-            Op::Cancel(_) | Op::Policy { .. } | Op::Shutdown | Op::Ask => false,
-        }
+        matches!(
+            self,
+            Op::Schedule { .. } | Op::Rate { .. } | Op::Fixed { .. }
+        )
     }
 }
 

@@ -9,7 +9,4 @@ abbrev pub submits : Verb → Bool
 submits verbs.Schedule = true
 submits verbs.Rate = true
 submits verbs.Fixed = true
-submits verbs.Cancel = false
-submits verbs.Policy = false
-submits verbs.Shutdown = false
-submits verbs.Ask = false
+submits _ = false
