@@ -1,5 +1,6 @@
 -- A line has one newline, at its end.
-use Rattle.std.proofs.Common.{ℕ, ◌^◌, ◌<◌, true, false, Some, None, List, ◌++◌, refl, arith, rules, codes, Bool}
+use Rattle.std.proofs.Common.{ℕ, ◌-◌, ◌^◌, ◌<◌, true, false, Some, None, List, ◌++◌, length, refl, arith, rules, codes, Bool}
+use Rattle.std.specs.Prelude.{take}
 use Rattle.std.specs.Fmt.{decimal}
 use Rattle.sched_time.specs.declared.policies.Which.{Which}
 use Rattle.executor_core.specs.declared.Kind.{Kind}
@@ -140,14 +141,9 @@ outcome_ended outcome.Ended f = last_word (codes " ended") over_line
 idle_line : IsLine (codes " idle")
 idle_line = search rules
 
-clock_line : IsLine (codes " clock")
-clock_line = search rules
-
-shut_line : IsLine (codes " shutdown")
-shut_line = search rules
-
-shut_again_line : IsLine (codes " shutdown again")
-shut_again_line = search rules
+-- a text without its last byte
+abbrev before_last : List ℕ → List ℕ
+before_last text = take (length text - 1) text
 
 message_ended : (m : Message) → FitsMessage m → IsEnded (message_text m)
 message_ended (Answer (a.Start w k n d)) f =
@@ -183,9 +179,7 @@ message_ended (Answer (a.Ask q r shut over)) f =
     (ended_behind (codes " terminated ") (whether_text over ++ codes "\n") terminated_line (last_word (whether_text over) (whether_line over))))))
 message_ended (Answer (a.Error e)) f = ended_behind (codes " error ") (error_text e ++ codes "\n") error_line (last_word (error_text e) (reason_line e))
 message_ended (End k) f = ended_behind (codes " end ") (decimal k ++ codes "\n") end_line (ended_number k (omega (arith, f)))
-message_ended (Answer a.Clock) f = last_word (codes " clock") clock_line
-message_ended (Answer a.Shutdown) f = last_word (codes " shutdown") shut_line
-message_ended (Answer a.ShutdownAgain) f = last_word (codes " shutdown again") shut_again_line
+message_ended m f = last_word (before_last (message_text m)) (search rules)
 
 -- a line has one newline, and it is its last byte
 pub line_ended : LinesEndOnce

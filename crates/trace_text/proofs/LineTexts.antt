@@ -1,10 +1,10 @@
 -- One line of a trace alone stands at the front of some bytes.
-use Rattle.std.proofs.Common.{◌≡◌, ℕ, ◌^◌, ◌<◌, false, Option, Some, None, List, [], ◌++◌, length, refl, ap, ◌∙◌, sym, arith, append_assoc, append-nil, codes, ◌==◌}
+use Rattle.std.proofs.Common.{◌≡◌, ℕ, ◌^◌, ◌<◌, true, false, Option, Some, None, List, [], ◌++◌, length, refl, ap, ◌∙◌, sym, arith, append_assoc, append-nil, codes, ◌==◌, ◌⊎◌, inl, inr}
+use Rattle.std.specs.Prelude.{drop}
 use Rattle.std.specs.Fmt.{decimal}
 use Rattle.std.proofs.lemmas.Bool.{false≢true}
 use Rattle.std.proofs.lemmas.List.{append_cancel_left}
 use Rattle.executor_core.specs.declared.Outcome.{Outcome}
-use Rattle.executor_core.specs.declared.Answer.{Answer as Given}
 use Rattle.executor_core.specs.declared.Answer.TheVariants as a
 use Rattle.executor_core.specs.declared.Message.{Message}
 use Rattle.executor_core.specs.declared.Message.TheVariants.{Answer, End}
@@ -14,44 +14,10 @@ use Rattle.trace_text.specs.own.Spelling.{EndsNumber, FitsCancel}
 use Rattle.trace_text.specs.Reading.{IsUnread, LinesAreOne}
 use Rattle.trace_text.specs.own.Reading.{Below, Any, text_then}
 use Rattle.trace_text.proofs.Digits.{one_number}
-use Rattle.trace_text.proofs.Clashes.{clashes}
+use Rattle.trace_text.proofs.Clashes.{clash, clashes}
 use Rattle.trace_text.proofs.Parts.{IsOnce}
 use Rattle.trace_text.proofs.LineForms.{start_text, FitsStart, finish_text, FitsFinish, submit_text, FitsSubmit, refuse_text, FitsRefuse, set_text, FitsSet, ask_text, FitsAsk, start_once, finish_once, submit_once, refuse_once, cancel_once, set_once, ask_once}
 use Rattle.trace_text.proofs.LineWords.{outcome_is, error_once, last_task_once}
-
--- ---- the first word of a line behind its moment, and what follows it
-
-abbrev message_word : Message → List ℕ
-message_word (Answer (a.Start w k n d)) = codes " start "
-message_word (Answer (a.Idle w)) = codes " start "
-message_word (Answer (a.Finish w k n o)) = codes " finish "
-message_word (Answer (a.Submit k kind d)) = codes " submit "
-message_word (Answer (a.Refuse k reason)) = codes " refuse "
-message_word (Answer (a.Cancel k e)) = codes " cancel "
-message_word (Answer (a.Outside k e)) = codes " outside "
-message_word (Answer (a.Policy which value)) = codes " policy "
-message_word (Answer (a.Ask q r shut over)) = codes " ask queue "
-message_word (Answer (a.Error e)) = codes " error "
-message_word (End k) = codes " end "
-message_word (Answer a.Clock) = codes " clock\n"
-message_word (Answer a.Shutdown) = codes " shutdown\n"
-message_word (Answer a.ShutdownAgain) = codes " shutdown again\n"
-
-abbrev after_message_word : Message → List ℕ
-after_message_word (Answer (a.Start w k n d)) = start_text (w, Some (k, (n, d)))
-after_message_word (Answer (a.Idle w)) = start_text (w, None)
-after_message_word (Answer (a.Finish w k n o)) = decimal w ++ (codes " task " ++ (decimal k ++ (codes " run " ++ (decimal n ++ outcome_text o))))
-after_message_word (Answer (a.Submit k kind d)) = submit_text (k, (kind, d))
-after_message_word (Answer (a.Refuse k reason)) = refuse_text (k, reason)
-after_message_word (Answer (a.Cancel k e)) = cancel_text (k, e)
-after_message_word (Answer (a.Outside k e)) = cancel_text (k, e)
-after_message_word (Answer (a.Policy which value)) = set_text (which, value)
-after_message_word (Answer (a.Ask q r shut over)) = ask_text (q, (r, (shut, over)))
-after_message_word (Answer (a.Error e)) = text_then error_text (codes "\n") e
-after_message_word (End k) = text_then decimal (codes "\n") k
-after_message_word (Answer a.Clock) = []
-after_message_word (Answer a.Shutdown) = []
-after_message_word (Answer a.ShutdownAgain) = []
 
 -- the outcome of a finish stands behind its space
 finish_is : (w k n : ℕ) (o : Outcome) → decimal w ++ (codes " task " ++ (decimal k ++ (codes " run " ++ (decimal n ++ outcome_text o)))) ≡ finish_text (w, (k, (n, o)))
@@ -63,43 +29,43 @@ finish_is w k n o = ap (λ l. decimal w ++ (codes " task " ++ (decimal k ++ (cod
 pub unread_start : (bytes : List ℕ) → IsUnread start_text FitsStart bytes → IsUnread message_text FitsMessage (codes " start " ++ bytes)
 unread_start bytes never (Answer (a.Start w k n d)) tail f h = never (w, Some (k, (n, d))) tail (f.0, (f.1, (f.2, f.3))) (append_cancel_left (codes " start ") bytes (start_text (w, Some (k, (n, d))) ++ tail) h)
 unread_start bytes never (Answer (a.Idle w)) tail f h = never (w, None) tail (f, tt) (append_cancel_left (codes " start ") bytes (start_text (w, None) ++ tail) h)
-unread_start bytes never m tail f h = absurd (clashes (codes " start ") (message_word m) bytes (after_message_word m ++ tail) refl h)
+unread_start bytes never m tail f h = absurd (clashes (codes " start ") (message_text m) bytes tail refl h)
 
 -- bytes behind ` finish ` that are no worker with its run and the outcome
 pub unread_finish : (bytes : List ℕ) → IsUnread finish_text FitsFinish bytes → IsUnread message_text FitsMessage (codes " finish " ++ bytes)
 unread_finish bytes never (Answer (a.Finish w k n o)) tail f h =
     never (w, (k, (n, o))) tail (f.0, (f.1, (f.2, f.3))) (append_cancel_left (codes " finish ") bytes ((decimal w ++ (codes " task " ++ (decimal k ++ (codes " run " ++ (decimal n ++ outcome_text o))))) ++ tail) h ∙ ap (λ l. l ++ tail) (finish_is w k n o))
-unread_finish bytes never m tail f h = absurd (clashes (codes " finish ") (message_word m) bytes (after_message_word m ++ tail) refl h)
+unread_finish bytes never m tail f h = absurd (clashes (codes " finish ") (message_text m) bytes tail refl h)
 
 -- bytes behind ` submit ` that are no task with its kind and due moment
 pub unread_submit : (bytes : List ℕ) → IsUnread submit_text FitsSubmit bytes → IsUnread message_text FitsMessage (codes " submit " ++ bytes)
 unread_submit bytes never (Answer (a.Submit k kind d)) tail f h = never (k, (kind, d)) tail (f.0, (tt, f.1)) (append_cancel_left (codes " submit ") bytes (submit_text (k, (kind, d)) ++ tail) h)
-unread_submit bytes never m tail f h = absurd (clashes (codes " submit ") (message_word m) bytes (after_message_word m ++ tail) refl h)
+unread_submit bytes never m tail f h = absurd (clashes (codes " submit ") (message_text m) bytes tail refl h)
 
 -- bytes behind ` refuse ` that are no task with a reason
 pub unread_refuse : (bytes : List ℕ) → IsUnread refuse_text FitsRefuse bytes → IsUnread message_text FitsMessage (codes " refuse " ++ bytes)
 unread_refuse bytes never (Answer (a.Refuse k reason)) tail f h = never (k, reason) tail (f, tt) (append_cancel_left (codes " refuse ") bytes (refuse_text (k, reason) ++ tail) h)
-unread_refuse bytes never m tail f h = absurd (clashes (codes " refuse ") (message_word m) bytes (after_message_word m ++ tail) refl h)
+unread_refuse bytes never m tail f h = absurd (clashes (codes " refuse ") (message_text m) bytes tail refl h)
 
 -- bytes behind ` cancel ` that are no task with an effect
 pub unread_cancel : (bytes : List ℕ) → IsUnread cancel_text FitsCancel bytes → IsUnread message_text FitsMessage (codes " cancel " ++ bytes)
 unread_cancel bytes never (Answer (a.Cancel k e)) tail f h = never (k, e) tail f (append_cancel_left (codes " cancel ") bytes (cancel_text (k, e) ++ tail) h)
-unread_cancel bytes never m tail f h = absurd (clashes (codes " cancel ") (message_word m) bytes (after_message_word m ++ tail) refl h)
+unread_cancel bytes never m tail f h = absurd (clashes (codes " cancel ") (message_text m) bytes tail refl h)
 
 -- bytes behind ` outside ` that are no task with an effect
 pub unread_outside : (bytes : List ℕ) → IsUnread cancel_text FitsCancel bytes → IsUnread message_text FitsMessage (codes " outside " ++ bytes)
 unread_outside bytes never (Answer (a.Outside k e)) tail f h = never (k, e) tail f (append_cancel_left (codes " outside ") bytes (cancel_text (k, e) ++ tail) h)
-unread_outside bytes never m tail f h = absurd (clashes (codes " outside ") (message_word m) bytes (after_message_word m ++ tail) refl h)
+unread_outside bytes never m tail f h = absurd (clashes (codes " outside ") (message_text m) bytes tail refl h)
 
 -- bytes behind ` policy ` that are no policy with what it is set to
 pub unread_policy : (bytes : List ℕ) → IsUnread set_text FitsSet bytes → IsUnread message_text FitsMessage (codes " policy " ++ bytes)
 unread_policy bytes never (Answer (a.Policy which value)) tail f h = never (which, value) tail (tt, tt) (append_cancel_left (codes " policy ") bytes (set_text (which, value) ++ tail) h)
-unread_policy bytes never m tail f h = absurd (clashes (codes " policy ") (message_word m) bytes (after_message_word m ++ tail) refl h)
+unread_policy bytes never m tail f h = absurd (clashes (codes " policy ") (message_text m) bytes tail refl h)
 
 -- bytes behind ` ask queue ` that do not tell how far the executor is
 pub unread_ask : (bytes : List ℕ) → IsUnread ask_text FitsAsk bytes → IsUnread message_text FitsMessage (codes " ask queue " ++ bytes)
 unread_ask bytes never (Answer (a.Ask q r shut over)) tail f h = never (q, (r, (shut, over))) tail (f.0, (f.1, (tt, tt))) (append_cancel_left (codes " ask queue ") bytes (ask_text (q, (r, (shut, over))) ++ tail) h)
-unread_ask bytes never m tail f h = absurd (clashes (codes " ask queue ") (message_word m) bytes (after_message_word m ++ tail) refl h)
+unread_ask bytes never m tail f h = absurd (clashes (codes " ask queue ") (message_text m) bytes tail refl h)
 
 -- bytes of a word, with no message behind it
 pub unread_behind : (word bytes rest : List ℕ) → bytes ≡ word ++ rest → IsUnread message_text FitsMessage (word ++ rest) → IsUnread message_text FitsMessage bytes
@@ -132,8 +98,7 @@ unread_words bytes start finish clock submit ended outside cancel refuse failed 
 unread_words bytes start finish clock submit ended outside cancel refuse failed ask policy stopped (Answer (a.Error e)) tail f h = failed (text_then error_text (codes "\n") e ++ tail) h
 unread_words bytes start finish clock submit ended outside cancel refuse failed ask policy stopped (End k) tail f h = ended (text_then decimal (codes "\n") k ++ tail) h
 unread_words bytes start finish clock submit ended outside cancel refuse failed ask policy stopped (Answer a.Clock) tail f h = clock tail h
-unread_words bytes start finish clock submit ended outside cancel refuse failed ask policy stopped (Answer a.Shutdown) tail f h = stopped (codes "\n" ++ tail) h
-unread_words bytes start finish clock submit ended outside cancel refuse failed ask policy stopped (Answer a.ShutdownAgain) tail f h = stopped (codes " again\n" ++ tail) h
+unread_words bytes start finish clock submit ended outside cancel refuse failed ask policy stopped m tail f h = stopped (drop (length (codes " shutdown")) (message_text m) ++ tail) h
 
 -- ---- one line
 
@@ -148,21 +113,10 @@ start_message v = elim (v.1) as (λ g. Message) [ None ↦ Answer (a.Idle v.0) |
 one_start : (x y : ℕ × Option (ℕ × (ℕ × ℕ))) (s t : List ℕ) → FitsStart x → FitsStart y → codes " start " ++ (start_text x ++ s) ≡ codes " start " ++ (start_text y ++ t) → (start_message x ≡ start_message y) × (s ≡ t)
 one_start = one_form (codes " start ") start_text FitsStart start_message start_once
 
--- an end is no answer
-no_answer : (b : Given) (k : ℕ) (s t : List ℕ) → message_text (End k) ++ s ≡ message_text (Answer b) ++ t → ⊥
-no_answer (a.Start w1 k1 n1 d1) k s t h = clashes (codes " end ") (codes " start ") (text_then decimal (codes "\n") k ++ s) (start_text (w1, Some (k1, (n1, d1))) ++ t) refl h
-no_answer (a.Idle w1) k s t h = clashes (codes " end ") (codes " start ") (text_then decimal (codes "\n") k ++ s) (start_text (w1, None) ++ t) refl h
-no_answer (a.Finish w1 k1 n1 o1) k s t h = clashes (codes " end ") (codes " finish ") (text_then decimal (codes "\n") k ++ s) ((decimal w1 ++ (codes " task " ++ (decimal k1 ++ (codes " run " ++ (decimal n1 ++ outcome_text o1))))) ++ t) refl h
-no_answer (a.Submit k1 kind1 d1) k s t h = clashes (codes " end ") (codes " submit ") (text_then decimal (codes "\n") k ++ s) (submit_text (k1, (kind1, d1)) ++ t) refl h
-no_answer (a.Refuse k1 reason1) k s t h = clashes (codes " end ") (codes " refuse ") (text_then decimal (codes "\n") k ++ s) (refuse_text (k1, reason1) ++ t) refl h
-no_answer (a.Cancel k1 e1) k s t h = clashes (codes " end ") (codes " cancel ") (text_then decimal (codes "\n") k ++ s) (cancel_text (k1, e1) ++ t) refl h
-no_answer (a.Outside k1 e1) k s t h = clashes (codes " end ") (codes " outside ") (text_then decimal (codes "\n") k ++ s) (cancel_text (k1, e1) ++ t) refl h
-no_answer (a.Policy which1 value1) k s t h = clashes (codes " end ") (codes " policy ") (text_then decimal (codes "\n") k ++ s) (set_text (which1, value1) ++ t) refl h
-no_answer (a.Ask q1 r1 shut1 over1) k s t h = clashes (codes " end ") (codes " ask queue ") (text_then decimal (codes "\n") k ++ s) (ask_text (q1, (r1, (shut1, over1))) ++ t) refl h
-no_answer (a.Error e1) k s t h = clashes (codes " end ") (codes " error ") (text_then decimal (codes "\n") k ++ s) (text_then error_text (codes "\n") e1 ++ t) refl h
-no_answer a.Clock k s t h = clashes (codes " end ") (codes " clock\n") (text_then decimal (codes "\n") k ++ s) t refl h
-no_answer a.Shutdown k s t h = clashes (codes " end ") (codes " shutdown\n") (text_then decimal (codes "\n") k ++ s) t refl h
-no_answer a.ShutdownAgain k s t h = clashes (codes " end ") (codes " shutdown again\n") (text_then decimal (codes "\n") k ++ s) t refl h
+-- two texts that differ before their ends, or of one message
+one_text : (m n : Message) (s t : List ℕ) → (clash (message_text m) (message_text n) ≡ true) ⊎ (m ≡ n) → message_text m ++ s ≡ message_text n ++ t → (m ≡ n) × (s ≡ t)
+one_text m n s t (inl differ) h = absurd (clashes (message_text m) (message_text n) s t differ h)
+one_text m n s t (inr same) h = (same, append_cancel_left (message_text m) s t (h ∙ ap (λ x. message_text x ++ t) (sym same)))
 
 message_once : IsOnce message_text FitsMessage
 message_once (Answer (a.Start w1 k1 n1 d1)) (Answer (a.Start w2 k2 n2 d2)) s t p q h = one_start (w1, Some (k1, (n1, d1))) (w2, Some (k2, (n2, d2))) s t (p.0, (p.1, (p.2, p.3))) (q.0, (q.1, (q.2, q.3))) h
@@ -180,40 +134,13 @@ message_once (Answer (a.Policy which1 value1)) (Answer (a.Policy which2 value2))
 message_once (Answer (a.Ask q1 r1 shut1 over1)) (Answer (a.Ask q2 r2 shut2 over2)) s t p q h = one_form (codes " ask queue ") ask_text FitsAsk (λ v. Answer (a.Ask v.0 v.1.0 v.1.1.0 v.1.1.1)) ask_once (q1, (r1, (shut1, over1))) (q2, (r2, (shut2, over2))) s t (p.0, (p.1, (tt, tt))) (q.0, (q.1, (tt, tt))) h
 message_once (Answer (a.Error e1)) (Answer (a.Error e2)) s t p q h = one_form (codes " error ") (text_then error_text (codes "\n")) Any (λ e. Answer (a.Error e)) error_once e1 e2 s t tt tt h
 message_once (End k1) (End k2) s t p q h = one_form (codes " end ") (text_then decimal (codes "\n")) (Below (2 ^ 32)) End last_task_once k1 k2 s t p q h
-message_once (Answer a.Clock) (Answer a.Clock) s t p q h = (refl, append_cancel_left (codes " clock\n") s t h)
-message_once (Answer a.Shutdown) (Answer a.Shutdown) s t p q h = (refl, append_cancel_left (codes " shutdown\n") s t h)
-message_once (Answer a.ShutdownAgain) (Answer a.ShutdownAgain) s t p q h = (refl, append_cancel_left (codes " shutdown again\n") s t h)
-message_once (Answer (a.Start w1 k1 n1 d1)) m s t p q h = absurd (clashes (codes " start ") (message_word m) (start_text (w1, Some (k1, (n1, d1))) ++ s) (after_message_word m ++ t) refl h)
-message_once (Answer (a.Idle w1)) m s t p q h = absurd (clashes (codes " start ") (message_word m) (start_text (w1, None) ++ s) (after_message_word m ++ t) refl h)
-message_once (Answer (a.Finish w1 k1 n1 o1)) m s t p q h = absurd (clashes (codes " finish ") (message_word m) ((decimal w1 ++ (codes " task " ++ (decimal k1 ++ (codes " run " ++ (decimal n1 ++ outcome_text o1))))) ++ s) (after_message_word m ++ t) refl h)
-message_once (Answer (a.Submit k1 kind1 d1)) m s t p q h = absurd (clashes (codes " submit ") (message_word m) (submit_text (k1, (kind1, d1)) ++ s) (after_message_word m ++ t) refl h)
-message_once (Answer (a.Refuse k1 reason1)) m s t p q h = absurd (clashes (codes " refuse ") (message_word m) (refuse_text (k1, reason1) ++ s) (after_message_word m ++ t) refl h)
-message_once (Answer (a.Cancel k1 e1)) m s t p q h = absurd (clashes (codes " cancel ") (message_word m) (cancel_text (k1, e1) ++ s) (after_message_word m ++ t) refl h)
-message_once (Answer (a.Outside k1 e1)) m s t p q h = absurd (clashes (codes " outside ") (message_word m) (cancel_text (k1, e1) ++ s) (after_message_word m ++ t) refl h)
-message_once (Answer (a.Policy which1 value1)) m s t p q h = absurd (clashes (codes " policy ") (message_word m) (set_text (which1, value1) ++ s) (after_message_word m ++ t) refl h)
-message_once (Answer (a.Ask q1 r1 shut1 over1)) m s t p q h = absurd (clashes (codes " ask queue ") (message_word m) (ask_text (q1, (r1, (shut1, over1))) ++ s) (after_message_word m ++ t) refl h)
-message_once (Answer (a.Error e1)) m s t p q h = absurd (clashes (codes " error ") (message_word m) (text_then error_text (codes "\n") e1 ++ s) (after_message_word m ++ t) refl h)
-message_once (End k1) (Answer b) s t p q h = absurd (no_answer b k1 s t h)
-message_once (Answer a.Clock) m s t p q h = absurd (clashes (codes " clock\n") (message_word m) s (after_message_word m ++ t) refl h)
-message_once (Answer a.Shutdown) m s t p q h = absurd (clashes (codes " shutdown\n") (message_word m) s (after_message_word m ++ t) refl h)
-message_once (Answer a.ShutdownAgain) m s t p q h = absurd (clashes (codes " shutdown again\n") (message_word m) s (after_message_word m ++ t) refl h)
+message_once m (Answer a.Clock) s t p q h = one_text m (Answer a.Clock) s t (first_of (search inl, search inr)) h
+message_once m n s t p q h = one_text m n s t (first_of (search inl, search inr)) h
 
 -- a number ends before what a line says
 message_ends : (m : Message) (tail : List ℕ) → EndsNumber (message_text m ++ tail)
-message_ends (Answer (a.Start w k n d)) tail = λ r. omega (arith, r)
-message_ends (Answer (a.Idle w)) tail = λ r. omega (arith, r)
-message_ends (Answer (a.Finish w k n o)) tail = λ r. omega (arith, r)
-message_ends (Answer (a.Submit k kind d)) tail = λ r. omega (arith, r)
-message_ends (Answer (a.Refuse k reason)) tail = λ r. omega (arith, r)
-message_ends (Answer (a.Cancel k e)) tail = λ r. omega (arith, r)
-message_ends (Answer (a.Outside k e)) tail = λ r. omega (arith, r)
-message_ends (Answer (a.Policy which value)) tail = λ r. omega (arith, r)
-message_ends (Answer (a.Ask q r shut over)) tail = λ r. omega (arith, r)
-message_ends (Answer (a.Error e)) tail = λ r. omega (arith, r)
-message_ends (End k) tail = λ r. omega (arith, r)
 message_ends (Answer a.Clock) tail = λ r. omega (arith, r)
-message_ends (Answer a.Shutdown) tail = λ r. omega (arith, r)
-message_ends (Answer a.ShutdownAgain) tail = λ r. omega (arith, r)
+message_ends m tail = λ r. omega (arith, r)
 
 -- one text spells one line, and no line's text is the front of another's
 pub first_line : LinesAreOne

@@ -145,15 +145,11 @@ FitsAnswer (answer.Submit k kind d) = (k < 2 ^ 32) × (d < 2 ^ 64)
 FitsAnswer (answer.Refuse k reason) = k < 2 ^ 32
 FitsAnswer (answer.Cancel k e) = k < 2 ^ 32
 FitsAnswer (answer.Outside k e) = k < 2 ^ 32
-FitsAnswer (answer.Policy which value) = Unit {0}
-FitsAnswer answer.Shutdown = Unit {0}
-FitsAnswer answer.ShutdownAgain = Unit {0}
 FitsAnswer (answer.Ask q r shut over) = (q < 2 ^ 32) × (r < 2 ^ 32)
-FitsAnswer answer.Clock = Unit {0}
 FitsAnswer (answer.Start w k n d) = (w < 2 ^ 8) × (k < 2 ^ 32) × (n < 2 ^ 64) × (d < 2 ^ 64)
 FitsAnswer (answer.Idle w) = w < 2 ^ 8
 FitsAnswer (answer.Finish w k n o) = (w < 2 ^ 8) × (k < 2 ^ 32) × (n < 2 ^ 64) × FitsOutcome o
-FitsAnswer (answer.Error e) = Unit {0}
+FitsAnswer _ = Unit {0}
 
 -- an answer that fits, or a task below 2^32
 abbrev pub FitsMessage : Message → Type 0
