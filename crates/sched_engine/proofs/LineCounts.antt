@@ -1,54 +1,31 @@
 -- LineCounts: how many lines a history has.
-use Rattle.std.proofs.Common.{ℕ, ◌+◌, ◌*◌, ◌≤◌, Bool, true, false, cond, List, [], ◌∷◌, length, Option, Some, None, ap, arith, length-append}
+use Rattle.std.proofs.Common.{ℕ, ◌+◌, ◌*◌, ◌≤◌, cond, List, [], ◌∷◌, length, Option, Some, None, ap, arith, length-append}
 use Rattle.std.specs.Prelude.{slice_get, max}
 use Rattle.std.specs.Option.{option_map_or}
 use Rattle.std.proofs.lemmas.List.{length-map}
 use Rattle.std.proofs.lemmas.List.FromFn.{length-range_with_len}
 use Rattle.std.proofs.lemmas.List.Sums.{length-filter, count_by-le-length}
 use Rattle.queue_code.specs.declared.CodeCall.{CodeCall}
-use Rattle.queue_code.specs.declared.CodeCall.TheVariants as c
-use Rattle.queue_code.specs.Calls.{Planned, IsOrderly, task_count, numbers}
-use Rattle.executor_core.specs.declared.Policies.{Policies}
+use Rattle.queue_code.specs.Calls.{Planned, IsOrderly, submits_task, task_count, numbers}
 use Rattle.executor_core.specs.declared.Happening.{Happening}
 use Rattle.executor_core.specs.declared.Happening.TheVariants as h
 use Rattle.executor_core.specs.declared.Answer.TheVariants as a
 use Rattle.executor_core.specs.View.{View}
-use Rattle.executor_core.specs.Answers.{Reply, bare, is_swept, swept, setting_sweeps, set_policy, called, reply}
+use Rattle.executor_core.specs.Answers.{bare, called, reply}
 use Rattle.executor_core.specs.Histories.{HistoryEntry, happenings, made, now_of, is_call, view_of_history, IsHistoryOf}
 use Rattle.executor_core.specs.Flows.{end_line, lines_at, lines_of, reply_in}
+use Rattle.executor_core.proofs.Flowing.{how_many-le}
+use Rattle.executor_core.proofs.Replies.{call_ends_waiting}
 
 -- there are no more tasks than calls
 tasks_few : (calls : List Planned) → task_count calls ≤ length calls
-tasks_few [] = omega arith
-tasks_few ((moment, c.Submit task timing delay) ∷ calls) = omega (arith, tasks_few calls)
-tasks_few ((moment, c.Illegal task) ∷ calls) = omega (arith, tasks_few calls)
-tasks_few ((moment, c.Cancel task) ∷ calls) = omega (arith, tasks_few calls)
-tasks_few ((moment, c.SetPolicy which value) ∷ calls) = omega (arith, tasks_few calls)
-tasks_few ((moment, c.Shutdown) ∷ calls) = omega (arith, tasks_few calls)
-tasks_few ((moment, c.Ask) ∷ calls) = omega (arith, tasks_few calls)
+tasks_few calls = how_many-le (λ (p : Planned). submits_task p.1) calls
 
--- a sweep ends a task once at most
-swept_few : (calls : List Planned) (v : View) (policies : Policies) → length (swept calls v policies) ≤ task_count calls
-swept_few calls v policies =
-    let ends = is_swept calls v policies in
-    omega (arith, length-filter ends (numbers calls), count_by-le-length ends (numbers calls), length-range_with_len 0 (task_count calls))
-
--- a call ends no more tasks than there are
+-- a call ends no more tasks than there are, since it ends each once at most
 called_few : (calls : List Planned) (v : View) (call : CodeCall) → length (called calls v call).ends ≤ task_count calls
-called_few calls v (c.Submit task timing delay) = omega arith
-called_few calls v (c.Illegal task) = omega arith
-called_few calls v (c.Cancel task) = omega arith
-called_few calls v c.Ask = omega arith
-called_few calls v (c.SetPolicy which value) = by (setting_sweeps v.shut which value)
-  where
-    by : (sweeps : Bool) → length (cond sweeps (swept calls v (set_policy which value v.policies)) []) ≤ task_count calls
-    by true = swept_few calls v (set_policy which value v.policies)
-    by false = omega arith
-called_few calls v c.Shutdown = by v.shut
-  where
-    by : (shut : Bool) → length (let r : Reply = cond shut (bare a.ShutdownAgain) (record { answer = a.Shutdown; ends = swept calls v v.policies }) in r.ends) ≤ task_count calls
-    by true = omega arith
-    by false = swept_few calls v v.policies
+called_few calls v call =
+    let ended = call_ends_waiting calls v call in
+    omega (arith, ap length ended.are, length-filter ended.test (numbers calls), count_by-le-length ended.test (numbers calls), length-range_with_len 0 (task_count calls))
 
 -- a reply to a call ends no more tasks than there are, and one to an event ends none
 reply_few : (calls : List Planned) (workers : ℕ) (v : View) (happening : Happening) → length (reply calls workers v happening).ends ≤ cond (is_call happening) (task_count calls) 0
