@@ -85,13 +85,8 @@ target_below earlier firsts start before name target a (inr there) =
 -- an aimed call names a task that is made before it
 pub op_below : (earlier : PlanTree) (firsts : List ℕ) (start task : ℕ) (before : List Call) (op : Op) → AreFirsts earlier firsts start → task ≡ start + tasks_after_calls 0 before
     → IsAimed earlier before op → IsBelow firsts start task op
-op_below earlier firsts start task before (ops.Schedule name delay) a is aimed = tt
-op_below earlier firsts start task before (ops.Rate name first period) a is aimed = tt
-op_below earlier firsts start task before (ops.Fixed name first delay) a is aimed = tt
 op_below earlier firsts start task before (ops.Cancel target) a is aimed = rw is (target_below earlier firsts start before aimed.0 target a aimed.1)
-op_below earlier firsts start task before (ops.Policy which value) a is aimed = tt
-op_below earlier firsts start task before ops.Shutdown a is aimed = tt
-op_below earlier firsts start task before ops.Ask a is aimed = tt
+op_below earlier firsts start task before op a is aimed = tt
 
 -- the call of an operation is in order
 call_orderly : (firsts : List ℕ) (start task : ℕ) (op : Op) → IsWithinLimits op → IsBelow firsts start task op → IsOrderlyCall task (code_call firsts start task op)
@@ -101,21 +96,15 @@ call_orderly firsts start task (ops.Rate name first None) limits below = refl
 call_orderly firsts start task (ops.Fixed name first (Some delay)) limits below = (refl, limits.0, limits.1.1)
 call_orderly firsts start task (ops.Fixed name first None) limits below = refl
 call_orderly firsts start task (ops.Cancel target) limits below = below
-call_orderly firsts start task (ops.Policy which value) limits below = tt
-call_orderly firsts start task ops.Shutdown limits below = tt
-call_orderly firsts start task ops.Ask limits below = tt
+call_orderly firsts start task op limits below = tt
 
 -- a call counts the task that its operation submits
 call_counts : (firsts : List ℕ) (start task : ℕ) (op : Op) → count_after task (code_call firsts start task op) ≡ tasks_after task op
-call_counts firsts start task (ops.Schedule name delay) = refl
 call_counts firsts start task (ops.Rate name first (Some period)) = refl
 call_counts firsts start task (ops.Rate name first None) = refl
 call_counts firsts start task (ops.Fixed name first (Some delay)) = refl
 call_counts firsts start task (ops.Fixed name first None) = refl
-call_counts firsts start task (ops.Cancel target) = refl
-call_counts firsts start task (ops.Policy which value) = refl
-call_counts firsts start task ops.Shutdown = refl
-call_counts firsts start task ops.Ask = refl
+call_counts firsts start task op = refl
 
 -- ---- one iteration
 

@@ -25,10 +25,7 @@ an_op firsts first repeated offset (ops.Rate name delay (Some period)) limits = 
 an_op firsts first repeated offset (ops.Rate name delay None) limits = tt
 an_op firsts first repeated offset (ops.Fixed name delay (Some gap)) limits = limits.1.0
 an_op firsts first repeated offset (ops.Fixed name delay None) limits = tt
-an_op firsts first repeated offset (ops.Schedule name delay) limits = tt
-an_op firsts first repeated offset (ops.Policy which value) limits = tt
-an_op firsts first repeated offset ops.Shutdown limits = tt
-an_op firsts first repeated offset ops.Ask limits = tt
+an_op firsts first repeated offset op limits = tt
 
 -- those of some calls of a block
 some_calls : (earlier : PlanTree) (firsts : List ℕ) (first : ℕ) (repeated : Bool) (at : ℕ) (h : Header) (before cs : List Call) → AreCallsAfter earlier h before cs

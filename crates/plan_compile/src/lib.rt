@@ -30,7 +30,7 @@
 //! | `schedule`, `rate`, `fixed` | `Submit`, with a delay below 0 as 0; `Illegal` where the period or the fixed delay is illegal |
 //! | `cancel` in a repeated block, of a submission of that block | `CancelHere`, with how many submissions of the iteration stand before that one |
 //! | every other `cancel` | `CancelFixed`, with the submission's number in the whole plan |
-//! | `policy`, `shutdown`, `ask` | `SetPolicy`, `Shutdown`, `Ask` |
+//! | every other call | the instruction that makes it |
 //! | the end | `Halt` |
 //!
 //! No period and no fixed delay of a code is 0.

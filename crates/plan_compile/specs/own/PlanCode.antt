@@ -10,13 +10,8 @@ use Rattle.plan_compile.specs.PlanCalls.{number_of}
 
 -- a cancel's target has a number below `limit`, where `firsts` has the first numbers of the blocks before its own, which begins with `first`
 abbrev pub IsBelow : List ℕ → ℕ → ℕ → Op → Type 0
-IsBelow firsts first limit (ops.Schedule name delay) = Unit {0}
-IsBelow firsts first limit (ops.Rate name delay period) = Unit {0}
-IsBelow firsts first limit (ops.Fixed name delay gap) = Unit {0}
 IsBelow firsts first limit (ops.Cancel target) = number_of firsts first target < limit
-IsBelow firsts first limit (ops.Policy which value) = Unit {0}
-IsBelow firsts first limit ops.Shutdown = Unit {0}
-IsBelow firsts first limit ops.Ask = Unit {0}
+IsBelow firsts first limit _ = Unit {0}
 
 -- the numbers of some calls' instructions are in range: their offsets, and those of the targets of cancels
 abbrev pub AreInRange : List ℕ → ℕ → ℕ → List Call → Type 0
