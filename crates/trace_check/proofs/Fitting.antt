@@ -6,7 +6,6 @@ use Rattle.std.proofs.lemmas.List.Elements.{All-head, All-tail}
 use Rattle.sched_time.specs.declared.timing.Ending.{Ending}
 use Rattle.sched_time.specs.declared.timing.Ending.TheVariants as e
 use Rattle.queue_code.specs.Calls.{Planned, task_count}
-use Rattle.executor_core.specs.declared.types.Happening.TheVariants as h
 use Rattle.executor_core.specs.declared.types.Outcome.{Outcome}
 use Rattle.executor_core.specs.declared.types.Outcome.TheVariants as o
 use Rattle.executor_core.specs.declared.types.Answer.{Answer}
@@ -18,7 +17,7 @@ use Rattle.executor_core.specs.Flows.{lines_of}
 use Rattle.executor_core.proofs.Sweeping.{few_tasks}
 use Rattle.executor_laws.specs.Lines.{RunEnded, IsOutcomeInRange, IsAnswerInRange, IsMessageInRange}
 use Rattle.executor_laws.proofs.Lines.{lines_are_in_range}
-use Rattle.trace_text.specs.Spelling.{FitsEnding, FitsOutcome, FitsAnswer, FitsMessage, FitsLine, lines_text}
+use Rattle.trace_text.specs.Spelling.{FitsEnding, FitsOutcome, FitsAnswer, FitsMessage, lines_text}
 use Rattle.trace_check.specs.Laws.{FitsHappening, HistoriesFit, HistoriesConform}
 use Rattle.trace_check.proofs.TextLaws.{traces_conform}
 
@@ -47,16 +46,12 @@ answer_fits calls workers past (a.Submit task kind due) tasks few fit short r = 
 answer_fits calls workers past (a.Refuse task refusal) tasks few fit short r = omega (arith, r, tasks)
 answer_fits calls workers past (a.Cancel task effect) tasks few fit short r = omega (arith, r, tasks)
 answer_fits calls workers past (a.Outside task effect) tasks few fit short r = omega (arith, r, tasks)
-answer_fits calls workers past (a.Policy which value) tasks few fit short r = tt
-answer_fits calls workers past a.Shutdown tasks few fit short r = tt
-answer_fits calls workers past a.ShutdownAgain tasks few fit short r = tt
 answer_fits calls workers past (a.Ask queue running shut terminated) tasks few fit short r = (omega (arith, r.0, tasks), omega (arith, r.1, tasks))
-answer_fits calls workers past a.Clock tasks few fit short r = tt
 answer_fits calls workers past (a.Start worker task run due) tasks few fit short r = (omega (arith, r.0, few), omega (arith, r.1, tasks), omega (arith, r.2, short), omega (arith, r.3))
 answer_fits calls workers past (a.Idle worker) tasks few fit short r = omega (arith, r, few)
 answer_fits calls workers past (a.Finish worker task run outcome) tasks few fit short r =
     (omega (arith, r.0, few), omega (arith, r.1, tasks), omega (arith, r.2, short), outcome_fits past outcome fit r.3)
-answer_fits calls workers past (a.Error error) tasks few fit short r = tt
+answer_fits calls workers past answer tasks few fit short r = tt
 
 message_fits : (calls : List Planned) (workers : ℕ) (past : List HistoryEntry) (message : Message) → task_count calls ≤ 65536 → workers ≤ 64 → All FitsHappening (happenings past) → length past ≤ 2 ^ 64 →
     IsMessageInRange calls workers past message → FitsMessage message

@@ -10,18 +10,18 @@ use Rattle.sched_time.specs.declared.timing.Timing.TheVariants as t
 use Rattle.sched_time.specs.declared.timing.Ending.{Ending}
 use Rattle.sched_time.specs.declared.timing.Ending.TheVariants as e
 use Rattle.queue_code.specs.declared.call.CodeCall.{CodeCall}
-use Rattle.queue_code.specs.declared.call.CodeCall.TheVariants as c
 use Rattle.executor_core.specs.declared.types.Happening.{Happening}
 use Rattle.executor_core.specs.declared.types.Happening.TheVariants as h
 use Rattle.executor_core.specs.declared.types.EventError.{EventError}
 use Rattle.executor_core.specs.declared.types.EventError.TheVariants as x
-use Rattle.executor_core.specs.declared.types.Refusal.TheVariants as refusal
+use Rattle.executor_core.specs.declared.types.Answer.{Answer}
 use Rattle.executor_core.specs.declared.types.Answer.TheVariants as a
-use Rattle.queue_code.specs.Calls.{Planned, terms_of, due_at, numbers, task_count}
+use Rattle.queue_code.specs.Calls.{Planned, terms_of, numbers, task_count}
 use Rattle.executor_core.specs.View.{View, first_enabled}
-use Rattle.executor_core.specs.Answers.{Reply, bare, kind_of, called, start_answer, finish_answer, outcome_in, stops_periodic, due_next, effect_on, swept, is_accepted, moment_after, reply}
+use Rattle.executor_core.specs.Answers.{Reply, bare, called, start_answer, finish_answer, outcome_in, stops_periodic, due_next, effect_on, is_accepted, moment_after, reply}
 use Rattle.executor_core.specs.Histories.{is_call, MayFrom}
 use Rattle.executor_core.specs.declared.types.Line.{Line}
+use Rattle.executor_core.proofs.Replies.{IsAnswerTo, by_answer}
 use Rattle.trace_check.specs.Representatives.{is_busy, representative_of_error, representative_ending, representative_of}
 
 -- a happening that the line of another one's reply names as its representative, with what both have in common
@@ -55,20 +55,11 @@ erring calls workers v lines y g error is names gives call moment may = record {
 
 call_is_plain : (calls : List Planned) (workers : ℕ) (v : View) (lines : List Line) (moment : ℕ) (call : CodeCall) →
     representative_of workers lines moment (called calls v call).answer ≡ Some h.Call
-call_is_plain calls workers v lines moment (c.Submit task timing delay) = by v.shut
+call_is_plain calls workers v lines moment call = by_answer (λ x. representative_of workers lines moment x ≡ Some h.Call) calls v call (plain call)
   where
-    by : (b : Bool) → representative_of workers lines moment (cond b (a.Refuse task refusal.Rejected) (a.Submit task (kind_of timing) (due_at (terms_of calls task) 0 None))) ≡ Some h.Call
-    by true = refl
-    by false = refl
-call_is_plain calls workers v lines moment (c.Illegal task) = refl
-call_is_plain calls workers v lines moment (c.Cancel task) = refl
-call_is_plain calls workers v lines moment (c.SetPolicy which value) = refl
-call_is_plain calls workers v lines moment c.Shutdown = by v.shut
-  where
-    by : (b : Bool) → representative_of workers lines moment (cond b (bare a.ShutdownAgain) (record { answer = a.Shutdown; ends = swept calls v v.policies })).answer ≡ Some h.Call
-    by true = refl
-    by false = refl
-call_is_plain calls workers v lines moment c.Ask = refl
+    plain : (call : CodeCall) (x : Answer) → IsAnswerTo x call → representative_of workers lines moment x ≡ Some h.Call
+    plain call a.Clock is = absurd is
+    plain call x is = grind arith
 
 calls_plainly : (calls : List Planned) (workers : ℕ) (v : View) (lines : List Line) → v.made < length calls → Plainly calls workers v lines h.Call (reply calls workers v h.Call)
 calls_plainly calls workers v lines may =

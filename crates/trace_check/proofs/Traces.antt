@@ -56,17 +56,7 @@ some_finished false o = refl
 busy_works : (w : ℕ) (answer : Answer) (o : Option ℕ) → busy_by w answer (is_some o) ≡ is_some (work_after w answer o)
 busy_works w (a.Start worker task run due) o = some_started (worker == w) task o
 busy_works w (a.Finish worker task run outcome) o = some_finished (worker == w) o
-busy_works w (a.Submit task kind due) o = refl
-busy_works w (a.Refuse task refusal) o = refl
-busy_works w (a.Cancel task effect) o = refl
-busy_works w (a.Outside task effect) o = refl
-busy_works w (a.Policy which value) o = refl
-busy_works w a.Shutdown o = refl
-busy_works w a.ShutdownAgain o = refl
-busy_works w (a.Ask queue running shutdown terminated) o = refl
-busy_works w a.Clock o = refl
-busy_works w (a.Idle worker) o = refl
-busy_works w (a.Error error) o = refl
+busy_works w answer o = refl
 
 -- the plain history of a history's lines: it has the same lines and shows the same
 record Alike (calls : List Planned) (workers : ℕ) (past : List HistoryEntry) : Type 0 where

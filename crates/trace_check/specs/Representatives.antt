@@ -58,21 +58,15 @@ representative_ending (o.Again due) = e.Value 0
 representative_ending o.Dropped = e.Value 0
 representative_ending o.Ended = e.Value 0
 
--- a happening that gets this answer at this moment, behind these lines
+-- a happening that gets this answer at this moment, behind these lines: a call, where no event gets it
 abbrev pub representative_of : ℕ → List Line → ℕ → Answer → Option Happening
-representative_of workers before moment (a.Submit task kind due) = Some h.Call
-representative_of workers before moment (a.Refuse task refusal) = Some h.Call
-representative_of workers before moment (a.Cancel task effect) = Some h.Call
 representative_of workers before moment (a.Outside task effect) = Some (h.Cancel task)
-representative_of workers before moment (a.Policy which value) = Some h.Call
-representative_of workers before moment a.Shutdown = Some h.Call
-representative_of workers before moment a.ShutdownAgain = Some h.Call
-representative_of workers before moment (a.Ask queue running shutdown terminated) = Some h.Call
 representative_of workers before moment a.Clock = Some (h.Clock moment)
 representative_of workers before moment (a.Start worker task run due) = Some (h.Start worker)
 representative_of workers before moment (a.Idle worker) = Some (h.Start worker)
 representative_of workers before moment (a.Finish worker task run outcome) = Some (h.Finish worker (representative_ending outcome))
 representative_of workers before moment (a.Error error) = representative_of_error workers before error
+representative_of workers before moment _ = Some h.Call
 
 -- the happenings of lines of which the last says this at this moment, where `Rest` holds of those of the lines before: one
 -- of its own where it is an answer, and none where it ends a task

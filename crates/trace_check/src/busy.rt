@@ -62,13 +62,6 @@ impl Busy {
         ensures { (lines : List Said) → TellBusy self.now.flags lines → result ≡ representative_of self.now.workers lines moment answer.now }
     {
         match answer {
-            Answer::Submit { .. }
-            | Answer::Refuse { .. }
-            | Answer::Cancel { .. }
-            | Answer::Policy { .. }
-            | Answer::Shutdown
-            | Answer::ShutdownAgain
-            | Answer::Ask { .. } => Some(Happening::Call),
             Answer::Outside { task, .. } => Some(Happening::Cancel(*task)),
             Answer::Clock => Some(Happening::Clock(moment)),
             Answer::Start { worker, .. } | Answer::Idle { worker } => {
@@ -80,6 +73,8 @@ impl Busy {
                 ..
             } => Some(Happening::Finish(*worker, representative_ending(*outcome))),
             Answer::Error(error) => self.representative_of_error(*error),
+            // Each other answer is that of a call.
+            _ => Some(Happening::Call),
         }
     }
 
