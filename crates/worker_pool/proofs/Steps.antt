@@ -70,49 +70,43 @@ alone k answer ends b none is = ap (cancels k answer) none ∙ is
 nothing_set : (j k : ℕ) → (((j == k) && false) || false) ≡ false
 nothing_set j k = or_none ((j == k) && false) ∙ and_none (j == k)
 
+-- a need is that of a sweep
+abbrev sweeps : Need → Bool
+sweeps n.Sweep = true
+sweeps _ = false
+
+-- an answer that by itself cancels nobody, and sweeps or ends nobody
+swept_or_none : (b : Bool) (ends : List ℕ) (k : ℕ) → (cond b n.Sweep n.Nothing ≢ n.Sweep → ends ≡ []) → (is_end k ends || false) ≡ sets k (writes_of (cond b n.Sweep n.Nothing) ends)
+swept_or_none true ends k only = or_none (is_end k ends) ∙ sym (sets_named ends k)
+swept_or_none false ends k only = ap (λ xs. is_end k xs || false) (only (λ q. cc))
+
 pub cancels_are_sets : (shut : Bool) (answer : Answer) (ends : List ℕ) (k : ℕ) → (need_of_answer shut answer ≢ n.Sweep → ends ≡ []) → cancels k answer ends ≡ sets k (writes_of (need_of_answer shut answer) ends)
 cancels_are_sets shut (a.Submit j kind due) ends k only = alone k (a.Submit j kind due) ends _ (only (λ q. cc)) (sym (nothing_set j k))
-cancels_are_sets shut (a.Refuse j why) ends k only = alone k (a.Refuse j why) ends false (only (λ q. cc)) refl
 cancels_are_sets shut (a.Cancel j f.Yes) ends k only = alone k (a.Cancel j f.Yes) ends _ (only (λ q. cc)) refl
 cancels_are_sets shut (a.Cancel j f.No) ends k only = alone k (a.Cancel j f.No) ends false (only (λ q. cc)) (nothing_set j k)
 cancels_are_sets shut (a.Cancel j f.Absent) ends k only = alone k (a.Cancel j f.Absent) ends false (only (λ q. cc)) (nothing_set j k)
 cancels_are_sets shut (a.Outside j f.Yes) ends k only = alone k (a.Outside j f.Yes) ends _ (only (λ q. cc)) refl
 cancels_are_sets shut (a.Outside j f.No) ends k only = alone k (a.Outside j f.No) ends false (only (λ q. cc)) (nothing_set j k)
 cancels_are_sets shut (a.Outside j f.Absent) ends k only = alone k (a.Outside j f.Absent) ends false (only (λ q. cc)) (nothing_set j k)
-cancels_are_sets shut (a.Policy which value) ends k only =
-    let pick : (b : Bool) → (cond b n.Sweep n.Nothing ≢ n.Sweep → ends ≡ []) → (is_end k ends || false) ≡ sets k (writes_of (cond b n.Sweep n.Nothing) ends) = elim [
-      | true ↦ λ only. or_none (is_end k ends) ∙ sym (sets_named ends k)
-      | false ↦ λ only. ap (λ xs. is_end k xs || false) (only (λ q. cc))
-    ]
-    in
-    pick (setting_sweeps shut which value) only
-cancels_are_sets shut a.Shutdown ends k only = or_none (is_end k ends) ∙ sym (sets_named ends k)
-cancels_are_sets shut a.ShutdownAgain ends k only = alone k a.ShutdownAgain ends false (only (λ q. cc)) refl
-cancels_are_sets shut (a.Ask queue running was terminated) ends k only = alone k (a.Ask queue running was terminated) ends false (only (λ q. cc)) refl
-cancels_are_sets shut a.Clock ends k only = alone k a.Clock ends false (only (λ q. cc)) refl
+cancels_are_sets shut (a.Policy which value) ends k only = swept_or_none (setting_sweeps shut which value) ends k only
 cancels_are_sets shut (a.Start w j run due) ends k only = alone k (a.Start w j run due) ends _ (only (λ q. cc)) (sym (nothing_set j k))
-cancels_are_sets shut (a.Idle w) ends k only = alone k (a.Idle w) ends false (only (λ q. cc)) refl
 cancels_are_sets shut (a.Finish w j run (o.Done value)) ends k only = alone k (a.Finish w j run (o.Done value)) ends _ (only (λ q. cc)) (sym (or_none ((j == k) && false)))
 cancels_are_sets shut (a.Finish w j run (o.Failed code)) ends k only = alone k (a.Finish w j run (o.Failed code)) ends _ (only (λ q. cc)) (sym (or_none ((j == k) && false)))
 cancels_are_sets shut (a.Finish w j run (o.Again due)) ends k only = alone k (a.Finish w j run (o.Again due)) ends _ (only (λ q. cc)) (sym (or_none ((j == k) && false)))
 cancels_are_sets shut (a.Finish w j run o.Dropped) ends k only = alone k (a.Finish w j run o.Dropped) ends false (only (λ q. cc)) (and_none (j == k))
 cancels_are_sets shut (a.Finish w j run o.Ended) ends k only = alone k (a.Finish w j run o.Ended) ends _ (only (λ q. cc)) (sym (or_none ((j == k) && true)))
-cancels_are_sets shut (a.Error error) ends k only = alone k (a.Error error) ends false (only (λ q. cc)) refl
+cancels_are_sets shut answer ends k only = swept_or_none (sweeps (need_of_answer shut answer)) ends k only
 
 -- only a sweep ends tasks
 call_ends_none : (calls : List Planned) (v : View) (call : CodeCall) → need_of_answer v.shut (called calls v call).answer ≢ n.Sweep → (called calls v call).ends ≡ []
-call_ends_none calls v (c.Submit task timing delay) plain = refl
-call_ends_none calls v (c.Illegal task) plain = refl
-call_ends_none calls v (c.Cancel task) plain = refl
 call_ends_none calls v (c.SetPolicy which value) plain =
     let ends = swept calls v (set_policy which value v.policies) in
     let pick : (b : Bool) → cond b n.Sweep n.Nothing ≢ n.Sweep → cond b ends [] ≡ [] = elim [ true ↦ λ never. absurd (never refl) | false ↦ λ never. refl ] in
     pick (setting_sweeps v.shut which value) plain
-call_ends_none calls v c.Shutdown plain =
-    let both : Bool → Reply = λ b. cond b (bare a.ShutdownAgain) (record { answer = a.Shutdown; ends = swept calls v v.policies }) in
-    let pick : (b : Bool) → need_of_answer v.shut (both b).answer ≢ n.Sweep → (both b).ends ≡ [] = elim [ true ↦ λ never. refl | false ↦ λ never. absurd (never refl) ] in
+call_ends_none calls v call plain =
+    let said : Bool → Reply = λ b. called calls (record v { shut = b }) call in
+    let pick : (b : Bool) → need_of_answer b (said b).answer ≢ n.Sweep → (said b).ends ≡ [] = elim [ true ↦ λ never. grind arith | false ↦ λ never. grind arith ] in
     pick v.shut plain
-call_ends_none calls v c.Ask plain = refl
 
 pub ends_none : (calls : List Planned) (workers : ℕ) (s : State) (y : Happening) → need_of calls workers s y ≢ n.Sweep → (reply_of calls workers s y).ends ≡ []
 ends_none calls workers s h.Call plain =
