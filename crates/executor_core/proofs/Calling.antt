@@ -4,7 +4,7 @@ use Rattle.std.specs.Prelude.{slice_get}
 use Rattle.std.specs.Option.{option_map_or}
 use Rattle.std.proofs.lemmas.Option.{slice_get_within}
 use Rattle.queue_code.specs.declared.call.CodeCall.{CodeCall}
-use Rattle.executor_core.specs.declared.policies.Policies.{Policies}
+use Rattle.sched_time.specs.declared.policies.Policies.{Policies}
 use Rattle.executor_core.specs.declared.types.Happening.TheVariants as h
 use Rattle.executor_core.specs.declared.types.Answer.{Answer}
 use Rattle.executor_core.specs.declared.types.Answer.TheVariants as a
@@ -55,10 +55,10 @@ pub called_at : (now at moment : ℕ) → now ≤ at → moment ≡ at → momen
 called_at now at moment ahead is = grind (arith, ahead, is)
 
 -- a core that made a call, at a moment that is not before it, stays well formed
-pub made_kept : (m : CoreView) (entries keeps : List (Option ℕ)) (sought : Sought) (moment at : ℕ) (call : CodeCall) (policies : Policies) (shut : Bool) → IsWellFormedCore m entries keeps sought →
+pub made_kept : (m : CoreView) (entries keeps : List (Option ℕ)) (sought : Sought) (moment at : ℕ) (call : CodeCall) (policies : Policies) (shut stopped : Bool) → IsWellFormedCore m entries keeps sought →
     slice_get m.calls m.made ≡ Some (at, call) → moment ≡ max m.moment at → (m.shut ≡ true → shut ≡ true) →
-    IsWellFormedCore (record m { made = m.made + 1; moment = moment; policies = policies; shut = shut }) entries keeps sought
-made_kept m entries keeps sought moment at call policies shut kept is greatest shuts =
+    IsWellFormedCore (record m { made = m.made + 1; moment = moment; policies = policies; shut = shut; stopped = stopped }) entries keeps sought
+made_kept m entries keeps sought moment at call policies shut stopped kept is greatest shuts =
     let near = call_moment m.calls 0 0 m.made at call kept.orderly.1 is in
     let later : m.moment ≤ moment = grind (arith, greatest) in
     record {
@@ -93,7 +93,7 @@ passed m moment = record m { made = m.made + 1; moment = moment }
 -- a core stays well formed where its next call changes no task
 pub passed_kept : (m : CoreView) (entries keeps : List (Option ℕ)) (sought : Sought) (moment at : ℕ) (call : CodeCall) → IsWellFormedCore m entries keeps sought →
     slice_get m.calls m.made ≡ Some (at, call) → moment ≡ max m.moment at → IsWellFormedCore (passed m moment) entries keeps sought
-passed_kept m entries keeps sought moment at call kept is greatest = made_kept m entries keeps sought moment at call m.policies m.shut kept is greatest (λ q. q)
+passed_kept m entries keeps sought moment at call kept is greatest = made_kept m entries keeps sought moment at call m.policies m.shut m.stopped kept is greatest (λ q. q)
 
 -- the step of a call that changes no task
 passed_takes : (m : CoreView) (at : ℕ) (call : CodeCall) (answer : Answer) → slice_get m.calls m.made ≡ Some (at, call) → called m.calls (view_at m.calls (state_of m) at) call ≡ bare answer →

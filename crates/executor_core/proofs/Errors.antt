@@ -17,7 +17,7 @@ use Rattle.queue_code.specs.Calls.{Planned, terms_of}
 use Rattle.executor_core.specs.View.{View}
 use Rattle.executor_core.specs.own.OwnSteps.{Takes}
 use Rattle.executor_core.specs.Answers.{Reply, bare, called, is_accepted, moment_after}
-use Rattle.executor_core.specs.Histories.{is_call, cancels, kept_after, policies_after, is_shutdown, work_after}
+use Rattle.executor_core.specs.Histories.{is_call, cancels, kept_after, policies_after, is_shutdown, work_after, is_stop}
 use Rattle.executor_core.specs.State.{State, vacant, view_of_state, move_task, state_after, reply_of, next, after_from}
 use Rattle.executor_core.specs.Flows.{happening_of, reached, calls_before, part_of, lines_at, lines_from}
 use Rattle.executor_core.specs.CoreView.{CoreView, workers_of, state_of, Steps, ErrorOnlyCounts}
@@ -35,6 +35,7 @@ unmoved calls s x answer error q event still =
       workers = λ w. work_after w (q i) (s.workers w);
       policies = policies_after (q i) s.policies;
       shut = is_shutdown (q i) || s.shut;
+      stopped = is_stop (q i) || s.stopped;
     }
     in
     answered ∙ (λ i. record s { tasks = λ k. record (s.tasks k) { kept = kept_stays (view_of_state calls s) k (a.Error error) refl refl refl i } })
@@ -123,6 +124,6 @@ error_only_counts old new before lines event steps taken count error q =
     let state : state_of new ≡ s = steps.state ∙ (ap (after_from calls workers s) part ∙ still) in
     let tasks = same_table vacant new.tasks old.tasks count (λ k. ap (λ (z : State). z.tasks k) state) in
     let work = same_table None new.work old.work steps.workers (λ w. ap (λ (z : State). z.workers w) state) in (
-      λ i. record { calls = steps.calls i; limit = steps.limit i; taken = taken i; made = (state i).made; moment = (state i).moment; tasks = tasks i; work = work i; policies = (state i).policies; shut = (state i).shut },
+      λ i. record { calls = steps.calls i; limit = steps.limit i; taken = taken i; made = (state i).made; moment = (state i).moment; tasks = tasks i; work = work i; policies = (state i).policies; shut = (state i).shut; stopped = (state i).stopped },
       steps.lines ∙ (ap (λ hs. before ++ lines_from calls workers s hs) part ∙ λ i. before ++ lines_at (still i).moment (record { answer = q i; ends = no_ends calls workers s event i })),
     )

@@ -1,4 +1,3 @@
-pub mod Agendas
 pub mod Keeping
 pub mod Moves
 pub mod Views

@@ -12,7 +12,7 @@ use Rattle.delay_queue.specs.Queues.{IsLeast, NoneIsDue, comes_before}
 use Rattle.queue_code.specs.declared.call.CodeCall.{CodeCall}
 use Rattle.queue_code.specs.declared.call.CodeCall.TheVariants as c
 use Rattle.queue_code.specs.Calls.{Planned, IsOrderly, terms_of, task_count}
-use Rattle.executor_core.specs.declared.policies.Policies.{Policies}
+use Rattle.sched_time.specs.declared.policies.Policies.{Policies}
 use Rattle.executor_core.specs.declared.task.Task.{Task}
 use Rattle.executor_core.specs.declared.types.Answer.TheVariants as a
 use Rattle.executor_core.specs.declared.types.Happening.{Happening}
@@ -50,6 +50,7 @@ call_moves m (c.Illegal task) = n.Nothing
 call_moves m (c.Cancel task) = need_of_cancel task (effect_on (seen_task (terms_of m.calls task) (slice_index_or m.tasks task vacant)))
 call_moves m (c.SetPolicy which value) = cond (setting_sweeps m.shut which value) n.Sweep n.Nothing
 call_moves m c.Shutdown = cond m.shut n.Nothing n.Sweep
+call_moves m c.ShutdownNow = n.Sweep
 call_moves m c.Ask = n.Nothing
 
 called_moves : (m : CoreView) (at : ℕ) (call : CodeCall) → need_of_answer m.shut (called m.calls (view_at m.calls (state_of m) at) call).answer ≡ call_moves m call
@@ -62,6 +63,7 @@ called_moves m at (c.SetPolicy which value) = refl
 called_moves m at c.Shutdown =
     let pick : (b : Bool) → need_of_answer m.shut (called m.calls (record (view_at m.calls (state_of m) at) { shut = b }) c.Shutdown).answer ≡ cond b n.Nothing n.Sweep = elim [ true ↦ refl | false ↦ refl ] in
     pick m.shut
+called_moves m at c.ShutdownNow = refl
 called_moves m at c.Ask = refl
 
 -- what the next call moves
@@ -208,24 +210,24 @@ none_ripe m old entries keeps sought same kept none unkept ripe =
 -- ---- which tasks a call ends
 
 -- a sweep ends a task where it waits and the policies do not let it run
-pub tests_so : (m old : CoreView) (entries keeps : List (Option ℕ)) (sought : Sought) (k now : ℕ) (policies : Policies) (b : Bool) → m ≡ old → IsWellFormedCore m entries keeps sought →
-    b ≡ (waits_with (slice_index_or m.tasks k vacant) && is_ended_by policies now (slice_index_or m.tasks k vacant).timing (slice_index_or m.tasks k vacant).due) →
-    b ≡ is_swept old.calls (record (view_of_state old.calls (state_of old)) { moment = now }) policies k
-tests_so m old entries keeps sought k now policies b same kept is =
-    is ∙ (sym (swept_under (terms_of m.calls k) (slice_index_or m.tasks k vacant) policies now (kept.sound.over k) (kept.timing k))
-    ∙ ap (λ (x : CoreView). is_swept x.calls (record (view_of_state x.calls (state_of x)) { moment = now }) policies k) same)
+pub tests_so : (m old : CoreView) (entries keeps : List (Option ℕ)) (sought : Sought) (k now : ℕ) (stopped : Bool) (policies : Policies) (b : Bool) → m ≡ old → IsWellFormedCore m entries keeps sought →
+    b ≡ (waits_with (slice_index_or m.tasks k vacant) && is_ended_by stopped policies now (slice_index_or m.tasks k vacant).timing (slice_index_or m.tasks k vacant).due) →
+    b ≡ is_swept old.calls (record (view_of_state old.calls (state_of old)) { moment = now; stopped = stopped }) policies k
+tests_so m old entries keeps sought k now stopped policies b same kept is =
+    is ∙ (sym (swept_under (terms_of m.calls k) (slice_index_or m.tasks k vacant) stopped policies now (kept.sound.over k) (kept.timing k))
+    ∙ ap (λ (x : CoreView). is_swept x.calls (record (view_of_state x.calls (state_of x)) { moment = now; stopped = stopped }) policies k) same)
 
 -- and then it is one of those that the sweep ends
-pub ends_so : (m old : CoreView) (entries keeps : List (Option ℕ)) (sought : Sought) (k now : ℕ) (policies : Policies) (b : Bool) → m ≡ old → IsWellFormedCore m entries keeps sought →
-    b ≡ (waits_with (slice_index_or m.tasks k vacant) && is_ended_by policies now (slice_index_or m.tasks k vacant).timing (slice_index_or m.tasks k vacant).due) →
-    b ≡ is_end k (swept old.calls (record (view_of_state old.calls (state_of old)) { moment = now }) policies)
-ends_so m old entries keeps sought k now policies b same kept is =
-    let test : ℕ → Bool = is_swept m.calls (record (view_of_state m.calls (state_of m)) { moment = now }) policies in
-    let at : (j : ℕ) → test j ≡ (waits_with (slice_index_or m.tasks j vacant) && is_ended_by policies now (slice_index_or m.tasks j vacant).timing (slice_index_or m.tasks j vacant).due) =
-    λ j. swept_under (terms_of m.calls j) (slice_index_or m.tasks j vacant) policies now (kept.sound.over j) (kept.timing j)
+pub ends_so : (m old : CoreView) (entries keeps : List (Option ℕ)) (sought : Sought) (k now : ℕ) (stopped : Bool) (policies : Policies) (b : Bool) → m ≡ old → IsWellFormedCore m entries keeps sought →
+    b ≡ (waits_with (slice_index_or m.tasks k vacant) && is_ended_by stopped policies now (slice_index_or m.tasks k vacant).timing (slice_index_or m.tasks k vacant).due) →
+    b ≡ is_end k (swept old.calls (record (view_of_state old.calls (state_of old)) { moment = now; stopped = stopped }) policies)
+ends_so m old entries keeps sought k now stopped policies b same kept is =
+    let test : ℕ → Bool = is_swept m.calls (record (view_of_state m.calls (state_of m)) { moment = now; stopped = stopped }) policies in
+    let at : (j : ℕ) → test j ≡ (waits_with (slice_index_or m.tasks j vacant) && is_ended_by stopped policies now (slice_index_or m.tasks j vacant).timing (slice_index_or m.tasks j vacant).due) =
+    λ j. swept_under (terms_of m.calls j) (slice_index_or m.tasks j vacant) stopped policies now (kept.sound.over j) (kept.timing j)
     in
     let past : task_count m.calls ≤ k → test k ≡ false =
-    λ high. at k ∙ ap (λ (t : Task). waits_with t && is_ended_by policies now t.timing t.due) (get_or_past m.tasks k vacant (omega (arith, high, kept.count)))
+    λ high. at k ∙ ap (λ (t : Task). waits_with t && is_ended_by stopped policies now t.timing t.due) (get_or_past m.tasks k vacant (omega (arith, high, kept.count)))
     in
     is ∙ (sym (at k) ∙ (sym (ends_are test (task_count m.calls) k past)
-    ∙ ap (λ (x : CoreView). is_end k (swept x.calls (record (view_of_state x.calls (state_of x)) { moment = now }) policies)) same))
+    ∙ ap (λ (x : CoreView). is_end k (swept x.calls (record (view_of_state x.calls (state_of x)) { moment = now; stopped = stopped }) policies)) same))

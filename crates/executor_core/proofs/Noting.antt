@@ -14,7 +14,7 @@ use Rattle.executor_core.specs.declared.task.Task.{Task}
 use Rattle.executor_core.specs.declared.types.Line.{Line}
 use Rattle.sched_time.specs.declared.timing.Timing.{Timing}
 use Rattle.sched_time.specs.declared.timing.Timing.TheVariants as how
-use Rattle.executor_core.specs.Answers.{is_ended_by}
+use Rattle.executor_core.specs.Answers.{bars_runs}
 use Rattle.executor_core.specs.Histories.{is_end}
 use Rattle.executor_core.specs.State.{vacant}
 use Rattle.executor_core.specs.own.Tables.{goes_on, is_live_phase, is_periodic, is_waiting_phase, waits_again, waits_with}
@@ -199,14 +199,14 @@ going_kept m entries keeps sought now kept shut none again first = elim (cases_B
 
 -- what a later sweep may end
 
--- once sweeps have looked for both sorts of tasks that they end, each task that a sweep ends was noted
-pub swept_noted : (m : CoreView) (entries keeps : List (Option ℕ)) (sought : Sought) → IsWellFormedCore m entries keeps sought → sought.periodic ≡ true → (m.policies.executes ≡ true) ⊎ (sought.delayed ≡ true) →
+-- once sweeps have looked for both sorts of tasks that they end, each task that a sweep ends was noted, where the executor is not stopped
+pub swept_noted : (m : CoreView) (entries keeps : List (Option ℕ)) (sought : Sought) → IsWellFormedCore m entries keeps sought → m.stopped ≡ false → sought.periodic ≡ true → (m.policies.executes ≡ true) ⊎ (sought.delayed ≡ true) →
     (k : ℕ) → sweeps_at m k ≡ true → is_end k sought.going ≡ true
-swept_noted m entries keeps sought kept looked delayed k swept =
+swept_noted m entries keeps sought kept unstopped looked delayed k swept =
     let t = slice_index_or m.tasks k vacant in
     let both = sym (swept_is m entries keeps sought k kept) ∙ swept in
     let waits : waits_with t ≡ true = and_left (waits_with t) _ both in
-    let ended : is_ended_by m.policies m.moment t.timing t.due ≡ true = and_right (waits_with t) _ both in
+    let ended : bars_runs m.policies m.moment t.timing t.due ≡ true = ap (λ b. b || bars_runs m.policies m.moment t.timing t.due) (sym unstopped) ∙ and_right (waits_with t) _ both in
     let again : is_periodic t.timing ≡ true → is_end k sought.going ≡ true =
     λ more. (kept.periodic looked).1 k (goes_from t.phase t.cancelled t.timing (ap is_live_phase (waits_phase t waits)) (waits_uncancelled t waits) more)
     in
@@ -219,7 +219,7 @@ swept_noted m entries keeps sought kept looked delayed k swept =
           absurd (not_both m.moment t.due due late)
     ]
     in
-    let by : (timing : Timing) → t.timing ≡ timing → is_ended_by m.policies m.moment timing t.due ≡ true → is_end k sought.going ≡ true =
+    let by : (timing : Timing) → t.timing ≡ timing → bars_runs m.policies m.moment timing t.due ≡ true → is_end k sought.going ≡ true =
     elim [
       | how.Once ↦ λ q ends. once q ends
       | how.Rate period ↦ λ q ends. again (ap is_periodic q)
@@ -232,10 +232,10 @@ swept_noted m entries keeps sought kept looked delayed k swept =
     not_both now due low late = grind (arith, nat_tests, late, low)
 
 -- what is not noted is not ended
-pub unnoted_stays : (m : CoreView) (entries keeps : List (Option ℕ)) (sought : Sought) → IsWellFormedCore m entries keeps sought → sought.periodic ≡ true → (m.policies.executes ≡ true) ⊎ (sought.delayed ≡ true) →
+pub unnoted_stays : (m : CoreView) (entries keeps : List (Option ℕ)) (sought : Sought) → IsWellFormedCore m entries keeps sought → m.stopped ≡ false → sought.periodic ≡ true → (m.policies.executes ≡ true) ⊎ (sought.delayed ≡ true) →
     (k : ℕ) → (is_end k sought.going ≡ true → ⊥) → sweeps_at m k ≡ false
-unnoted_stays m entries keeps sought kept looked delayed k not =
-    elim (cases_Bool (sweeps_at m k)) [ inl swept ↦ absurd (not (swept_noted m entries keeps sought kept looked delayed k swept)) | inr stays ↦ stays ]
+unnoted_stays m entries keeps sought kept unstopped looked delayed k not =
+    elim (cases_Bool (sweeps_at m k)) [ inl swept ↦ absurd (not (swept_noted m entries keeps sought kept unstopped looked delayed k swept)) | inr stays ↦ stays ]
 
 -- a sweep that passes over some tasks which it does not end
 passes_over : (old cur : CoreView) (before lines : List Line) (d n : ℕ) → Ends old cur before lines n → ((k : ℕ) → n ≤ k → k < n + d → sweeps_at cur k ≡ false) → Ends old cur before lines (n + d)

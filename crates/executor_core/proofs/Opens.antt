@@ -5,12 +5,12 @@ use Rattle.std.proofs.lemmas.Option.{none-some, slice_get_within, get_or_from_sl
 use Rattle.std.proofs.lemmas.Bool.{false≢true, le-leb, leb-true, cases_lt}
 use Rattle.std.proofs.lemmas.Bool.Decides.{nat_tests}
 use Rattle.std.proofs.lemmas.List.{length-replicate}
-use Rattle.executor_core.specs.declared.policies.Policies.{Policies}
+use Rattle.sched_time.specs.declared.policies.Policies.{Policies}
 use Rattle.executor_core.specs.declared.task.Task.{Task}
 use Rattle.executor_core.specs.declared.task.Stage.TheVariants as ph
 use Rattle.queue_code.specs.Calls.{Planned, IsOrderly, IsOrderlyFrom, count_after, how_many, task_count}
 use Rattle.executor_core.specs.Flows.{reached, ReachesNext}
-use Rattle.executor_core.specs.Answers.{default_policies}
+use Rattle.sched_time.specs.Policies.{default_policies}
 use Rattle.executor_core.specs.State.{opening, vacant, view_of_state}
 use Rattle.executor_core.specs.CoreView.{CoreView, state_of, IsOpening}
 use Rattle.executor_core.specs.own.Invariants.{IsWellFormedCore, IsSound, IsDue, queued, held}
@@ -31,7 +31,7 @@ map_unheld (suc n) = ap (λ l. None ∷ l) (map_unheld n)
 
 -- what contracts see of a core that was just made
 abbrev pub opening_machine : List Planned → ℕ → List Task → List (Option ℕ) → Policies → CoreView
-opening_machine calls limit tasks work policies = record { calls = calls; limit = limit; taken = 0; made = 0; moment = 0; tasks = tasks; work = work; policies = policies; shut = false }
+opening_machine calls limit tasks work policies = record { calls = calls; limit = limit; taken = 0; made = 0; moment = 0; tasks = tasks; work = work; policies = policies; shut = false; stopped = false }
 
 opening_state : (calls : List Planned) (count workers limit : ℕ) (tasks : List Task) (work : List (Option ℕ)) (policies : Policies) → tasks ≡ replicate count vacant → work ≡ replicate workers None → policies ≡ default_policies → state_of (opening_machine calls limit tasks work policies) ≡ opening
 opening_state calls count workers limit tasks work policies is free unset =

@@ -5,13 +5,14 @@ use Rattle.std.proofs.lemmas.Bool.{false≢true, and_parts}
 use Rattle.queue_code.specs.declared.call.CodeCall.{CodeCall}
 use Rattle.queue_code.specs.declared.call.CodeCall.TheVariants as c
 use Rattle.queue_code.specs.Calls.{Planned, numbers, submits_task, terms_of, due_at}
-use Rattle.executor_core.specs.declared.policies.Policies.{Policies}
+use Rattle.sched_time.specs.declared.policies.Policies.{Policies}
 use Rattle.executor_core.specs.declared.types.Kind.{Kind}
 use Rattle.executor_core.specs.declared.types.Refusal.TheVariants as refusal
 use Rattle.executor_core.specs.declared.types.Answer.{Answer}
 use Rattle.executor_core.specs.declared.types.Answer.TheVariants as a
 use Rattle.executor_core.specs.View.{View, is_waiting}
-use Rattle.executor_core.specs.Answers.{bare, called, kind_of, is_ended_by, is_swept, set_policy, setting_sweeps, swept}
+use Rattle.executor_core.specs.Answers.{bare, called, kind_of, is_ended_by, is_swept, setting_sweeps, swept}
+use Rattle.sched_time.specs.Policies.{set_policy}
 
 -- ---- the answers to calls
 
@@ -24,6 +25,7 @@ IsAnswerTo (a.Cancel k effect) (c.Cancel task) = k ≡ task
 IsAnswerTo (a.Policy w b) (c.SetPolicy which value) = (w ≡ which) × (b ≡ value)
 IsAnswerTo a.Shutdown c.Shutdown = Unit {0}
 IsAnswerTo a.ShutdownAgain c.Shutdown = Unit {0}
+IsAnswerTo a.ShutdownNow c.ShutdownNow = Unit {0}
 IsAnswerTo (a.Ask queue running shut terminated) c.Ask = Unit {0}
 IsAnswerTo _ _ = ⊥
 
@@ -42,6 +44,7 @@ answers_call calls v c.Shutdown = by v.shut
     by : (b : Bool) → IsAnswerTo (called calls (record v { shut = b }) c.Shutdown).answer c.Shutdown
     by true = tt
     by false = tt
+answers_call calls v c.ShutdownNow = tt
 answers_call calls v c.Ask = tt
 
 -- what holds of each answer that a call may have, holds of that which it has
@@ -72,7 +75,15 @@ ends_swept : (calls : List Planned) (v : View) (policies : Policies) → EndsWai
 ends_swept calls v policies = record {
   test = is_swept calls v policies;
   are = refl;
-  wait = λ k q. (and_parts (is_waiting (v.fate k)) (is_ended_by policies v.moment (terms_of calls k).timing (v.fate k).due) q).0;
+  wait = λ k q. (and_parts (is_waiting (v.fate k)) (is_ended_by v.stopped policies v.moment (terms_of calls k).timing (v.fate k).due) q).0;
+}
+
+-- the tasks that a call to shut down at once ends
+ends_stopped : (calls : List Planned) (v : View) → EndsWaiting calls v (swept calls (record v { stopped = true }) v.policies)
+ends_stopped calls v = record {
+  test = is_swept calls (record v { stopped = true }) v.policies;
+  are = refl;
+  wait = λ k q. (and_parts (is_waiting (v.fate k)) true q).0;
 }
 
 -- the tasks that a call ends
@@ -87,4 +98,5 @@ call_ends_waiting calls v c.Shutdown = by v.shut
     by : (b : Bool) → EndsWaiting calls v (cond b (bare a.ShutdownAgain) (record { answer = a.Shutdown; ends = swept calls v v.policies })).ends
     by true = ends_none calls v
     by false = ends_swept calls v v.policies
+call_ends_waiting calls v c.ShutdownNow = ends_stopped calls v
 call_ends_waiting calls v call = ends_none calls v

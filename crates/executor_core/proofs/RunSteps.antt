@@ -257,7 +257,7 @@ pub record Ran (m : CoreView) (w k : ℕ) (ending : Ending) (outcome : Outcome) 
   pub worker : w < workers_of m
   pub busy : slice_index_or m.work w None ≡ Some k
   pub is : task ≡ slice_index_or m.tasks k vacant
-  pub out : outcome ≡ outcome_in task.cancelled (stops_periodic m.shut m.policies) task.timing (due_past task.timing task.due m.moment) ending
+  pub out : outcome ≡ outcome_in task.cancelled (stops_periodic m.shut m.stopped m.policies) task.timing (due_past task.timing task.due m.moment) ending
   pub next : due ≡ due_past task.timing task.due m.moment
 
 -- the table of tasks then
@@ -269,7 +269,7 @@ pub finish_takes : (m : CoreView) (entries keeps : List (Option ℕ)) (sought : 
     Ran m w k ending outcome due task → tasks ≡ finished_in m k outcome due → n ≡ task.run → Takes m (finished m w tasks) (h.Finish w ending) (a.Finish w k n outcome)
 finish_takes m entries keeps sought w k n due ending outcome task tasks kept ran written run =
     let x : Task = slice_index_or m.tasks k vacant in
-    let stops = stops_periodic m.shut m.policies in
+    let stops = stops_periodic m.shut m.stopped m.policies in
     let low = work_within m entries keeps sought w k kept ran.busy in
     let same : task.timing ≡ (terms_of m.calls k).timing = ap (λ (y : Task). y.timing) ran.is ∙ work_timing m entries keeps sought w k kept ran.busy in
     let next : due ≡ due_past (terms_of m.calls k).timing x.due m.moment = ran.next ∙ (λ i. due_past (same i) (ran.is i).due m.moment) in
@@ -325,7 +325,7 @@ finish_kept : (m : CoreView) (entries keeps left : List (Option ℕ)) (sought : 
 finish_kept m entries keeps left sought w k due ending outcome task kept ran put =
     let x : Task = slice_index_or m.tasks k vacant in
     let new = finished_task outcome due x in
-    let stops = stops_periodic m.shut m.policies in
+    let stops = stops_periodic m.shut m.stopped m.policies in
     let low = work_within m entries keeps sought w k kept ran.busy in
     let used : x.phase ≢ ph.Vacant = not_vacant x.phase ph.Running (at_work m entries keeps sought w k kept ran.busy) (λ q. cc) in
     let takes = finish_takes m entries keeps sought w k task.run due ending outcome task (finished_in m k outcome due) kept ran refl refl in

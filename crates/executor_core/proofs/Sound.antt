@@ -163,7 +163,7 @@ reply_finds calls workers s (h.Start w) sound =
 reply_finds calls workers s (h.Finish w ending) sound =
     let v = view_of_state calls s in
     let pick : (b : Bool) (work : Option ℕ) → s.workers w ≡ work → Finds calls s (cond b (finish_answer calls v w ending work) (a.Error x.NoWorker)) =
-    elim [ true ↦ elim [ None ↦ λ is. tt | Some k ↦ λ is. (is, drops (s.tasks k).cancelled (stops_periodic s.shut s.policies) (terms_of calls k).timing (due_next calls v k) ending, again (s.tasks k).cancelled (stops_periodic s.shut s.policies) (terms_of calls k).timing (due_next calls v k) ending) ] | false ↦ λ work is. tt ]
+    elim [ true ↦ elim [ None ↦ λ is. tt | Some k ↦ λ is. (is, drops (s.tasks k).cancelled (stops_periodic s.shut s.stopped s.policies) (terms_of calls k).timing (due_next calls v k) ending, again (s.tasks k).cancelled (stops_periodic s.shut s.stopped s.policies) (terms_of calls k).timing (due_next calls v k) ending) ] | false ↦ λ work is. tt ]
     in
     pick (nat_lt w workers) (s.workers w) refl
 reply_finds calls workers s (h.Cancel k) sound =

@@ -5,7 +5,7 @@ use Rattle.std.proofs.Math.ListN.{set}
 use Rattle.std.specs.Option.{option_map_or}
 use Rattle.std.proofs.lemmas.Option.{slice_get_within}
 use Rattle.sched_time.specs.declared.timing.Timing.{Timing}
-use Rattle.executor_core.specs.declared.policies.Policies.{Policies}
+use Rattle.sched_time.specs.declared.policies.Policies.{Policies}
 use Rattle.executor_core.specs.declared.task.Task.{Task}
 use Rattle.executor_core.specs.declared.types.Answer.{Answer}
 use Rattle.executor_core.specs.declared.types.Answer.TheVariants as a
@@ -15,8 +15,9 @@ use Rattle.sched_time.specs.declared.policies.Which.{Which}
 use Rattle.queue_code.specs.declared.call.CodeCall.{CodeCall}
 use Rattle.queue_code.specs.declared.call.CodeCall.TheVariants as c
 use Rattle.queue_code.specs.Calls.{Planned, terms_of, task_count}
-use Rattle.executor_core.specs.Answers.{Reply, bare, called, swept, set_policy, setting_sweeps}
-use Rattle.executor_core.specs.Histories.{is_end, cancels, is_sweep, is_shutdown, policies_after, work_after}
+use Rattle.executor_core.specs.Answers.{Reply, bare, called, swept, setting_sweeps}
+use Rattle.sched_time.specs.Policies.{set_policy}
+use Rattle.executor_core.specs.Histories.{is_end, cancels, is_sweep, is_shutdown, policies_after, work_after, is_stop}
 use Rattle.executor_core.specs.State.{view_of_state, move_task, state_after, reply_of, next}
 use Rattle.executor_core.specs.Flows.{end_line, answer_line, lines_at}
 use Rattle.executor_core.specs.Tasks.{uncancelled_in}
@@ -31,57 +32,72 @@ use Rattle.executor_core.proofs.WholeSweeps.{past_unswept}
 -- the steps of the calls that sweep
 
 -- a call that sweeps: its answer changes no task by itself, and the tasks that it ends are cancelled
-pub record IsSweeping (shut : Bool) (policies : Policies) (answer : Answer) (after : Policies) : Type 0 where
+pub record IsSweeping (shut stopped : Bool) (policies : Policies) (answer : Answer) (after : Policies) (stops : Bool) : Type 0 where
   pub moves : (timing : Timing) (now k : ℕ) (task : Task) → move_task timing now k answer task ≡ task
   pub cancels : (k : ℕ) (ends : List ℕ) → cancels k answer ends ≡ is_end k ends
   pub works : (w : ℕ) (work : Option ℕ) → work_after w answer work ≡ work
   pub sweeps : is_sweep shut answer ≡ true
   pub sets : policies_after answer policies ≡ after
   pub shuts : (is_shutdown answer || shut) ≡ true
+  pub stopping : (is_stop answer || stopped) ≡ stops
 
 or_false : (b : Bool) → (b || false) ≡ b
 or_false true = refl
 or_false false = refl
 
 -- a call that sets a policy where that sweeps
-pub policy_sweeps : (shut : Bool) (policies : Policies) (which : Which) (value : Bool) → setting_sweeps shut which value ≡ true → IsSweeping shut policies (a.Policy which value) (set_policy which value policies)
-policy_sweeps shut policies which value sweeping = record {
+pub policy_sweeps : (shut stopped : Bool) (policies : Policies) (which : Which) (value : Bool) → setting_sweeps shut which value ≡ true → IsSweeping shut stopped policies (a.Policy which value) (set_policy which value policies) stopped
+policy_sweeps shut stopped policies which value sweeping = record {
   moves = λ timing now k task. refl;
   cancels = λ k ends. or_false (is_end k ends);
   works = λ w work. refl;
   sweeps = sweeping;
   sets = refl;
   shuts = and_left shut _ sweeping;
+  stopping = refl;
 }
 
 -- the first shutdown
-pub shutdown_sweeps : (shut : Bool) (policies : Policies) → shut ≡ false → IsSweeping shut policies a.Shutdown policies
-shutdown_sweeps shut policies unshut = record {
+pub shutdown_sweeps : (shut stopped : Bool) (policies : Policies) → shut ≡ false → IsSweeping shut stopped policies a.Shutdown policies stopped
+shutdown_sweeps shut stopped policies unshut = record {
   moves = λ timing now k task. refl;
   cancels = λ k ends. or_false (is_end k ends);
   works = λ w work. refl;
   sweeps = ap not unshut;
   sets = refl;
   shuts = refl;
+  stopping = refl;
 }
 
--- the core at a sweep: its call is made, and its policies are set
-abbrev pub swept_from : CoreView → ℕ → Policies → CoreView
-swept_from m moment policies = record m { made = m.made + 1; moment = moment; policies = policies; shut = true }
+-- a shutdown at once
+pub stop_sweeps : (shut stopped : Bool) (policies : Policies) → IsSweeping shut stopped policies a.ShutdownNow policies true
+stop_sweeps shut stopped policies = record {
+  moves = λ timing now k task. refl;
+  cancels = λ k ends. or_false (is_end k ends);
+  works = λ w work. refl;
+  sweeps = refl;
+  sets = refl;
+  shuts = refl;
+  stopping = refl;
+}
+
+-- the core at a sweep: its call is made, its policies are set, and it is shut, and maybe stopped
+abbrev pub swept_from : CoreView → ℕ → Policies → Bool → CoreView
+swept_from m moment policies stops = record m { made = m.made + 1; moment = moment; policies = policies; shut = true; stopped = stops }
 
 -- what a call that sweeps at some moment is answered
-abbrev pub swept_reply : CoreView → ℕ → Policies → Answer → Reply
-swept_reply m at policies answer = record { answer = answer; ends = swept m.calls (view_at m.calls (state_of m) at) policies }
+abbrev pub swept_reply : CoreView → ℕ → Policies → Bool → Answer → Reply
+swept_reply m at policies stops answer = record { answer = answer; ends = swept m.calls (record (view_at m.calls (state_of m) at) { stopped = stops }) policies }
 
 -- the state after it
-sweep_state : (m new : CoreView) (at : ℕ) (answer : Answer) (policies : Policies) (before lines : List Line) → length m.tasks ≡ task_count m.calls → IsSweeping m.shut m.policies answer policies →
-    Sweeps (swept_from m (max m.moment at) policies) new before lines →
-    state_of new ≡ record (state_after m.calls (state_of m) h.Call (swept_reply m at policies answer)) { moment = max m.moment at }
-sweep_state m new at answer policies before lines count is done =
+sweep_state : (m new : CoreView) (at : ℕ) (answer : Answer) (policies : Policies) (stops : Bool) (before lines : List Line) → length m.tasks ≡ task_count m.calls → IsSweeping m.shut m.stopped m.policies answer policies stops →
+    Sweeps (swept_from m (max m.moment at) policies stops) new before lines →
+    state_of new ≡ record (state_after m.calls (state_of m) h.Call (swept_reply m at policies stops answer)) { moment = max m.moment at }
+sweep_state m new at answer policies stops before lines count is done =
     let s = state_of m in
-    let mid = swept_from m (max m.moment at) policies in
+    let mid = swept_from m (max m.moment at) policies stops in
     let one : m.made + 1 ≡ 1 + m.made = omega arith in
-    let ends = swept m.calls (view_at m.calls s at) policies in
+    let ends = swept m.calls (record (view_at m.calls s at) { stopped = stops }) policies in
     let ended : (k : ℕ) → sweeps_at mid k ≡ cancels k answer ends =
     λ k. sym (is.cancels k ends ∙ ends_are (sweeps_at mid) (task_count m.calls) k (λ past. past_unswept mid k (omega (arith, past, count))))
     in
@@ -95,19 +111,20 @@ sweep_state m new at answer policies before lines count is done =
       workers = λ w. sym (is.works w (s.workers w)) i;
       policies = sym is.sets i;
       shut = sym is.shuts i;
+      stopped = sym is.stopping i;
     })
 
 -- the steps of a call that sweeps
-sweep_called : (m new : CoreView) (at : ℕ) (call : CodeCall) (answer : Answer) (policies : Policies) (before mid lines : List Line) → slice_get m.calls m.made ≡ Some (at, call) → length m.tasks ≡ task_count m.calls →
-    called m.calls (view_at m.calls (state_of m) at) call ≡ swept_reply m at policies answer → IsSweeping m.shut m.policies answer policies → mid ≡ before ++ answer_line (max m.moment at) answer ∷ [] →
-    Sweeps (swept_from m (max m.moment at) policies) new mid lines → Steps m new before lines (h.Call ∷ [])
-sweep_called m new at call answer policies before mid lines is count said sweeping put done =
+sweep_called : (m new : CoreView) (at : ℕ) (call : CodeCall) (answer : Answer) (policies : Policies) (stops : Bool) (before mid lines : List Line) → slice_get m.calls m.made ≡ Some (at, call) → length m.tasks ≡ task_count m.calls →
+    called m.calls (view_at m.calls (state_of m) at) call ≡ swept_reply m at policies stops answer → IsSweeping m.shut m.stopped m.policies answer policies stops → mid ≡ before ++ answer_line (max m.moment at) answer ∷ [] →
+    Sweeps (swept_from m (max m.moment at) policies stops) new mid lines → Steps m new before lines (h.Call ∷ [])
+sweep_called m new at call answer policies stops before mid lines is count said sweeping put done =
     let s = state_of m in
-    let r = swept_reply m at policies answer in
+    let r = swept_reply m at policies stops answer in
     let to = λ (q : Option Planned). option_map_or (λ p. called m.calls (view_at m.calls s p.0) p.1) q (bare a.Clock) in
     let reply : reply_of m.calls (workers_of m) s h.Call ≡ r = ap to is ∙ said in
     let state : state_of new ≡ next m.calls (workers_of m) s h.Call =
-    sweep_state m new at answer policies mid lines count sweeping done
+    sweep_state m new at answer policies stops mid lines count sweeping done
     ∙ (ap (λ x. record (state_after m.calls s h.Call x) { moment = max s.moment at }) (sym said)
     ∙ ap (λ (q : Option Planned). record (state_after m.calls s h.Call (to q)) { moment = option_map_or (λ p. max s.moment p.0) q s.moment }) (sym is))
     in
@@ -123,12 +140,12 @@ sweep_called m new at call answer policies before mid lines is count said sweepi
     }
 
 -- the same, with the moment as the call gives it, and the core as it was
-pub sweep_steps : (m old new : CoreView) (moment at : ℕ) (call : CodeCall) (answer : Answer) (policies : Policies) (before mid lines : List Line) → slice_get m.calls m.made ≡ Some (at, call) → length m.tasks ≡ task_count m.calls →
-    called m.calls (view_at m.calls (state_of m) at) call ≡ swept_reply m at policies answer → IsSweeping m.shut m.policies answer policies → moment ≡ max m.moment at → m ≡ old → mid ≡ before ++ answer_line moment answer ∷ [] →
-    Sweeps (swept_from m moment policies) new mid lines → Steps old new before lines (h.Call ∷ [])
-sweep_steps m old new moment at call answer policies before mid lines is count said sweeping greatest same put done =
+pub sweep_steps : (m old new : CoreView) (moment at : ℕ) (call : CodeCall) (answer : Answer) (policies : Policies) (stops : Bool) (before mid lines : List Line) → slice_get m.calls m.made ≡ Some (at, call) → length m.tasks ≡ task_count m.calls →
+    called m.calls (view_at m.calls (state_of m) at) call ≡ swept_reply m at policies stops answer → IsSweeping m.shut m.stopped m.policies answer policies stops → moment ≡ max m.moment at → m ≡ old → mid ≡ before ++ answer_line moment answer ∷ [] →
+    Sweeps (swept_from m moment policies stops) new mid lines → Steps old new before lines (h.Call ∷ [])
+sweep_steps m old new moment at call answer policies stops before mid lines is count said sweeping greatest same put done =
     subst (λ x. Steps x new before lines (h.Call ∷ [])) same
-    (sweep_called m new at call answer policies before mid lines is count said sweeping (put ∙ ap (λ n. before ++ answer_line n answer ∷ []) greatest) (subst (λ n. Sweeps (swept_from m n policies) new mid lines) greatest done))
+    (sweep_called m new at call answer policies stops before mid lines is count said sweeping (put ∙ ap (λ n. before ++ answer_line n answer ∷ []) greatest) (subst (λ n. Sweeps (swept_from m n policies stops) new mid lines) greatest done))
 
 -- the room for lines after a call that sweeps
 pub sweep_room : (m old mid new : CoreView) (p : Planned) (before within after : ℕ) → slice_get m.calls m.made ≡ Some p → m ≡ old → mid.calls ≡ m.calls → mid.made ≡ m.made + 1 → mid.tasks ≡ m.tasks → new ≡ record mid { tasks = new.tasks } →
@@ -159,6 +176,7 @@ policy_takes m at which value is still =
         workers = s.workers;
         policies = set_policy which value m.policies;
         shut = m.shut;
+        stopped = m.stopped;
       });
       said = call_reply m.calls (workers_of m) at s (c.SetPolicy which value) answer is said;
     }
@@ -189,6 +207,7 @@ again_steps m old moment at before lines is shut greatest same put =
       workers = s.workers;
       policies = m.policies;
       shut = shut i;
+      stopped = m.stopped;
     }
     in
     one_step old (passed m moment) before lines h.Call a.ShutdownAgain (passed_steps m old moment at c.Shutdown a.ShutdownAgain is said there greatest same) put
@@ -200,19 +219,26 @@ pub policy_sweep_steps : (m old new : CoreView) (moment at : ℕ) (which : Which
 policy_sweep_steps m old new moment at which value policies before mid lines is count sweeping greatest set same put done =
     let v = view_at m.calls (state_of m) at in
     let after = set_policy which value m.policies in
-    let said : called m.calls v (c.SetPolicy which value) ≡ swept_reply m at after (a.Policy which value) = ap (λ b. record { answer = a.Policy which value; ends = cond b (swept m.calls v after) [] }) sweeping in
+    let said : called m.calls v (c.SetPolicy which value) ≡ swept_reply m at after m.stopped (a.Policy which value) = ap (λ b. record { answer = a.Policy which value; ends = cond b (swept m.calls v after) [] }) sweeping in
     let shut : m.shut ≡ true = and_left m.shut _ sweeping in
-    sweep_steps m old new moment at (c.SetPolicy which value) (a.Policy which value) after before mid lines is count said (policy_sweeps m.shut m.policies which value sweeping) greatest same put
+    sweep_steps m old new moment at (c.SetPolicy which value) (a.Policy which value) after m.stopped before mid lines is count said (policy_sweeps m.shut m.stopped m.policies which value sweeping) greatest same put
     (subst (λ b. Sweeps (record m { made = m.made + 1; moment = moment; policies = after; shut = b }) new mid lines) shut (subst (λ p. Sweeps (record m { made = m.made + 1; moment = moment; policies = p }) new mid lines) set done))
 
 -- the steps of the first shutdown
 pub shutdown_steps : (m old new : CoreView) (moment at : ℕ) (before mid lines : List Line) → slice_get m.calls m.made ≡ Some (at, c.Shutdown) → length m.tasks ≡ task_count m.calls →
     m.shut ≡ false → moment ≡ max m.moment at → m ≡ old → mid ≡ before ++ answer_line moment a.Shutdown ∷ [] →
-    Sweeps (swept_from m moment m.policies) new mid lines → Steps old new before lines (h.Call ∷ [])
+    Sweeps (swept_from m moment m.policies m.stopped) new mid lines → Steps old new before lines (h.Call ∷ [])
 shutdown_steps m old new moment at before mid lines is count unshut greatest same put done =
     let v = view_at m.calls (state_of m) at in
-    let said : called m.calls v c.Shutdown ≡ swept_reply m at m.policies a.Shutdown = ap (λ b. cond b (bare a.ShutdownAgain) (record { answer = a.Shutdown; ends = swept m.calls v m.policies })) unshut in
-    sweep_steps m old new moment at c.Shutdown a.Shutdown m.policies before mid lines is count said (shutdown_sweeps m.shut m.policies unshut) greatest same put done
+    let said : called m.calls v c.Shutdown ≡ swept_reply m at m.policies m.stopped a.Shutdown = ap (λ b. cond b (bare a.ShutdownAgain) (record { answer = a.Shutdown; ends = swept m.calls v m.policies })) unshut in
+    sweep_steps m old new moment at c.Shutdown a.Shutdown m.policies m.stopped before mid lines is count said (shutdown_sweeps m.shut m.stopped m.policies unshut) greatest same put done
+
+-- the steps of a shutdown at once
+pub stop_steps : (m old new : CoreView) (moment at : ℕ) (before mid lines : List Line) → slice_get m.calls m.made ≡ Some (at, c.ShutdownNow) → length m.tasks ≡ task_count m.calls →
+    moment ≡ max m.moment at → m ≡ old → mid ≡ before ++ answer_line moment a.ShutdownNow ∷ [] →
+    Sweeps (swept_from m moment m.policies true) new mid lines → Steps old new before lines (h.Call ∷ [])
+stop_steps m old new moment at before mid lines is count greatest same put done =
+    sweep_steps m old new moment at c.ShutdownNow a.ShutdownNow m.policies true before mid lines is count refl (stop_sweeps m.shut m.stopped m.policies) greatest same put done
 
 -- the room for lines after a call that ends no task
 pub pass_room : (m old : CoreView) (moment : ℕ) (policies : Policies) (p : Planned) (before after : ℕ) → slice_get m.calls m.made ≡ Some p → m ≡ old → after ≡ before + 1 →

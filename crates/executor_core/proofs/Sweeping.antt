@@ -1,32 +1,33 @@
 -- Which tasks a sweep of a core ends, and what has changed once some of them are ended, one after another.
-use Rattle.std.proofs.Common.{zero, suc, ◌≡◌, ◌≢◌, ℕ, ◌+◌, ◌<◌, ◌≤◌, ◌==◌, ◌&&◌, ◌||◌, nat_le, nat_lt, Bool, true, false, cond, List, [], ◌∷◌, ◌++◌, length, map, ◌⊎◌, inl, inr, Option, add-one, append_assoc, refl, sym, ap, ◌∙◌, arith, subst}
+use Rattle.std.proofs.Common.{zero, suc, ◌≡◌, ◌≢◌, ℕ, ◌+◌, ◌<◌, ◌≤◌, ◌==◌, ◌&&◌, ◌||◌, nat_le, nat_lt, Bool, true, false, cond, List, [], ◌∷◌, ◌++◌, length, map, ◌⊎◌, inl, inr, Option, is_some, add-one, append_assoc, refl, sym, ap, ◌∙◌, arith, subst, None}
 use Rattle.std.specs.Prelude.{slice_index_or, not}
 use Rattle.std.specs.List.{filter, range_with_len}
 use Rattle.std.proofs.Math.ListN.{set}
-use Rattle.std.proofs.lemmas.Bool.{false≢true, eqb-true, le-ltb}
+use Rattle.std.proofs.lemmas.Bool.{false≢true, eqb-true, le-ltb, false_from_ne_true}
 use Rattle.std.proofs.lemmas.Bool.Decides.{nat_tests}
 use Rattle.std.proofs.lemmas.List.{append-nil, length-set, map-append}
 use Rattle.sched_time.specs.declared.timing.Timing.{Timing}
 use Rattle.sched_time.specs.declared.timing.Timing.TheVariants as how
-use Rattle.executor_core.specs.declared.policies.Policies.{Policies}
+use Rattle.sched_time.specs.declared.policies.Policies.{Policies}
 use Rattle.executor_core.specs.declared.task.Stage.{Stage}
 use Rattle.executor_core.specs.declared.task.Stage.TheVariants as ph
 use Rattle.executor_core.specs.declared.task.Task.{Task}
 use Rattle.executor_core.specs.declared.types.Line.{Line}
 use Rattle.queue_code.specs.Calls.{Planned, Terms, terms_of, task_count, submits_task, IsOrderly, how_many}
 use Rattle.executor_core.specs.View.{is_waiting}
-use Rattle.executor_core.specs.Answers.{is_swept, is_ended_by, swept}
+use Rattle.executor_core.specs.Answers.{is_swept, is_ended_by, swept, bars_runs}
 use Rattle.executor_core.specs.Histories.{is_end}
 use Rattle.executor_core.specs.State.{vacant, seen_task, due_seen, view_of_state}
 use Rattle.executor_core.specs.Flows.{end_line}
 use Rattle.executor_core.specs.Tasks.{uncancelled_in}
 use Rattle.executor_core.specs.own.Tables.{waits_with, waits_again, is_waiting_phase, is_periodic, periodic_in}
 use Rattle.executor_core.specs.CoreView.{CoreView, state_of}
-use Rattle.executor_core.specs.own.Invariants.{IsWellFormedCore}
+use Rattle.executor_core.specs.own.Invariants.{IsWellFormedCore, queued, queued_phase}
 use Rattle.executor_core.specs.own.OwnSteps.{Ends}
 use Rattle.executor_core.specs.own.Sought.{Sought}
 use Rattle.executor_core.proofs.Tables.{at_set}
-use Rattle.executor_core.proofs.Asking.{seen_waits}
+use Rattle.executor_core.proofs.Asking.{seen_waits, count_entries}
+use Rattle.delay_queue.specs.Queues.{entry_count}
 
 pub and_none : (b : Bool) → (b && false) ≡ false
 and_none true = refl
@@ -147,24 +148,24 @@ abbrev pub sweeps_at : CoreView → ℕ → Bool
 sweeps_at m k = is_swept m.calls (view_of_state m.calls (state_of m)) m.policies k
 
 -- a sweep under some policies, at some moment, ends a task that waits and that the policies do not let run
-pub swept_under : (terms : Terms) (t : Task) (policies : Policies) (moment : ℕ) → (t.phase ≡ ph.Dropped → t.cancelled ≡ true) → (t.phase ≢ ph.Vacant → t.timing ≡ terms.timing) →
-    (is_waiting (seen_task terms t) && is_ended_by policies moment terms.timing (seen_task terms t).due) ≡ (waits_with t && is_ended_by policies moment t.timing t.due)
-swept_under terms t policies moment over timing =
-    let pick : (b : Bool) → waits_with t ≡ b → (b && is_ended_by policies moment terms.timing (due_seen terms t.phase t.due)) ≡ (b && is_ended_by policies moment t.timing t.due) =
+pub swept_under : (terms : Terms) (t : Task) (stopped : Bool) (policies : Policies) (moment : ℕ) → (t.phase ≡ ph.Dropped → t.cancelled ≡ true) → (t.phase ≢ ph.Vacant → t.timing ≡ terms.timing) →
+    (is_waiting (seen_task terms t) && is_ended_by stopped policies moment terms.timing (seen_task terms t).due) ≡ (waits_with t && is_ended_by stopped policies moment t.timing t.due)
+swept_under terms t stopped policies moment over timing =
+    let pick : (b : Bool) → waits_with t ≡ b → (b && is_ended_by stopped policies moment terms.timing (due_seen terms t.phase t.due)) ≡ (b && is_ended_by stopped policies moment t.timing t.due) =
     elim [
       | true ↦ λ waits.
           let phase = waits_phase t waits in
           let used : t.phase ≢ ph.Vacant = λ q. let clash : ph.Waiting ≡ ph.Vacant = sym phase ∙ q in absurd cc in
-          (λ i. is_ended_by policies moment (sym (timing used) i) (due_seen terms (phase i) t.due))
+          (λ i. is_ended_by stopped policies moment (sym (timing used) i) (due_seen terms (phase i) t.due))
       | false ↦ λ idle. refl
     ]
     in
-    ap (λ b. b && is_ended_by policies moment terms.timing (due_seen terms t.phase t.due)) (seen_waits terms t over) ∙ pick (waits_with t) refl
+    ap (λ b. b && is_ended_by stopped policies moment terms.timing (due_seen terms t.phase t.due)) (seen_waits terms t over) ∙ pick (waits_with t) refl
 
 -- a sweep ends the tasks that wait and that the policies do not let run
 pub swept_is : (m : CoreView) (entries keeps : List (Option ℕ)) (sought : Sought) (k : ℕ) → IsWellFormedCore m entries keeps sought →
-    sweeps_at m k ≡ (waits_with (slice_index_or m.tasks k vacant) && is_ended_by m.policies m.moment (slice_index_or m.tasks k vacant).timing (slice_index_or m.tasks k vacant).due)
-swept_is m entries keeps sought k kept = swept_under (terms_of m.calls k) (slice_index_or m.tasks k vacant) m.policies m.moment (kept.sound.over k) (kept.timing k)
+    sweeps_at m k ≡ (waits_with (slice_index_or m.tasks k vacant) && is_ended_by m.stopped m.policies m.moment (slice_index_or m.tasks k vacant).timing (slice_index_or m.tasks k vacant).due)
+swept_is m entries keeps sought k kept = swept_under (terms_of m.calls k) (slice_index_or m.tasks k vacant) m.stopped m.policies m.moment (kept.sound.over k) (kept.timing k)
 
 -- what waits on a sweep
 
@@ -186,10 +187,10 @@ none_counted test (t ∷ tasks) (suc k) past none =
     let pick : (b : Bool) → cond b (1 + how_many test tasks) (how_many test tasks) ≡ 0 → how_many test tasks ≡ 0 = elim [ true ↦ λ q. absurd (omega (arith, q)) | false ↦ λ q. q ] in
     none_counted test tasks k past (pick (test t) none)
 
--- no task is ended where periodic tasks go on, or none waits, and delayed ones are run, or none is left
-pub none_swept : (m : CoreView) (entries keeps : List (Option ℕ)) (sought : Sought) → IsWellFormedCore m entries keeps sought →
+-- no task is ended where the executor is not stopped, periodic tasks go on, or none waits, and delayed ones are run, or none is left
+pub none_swept : (m : CoreView) (entries keeps : List (Option ℕ)) (sought : Sought) → IsWellFormedCore m entries keeps sought → m.stopped ≡ false →
     (m.policies.continues ≡ true) ⊎ (periodic_in m.tasks ≡ 0) → (m.policies.executes ≡ true) ⊎ (sought.delayed ≡ true) → (k : ℕ) → sweeps_at m k ≡ false
-none_swept m entries keeps sought kept periodic delayed k =
+none_swept m entries keeps sought kept unstopped periodic delayed k =
     let t = slice_index_or m.tasks k vacant in
     let again : is_periodic t.timing ≡ true → waits_with t ≡ true → not m.policies.continues ≡ false =
     λ more waits. elim periodic [
@@ -208,15 +209,25 @@ none_swept m entries keeps sought kept periodic delayed k =
           ap (λ b. not m.policies.executes && b) (le-ltb m.moment t.due due) ∙ and_none (not m.policies.executes)
     ]
     in
-    let by : (timing : Timing) → t.timing ≡ timing → waits_with t ≡ true → is_ended_by m.policies m.moment timing t.due ≡ false =
+    let by : (timing : Timing) → t.timing ≡ timing → waits_with t ≡ true → bars_runs m.policies m.moment timing t.due ≡ false =
     elim [
       | how.Once ↦ λ q waits. once q waits
       | how.Rate period ↦ λ q waits. again (ap is_periodic q) waits
       | how.Fixed delay ↦ λ q waits. again (ap is_periodic q) waits
     ]
     in
-    let pick : (b : Bool) → waits_with t ≡ b → (b && is_ended_by m.policies m.moment t.timing t.due) ≡ false = elim [ true ↦ λ waits. by t.timing refl waits | false ↦ λ idle. refl ] in
+    let pick : (b : Bool) → waits_with t ≡ b → (b && is_ended_by m.stopped m.policies m.moment t.timing t.due) ≡ false = elim [ true ↦ λ waits. ap (λ b. b || bars_runs m.policies m.moment t.timing t.due) unstopped ∙ by t.timing refl waits | false ↦ λ idle. refl ] in
     swept_is m entries keeps sought k kept ∙ pick (waits_with t) refl
+
+-- no task is ended where the queue is empty
+pub none_queued : (m : CoreView) (entries keeps : List (Option ℕ)) (sought : Sought) → IsWellFormedCore m entries keeps sought → entry_count entries ≡ 0 → (k : ℕ) → sweeps_at m k ≡ false
+none_queued m entries keeps sought kept none k =
+    let t = slice_index_or m.tasks k vacant in
+    let counted : how_many (λ (x : Task). is_some (queued x)) m.tasks ≡ 0 = sym (count_entries queued m.tasks) ∙ (ap entry_count (sym kept.queue) ∙ none) in
+    let absent : is_some (queued t) ≡ false = none_counted (λ x. is_some (queued x)) m.tasks k refl counted in
+    let entry : waits_with t ≡ true → is_some (queued t) ≡ true = λ waits i. is_some (cond (waits_uncancelled t waits i) None (queued_phase (waits_phase t waits i) t.due)) in
+    let idle : waits_with t ≡ false = false_from_ne_true (waits_with t) (λ waits. false≢true (sym absent ∙ entry waits)) in
+    swept_is m entries keeps sought k kept ∙ ap (λ b. b && is_ended_by m.stopped m.policies m.moment t.timing t.due) idle
 
 -- tasks that are ended, one after another
 
@@ -247,7 +258,7 @@ untouched old cur before lines n ends =
 
 -- whether a sweep of a core ends this task in the place k
 abbrev pub sweeps_task : CoreView → ℕ → Task → Bool
-sweeps_task m k t = is_waiting (seen_task (terms_of m.calls k) t) && is_ended_by m.policies m.moment (terms_of m.calls k).timing (seen_task (terms_of m.calls k) t).due
+sweeps_task m k t = is_waiting (seen_task (terms_of m.calls k) t) && is_ended_by m.stopped m.policies m.moment (terms_of m.calls k).timing (seen_task (terms_of m.calls k) t).due
 
 sweeps_alike : (old cur : CoreView) (before lines : List Line) (n : ℕ) → Ends old cur before lines n → sweeps_at cur n ≡ sweeps_at old n
 sweeps_alike old cur before lines n ends =

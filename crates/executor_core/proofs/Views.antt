@@ -8,7 +8,7 @@ use Rattle.sched_time.specs.Dues.{after_finish}
 use Rattle.queue_code.specs.Calls.{Planned, Terms, terms_of, due_at}
 use Rattle.executor_core.specs.View.{Fate, View}
 use Rattle.executor_core.specs.Answers.{Reply, moment_after}
-use Rattle.executor_core.specs.Histories.{HistoryEntry, entry_of, happenings, is_call, is_submit, cancels, kept_after, is_start, is_finish, is_finish_with, is_done, is_failed, work_after, policies_after, is_shutdown, view_of_history, starts, last_finish, now_of}
+use Rattle.executor_core.specs.Histories.{HistoryEntry, entry_of, happenings, is_call, is_submit, cancels, kept_after, is_start, is_finish, is_finish_with, is_done, is_failed, work_after, policies_after, is_shutdown, view_of_history, starts, last_finish, now_of, is_stop}
 use Rattle.executor_core.specs.State.{State, view_of_state, state_after}
 use Rattle.executor_core.specs.own.Invariants.{IsDue}
 use Rattle.executor_core.proofs.Moves.{moved_fate, due_after, Fits, task_moves}
@@ -27,6 +27,7 @@ view_with calls v happening r fates = record {
   work = λ w. work_after w r.answer (v.work w);
   policies = policies_after r.answer v.policies;
   shut = is_shutdown r.answer || v.shut;
+  stopped = is_stop r.answer || v.stopped;
 }
 
 -- the view after a reply

@@ -11,7 +11,7 @@ use Rattle.executor_core.specs.declared.task.Task.{Task}
 use Rattle.executor_core.specs.declared.types.Line.{Line}
 use Rattle.queue_code.specs.Calls.{terms_of, task_count, how_many}
 use Rattle.executor_core.specs.View.{is_running}
-use Rattle.executor_core.specs.Answers.{is_ended_by, swept}
+use Rattle.executor_core.specs.Answers.{is_ended_by, swept, bars_runs}
 use Rattle.executor_core.specs.State.{vacant, seen_task}
 use Rattle.executor_core.specs.Flows.{end_line}
 use Rattle.executor_core.specs.Tasks.{uncancelled_in}
@@ -37,6 +37,10 @@ ends_nothing m lines count none = record {
   lines = sym (ap (λ ks. lines ++ map (end_line m.moment) ks) (filter_none (sweeps_at m) (range_with_len 0 count) none) ∙ append-nil lines);
 }
 
+or_true : (b : Bool) → (b || true) ≡ true
+or_true true = refl
+or_true false = refl
+
 or_neither : (b c : Bool) → (b || c) ≡ false → (b ≡ false) × (c ≡ false)
 or_neither true c q = absurd (false≢true (sym q))
 or_neither false c q = (refl, q)
@@ -56,7 +60,7 @@ all_below m k =
 cancelled_stays : (m : CoreView) (k : ℕ) (t : Task) → t.cancelled ≡ true → sweeps_task m k t ≡ false
 cancelled_stays m k t over =
     let f = seen_task (terms_of m.calls k) t in
-    let e = is_ended_by m.policies m.moment (terms_of m.calls k).timing f.due in
+    let e = is_ended_by m.stopped m.policies m.moment (terms_of m.calls k).timing f.due in
     (λ i. (f.accepted && (not (is_running f) && not (over i || (f.failed || f.done)))) && e)
     ∙ (ap (λ b. (f.accepted && b) && e) (and_none (not (is_running f))) ∙ ap (λ b. b && e) (and_none f.accepted))
 
@@ -75,9 +79,9 @@ pub none_delayed : (m : CoreView) (entries keeps : List (Option ℕ)) (sought : 
 none_delayed m entries keeps sought kept off swept k waits live once =
     let t = slice_index_or m.tasks k vacant in
     let waiting : waits_with t ≡ true = λ i. is_waiting_phase (waits i) && not (live i) in
-    let test : nat_lt m.moment t.due ≡ false =
-    (λ i. sym waiting i && (not (sym off i) && nat_lt m.moment t.due)) ∙ ((λ i. waits_with t && is_ended_by m.policies m.moment (sym once i) t.due) ∙ (sym (swept_is m entries keeps sought k kept) ∙ swept k))
-    in
+    let stays : is_ended_by m.stopped m.policies m.moment t.timing t.due ≡ false = (λ i. sym waiting i && is_ended_by m.stopped m.policies m.moment t.timing t.due) ∙ (sym (swept_is m entries keeps sought k kept) ∙ swept k) in
+    let barred : bars_runs m.policies m.moment t.timing t.due ≡ false = (or_neither m.stopped _ stays).1 in
+    let test : nat_lt m.moment t.due ≡ false = (λ i. not (sym off i) && nat_lt m.moment t.due) ∙ ((λ i. bars_runs m.policies m.moment (sym once i) t.due) ∙ barred) in
     not_after m.moment t.due test
   where
     not_after : (now due : ℕ) → nat_lt now due ≡ false → due ≤ now
@@ -87,9 +91,9 @@ none_delayed m entries keeps sought kept off swept k waits live once =
 pub none_again : (m : CoreView) (entries keeps : List (Option ℕ)) (sought : Sought) → IsWellFormedCore m entries keeps sought → m.policies.continues ≡ false → ((k : ℕ) → sweeps_at m k ≡ false) → (k : ℕ) → waits_again (slice_index_or m.tasks k vacant) ≡ false
 none_again m entries keeps sought kept off swept k =
     let t = slice_index_or m.tasks k vacant in
-    let stays : (waits_with t && is_ended_by m.policies m.moment t.timing t.due) ≡ false = sym (swept_is m entries keeps sought k kept) ∙ swept k in
-    let ends : (timing : Timing) → is_periodic timing ≡ true → is_ended_by m.policies m.moment timing t.due ≡ true =
-    elim [ how.Once ↦ λ q. absurd (false≢true q) | how.Rate period ↦ λ q. ap not off | how.Fixed delay ↦ λ q. ap not off ]
+    let stays : (waits_with t && is_ended_by m.stopped m.policies m.moment t.timing t.due) ≡ false = sym (swept_is m entries keeps sought k kept) ∙ swept k in
+    let ends : (timing : Timing) → is_periodic timing ≡ true → is_ended_by m.stopped m.policies m.moment timing t.due ≡ true =
+    elim [ how.Once ↦ λ q. absurd (false≢true q) | how.Rate period ↦ λ q. (λ i. m.stopped || not (off i)) ∙ or_true m.stopped | how.Fixed delay ↦ λ q. (λ i. m.stopped || not (off i)) ∙ or_true m.stopped ]
     in
     false_from_ne_true (waits_again t) (λ is.
     let waiting : is_waiting_phase t.phase ≡ true = and_left (is_waiting_phase t.phase) _ is in

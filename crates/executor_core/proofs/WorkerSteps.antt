@@ -261,12 +261,12 @@ next_is_past calls s k busy due =
 
 -- the reply to a finish of a worker that works
 pub task_finishes : (calls : List Planned) (workers w k : ℕ) (ending : Ending) (outcome : Outcome) (s : State) → w < workers → s.workers w ≡ Some k → (s.tasks k).phase ≡ ph.Running →
-    IsDue calls (view_of_state calls s) → outcome ≡ outcome_in (s.tasks k).cancelled (stops_periodic s.shut s.policies) (terms_of calls k).timing (due_past (terms_of calls k).timing (s.tasks k).due s.moment) ending →
+    IsDue calls (view_of_state calls s) → outcome ≡ outcome_in (s.tasks k).cancelled (stops_periodic s.shut s.stopped s.policies) (terms_of calls k).timing (due_past (terms_of calls k).timing (s.tasks k).due s.moment) ending →
     reply_of calls workers s (h.Finish w ending) ≡ bare (a.Finish w k (s.tasks k).run outcome)
 task_finishes calls workers w k ending outcome s l e busy due is =
     let t = s.tasks k in
     let terms = terms_of calls k in
-    let next = ap (λ d. outcome_in t.cancelled (stops_periodic s.shut s.policies) terms.timing d ending) (next_is_past calls s k busy due) in
+    let next = ap (λ d. outcome_in t.cancelled (stops_periodic s.shut s.stopped s.policies) terms.timing d ending) (next_is_past calls s k busy due) in
     finish_reply calls workers w ending s (Some k) l e
     ∙ (ap (λ x. bare (a.Finish w k (((view_of_state calls s).fate k).starts - 1) x)) (next ∙ sym is)
     ∙ (ap (λ p. bare (a.Finish w k ((seen_phase terms p t.run t.due t.cancelled t.kept).starts - 1) outcome)) busy

@@ -6,6 +6,7 @@ use Rattle.std.specs.Prelude.{ℕ, ◌-◌, ◌==◌, ◌&&◌, ◌||◌, not, m
 use Rattle.std.specs.Option.{option_map_or}
 use Rattle.std.specs.List.{filter}
 use Rattle.sched_time.specs.Times.{longest}
+use Rattle.sched_time.specs.Policies.{set_policy}
 use Rattle.sched_time.specs.declared.timing.Timing.{Timing}
 use Rattle.sched_time.specs.declared.timing.Timing.TheVariants as t
 use Rattle.sched_time.specs.declared.policies.Which.{Which}
@@ -14,7 +15,7 @@ use Rattle.sched_time.specs.declared.timing.Ending.{Ending}
 use Rattle.sched_time.specs.declared.timing.Ending.TheVariants as e
 use Rattle.queue_code.specs.declared.call.CodeCall.{CodeCall}
 use Rattle.queue_code.specs.declared.call.CodeCall.TheVariants as c
-use Rattle.executor_core.specs.declared.policies.Policies.{Policies}
+use Rattle.sched_time.specs.declared.policies.Policies.{Policies}
 use Rattle.executor_core.specs.declared.types.Happening.{Happening}
 use Rattle.executor_core.specs.declared.types.Happening.TheVariants as h
 use Rattle.executor_core.specs.declared.types.Kind.{Kind}
@@ -51,20 +52,6 @@ kind_of (t.Fixed delay) = kind.Fixed
 abbrev pub effect_on : Fate → CancelEffect
 effect_on fate = if fate.accepted then (if is_cancellable fate then f.Yes else f.No) else f.Absent
 
--- the policies, and what sets them
-
--- the policies before any is set
--- (ScheduledThreadPoolExecutor.getContinueExistingPeriodicTasksAfterShutdownPolicy and getRemoveOnCancelPolicy:
--- by default false; getExecuteExistingDelayedTasksAfterShutdownPolicy: by default true)
-abbrev pub default_policies : Policies
-default_policies = record { continues = false; executes = true; removes = false }
-
--- the policies after one is set
-abbrev pub set_policy : Which → Bool → Policies → Policies
-set_policy p.Continue value policies = record policies { continues = value }
-set_policy p.Execute value policies = record policies { executes = value }
-set_policy p.Remove value policies = record policies { removes = value }
-
 -- a sweep
 
 -- the policy is that on removal at a cancel
@@ -77,17 +64,24 @@ is_remove _ = false
 abbrev pub setting_sweeps : Bool → Which → Bool → Bool
 setting_sweeps shut which value = shut && (not value && not (is_remove which))
 
--- a sweep under these policies ends a waiting task of this timing, which is due at `due`, at the moment `now`: one
--- that is periodic where periodic tasks do not continue, and a one-shot one that is not due yet where delayed
--- tasks are not executed
-abbrev pub is_ended_by : Policies → ℕ → Timing → ℕ → Bool
-is_ended_by policies now t.Once due = not policies.executes && nat_lt now due
-is_ended_by policies now (t.Rate period) due = not policies.continues
-is_ended_by policies now (t.Fixed delay) due = not policies.continues
+-- these policies bar the runs of a waiting task of this timing, which is due at `due`, at the moment `now`: of one that
+-- is periodic where periodic tasks do not continue, and of a one-shot one that is not due yet where delayed tasks are not
+-- executed
+abbrev pub bars_runs : Policies → ℕ → Timing → ℕ → Bool
+bars_runs policies now t.Once due = not policies.executes && nat_lt now due
+bars_runs policies now (t.Rate period) due = not policies.continues
+bars_runs policies now (t.Fixed delay) due = not policies.continues
+
+-- a sweep under these policies ends a waiting task of this timing, which is due at `due`, at the moment `now`: whatever
+-- it is where the executor is stopped, and else one whose runs the policies bar
+-- (ExecutorService.shutdownNow: "halts the processing of waiting tasks"; all else: this project's rule. Where the executor
+-- was stopped before the sweep none waits, as the law `nothing_waits_once_stopped` says of calls that are in order)
+abbrev pub is_ended_by : Bool → Policies → ℕ → Timing → ℕ → Bool
+is_ended_by stopped policies now timing due = stopped || bars_runs policies now timing due
 
 -- a sweep under these policies ends task k
 abbrev pub is_swept : List Planned → View → Policies → ℕ → Bool
-is_swept calls v policies k = is_waiting (v.fate k) && is_ended_by policies v.moment (terms_of calls k).timing (v.fate k).due
+is_swept calls v policies k = is_waiting (v.fate k) && is_ended_by v.stopped policies v.moment (terms_of calls k).timing (v.fate k).due
 
 -- the tasks that a sweep under these policies ends, ascending
 abbrev pub swept : List Planned → View → Policies → List ℕ
@@ -117,7 +111,7 @@ is_terminated shut queue running = shut && ((queue == 0) && (running == 0))
 -- scheduleWithFixedDelay, "IllegalArgumentException"; a submission where the executor is shut:
 -- ScheduledExecutorService.schedule, "RejectedExecutionException"; that the first is tested before: this project's
 -- rule; ExecutorService.shutdown: "no new tasks will be accepted. Invocation has no additional effect if already
--- shut down.")
+-- shut down."; ExecutorService.shutdownNow: "halts the processing of waiting tasks")
 abbrev pub called : List Planned → View → CodeCall → Reply
 called calls v (c.Submit task timing delay) =
     bare (if v.shut then a.Refuse task refusal.Rejected else a.Submit task (kind_of timing) (due_at (terms_of calls task) 0 None))
@@ -126,6 +120,7 @@ called calls v (c.Cancel task) = bare (a.Cancel task (effect_on (v.fate task)))
 called calls v (c.SetPolicy which value) =
     record { answer = a.Policy which value; ends = if setting_sweeps v.shut which value then swept calls v (set_policy which value v.policies) else [] }
 called calls v c.Shutdown = if v.shut then bare a.ShutdownAgain else record { answer = a.Shutdown; ends = swept calls v v.policies }
+called calls v c.ShutdownNow = record { answer = a.ShutdownNow; ends = swept calls (record v { stopped = true }) v.policies }
 called calls v c.Ask =
     bare (a.Ask (queue_size calls v) (running_count calls v) v.shut (is_terminated v.shut (queue_size calls v) (running_count calls v)))
 
@@ -163,9 +158,9 @@ outcome_of stops timing due (e.Fault code) = o.Failed code
 abbrev pub outcome_in : Bool → Bool → Timing → ℕ → Ending → Outcome
 outcome_in cancelled stops timing due ending = if cancelled then o.Dropped else outcome_of stops timing due ending
 
--- periodic tasks do not go on: the executor is shut, and its policy says so
-abbrev pub stops_periodic : Bool → Policies → Bool
-stops_periodic shut policies = shut && not policies.continues
+-- periodic tasks do not go on: the executor is stopped, or it is shut and its policy says so
+abbrev pub stops_periodic : Bool → Bool → Policies → Bool
+stops_periodic shut stopped policies = stopped || (shut && not policies.continues)
 
 -- the due moment of the run of task k that would come after a finish at the view's moment
 abbrev pub due_next : List Planned → View → ℕ → ℕ
@@ -175,7 +170,7 @@ due_next calls v k = due_at (terms_of calls k) (v.fate k).starts (Some v.moment)
 -- last, with its outcome
 abbrev pub finish_answer : List Planned → View → ℕ → Ending → Option ℕ → Answer
 finish_answer calls v w ending None = a.Error x.NotRunning
-finish_answer calls v w ending (Some k) = a.Finish w k ((v.fate k).starts - 1) (outcome_in (v.fate k).cancelled (stops_periodic v.shut v.policies) (terms_of calls k).timing (due_next calls v k) ending)
+finish_answer calls v w ending (Some k) = a.Finish w k ((v.fate k).starts - 1) (outcome_in (v.fate k).cancelled (stops_periodic v.shut v.stopped v.policies) (terms_of calls k).timing (due_next calls v k) ending)
 
 -- a clock is accepted where it does not go back and is within the limit
 abbrev pub is_accepted : ℕ → ℕ → Bool

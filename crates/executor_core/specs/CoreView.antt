@@ -1,7 +1,7 @@
 -- What contracts see of an executor's core, and the state and history in which it stands.
 -- All of it is this project's rule.
 use Rattle.std.specs.Prelude.{◌≡◌, ℕ, ◌+◌, ◌-◌, ◌<◌, ◌≤◌, Bool, true, false, List, [], ◌∷◌, ◌++◌, length, Option, None, slice_index_or}
-use Rattle.executor_core.specs.declared.policies.Policies.{Policies}
+use Rattle.sched_time.specs.declared.policies.Policies.{Policies}
 use Rattle.executor_core.specs.declared.types.Event.{Event}
 use Rattle.executor_core.specs.declared.types.Happening.{Happening}
 use Rattle.executor_core.specs.declared.types.Happening.TheVariants as h
@@ -16,7 +16,7 @@ use Rattle.executor_core.specs.Flows.{happening_of, part_of, history_from, answe
 use Rattle.executor_core.specs.Tasks.{uncancelled_in}
 
 -- what contracts see of a core: its plan's calls, how many of them it made, the moment, its two tables, its policies,
--- and whether it is shut
+-- and whether it is shut, and stopped
 pub record CoreView : Type 0 where
   pub calls : List Planned
   -- how many events it takes, and how many it took
@@ -30,6 +30,7 @@ pub record CoreView : Type 0 where
   pub work : List (Option ℕ)
   pub policies : Policies
   pub shut : Bool
+  pub stopped : Bool
 
 -- how many workers a core has
 abbrev pub workers_of : CoreView → ℕ
@@ -44,6 +45,7 @@ state_of m = record {
   workers = λ w. slice_index_or m.work w None;
   policies = m.policies;
   shut = m.shut;
+  stopped = m.stopped;
 }
 
 -- how many lines an event adds at most: one of its own, one of each call that is left, and one of each task that

@@ -3,7 +3,7 @@
 -- behind it. Counting in a history is this project's rule, and so is all that is said here.
 use Rattle.std.specs.Prelude.{◌≡◌, ℕ, ◌+◌, ◌<◌, ◌≤◌, ◌==◌, ◌&&◌, ◌||◌, not, nat_le, Bool, true, false, if◌then◌else◌, List, [], ◌∷◌, length, map, Option, Some, None, slice_get}
 use Rattle.std.specs.List.{list_any}
-use Rattle.executor_core.specs.declared.policies.Policies.{Policies}
+use Rattle.sched_time.specs.declared.policies.Policies.{Policies}
 use Rattle.executor_core.specs.declared.types.Happening.{Happening}
 use Rattle.executor_core.specs.declared.types.Happening.TheVariants as h
 use Rattle.executor_core.specs.declared.types.CancelEffect.{CancelEffect}
@@ -15,7 +15,8 @@ use Rattle.executor_core.specs.declared.types.Answer.TheVariants as a
 use Rattle.delay_queue.specs.Queues.{comes_before}
 use Rattle.queue_code.specs.Calls.{Planned, how_many, terms_of, due_at}
 use Rattle.executor_core.specs.View.{Fate, View, is_waiting}
-use Rattle.executor_core.specs.Answers.{Reply, reply, moment_after, is_accepted, default_policies, set_policy, setting_sweeps}
+use Rattle.executor_core.specs.Answers.{Reply, reply, moment_after, is_accepted, setting_sweeps}
+use Rattle.sched_time.specs.Policies.{default_policies, set_policy}
 
 -- a happening with its answer, and the tasks that the answer ends
 pub record HistoryEntry : Type 0 where
@@ -113,16 +114,23 @@ abbrev pub policies_after : Answer → Policies → Policies
 policies_after (a.Policy which value) before = set_policy which value before
 policies_after _ before = before
 
--- an answer says that a shutdown call was made
+-- an answer says that a call to shut down was made, orderly or at once
 abbrev pub is_shutdown : Answer → Bool
 is_shutdown a.Shutdown = true
 is_shutdown a.ShutdownAgain = true
+is_shutdown a.ShutdownNow = true
 is_shutdown _ = false
 
--- an answer says that there was a sweep, where the executor was shut before it or not: it is the first shutdown, or
+-- an answer says that a call to shut down at once was made
+abbrev pub is_stop : Answer → Bool
+is_stop a.ShutdownNow = true
+is_stop _ = false
+
+-- an answer says that there was a sweep, where the executor was shut before it or not: it is the first shutdown, or one at once, or
 -- sets the continue or the execute policy to false while the executor is shut
 abbrev pub is_sweep : Bool → Answer → Bool
 is_sweep shut a.Shutdown = not shut
+is_sweep shut a.ShutdownNow = true
 is_sweep shut (a.Policy which value) = setting_sweeps shut which value
 is_sweep shut _ = false
 
@@ -192,9 +200,13 @@ abbrev pub policies_of : List HistoryEntry → Policies
 policies_of [] = default_policies
 policies_of (e ∷ past) = policies_after e.answer (policies_of past)
 
--- a shutdown call was made
+-- a call to shut down was made, orderly or at once
 abbrev pub was_shut : List HistoryEntry → Bool
 was_shut past = list_any (λ e. is_shutdown e.answer) past
+
+-- a call to shut down at once was made
+abbrev pub was_stopped : List HistoryEntry → Bool
+was_stopped past = list_any (λ e. is_stop e.answer) past
 
 -- what a history tells of task k, which is kept or not
 abbrev pub fate_with : List Planned → List HistoryEntry → ℕ → Bool → Fate
@@ -218,6 +230,7 @@ view_with calls past kept = record {
   work = λ w. work_of w past;
   policies = policies_of past;
   shut = was_shut past;
+  stopped = was_stopped past;
 }
 
 -- task k was cancelled while it waited, and still stands in the queue

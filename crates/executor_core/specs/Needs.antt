@@ -38,6 +38,7 @@ need_of_answer shut (a.Cancel k effect) = need_of_cancel k effect
 need_of_answer shut (a.Outside k effect) = need_of_cancel k effect
 need_of_answer shut (a.Policy which value) = if setting_sweeps shut which value then n.Sweep else n.Nothing
 need_of_answer shut a.Shutdown = n.Sweep
+need_of_answer shut a.ShutdownNow = n.Sweep
 need_of_answer shut (a.Start worker k run due) = n.Start k
 need_of_answer shut (a.Finish worker k run outcome) = need_of_finish k outcome
 need_of_answer shut _ = n.Nothing

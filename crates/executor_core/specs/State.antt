@@ -5,7 +5,7 @@ use Rattle.std.specs.Option.{option_map_or}
 use Rattle.sched_time.specs.Dues.{next_due}
 use Rattle.sched_time.specs.declared.timing.Timing.{Timing}
 use Rattle.sched_time.specs.declared.timing.Timing.TheVariants as t
-use Rattle.executor_core.specs.declared.policies.Policies.{Policies}
+use Rattle.sched_time.specs.declared.policies.Policies.{Policies}
 use Rattle.executor_core.specs.declared.types.Happening.{Happening}
 use Rattle.executor_core.specs.declared.types.Outcome.{Outcome}
 use Rattle.executor_core.specs.declared.types.Outcome.TheVariants as o
@@ -16,11 +16,12 @@ use Rattle.executor_core.specs.declared.task.Stage.TheVariants as ph
 use Rattle.executor_core.specs.declared.task.Task.{Task}
 use Rattle.queue_code.specs.Calls.{Planned, Terms, terms_of, due_at}
 use Rattle.executor_core.specs.View.{Fate, View}
-use Rattle.executor_core.specs.Answers.{Reply, reply, moment_after, default_policies}
-use Rattle.executor_core.specs.Histories.{made_after, cancels, kept_after, policies_after, is_shutdown, work_after}
+use Rattle.executor_core.specs.Answers.{Reply, reply, moment_after}
+use Rattle.sched_time.specs.Policies.{default_policies}
+use Rattle.executor_core.specs.Histories.{made_after, cancels, kept_after, policies_after, is_shutdown, is_stop, work_after}
 
 -- how many calls were made, the moment, each task by its number, the task of each worker that works, the policies,
--- and whether a shutdown call was made
+-- and whether a call to shut down was made, and one to shut down at once
 pub record State : Type 0 where
   pub made : ℕ
   pub moment : ℕ
@@ -28,6 +29,7 @@ pub record State : Type 0 where
   pub workers : ℕ → Option ℕ
   pub policies : Policies
   pub shut : Bool
+  pub stopped : Bool
 
 -- a task that was not submitted
 abbrev pub vacant : Task
@@ -35,7 +37,7 @@ vacant = record { phase = ph.Vacant; run = 0; due = 0; timing = t.Once; cancelle
 
 -- before anything happened
 abbrev pub opening : State
-opening = record { made = 0; moment = 0; tasks = λ _. vacant; workers = λ _. None; policies = default_policies; shut = false }
+opening = record { made = 0; moment = 0; tasks = λ _. vacant; workers = λ _. None; policies = default_policies; shut = false; stopped = false }
 
 -- ---- what is seen of a task
 
@@ -111,6 +113,7 @@ view_of_state calls s = record {
   work = s.workers;
   policies = s.policies;
   shut = s.shut;
+  stopped = s.stopped;
 }
 
 -- ---- what a happening does to a state
@@ -163,6 +166,7 @@ state_after calls s happening r = record {
   workers = λ w. work_after w r.answer (s.workers w);
   policies = policies_after r.answer s.policies;
   shut = is_shutdown r.answer || s.shut;
+  stopped = is_stop r.answer || s.stopped;
 }
 
 -- the table of the answers, read on a state

@@ -1,10 +1,10 @@
 -- What an answer looks at: the moment, what is known of each task, the work of each worker, the policies, and whether
--- the executor is shut.
+-- the executor is shut, and stopped.
 -- Where a definition names a class, its source is the Java SE 17 documentation of that class.
 -- Where it names no source, it is this project's rule.
 use Rattle.std.specs.Prelude.{ℕ, ◌==◌, ◌&&◌, ◌||◌, Bool, not, nat_le, if◌then◌else◌, List, [], ◌∷◌, Option, Some, None}
 use Rattle.delay_queue.specs.Queues.{comes_before}
-use Rattle.executor_core.specs.declared.policies.Policies.{Policies}
+use Rattle.sched_time.specs.declared.policies.Policies.{Policies}
 
 -- what is known of one task
 pub record Fate : Type 0 where
@@ -25,7 +25,7 @@ pub record Fate : Type 0 where
   pub kept : Bool
 
 -- what an answer looks at: the calls made, the moment, each task by its number, each worker's work, the
--- policies, and whether the executor is shut
+-- policies, and whether the executor is shut, and stopped
 -- (this project's rule)
 pub record View : Type 0 where
   -- how many calls were made
@@ -35,8 +35,10 @@ pub record View : Type 0 where
   -- the task of a busy worker
   pub work : ℕ → Option ℕ
   pub policies : Policies
-  -- a shutdown call was made
+  -- a call to shut down was made, orderly or at once
   pub shut : Bool
+  -- a call to shut down at once was made
+  pub stopped : Bool
 
 -- a run is under way: the task started once more than it finished (this project's rule)
 abbrev pub is_running : Fate → Bool

@@ -65,6 +65,10 @@
 //! not due yet unless they are to be executed. A periodic task that runs at the shutdown ends with its run, unless
 //! the policy at the end of the run says that it continues. An ended task is cancelled.
 //!
+//! A shutdown at once ends each task that waits, a line for each, whatever the policies say and whether the executor was shut
+//! before or not, and the kept tasks leave the queue. From then on nothing starts. Runs that are under way go on to their ends, and
+//! that of a periodic task is its last one, also where the policy then says that it continues.
+//!
 //! # Order and ties
 //!
 //! Of the tasks that are due the one with the earliest due moment starts first, and of those with the same one the
@@ -88,21 +92,19 @@
 //! (see [`DelayQueue`](delay_queue::DelayQueue)), and a start also what the kept tasks that leave cost. Setting a policy
 //! that does not sweep and asking how far the executor is cost the same whatever it holds. The first sweep at
 //! which delayed tasks are not executed goes over all tasks once, and so does the first that finds periodic tasks to end,
-//! which goes over them once more to note those that run. Each other sweep looks at no more tasks than there are workers,
-//! those that were noted, and finds each by a binary search; where it has nothing to end it costs nothing but the kept
-//! tasks that leave.
+//! which goes over them once more to note those that run. A shutdown at once goes over all tasks where one waits. Each
+//! other sweep looks at no more tasks than there are workers, those that were noted, and finds each by a binary search; where it
+//! has nothing to end it costs nothing but the kept tasks that leave.
 //!
 //! # Tests
 //!
 //! They stand in `executor_plain`, under `src/tests/cores`, beside the plain program.
 #![tactic(auto)]
 
-mod agenda;
 mod error;
 mod laws;
 mod limits;
 mod machine;
-mod policies;
 mod room;
 mod sought;
 mod tallies;
@@ -114,7 +116,6 @@ pub use error::CoreError;
 pub use laws::most_workers_is_the_limit;
 pub use limits::MOST_WORKERS;
 pub use machine::Core;
-pub use policies::Policies;
 pub use room::make_room;
 pub use task::{Stage, Task};
 pub use types::{

@@ -15,16 +15,15 @@ mod needs;
 mod sweeps;
 mod workers;
 
-use crate::agenda::Agenda;
 use crate::error::CoreError;
 use crate::limits::MOST_WORKERS;
-use crate::policies::Policies;
 use crate::room::make_room;
 use crate::sought::Sought;
 use crate::tasks::Tasks;
 use crate::types::{Event, Happening, Line};
 use delay_queue::DelayQueue;
-use queue_code::Code;
+use queue_code::{Agenda, Code};
+use sched_time::Policies;
 use std::alloc::{AllocError, Allocator};
 use std::marker::Model;
 use task_word::Word;
@@ -42,8 +41,10 @@ pub struct Core<A: Allocator> {
     /// The tasks that were cancelled while they waited, and still stand in the queue.
     kept: DelayQueue<A>,
     policies: Policies,
-    /// A shutdown call was made.
+    /// A call to shut down was made, orderly or at once.
     shut: bool,
+    /// A call to shut down at once was made.
+    stopped: bool,
     sought: Sought<A>,
     limit: u32,
     taken: u32,
@@ -55,9 +56,9 @@ impl<A: Allocator> Model for Core<A> {
 
     ghost Value = { CoreView };
 
-    ghost view = { λ c. record { calls = c.calls.items; limit = c.limit; taken = c.taken; made = c.calls.made; moment = c.moment; tasks = c.tasks; work = c.work.items; policies = c.policies; shut = c.shut } };
+    ghost view = { λ c. record { calls = c.calls.items; limit = c.limit; taken = c.taken; made = c.calls.made; moment = c.moment; tasks = c.tasks; work = c.work.items; policies = c.policies; shut = c.shut; stopped = c.stopped } };
 
-    ghost invariant = { λ c. IsWellFormedCore (record { calls = c.calls.items; limit = c.limit; taken = c.taken; made = c.calls.made; moment = c.moment; tasks = c.tasks; work = c.work.items; policies = c.policies; shut = c.shut }) c.queue.entries c.kept.entries c.sought };
+    ghost invariant = { λ c. IsWellFormedCore (record { calls = c.calls.items; limit = c.limit; taken = c.taken; made = c.calls.made; moment = c.moment; tasks = c.tasks; work = c.work.items; policies = c.policies; shut = c.shut; stopped = c.stopped }) c.queue.entries c.kept.entries c.sought };
 }
 
 impl<A: Allocator> Core<A> {
@@ -212,6 +213,7 @@ impl<A: Allocator> Core<A> {
             kept,
             policies: Policies::defaults(),
             shut: false,
+            stopped: false,
             sought,
             limit,
             taken: 0,

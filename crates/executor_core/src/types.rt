@@ -104,7 +104,7 @@ pub enum Outcome {
     Again(u64),
     /// The task was cancelled while the run was under way, so that its outcome does not count.
     Dropped,
-    /// The executor is shut, and its periodic tasks do not go on: the task is cancelled.
+    /// The executor is stopped, or is shut and its periodic tasks do not go on: the task is cancelled.
     Ended,
 }
 
@@ -142,13 +142,15 @@ pub enum Answer {
     Shutdown,
     /// The executor was shut before.
     ShutdownAgain,
+    /// The executor was shut at once, whether it was shut before or not.
+    ShutdownNow,
     /// How far the executor is.
     Ask {
         /// How many tasks wait, or are kept after a cancel.
         queue: u32,
         /// How many tasks have a run under way.
         running: u32,
-        /// A shutdown call was made.
+        /// A call to shut down was made, orderly or at once.
         shutdown: bool,
         /// It is shut, and nothing is queued or run.
         terminated: bool,

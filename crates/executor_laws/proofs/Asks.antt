@@ -82,7 +82,7 @@ asks_by_position calls workers later past e queue running shut terminated o m is
     let closed : shut ≡ was_shut past = cc in
     let over : terminated ≡ is_terminated v.shut (queue_size calls v) (running_count calls v) = cc in
     let tasks : (k : ℕ) → (is_queued (v.fate k) ≡ true → k < task_count calls) × (is_running (v.fate k) ≡ true → k < task_count calls) = λ k. queued_and_running_are_tasks calls workers past k o here.0 in
-    let shutdown = shut_is_a_shutdown calls workers past here.0 in
+    let shutdown = (shut_is_a_shutdown calls workers past here.0).0 in
     record {
       queued = subst (IsCountOf (λ k. Waits past k ⊎ KeptSince calls past k)) (sym size) (counted calls (λ k. is_queued (v.fate k)) _ (λ k. queued calls workers past k here.0) (λ k. (tasks k).0));
       unfinished = subst (IsCountOf (IsUnderWay past)) (sym runs) (counted calls (λ k. is_running (v.fate k)) _ (under_way calls past) (λ k. (tasks k).1));

@@ -47,7 +47,7 @@ effect_stays calls s j k apart = ap (λ t. effect_on (seen_task (terms_of calls 
 -- what comes of a run of task k, where it is marked or not
 abbrev finish_with : List Planned → State → ℕ → Ending → ℕ → Bool → Answer
 finish_with calls s v ending k bit =
-    a.Finish v k (((view_of_state calls s).fate k).starts - 1) (outcome_in bit (stops_periodic s.shut s.policies) (terms_of calls k).timing (due_next calls (view_of_state calls s) k) ending)
+    a.Finish v k (((view_of_state calls s).fate k).starts - 1) (outcome_in bit (stops_periodic s.shut s.stopped s.policies) (terms_of calls k).timing (due_next calls (view_of_state calls s) k) ending)
 
 call_answers : (calls : List Planned) (s : State) (j moment : ℕ) (call : CodeCall) → tells_of j (called calls (at (view_of_state calls s) moment) call).answer ≡ false →
     (called calls (at (view_of_state calls (cancelled_at calls s j)) moment) call).answer ≡ (called calls (at (view_of_state calls s) moment) call).answer

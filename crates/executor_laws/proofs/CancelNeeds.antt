@@ -160,8 +160,8 @@ finish_turns : (calls : List Planned) (s : State) (j worker k : ℕ) (ending : E
     (need_of_answer s.shut (finish_answer calls (view_of_state calls (cancelled_at calls s j)) worker ending (Some k)))
 finish_turns calls s j worker k ending =
     let v = view_of_state calls s in
-    let need : Bool → Need = λ bit. need_of_finish k (outcome_in bit (stops_periodic s.shut s.policies) (terms_of calls k).timing (due_next calls v k) ending) in
-    turns_of k j (need (s.tasks k).cancelled) (need ((cancelled_at calls s j).tasks k).cancelled) (finish_is_of k (outcome_in (s.tasks k).cancelled (stops_periodic s.shut s.policies) (terms_of calls k).timing (due_next calls v k) ending))
+    let need : Bool → Need = λ bit. need_of_finish k (outcome_in bit (stops_periodic s.shut s.stopped s.policies) (terms_of calls k).timing (due_next calls v k) ending) in
+    turns_of k j (need (s.tasks k).cancelled) (need ((cancelled_at calls s j).tasks k).cancelled) (finish_is_of k (outcome_in (s.tasks k).cancelled (stops_periodic s.shut s.stopped s.policies) (terms_of calls k).timing (due_next calls v k) ending))
     (λ apart. ap need (marks j k (s.tasks k).cancelled false (eqb_turns j k ∙ apart))) (λ same. ap need (is_marked calls s j k same))
 
 -- what each happening that submits no such task needs turns so
@@ -223,7 +223,7 @@ only_calls_sweep calls workers s (h.Finish v ending) q sweep = by (nat_lt v work
 
     by : (b : Bool) (work : Option ℕ) → need_of_answer s.shut (cond b (finish_answer calls (view_of_state calls s) v ending work) (a.Error x.NoWorker)) ≡ n.Sweep → ⊥
     by true None r = cc
-    by true (Some k) r = of k (outcome_in (s.tasks k).cancelled (stops_periodic s.shut s.policies) (terms_of calls k).timing (due_next calls (view_of_state calls s) k) ending) r
+    by true (Some k) r = of k (outcome_in (s.tasks k).cancelled (stops_periodic s.shut s.stopped s.policies) (terms_of calls k).timing (due_next calls (view_of_state calls s) k) ending) r
     by false work r = cc
 only_calls_sweep calls workers s (h.Cancel k) q sweep = by (nat_lt k (task_count calls)) sweep
   where

@@ -6,14 +6,15 @@ use Rattle.std.proofs.lemmas.Bool.Decides.{nat_tests}
 use Rattle.queue_code.specs.declared.call.CodeCall.{CodeCall}
 use Rattle.queue_code.specs.declared.call.CodeCall.TheVariants as c
 use Rattle.queue_code.specs.Calls.{Planned, Terms, task_count, terms_of}
-use Rattle.executor_core.specs.declared.policies.Policies.{Policies}
+use Rattle.sched_time.specs.declared.policies.Policies.{Policies}
 use Rattle.executor_core.specs.declared.task.Task.{Task}
 use Rattle.executor_core.specs.declared.types.CancelEffect.TheVariants as f
 use Rattle.executor_core.specs.declared.types.Happening.{Happening}
 use Rattle.executor_core.specs.declared.types.Happening.TheVariants as h
 use Rattle.executor_core.specs.declared.types.Answer.TheVariants as a
 use Rattle.executor_core.specs.View.{View, is_running, is_waiting, is_enabled}
-use Rattle.executor_core.specs.Answers.{Reply, bare, called, swept, is_swept, is_ended_by, set_policy, setting_sweeps}
+use Rattle.executor_core.specs.Answers.{Reply, bare, called, swept, is_swept, is_ended_by, setting_sweeps}
+use Rattle.sched_time.specs.Policies.{set_policy}
 use Rattle.executor_core.specs.Histories.{is_end}
 use Rattle.executor_core.specs.State.{State, view_of_state, seen_task, was_submitted, reply_of, state_after}
 use Rattle.executor_laws.proofs.Policies.{ends_within}
@@ -96,14 +97,18 @@ enabled_but calls s j k = waits_and calls s j k (nat_le ((view_of_state calls s)
 abbrev pub at : View → ℕ → View
 at v moment = record v { moment = moment }
 
+-- a view at another moment, where the executor is stopped or not
+abbrev pub stopped_at : View → ℕ → Bool → View
+stopped_at v moment stopped = record v { moment = moment; stopped = stopped }
+
 -- a sweep ends the same tasks but that one
-swept_but : (calls : List Planned) (s : State) (j k moment : ℕ) (policies : Policies) →
-    is_end k (swept calls (at (view_of_state calls (cancelled_at calls s j)) moment) policies) ≡ (is_end k (swept calls (at (view_of_state calls s) moment) policies) && not (j == k))
-swept_but calls s j k moment policies =
-    let v = at (view_of_state calls s) moment in
-    let u = at (view_of_state calls (cancelled_at calls s j)) moment in
+swept_but : (calls : List Planned) (s : State) (j k moment : ℕ) (stopped : Bool) (policies : Policies) →
+    is_end k (swept calls (stopped_at (view_of_state calls (cancelled_at calls s j)) moment stopped) policies) ≡ (is_end k (swept calls (stopped_at (view_of_state calls s) moment stopped) policies) && not (j == k))
+swept_but calls s j k moment stopped policies =
+    let v = stopped_at (view_of_state calls s) moment stopped in
+    let u = stopped_at (view_of_state calls (cancelled_at calls s j)) moment stopped in
     let count = task_count calls in
-    let test = waits_and calls s j k (is_ended_by policies moment (terms_of calls k).timing (v.fate k).due) in
+    let test = waits_and calls s j k (is_ended_by stopped policies moment (terms_of calls k).timing (v.fate k).due) in
     ends_within (is_swept calls u policies) count k
     ∙ (ap (λ b. nat_lt k count && b) test ∙ (and_groups (nat_lt k count) (is_swept calls v policies k) (not (j == k)) ∙ ap (λ b. b && not (j == k)) (sym (ends_within (is_swept calls v policies) count k))))
 
@@ -117,13 +122,15 @@ call_ends_but calls s j k moment call = by s.shut call
   where
     set : (b : Bool) (policies : Policies) → is_end k (cond b (swept calls (at (view_of_state calls (cancelled_at calls s j)) moment) policies) [])
         ≡ (is_end k (cond b (swept calls (at (view_of_state calls s) moment) policies) []) && not (j == k))
-    set true policies = swept_but calls s j k moment policies
+    set true policies = swept_but calls s j k moment s.stopped policies
     set false policies = refl
 
     by : (shut : Bool) (call : CodeCall) → is_end k (reply_where calls (cancelled_at calls s j) moment shut call).ends ≡ (is_end k (reply_where calls s moment shut call).ends && not (j == k))
     by shut (c.SetPolicy which value) = set (setting_sweeps shut which value) (set_policy which value s.policies)
+    by true c.ShutdownNow = swept_but calls s j k moment true s.policies
+    by false c.ShutdownNow = swept_but calls s j k moment true s.policies
     by true call = refl
-    by false call = assumption (swept_but calls s j k moment s.policies)
+    by false call = assumption (swept_but calls s j k moment s.stopped s.policies)
 
 -- the reply to the next call in a state, where this is the call
 abbrev pub call_reply : List Planned → State → Option Planned → Reply

@@ -85,7 +85,7 @@ once_ends calls workers v (h.Start u) k once =
     in
     other _ _
 once_ends calls workers v (h.Finish u ending) k once =
-    let stops = stops_periodic v.shut v.policies in
+    let stops = stops_periodic v.shut v.stopped v.policies in
     let from : (j : ℕ) → Ends v k (a.Finish u j ((v.fate j).starts - 1) (outcome_in (v.fate j).cancelled stops (terms_of calls j).timing (due_next calls v j) ending)) = λ j q.
     let live : (c : Bool) → (v.fate j).cancelled ≡ c →
     (c || (is_failed (outcome_in c stops (terms_of calls j).timing (due_next calls v j) ending) || is_done (outcome_in c stops (terms_of calls j).timing (due_next calls v j) ending))) ≡ true =

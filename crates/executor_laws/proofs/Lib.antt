@@ -14,6 +14,7 @@ pub mod TaskWords
 pub mod Policies
 pub mod Refusals
 pub mod Termination
+pub mod Stopping
 pub mod Kept
 pub mod Asks
 pub mod Lines

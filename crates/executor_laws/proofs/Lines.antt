@@ -119,7 +119,7 @@ finished_in_range calls workers past view w ending (Some k) seen low ended is = 
   low,
   seen.work w k is,
   omega (arith, seen.runs k),
-  outcome_in_range past (view.fate k).cancelled (stops_periodic view.shut view.policies) (terms_of calls k).timing (due_next calls view k) ending (seen.next k) ended,
+  outcome_in_range past (view.fate k).cancelled (stops_periodic view.shut view.stopped view.policies) (terms_of calls k).timing (due_next calls view k) ending (seen.next k) ended,
 )
 
 -- an answer of the table is in range

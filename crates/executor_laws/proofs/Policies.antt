@@ -10,7 +10,7 @@ use Rattle.sched_time.specs.declared.policies.Which.{Which}
 use Rattle.sched_time.specs.declared.policies.Which.TheVariants as p
 use Rattle.queue_code.specs.declared.call.CodeCall.{CodeCall}
 use Rattle.queue_code.specs.declared.call.CodeCall.TheVariants as c
-use Rattle.executor_core.specs.declared.policies.Policies.{Policies}
+use Rattle.sched_time.specs.declared.policies.Policies.{Policies}
 use Rattle.executor_core.specs.declared.types.EventError.TheVariants as x
 use Rattle.executor_core.specs.declared.types.Happening.{Happening}
 use Rattle.executor_core.specs.declared.types.Happening.TheVariants as h
@@ -18,9 +18,10 @@ use Rattle.executor_core.specs.declared.types.Answer.{Answer}
 use Rattle.executor_core.specs.declared.types.Answer.TheVariants as a
 use Rattle.queue_code.specs.Calls.{Planned, numbers, task_count, terms_of}
 use Rattle.executor_core.specs.View.{View, first_enabled}
-use Rattle.executor_core.specs.Answers.{Reply, bare, reply, called, set_policy, setting_sweeps, moment_after, is_swept, swept, start_answer, finish_answer, outcome_in, stops_periodic, due_next, effect_on}
-use Rattle.executor_core.specs.Histories.{HistoryEntry, IsHistoryOf, view_of_history, happenings, made, now_of, answer, is_cancel, is_end, is_finish_with, is_ended, is_shutdown, is_sweep, cancels, was_shut, was_cancelled, policies_after, policies_of}
-use Rattle.executor_laws.specs.Policies.{NothingStartsAfterAnEnd, TasksAreCancelledOnce, value_of, is_same, sets, PoliciesAreTheLastSet, ShutdownWasMade, ShutIsAShutdown, AscendsFrom, SweptAreThose, SweepsEndThose}
+use Rattle.executor_core.specs.Answers.{Reply, bare, reply, called, setting_sweeps, moment_after, is_swept, swept, start_answer, finish_answer, outcome_in, stops_periodic, due_next, effect_on}
+use Rattle.sched_time.specs.Policies.{set_policy}
+use Rattle.executor_core.specs.Histories.{HistoryEntry, IsHistoryOf, view_of_history, happenings, made, now_of, answer, is_cancel, is_end, is_finish_with, is_ended, is_shutdown, is_stop, is_sweep, cancels, was_cancelled, policies_after, policies_of}
+use Rattle.executor_laws.specs.Policies.{NothingStartsAfterAnEnd, TasksAreCancelledOnce, value_of, is_same, sets, PoliciesAreTheLastSet, shuts_down, stops_at_once, WasMade, ShutIsAShutdown, AscendsFrom, SweptAreThose, SweepsEndThose}
 use Rattle.executor_core.proofs.First.{range_below}
 use Rattle.executor_core.proofs.Replies.{IsAnswerTo, by_answer}
 use Rattle.executor_core.proofs.Sweeping.{ends_are}
@@ -61,7 +62,7 @@ ended_says calls workers v (h.Start u) k =
     in
     other _ _
 ended_says calls workers v (h.Finish u ending) k =
-    let stops = stops_periodic v.shut v.policies in
+    let stops = stops_periodic v.shut v.stopped v.policies in
     let from : (j : ℕ) → EndsLive v k (finish_answer calls v u ending (Some j)) = λ j q.
     let live : (b : Bool) → is_ended (outcome_in b stops (terms_of calls j).timing (due_next calls v j) ending) ≡ true → b ≡ false = elim [ true ↦ λ q. absurd (false≢true q) | false ↦ λ q. refl ] in
     let parts = and_parts (j == k) (is_ended (outcome_in (v.fate j).cancelled stops (terms_of calls j).timing (due_next calls v j) ending)) q in
@@ -131,101 +132,148 @@ policies_are_the_last_set past which = (
   λ q. ap (λ l. value_of which (policies_of l)) (sym (append-nil past)) ∙ none_sets which past [] q,
 )
 
--- ---- the shutdown
+-- ---- the shutdowns
 
--- what an answer to a shutdown says of what happened
-record Shuts (calls : List Planned) (v : View) (y : Happening) : Type 0 where
+-- an answer is one to an event
+abbrev is_of_event : Answer → Bool
+is_of_event a.Clock = true
+is_of_event (a.Start worker task run due) = true
+is_of_event (a.Idle worker) = true
+is_of_event (a.Finish worker task run outcome) = true
+is_of_event (a.Outside task effect) = true
+is_of_event (a.Error error) = true
+is_of_event _ = false
+
+-- answers tell exactly the calls that pass a test
+record Tells (tells : Answer → Bool) (test : CodeCall → Bool) : Type 0 where
+  call : (calls : List Planned) (v : View) (call : CodeCall) → tells (called calls v call).answer ≡ test call
+  silent : (x : Answer) → is_of_event x ≡ true → tells x ≡ false
+
+shutdown_tells : Tells is_shutdown shuts_down
+shutdown_tells = record { call = λ calls v call. by_answer (λ x. is_shutdown x ≡ shuts_down call) calls v call (by call); silent = silent }
+  where
+    by : (call : CodeCall) (x : Answer) → IsAnswerTo x call → is_shutdown x ≡ shuts_down call
+    by c.Shutdown a.Shutdown is = refl
+    by c.Shutdown a.ShutdownAgain is = refl
+    by c.Shutdown x is = absurd is
+    by c.ShutdownNow a.ShutdownNow is = refl
+    by c.ShutdownNow x is = absurd is
+    by call a.Shutdown is = absurd is
+    by call a.ShutdownAgain is = absurd is
+    by call a.ShutdownNow is = absurd is
+    by call x is = refl
+
+    silent : (x : Answer) → is_of_event x ≡ true → is_shutdown x ≡ false
+    silent a.Shutdown q = sym q
+    silent a.ShutdownAgain q = sym q
+    silent a.ShutdownNow q = sym q
+    silent x q = refl
+
+stop_tells : Tells is_stop stops_at_once
+stop_tells = record { call = λ calls v call. by_answer (λ x. is_stop x ≡ stops_at_once call) calls v call (by call); silent = silent }
+  where
+    by : (call : CodeCall) (x : Answer) → IsAnswerTo x call → is_stop x ≡ stops_at_once call
+    by c.ShutdownNow a.ShutdownNow is = refl
+    by c.ShutdownNow x is = absurd is
+    by call a.ShutdownNow is = absurd is
+    by call x is = refl
+
+    silent : (x : Answer) → is_of_event x ≡ true → is_stop x ≡ false
+    silent a.ShutdownNow q = sym q
+    silent x q = refl
+
+-- what an answer that tells such a call says of what happened
+record Told (test : CodeCall → Bool) (calls : List Planned) (v : View) (y : Happening) : Type 0 where
   is : y ≡ h.Call
   moment : ℕ
-  there : slice_get calls v.made ≡ Some (moment, c.Shutdown)
+  call : CodeCall
+  there : slice_get calls v.made ≡ Some (moment, call)
+  passes : test call ≡ true
 
-call_shuts : (calls : List Planned) (v : View) (call : CodeCall) → is_shutdown (called calls v call).answer ≡ true → call ≡ c.Shutdown
-call_shuts calls v call = by_answer (λ x. is_shutdown x ≡ true → call ≡ c.Shutdown) calls v call (by call)
-  where
-    by : (call : CodeCall) (x : Answer) → IsAnswerTo x call → is_shutdown x ≡ true → call ≡ c.Shutdown
-    by c.Shutdown x is q = refl
-    by call a.Shutdown is q = absurd is
-    by call a.ShutdownAgain is q = absurd is
-    by call x is q = absurd (false≢true q)
+-- no event is told
+event_silent : (tells : Answer → Bool) (test : CodeCall → Bool) → Tells tells test → (x : Answer) → is_of_event x ≡ true → tells x ≡ true → ⊥
+event_silent tells test of x event q = false≢true (sym (of.silent x event) ∙ q)
 
--- an answer to a shutdown is that of the call
-shut_says : (calls : List Planned) (workers : ℕ) (v : View) (y : Happening) → is_shutdown (reply calls workers v y).answer ≡ true → Shuts calls v y
-shut_says calls workers v h.Call q =
-    let pick : (o : Option Planned) → slice_get calls v.made ≡ o → is_shutdown (option_map_or (λ p. called calls (record v { moment = max v.moment p.0 }) p.1) o (bare a.Clock)).answer ≡ true → Shuts calls v h.Call =
+tell_says : (tells : Answer → Bool) (test : CodeCall → Bool) → Tells tells test → (calls : List Planned) (workers : ℕ) (v : View) (y : Happening) → tells (reply calls workers v y).answer ≡ true → Told test calls v y
+tell_says tells test of calls workers v h.Call q =
+    let pick : (o : Option Planned) → slice_get calls v.made ≡ o → tells (option_map_or (λ p. called calls (record v { moment = max v.moment p.0 }) p.1) o (bare a.Clock)).answer ≡ true → Told test calls v h.Call =
     elim [
-      | None ↦ λ there q. absurd (false≢true q)
-      | Some p ↦ λ there q. record { is = refl; moment = p.0; there = there ∙ ap (λ call. Some (p.0, call)) (call_shuts calls (record v { moment = max v.moment p.0 }) p.1 q) }
+      | None ↦ λ there q. absurd (event_silent tells test of a.Clock refl q)
+      | Some p ↦ λ there q. record { is = refl; moment = p.0; call = p.1; there = there; passes = sym (of.call calls (record v { moment = max v.moment p.0 }) p.1) ∙ q }
     ]
     in
     pick (slice_get calls v.made) refl q
-shut_says calls workers v (h.Clock t) q =
-    let other : (b d : Bool) → is_shutdown (cond b (a.Error x.Backward) (cond d (a.Error x.TooFar) a.Clock)) ≡ true → ⊥ = elim [ true ↦ λ d q. false≢true q | false ↦ elim [ true ↦ λ q. false≢true q | false ↦ λ q. false≢true q ] ] in
-    absurd (other _ _ q)
-shut_says calls workers v (h.Start u) q =
-    let start : (o : Option ℕ) → is_shutdown (start_answer v u o) ≡ true → ⊥ = elim [ None ↦ λ q. false≢true q | Some j ↦ λ q. false≢true q ] in
-    let other : (b : Bool) (o : Option ℕ) → is_shutdown (cond b (option_map_or (λ _. a.Error x.Busy) o (start_answer v u (first_enabled v (numbers calls)))) (a.Error x.NoWorker)) ≡ true → ⊥ =
-    elim [ true ↦ elim [ None ↦ λ q. start (first_enabled v (numbers calls)) q | Some j ↦ λ q. false≢true q ] | false ↦ λ o q. false≢true q ]
+tell_says tells test of calls workers v (h.Clock t) q =
+    let other : (b d : Bool) → tells (cond b (a.Error x.Backward) (cond d (a.Error x.TooFar) a.Clock)) ≡ true → ⊥ =
+    elim [ true ↦ λ d q. event_silent tells test of _ refl q | false ↦ elim [ true ↦ λ q. event_silent tells test of _ refl q | false ↦ λ q. event_silent tells test of _ refl q ] ]
     in
     absurd (other _ _ q)
-shut_says calls workers v (h.Finish u ending) q =
-    let other : (b : Bool) (o : Option ℕ) → is_shutdown (cond b (finish_answer calls v u ending o) (a.Error x.NoWorker)) ≡ true → ⊥ =
-    elim [ true ↦ elim [ None ↦ λ q. false≢true q | Some j ↦ λ q. false≢true q ] | false ↦ λ o q. false≢true q ]
+tell_says tells test of calls workers v (h.Start u) q =
+    let start : (o : Option ℕ) → tells (start_answer v u o) ≡ true → ⊥ = elim [ None ↦ λ q. event_silent tells test of _ refl q | Some j ↦ λ q. event_silent tells test of _ refl q ] in
+    let other : (b : Bool) (o : Option ℕ) → tells (cond b (option_map_or (λ _. a.Error x.Busy) o (start_answer v u (first_enabled v (numbers calls)))) (a.Error x.NoWorker)) ≡ true → ⊥ =
+    elim [ true ↦ elim [ None ↦ λ q. start (first_enabled v (numbers calls)) q | Some j ↦ λ q. event_silent tells test of _ refl q ] | false ↦ λ o q. event_silent tells test of _ refl q ]
     in
     absurd (other _ _ q)
-shut_says calls workers v (h.Cancel j) q =
-    let other : (b : Bool) → is_shutdown (cond b (a.Outside j (effect_on (v.fate j))) (a.Error x.NoTask)) ≡ true → ⊥ = elim [ true ↦ λ q. false≢true q | false ↦ λ q. false≢true q ] in
+tell_says tells test of calls workers v (h.Finish u ending) q =
+    let other : (b : Bool) (o : Option ℕ) → tells (cond b (finish_answer calls v u ending o) (a.Error x.NoWorker)) ≡ true → ⊥ =
+    elim [ true ↦ elim [ None ↦ λ q. event_silent tells test of _ refl q | Some j ↦ λ q. event_silent tells test of _ refl q ] | false ↦ λ o q. event_silent tells test of _ refl q ]
+    in
+    absurd (other _ _ q)
+tell_says tells test of calls workers v (h.Cancel j) q =
+    let other : (b : Bool) → tells (cond b (a.Outside j (effect_on (v.fate j))) (a.Error x.NoTask)) ≡ true → ⊥ = elim [ true ↦ λ q. event_silent tells test of _ refl q | false ↦ λ q. event_silent tells test of _ refl q ] in
     absurd (other _ q)
 
--- where the executor is shut, a shutdown was made
-shutdown_found : (calls : List Planned) (workers : ℕ) (past : List HistoryEntry) → IsHistoryOf calls workers past → was_shut past ≡ true → ShutdownWasMade calls past
-shutdown_found calls workers [] m q = absurd (false≢true q)
-shutdown_found calls workers (e ∷ past) m q = elim (or_cases (is_shutdown e.answer) (was_shut past) q) [
+-- where such a call was told, one was made
+told_was_made : (tells : Answer → Bool) (test : CodeCall → Bool) → Tells tells test → (calls : List Planned) (workers : ℕ) (past : List HistoryEntry) → IsHistoryOf calls workers past → list_any (λ e. tells e.answer) past ≡ true → WasMade test calls past
+told_was_made tells test of calls workers [] m q = absurd (false≢true q)
+told_was_made tells test of calls workers (e ∷ past) m q = elim (or_cases (tells e.answer) (list_any (λ f. tells f.answer) past) q) [
   | inl here ↦
-      let s = shut_says calls workers (view_of_history calls past) e.happening (sym (ap is_shutdown m.2) ∙ here) in
-      record { place = made (happenings past); moment = s.moment; there = s.there; before = subst (λ y. made (happenings past) < made (y ∷ happenings past)) (sym s.is) (omega arith) }
+      let s = tell_says tells test of calls workers (view_of_history calls past) e.happening (sym (ap tells m.2) ∙ here) in
+      record { place = made (happenings past); moment = s.moment; call = s.call; there = s.there; passes = s.passes; before = subst (λ y. made (happenings past) < made (y ∷ happenings past)) (sym s.is) (omega arith) }
   | inr there ↦
-      let s = shutdown_found calls workers past m.0 there in
-      record { place = s.place; moment = s.moment; there = s.there; before = omega (arith, s.before, made_more e.happening (happenings past)) }
+      let s = told_was_made tells test of calls workers past m.0 there in
+      record { place = s.place; moment = s.moment; call = s.call; there = s.there; passes = s.passes; before = omega (arith, s.before, made_more e.happening (happenings past)) }
 ]
 
--- the answer to a shutdown says so
-shuts : (calls : List Planned) (v : View) → is_shutdown (called calls v c.Shutdown).answer ≡ true
-shuts calls v =
-    let pick : (b : Bool) → is_shutdown (cond b (bare a.ShutdownAgain) (record { answer = a.Shutdown; ends = swept calls v v.policies })).answer ≡ true = elim [ true ↦ refl | false ↦ refl ] in
-    pick v.shut
-
--- the answer to the next call, where that is a shutdown
-shut_here : (calls : List Planned) (workers : ℕ) (past : List HistoryEntry) (moment : ℕ) → slice_get calls (made (happenings past)) ≡ Some (moment, c.Shutdown) → is_shutdown (answer calls workers past h.Call).answer ≡ true
-shut_here calls workers past moment there =
+-- the answer to the next call, where that passes the test
+told_here : (tells : Answer → Bool) (test : CodeCall → Bool) → Tells tells test → (calls : List Planned) (workers : ℕ) (past : List HistoryEntry) (moment : ℕ) (call : CodeCall) → slice_get calls (made (happenings past)) ≡ Some (moment, call) → test call ≡ true →
+    tells (answer calls workers past h.Call).answer ≡ true
+told_here tells test of calls workers past moment call there passes =
     let v = view_of_history calls past in
-    ap (λ o. is_shutdown (option_map_or (λ p. called calls (record v { moment = max v.moment p.0 }) p.1) o (bare a.Clock)).answer) there ∙ shuts calls (record v { moment = max v.moment moment })
+    ap (λ o. tells (option_map_or (λ p. called calls (record v { moment = max v.moment p.0 }) p.1) o (bare a.Clock)).answer) there ∙ (of.call calls (record v { moment = max v.moment moment }) call ∙ passes)
 
--- where a shutdown was made, the executor is shut
-shut_since : (calls : List Planned) (workers : ℕ) (past : List HistoryEntry) (place moment : ℕ) → IsHistoryOf calls workers past → slice_get calls place ≡ Some (moment, c.Shutdown) → place < made (happenings past) → was_shut past ≡ true
-shut_since calls workers [] place moment m there low = absurd (omega (arith, low))
-shut_since calls workers (e ∷ past) place moment m there low =
-    let behind : place < made (happenings past) → was_shut (e ∷ past) ≡ true = λ low. or_right (is_shutdown e.answer) (was_shut past) (shut_since calls workers past place moment m.0 there low) in
-    let called_now : e.happening ≡ h.Call → place ≡ made (happenings past) → was_shut (e ∷ past) ≡ true = λ is same.
-    or_left (is_shutdown e.answer) (was_shut past) (ap is_shutdown (m.2 ∙ ap (λ y. (answer calls workers past y).answer) is) ∙ shut_here calls workers past moment (ap (slice_get calls) (sym same) ∙ there))
+-- where such a call was made, it was told
+made_was_told : (tells : Answer → Bool) (test : CodeCall → Bool) → Tells tells test → (calls : List Planned) (workers : ℕ) (past : List HistoryEntry) → IsHistoryOf calls workers past → WasMade test calls past → list_any (λ e. tells e.answer) past ≡ true
+made_was_told tells test of calls workers [] m w = absurd (omega (arith, w.before))
+made_was_told tells test of calls workers (e ∷ past) m w =
+    let told : List HistoryEntry → Bool = λ l. list_any (λ f. tells f.answer) l in
+    let behind : w.place < made (happenings past) → told (e ∷ past) ≡ true = λ low.
+    or_right (tells e.answer) (told past) (made_was_told tells test of calls workers past m.0 (record { place = w.place; moment = w.moment; call = w.call; there = w.there; passes = w.passes; before = low }))
     in
-    let go : (y : Happening) → e.happening ≡ y → place < made (y ∷ happenings past) → was_shut (e ∷ past) ≡ true =
+    let called_now : e.happening ≡ h.Call → w.place ≡ made (happenings past) → told (e ∷ past) ≡ true = λ is same.
+    or_left (tells e.answer) (told past) (ap tells (m.2 ∙ ap (λ y. (answer calls workers past y).answer) is) ∙ told_here tells test of calls workers past w.moment w.call (ap (slice_get calls) (sym same) ∙ w.there) w.passes)
+    in
+    let go : (y : Happening) → e.happening ≡ y → w.place < made (y ∷ happenings past) → told (e ∷ past) ≡ true =
     elim [
       | h.Call ↦ λ is low.
-          let pick : (b : Bool) → (place == made (happenings past)) ≡ b → was_shut (e ∷ past) ≡ true =
-          elim [ true ↦ λ q. called_now is (eqb-true place (made (happenings past)) q) | false ↦ λ q. behind (let apart = eqb-false place (made (happenings past)) q in omega (arith, low, apart)) ]
+          let pick : (b : Bool) → (w.place == made (happenings past)) ≡ b → told (e ∷ past) ≡ true =
+          elim [ true ↦ λ q. called_now is (eqb-true w.place (made (happenings past)) q) | false ↦ λ q. behind (let apart = eqb-false w.place (made (happenings past)) q in omega (arith, low, apart)) ]
           in
-          pick (place == made (happenings past)) refl
+          pick (w.place == made (happenings past)) refl
       | h.Clock t ↦ λ is low. behind low
       | h.Start w ↦ λ is low. behind low
       | h.Finish w ending ↦ λ is low. behind low
       | h.Cancel k ↦ λ is low. behind low
     ]
     in
-    go e.happening refl low
+    go e.happening refl w.before
 
--- the law that the executor is shut where a shutdown was made
+-- the law that the executor is shut where a shutdown was made, and stopped where one at once was made
 pub shut_is_a_shutdown : ShutIsAShutdown
-shut_is_a_shutdown calls workers past m = (shutdown_found calls workers past m, λ s. shut_since calls workers past s.place s.moment m s.there s.before)
+shut_is_a_shutdown calls workers past m = (
+  (told_was_made is_shutdown shuts_down shutdown_tells calls workers past m, made_was_told is_shutdown shuts_down shutdown_tells calls workers past m),
+  (told_was_made is_stop stops_at_once stop_tells calls workers past m, made_was_told is_stop stops_at_once stop_tells calls workers past m),
+)
 
 -- ---- sweeps
 
@@ -250,9 +298,9 @@ ends_within test n k = by (nat_lt k n) refl
 pub swept_are_those : SweptAreThose
 swept_are_those calls v policies = (ascends (is_swept calls v policies) 0 0 (task_count calls) (omega arith), λ k. ends_within (is_swept calls v policies) (task_count calls) k)
 
--- an answer sweeps no task away, or those that the policies after it say
+-- an answer sweeps no task away, or those that the policies after it say, or all that wait where the executor is stopped after it
 abbrev SweepsThose : List Planned → View → Reply → Type 0
-SweepsThose calls v r = (is_sweep v.shut r.answer ≡ true → r.ends ≡ swept calls v (policies_after r.answer v.policies)) × (is_sweep v.shut r.answer ≡ false → r.ends ≡ [])
+SweepsThose calls v r = (is_sweep v.shut r.answer ≡ true → r.ends ≡ swept calls (record v { stopped = is_stop r.answer || v.stopped }) (policies_after r.answer v.policies)) × (is_sweep v.shut r.answer ≡ false → r.ends ≡ [])
 
 call_sweeps : (calls : List Planned) (v : View) (call : CodeCall) → SweepsThose calls v (called calls v call)
 call_sweeps calls v call = by v.shut call
@@ -263,6 +311,8 @@ call_sweeps calls v call = by v.shut call
         let pick : (b : Bool) → (b ≡ true → cond b those [] ≡ those) × (b ≡ false → cond b those [] ≡ []) = elim [ true ↦ (λ q. refl, λ q. absurd (false≢true (sym q))) | false ↦ (λ q. absurd (false≢true q), λ q. refl) ] in
         pick (setting_sweeps shut which value)
     by false c.Shutdown = (λ q. refl, λ q. absurd (false≢true (sym q)))
+    by true c.ShutdownNow = (λ q. refl, λ q. absurd (false≢true (sym q)))
+    by false c.ShutdownNow = (λ q. refl, λ q. absurd (false≢true (sym q)))
     by true call = (λ q. absurd (false≢true q), λ q. refl)
     by false call = (λ q. absurd (false≢true q), λ q. refl)
 

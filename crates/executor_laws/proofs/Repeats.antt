@@ -133,17 +133,18 @@ fixed_runs_are_due calls workers past e w k n d place moment initial delay o is 
           (found.0, finish_found calls k past found.0 found.1, due ∙ ap (λ last. due_at (record { timing = t.Fixed delay; first = moment + initial }) (starts k past) last) found.1),
     )
 
--- ---- a finish that makes a task wait again tells the due moment of its next run
+-- ---- a finish that makes a task wait again tells the due moment of its next run, and comes where periodic tasks go on
 
-again_landed : (stops : Bool) (timing : Timing) (due d : ℕ) (ending : Ending) → outcome_of stops timing due ending ≡ o.Again d → d ≡ due
+again_landed : (stops : Bool) (timing : Timing) (due d : ℕ) (ending : Ending) → outcome_of stops timing due ending ≡ o.Again d → (d ≡ due) × (stops ≡ false)
 again_landed stops timing due d (e.Fault code) q = absurd cc
 again_landed stops t.Once due d (e.Value value) q = absurd cc
 again_landed true (t.Rate period) due d (e.Value value) q = absurd cc
-again_landed false (t.Rate period) due d (e.Value value) q = cc
+again_landed false (t.Rate period) due d (e.Value value) q = (cc, refl)
 again_landed true (t.Fixed delay) due d (e.Value value) q = absurd cc
-again_landed false (t.Fixed delay) due d (e.Value value) q = cc
+again_landed false (t.Fixed delay) due d (e.Value value) q = (cc, refl)
 
-again_says : (calls : List Planned) (workers : ℕ) (v : View) (y : Happening) (w k n d : ℕ) → (reply calls workers v y).answer ≡ a.Finish w k n (o.Again d) → d ≡ due_next calls v k
+pub again_says : (calls : List Planned) (workers : ℕ) (v : View) (y : Happening) (w k n d : ℕ) → (reply calls workers v y).answer ≡ a.Finish w k n (o.Again d) →
+    (d ≡ due_next calls v k) × (stops_periodic v.shut v.stopped v.policies ≡ false)
 again_says calls workers v h.Call w k n d q =
     let pick : (q : Option Planned) → (option_map_or (λ p. called calls (record v { moment = max v.moment p.0 }) p.1) q (bare a.Clock)).answer ≡ a.Finish w k n (o.Again d) → ⊥ =
     elim [ None ↦ λ q. cc | Some p ↦ λ q. subst IsOfCall q (call_answer calls (record v { moment = max v.moment p.0 }) p.1) ]
@@ -159,16 +160,16 @@ again_says calls workers v (h.Start u) w k n d q =
     in
     absurd (other _ _ q)
 again_says calls workers v (h.Finish u ending) w k n d q =
-    let stops = stops_periodic v.shut v.policies in
-    let from : (j : ℕ) → a.Finish u j ((v.fate j).starts - 1) (outcome_in (v.fate j).cancelled stops (terms_of calls j).timing (due_next calls v j) ending) ≡ a.Finish w k n (o.Again d) → d ≡ due_next calls v k = λ j q.
+    let stops = stops_periodic v.shut v.stopped v.policies in
+    let from : (j : ℕ) → a.Finish u j ((v.fate j).starts - 1) (outcome_in (v.fate j).cancelled stops (terms_of calls j).timing (due_next calls v j) ending) ≡ a.Finish w k n (o.Again d) → (d ≡ due_next calls v k) × (stops ≡ false) = λ j q.
     let same : j ≡ k = cc in
     let outcome : outcome_in (v.fate j).cancelled stops (terms_of calls j).timing (due_next calls v j) ending ≡ o.Again d = cc in
-    let live : (b : Bool) → outcome_in b stops (terms_of calls j).timing (due_next calls v j) ending ≡ o.Again d → d ≡ due_next calls v j =
+    let live : (b : Bool) → outcome_in b stops (terms_of calls j).timing (due_next calls v j) ending ≡ o.Again d → (d ≡ due_next calls v j) × (stops ≡ false) =
     elim [ true ↦ λ q. absurd cc | false ↦ λ q. again_landed stops (terms_of calls j).timing (due_next calls v j) d ending q ]
     in
-    live (v.fate j).cancelled outcome ∙ ap (due_next calls v) same
+    let landed = live (v.fate j).cancelled outcome in (landed.0 ∙ ap (due_next calls v) same, landed.1)
     in
-    let pick : (b : Bool) (work : Option ℕ) → cond b (finish_answer calls v u ending work) (a.Error x.NoWorker) ≡ a.Finish w k n (o.Again d) → d ≡ due_next calls v k =
+    let pick : (b : Bool) (work : Option ℕ) → cond b (finish_answer calls v u ending work) (a.Error x.NoWorker) ≡ a.Finish w k n (o.Again d) → (d ≡ due_next calls v k) × (stops ≡ false) =
     elim [ true ↦ elim [ None ↦ λ q. absurd cc | Some j ↦ λ q. from j q ] | false ↦ λ work q. absurd cc ]
     in
     pick _ _ q
@@ -182,7 +183,7 @@ again_is_due calls workers past e w k n d m is =
     let v = view_of_history calls past in
     let start : is_start k e.answer ≡ false = ap (is_start k) is in
     let finish : is_finish k e.answer ≡ true = ap (is_finish k) is ∙ eq-eqb k k refl in
-    again_says calls workers v e.happening w k n d (sym m.2 ∙ is)
+    (again_says calls workers v e.happening w k n d (sym m.2 ∙ is)).0
     ∙ (λ i. due_at (terms_of calls k) (cond (sym start i) (1 + starts k past) (starts k past)) (cond (sym finish i) (Some v.moment) (last_finish calls k past)))
 
 -- ---- overlaps

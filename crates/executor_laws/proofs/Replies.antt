@@ -13,7 +13,8 @@ use Rattle.executor_core.specs.declared.types.Answer.{Answer}
 use Rattle.executor_core.specs.declared.types.Answer.TheVariants as a
 use Rattle.queue_code.specs.Calls.{Planned, numbers}
 use Rattle.executor_core.specs.View.{Fate, View, is_waiting, first_enabled}
-use Rattle.executor_core.specs.Answers.{Reply, bare, reply, called, set_policy, setting_sweeps, swept, start_answer, finish_answer, queue_size, running_count, is_terminated, effect_on}
+use Rattle.executor_core.specs.Answers.{Reply, bare, reply, called, setting_sweeps, swept, start_answer, finish_answer, queue_size, running_count, is_terminated, effect_on}
+use Rattle.sched_time.specs.Policies.{set_policy}
 use Rattle.executor_core.specs.Histories.{is_end, is_sweep}
 use Rattle.executor_core.proofs.Replies.{IsAnswerTo, by_answer, call_ends_waiting}
 

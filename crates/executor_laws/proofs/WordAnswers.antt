@@ -83,7 +83,7 @@ says calls workers s (h.Start u) =
     pick (nat_lt u workers) (s.workers u)
 says calls workers s (h.Finish u ending) =
     let v = view_of_state calls s in
-    let stops = stops_periodic s.shut s.policies in
+    let stops = stops_periodic s.shut s.stopped s.policies in
     let dropped : (k : ℕ) (b : Bool) → b ≡ true → outcome_in b stops (terms_of calls k).timing (due_next calls v k) ending ≡ o.Dropped = λ k. elim [ true ↦ λ q. refl | false ↦ λ q. absurd (false≢true q) ] in
     let pick : (b : Bool) (work : Option ℕ) → Says calls s (cond b (finish_answer calls v u ending work) (a.Error x.NoWorker)) =
     elim [ true ↦ elim [ None ↦ tt | Some k ↦ dropped k (s.tasks k).cancelled ] | false ↦ λ work. tt ]

@@ -5,15 +5,17 @@ use Rattle.std.specs.Prelude.{◌≡◌, ℕ, ◌+◌, ◌<◌, ◌≤◌, ◌&&
 use Rattle.std.specs.List.{list_any}
 use Rattle.sched_time.specs.declared.policies.Which.{Which}
 use Rattle.sched_time.specs.declared.policies.Which.TheVariants as p
+use Rattle.queue_code.specs.declared.call.CodeCall.{CodeCall}
 use Rattle.queue_code.specs.declared.call.CodeCall.TheVariants as c
-use Rattle.executor_core.specs.declared.policies.Policies.{Policies}
+use Rattle.sched_time.specs.declared.policies.Policies.{Policies}
 use Rattle.executor_core.specs.declared.types.Refusal.{Refusal}
 use Rattle.executor_core.specs.declared.types.Answer.{Answer}
 use Rattle.executor_core.specs.declared.types.Answer.TheVariants as a
 use Rattle.queue_code.specs.Calls.{Planned, IsOrderly, task_count}
 use Rattle.executor_core.specs.View.{View, is_waiting, is_running}
-use Rattle.executor_core.specs.Answers.{default_policies, is_swept, is_queued, swept}
-use Rattle.executor_core.specs.Histories.{HistoryEntry, IsHistoryOf, happenings, made, now_of, starts, due_of, is_submit, is_cancel, is_end, is_finish_with, is_ended, cancels, is_sweep, meets, is_kept, policies_of, was_shut, view_of_history}
+use Rattle.executor_core.specs.Answers.{is_swept, is_queued, swept}
+use Rattle.sched_time.specs.Policies.{default_policies}
+use Rattle.executor_core.specs.Histories.{HistoryEntry, IsHistoryOf, happenings, made, now_of, starts, due_of, is_submit, is_cancel, is_end, is_finish_with, is_ended, cancels, is_sweep, meets, is_kept, policies_of, was_shut, was_stopped, view_of_history}
 use Rattle.executor_laws.specs.Laws.{Starts}
 
 -- after a task is ended, by a line of its own or at the end of its run, nothing of it starts
@@ -62,21 +64,39 @@ PoliciesAreTheLastSet = (past : List HistoryEntry) (which : Which)
     → ((value : Bool) → SetLast past which value → value_of which (policies_of past) ≡ value)
     × (list_any (λ f. sets which f.answer) past ≡ false → value_of which (policies_of past) ≡ value_of which default_policies)
 
--- the shutdown
+-- the shutdowns
 
--- a call that was made is a shutdown
-pub record ShutdownWasMade (calls : List Planned) (past : List HistoryEntry) : Type 0 where
+-- a call shuts the executor down, orderly or at once
+abbrev pub shuts_down : CodeCall → Bool
+shuts_down c.Shutdown = true
+shuts_down c.ShutdownNow = true
+shuts_down _ = false
+
+-- a call shuts the executor down at once
+abbrev pub stops_at_once : CodeCall → Bool
+stops_at_once c.ShutdownNow = true
+stops_at_once _ = false
+
+-- a call that was made passes a test
+pub record WasMade (test : CodeCall → Bool) (calls : List Planned) (past : List HistoryEntry) : Type 0 where
   pub place : ℕ
   pub moment : ℕ
-  pub there : slice_get calls place ≡ Some (moment, c.Shutdown)
+  pub call : CodeCall
+  pub there : slice_get calls place ≡ Some (moment, call)
+  pub passes : test call ≡ true
   pub before : place < made (happenings past)
 
--- the executor is shut exactly when a shutdown call was made
+-- a call that was made is a shutdown, orderly or at once
+abbrev pub ShutdownWasMade : List Planned → List HistoryEntry → Type 0
+ShutdownWasMade calls past = WasMade shuts_down calls past
+
+-- the executor is shut exactly when a shutdown was made, orderly or at once, and stopped exactly when one at once was made
 abbrev pub ShutIsAShutdown : Type 0
-ShutIsAShutdown = (calls : List Planned) (workers : ℕ) (past : List HistoryEntry) → IsHistoryOf calls workers past → ((was_shut past ≡ true) ↔ ShutdownWasMade calls past)
+ShutIsAShutdown = (calls : List Planned) (workers : ℕ) (past : List HistoryEntry) → IsHistoryOf calls workers past
+    → ((was_shut past ≡ true) ↔ ShutdownWasMade calls past) × ((was_stopped past ≡ true) ↔ WasMade stops_at_once calls past)
 
 -- no task is accepted once the executor is shut
--- (ExecutorService.shutdown: "no new tasks will be accepted")
+-- (ExecutorService: "An ExecutorService can be shut down, which will cause it to reject new tasks.")
 abbrev pub NothingIsAcceptedOnceShut : Type 0
 NothingIsAcceptedOnceShut = (calls : List Planned) (workers : ℕ) (past : List HistoryEntry) (e : HistoryEntry) (k : ℕ) → IsHistoryOf calls workers (e ∷ past) → was_shut past ≡ true → is_submit k e.answer ≡ true → ⊥
 
@@ -93,6 +113,18 @@ abbrev pub NothingStartsOnceTerminated : Type 0
 NothingStartsOnceTerminated = (calls : List Planned) (workers : ℕ) (past between : List HistoryEntry) (asked start : HistoryEntry) (w k n d queue running : ℕ) (shut : Bool) → IsOrderly calls
     → Starts calls workers (between ++ asked ∷ past) start w k n d → asked.answer ≡ a.Ask queue running shut true → ⊥
 
+-- once the executor is stopped no task waits
+-- (ExecutorService.shutdownNow: "halts the processing of waiting tasks"; that a periodic task which runs then does not wait
+-- again: this project's rule)
+abbrev pub NothingWaitsOnceStopped : Type 0
+NothingWaitsOnceStopped = (calls : List Planned) (workers : ℕ) (past : List HistoryEntry) (k : ℕ) → IsOrderly calls → IsHistoryOf calls workers past → was_stopped past ≡ true → is_waiting ((view_of_history calls past).fate k) ≡ false
+
+-- after a shutdown at once nothing starts
+-- (ExecutorService.shutdownNow: "halts the processing of waiting tasks"; of a task that runs then: this project's rule)
+abbrev pub NothingStartsAfterAStop : Type 0
+NothingStartsAfterAStop = (calls : List Planned) (workers : ℕ) (past between : List HistoryEntry) (stop start : HistoryEntry) (w k n d : ℕ) → IsOrderly calls
+    → Starts calls workers (between ++ stop ∷ past) start w k n d → stop.answer ≡ a.ShutdownNow → ⊥
+
 -- a task that stands in the queue, as it waits or is kept, is one of the plan, and so is one that a run of is under way:
 -- an ask counts each of them
 abbrev pub QueuedAndRunningAreTasks : Type 0
@@ -106,16 +138,17 @@ abbrev pub AscendsFrom : ℕ → List ℕ → Type 0
 AscendsFrom low [] = Unit {0}
 AscendsFrom low (k ∷ ks) = (low ≤ k) × AscendsFrom (k + 1) ks
 
--- a sweep ends, in ascending number, exactly the tasks of the plan that wait and that the policies say
+-- a sweep ends, in ascending number, exactly the tasks of the plan that wait and that the policies say, or all that wait where
+-- the executor is stopped
 abbrev pub SweptAreThose : Type 0
 SweptAreThose = (calls : List Planned) (v : View) (policies : Policies)
     → AscendsFrom 0 (swept calls v policies) × ((k : ℕ) → is_end k (swept calls v policies) ≡ (nat_lt k (task_count calls) && is_swept calls v policies k))
 
--- an answer that sweeps ends the tasks that a sweep ends under the policies after it, at the moment after it, and any
--- other answer ends none
+-- an answer that sweeps ends the tasks that a sweep ends as all stands after it: the policies, the moment, and whether the
+-- executor is stopped; any other answer ends none
 abbrev pub SweepsEndThose : Type 0
 SweepsEndThose = (calls : List Planned) (workers : ℕ) (past : List HistoryEntry) (e : HistoryEntry) → IsHistoryOf calls workers (e ∷ past)
-    → (is_sweep (was_shut past) e.answer ≡ true → e.ends ≡ swept calls (record (view_of_history calls past) { moment = now_of calls (happenings (e ∷ past)) }) (policies_of (e ∷ past)))
+    → (is_sweep (was_shut past) e.answer ≡ true → e.ends ≡ swept calls (record (view_of_history calls past) { moment = now_of calls (happenings (e ∷ past)); stopped = was_stopped (e ∷ past) }) (policies_of (e ∷ past)))
     × (is_sweep (was_shut past) e.answer ≡ false → e.ends ≡ [])
 
 -- kept tasks

@@ -3,7 +3,7 @@ ghost use Rattle.std.specs.Prelude.{◌≡◌, ◌↔◌, true};
 
 use executor_core::{
     Answer, CancelEffect, CoreError, Event, EventError, Happening, Kind, Line, Message, Need,
-    Outcome, Policies, Refusal, Stage, Task,
+    Outcome, Refusal, Stage, Task,
 };
 
 /// Two errors of a core compare as equal exactly when they are the same.
@@ -74,9 +74,4 @@ pub fn line_equality_tells()
 /// Two messages compare as equal exactly when they are the same.
 pub fn message_equality_tells()
     ensures { (a b : Message) → (⟦<Message as PartialEq>⟧.eq a b ≡ true) ↔ (a ≡ b) }
-{}
-
-/// Two values of the policies compare as equal exactly when they are the same.
-pub fn policies_equality_tells()
-    ensures { (a b : Policies) → (⟦<Policies as PartialEq>⟧.eq a b ≡ true) ↔ (a ≡ b) }
 {}

@@ -44,8 +44,7 @@ pub use equality::{
     answer_equality_tells, cancel_effect_equality_tells, core_error_equality_tells,
     event_equality_tells, event_error_equality_tells, happening_equality_tells,
     kind_equality_tells, line_equality_tells, message_equality_tells, need_equality_tells,
-    outcome_equality_tells, policies_equality_tells, refusal_equality_tells, stage_equality_tells,
-    task_equality_tells,
+    outcome_equality_tells, refusal_equality_tells, stage_equality_tells, task_equality_tells,
 };
 pub use laws::{
     again_is_due, answers_by_position, cancels_have_one_effect, fixed_runs_are_due,
@@ -66,8 +65,8 @@ pub use states::{
     words_tell_the_history,
 };
 pub use sweeps::{
-    kept_by_positions, nothing_is_accepted_once_shut, nothing_starts_after_an_end,
-    nothing_starts_once_terminated, policies_are_the_last_set, queued_and_running_are_tasks,
-    refused_tasks_do_not_start, shut_is_a_shutdown, sweeps_end_those, swept_are_those,
-    tasks_are_cancelled_once,
+    kept_by_positions, nothing_is_accepted_once_shut, nothing_starts_after_a_stop,
+    nothing_starts_after_an_end, nothing_starts_once_terminated, nothing_waits_once_stopped,
+    policies_are_the_last_set, queued_and_running_are_tasks, refused_tasks_do_not_start,
+    shut_is_a_shutdown, sweeps_end_those, swept_are_those, tasks_are_cancelled_once,
 };

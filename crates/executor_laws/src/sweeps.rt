@@ -1,5 +1,5 @@
 //! What holds of policies, the shutdown, sweeps and kept tasks.
-ghost use Rattle.executor_laws.specs.Policies.{NothingStartsAfterAnEnd, TasksAreCancelledOnce, PoliciesAreTheLastSet, ShutIsAShutdown, NothingIsAcceptedOnceShut, RefusedTasksDoNotStart, NothingStartsOnceTerminated, QueuedAndRunningAreTasks, SweptAreThose, SweepsEndThose, KeptByPositions};
+ghost use Rattle.executor_laws.specs.Policies.{NothingStartsAfterAnEnd, TasksAreCancelledOnce, PoliciesAreTheLastSet, ShutIsAShutdown, NothingIsAcceptedOnceShut, RefusedTasksDoNotStart, NothingStartsOnceTerminated, NothingWaitsOnceStopped, NothingStartsAfterAStop, QueuedAndRunningAreTasks, SweptAreThose, SweepsEndThose, KeptByPositions};
 
 /// After a task is ended, by a sweep or at the end of its run, nothing of it starts.
 pub fn nothing_starts_after_an_end()
@@ -34,6 +34,16 @@ pub fn refused_tasks_do_not_start()
 /// After an answer that says that the executor is terminated nothing starts.
 pub fn nothing_starts_once_terminated()
     ensures { NothingStartsOnceTerminated }
+{}
+
+/// Once the executor is stopped, by a shutdown at once, no task waits.
+pub fn nothing_waits_once_stopped()
+    ensures { NothingWaitsOnceStopped }
+{}
+
+/// After a shutdown at once nothing starts.
+pub fn nothing_starts_after_a_stop()
+    ensures { NothingStartsAfterAStop }
 {}
 
 /// A task that stands in the queue, as it waits or is kept, is one of the plan, and so is one that a run of is under

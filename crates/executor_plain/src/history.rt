@@ -4,12 +4,12 @@ ghost use Rattle.executor_core.specs.Answers as answers;
 
 use crate::policies::{default_policies, policies_after};
 use crate::telling::{
-    cancels, is_done_finish, is_failed_finish, is_finish, is_shutdown, is_start, is_submit,
-    work_after,
+    cancels, is_done_finish, is_failed_finish, is_finish, is_shutdown, is_start, is_stop,
+    is_submit, work_after,
 };
-use executor_core::{Answer, Happening, Policies};
+use executor_core::{Answer, Happening};
 use queue_code::CodeCall;
-use sched_time::LONGEST;
+use sched_time::{LONGEST, Policies};
 use std::alloc::Allocator;
 use std::marker::Model;
 
@@ -217,12 +217,22 @@ pub(crate) fn policies_of<A: Allocator>(past: &[Past<A>]) -> Policies
     }
 }
 
-/// Whether a shutdown call was made.
+/// Whether a call to shut down was made, orderly or at once.
 pub(crate) fn was_shut<A: Allocator>(past: &[Past<A>]) -> bool
     ensures { result ≡ histories.was_shut past.now }
 {
     match past {
         [] => false,
         [newest, before @ ..] => is_shutdown(newest.answer) || was_shut(before),
+    }
+}
+
+/// Whether a call to shut down at once was made.
+pub(crate) fn was_stopped<A: Allocator>(past: &[Past<A>]) -> bool
+    ensures { result ≡ histories.was_stopped past.now }
+{
+    match past {
+        [] => false,
+        [newest, before @ ..] => is_stop(newest.answer) || was_stopped(before),
     }
 }

@@ -1,13 +1,14 @@
 ghost use Rattle.std.specs.Prelude.{◌≡◌};
+ghost use Rattle.sched_time.specs.Policies.{default_policies, set_policy};
 ghost use Rattle.executor_core.specs.Answers as answers;
 ghost use Rattle.executor_core.specs.Histories as histories;
 
-use executor_core::{Answer, Policies};
-use sched_time::{Timing, Which};
+use executor_core::Answer;
+use sched_time::{Policies, Timing, Which};
 
 /// The policies before any is set.
 pub(crate) fn default_policies() -> Policies
-    ensures { result ≡ answers.default_policies }
+    ensures { result ≡ default_policies }
 {
     Policies {
         continues: false,
@@ -18,7 +19,7 @@ pub(crate) fn default_policies() -> Policies
 
 /// The policies after one is set.
 pub(crate) fn set_policy(which: Which, value: bool, policies: Policies) -> Policies
-    ensures { result ≡ answers.set_policy which value policies }
+    ensures { result ≡ set_policy which value policies }
 {
     match which {
         Which::Continue => Policies {
@@ -66,14 +67,15 @@ pub(crate) fn is_sweep(shut: bool, answer: Answer) -> bool
 {
     match answer {
         Answer::Shutdown => !shut,
+        Answer::ShutdownNow => true,
         Answer::Policy { which, value } => setting_sweeps(shut, which, value),
         _ => false,
     }
 }
 
-/// Whether a sweep ends a waiting task of this timing, which is due at `due`, at the moment `now`.
-pub(crate) fn is_ended_by(policies: Policies, now: u64, timing: Timing, due: u64) -> bool
-    ensures { result ≡ answers.is_ended_by policies now timing due }
+/// Whether policies bar the runs of a waiting task of this timing, which is due at `due`, at the moment `now`.
+fn bars_runs(policies: Policies, now: u64, timing: Timing, due: u64) -> bool
+    ensures { result ≡ answers.bars_runs policies now timing due }
 {
     match timing {
         Timing::Once => !policies.executes && now < due,
@@ -81,9 +83,23 @@ pub(crate) fn is_ended_by(policies: Policies, now: u64, timing: Timing, due: u64
     }
 }
 
-/// Whether periodic tasks do not go on.
-pub(crate) fn stops_periodic(shut: bool, policies: Policies) -> bool
-    ensures { result ≡ answers.stops_periodic shut policies }
+/// Whether a sweep ends a waiting task of this timing, which is due at `due`, at the moment `now`, where the executor is
+/// stopped or not.
+pub(crate) fn is_ended_by(
+    stopped: bool,
+    policies: Policies,
+    now: u64,
+    timing: Timing,
+    due: u64,
+) -> bool
+    ensures { result ≡ answers.is_ended_by stopped policies now timing due }
 {
-    shut && !policies.continues
+    stopped || bars_runs(policies, now, timing, due)
+}
+
+/// Whether periodic tasks do not go on.
+pub(crate) fn stops_periodic(shut: bool, stopped: bool, policies: Policies) -> bool
+    ensures { result ≡ answers.stops_periodic shut stopped policies }
+{
+    stopped || (shut && !policies.continues)
 }

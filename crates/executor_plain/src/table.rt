@@ -8,7 +8,7 @@ ghost use Rattle.executor_core.specs.Within.{IsAnsweredByTable};
 ghost use Rattle.executor_plain.specs.own.Plain.{IsAnsweredBySome};
 
 use crate::history::{
-    Past, call_at, made, now_of, policies_of, starts, was_cancelled, was_shut, work_of,
+    Past, call_at, made, now_of, policies_of, starts, was_cancelled, was_shut, was_stopped, work_of,
 };
 use crate::policies::stops_periodic;
 use crate::queue::answer_ask;
@@ -64,6 +64,7 @@ fn answer_call<A: Allocator>(calls: &[(u64, CodeCall)], past: &[Past<A>], call: 
         CodeCall::SetPolicy { which, value } => Answer::Policy { which, value },
         CodeCall::Shutdown if was_shut(past) => Answer::ShutdownAgain,
         CodeCall::Shutdown => Answer::Shutdown,
+        CodeCall::ShutdownNow => Answer::ShutdownNow,
         CodeCall::Ask => answer_ask(calls, past),
     }
 }
@@ -201,12 +202,12 @@ fn outcome_in<A: Allocator>(
 ) -> Outcome
     requires orderly { IsOrderly calls.now }
     requires answered { IsAnsweredBySome calls.now past.now }
-    ensures { result ≡ answers.outcome_in (histories.was_cancelled k past.now) (answers.stops_periodic (histories.was_shut past.now) (histories.policies_of past.now)) (terms_of calls.now k).timing (answers.due_next calls.now (histories.view_of_history calls.now past.now) k) ending }
+    ensures { result ≡ answers.outcome_in (histories.was_cancelled k past.now) (answers.stops_periodic (histories.was_shut past.now) (histories.was_stopped past.now) (histories.policies_of past.now)) (terms_of calls.now k).timing (answers.due_next calls.now (histories.view_of_history calls.now past.now) k) ending }
 {
     if was_cancelled(k, past) {
         return Outcome::Dropped;
     }
-    let stops = stops_periodic(was_shut(past), policies_of(past));
+    let stops = stops_periodic(was_shut(past), was_stopped(past), policies_of(past));
     outcome_of(stops, timing_of(calls, k), due_next(calls, past, k), ending)
 }
 

@@ -92,11 +92,21 @@ pub(crate) fn cancels(k: u32, answer: Answer, ends: &[u32]) -> bool
     is_cancel(k, answer) || is_end(k, ends) || is_ended_finish(k, answer)
 }
 
-/// Whether an answer says that a shutdown call was made.
+/// Whether an answer says that a call to shut down was made, orderly or at once.
 pub(crate) fn is_shutdown(answer: Answer) -> bool
     ensures { result ≡ histories.is_shutdown answer }
 {
-    matches!(answer, Answer::Shutdown | Answer::ShutdownAgain)
+    matches!(
+        answer,
+        Answer::Shutdown | Answer::ShutdownAgain | Answer::ShutdownNow
+    )
+}
+
+/// Whether an answer says that a call to shut down at once was made.
+pub(crate) fn is_stop(answer: Answer) -> bool
+    ensures { result ≡ histories.is_stop answer }
+{
+    matches!(answer, Answer::ShutdownNow)
 }
 
 /// The task of a worker after an answer, given the one before.

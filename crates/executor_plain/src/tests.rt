@@ -6,6 +6,7 @@ mod policies;
 mod runs;
 mod shutdown;
 mod single;
+mod stopping;
 
 ghost use Rattle.std.specs.Prelude.{◌≡◌, IfOk};
 ghost use Rattle.queue_code.specs.Codes.{calls_of};
@@ -116,6 +117,16 @@ fn run_finished(task: u32, run: u64, outcome: Outcome) -> Answer {
     }
 }
 
+/// A worker finished the first run of a task.
+fn finished_by(worker: u8, task: u32, outcome: Outcome) -> Answer {
+    Answer::Finish {
+        worker,
+        task,
+        run: 0,
+        outcome,
+    }
+}
+
 fn cancelled(task: u32, effect: CancelEffect) -> Answer {
     Answer::Cancel { task, effect }
 }
@@ -157,6 +168,7 @@ fn instr_of(planned: &(u64, CodeCall)) -> Instr {
         CodeCall::Cancel { task } => Instr::CancelFixed(moment, task),
         CodeCall::SetPolicy { which, value } => Instr::SetPolicy(moment, which, value),
         CodeCall::Shutdown => Instr::Shutdown(moment),
+        CodeCall::ShutdownNow => Instr::ShutdownNow(moment),
         CodeCall::Ask => Instr::Ask(moment),
     }
 }

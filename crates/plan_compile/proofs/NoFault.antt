@@ -42,6 +42,7 @@ instr_passes : (p : Met) (firsts : List ℕ) (first : ℕ) (repeated : Bool) (of
     → (repeated ≡ true → (nth : ℕ) → first + nth < p.tasks → walk_lacks_task p p.open_loop nth ≡ false) → Fits p offset → Passes p (instr_of firsts first repeated offset op) rest
 instr_passes p firsts first repeated offset (ops.Cancel target) rest limits below here fits = cancel_passes p (slice_get firsts target.block) repeated first offset target.sub rest below here fits
 instr_passes p firsts first repeated offset (ops.Schedule name delay) rest limits below here fits = record { early = refl; nested = refl; unclosed = refl; empty = refl; task = refl; large = or_from _ _ (le-ltb _ _ limits) (le-ltb _ _ fits.high); order = le-ltb _ _ fits.low; many = le-ltb _ _ fits.few }
+instr_passes p firsts first repeated offset (ops.Execute name) rest limits below here fits = record { early = refl; nested = refl; unclosed = refl; empty = refl; task = refl; large = or_from _ _ refl (le-ltb _ _ fits.high); order = le-ltb _ _ fits.low; many = le-ltb _ _ fits.few }
 instr_passes p firsts first repeated offset (ops.Rate name delay (Some period)) rest limits below here fits = record { early = refl; nested = refl; unclosed = refl; empty = refl; task = refl; large = or_from _ _ (le-ltb _ _ limits.0) (le-ltb _ _ fits.high); order = le-ltb _ _ fits.low; many = le-ltb _ _ fits.few }
 instr_passes p firsts first repeated offset (ops.Rate name delay None) rest limits below here fits = record { early = refl; nested = refl; unclosed = refl; empty = refl; task = refl; large = le-ltb _ _ fits.high; order = le-ltb _ _ fits.low; many = le-ltb _ _ fits.few }
 instr_passes p firsts first repeated offset (ops.Fixed name delay (Some gap)) rest limits below here fits = record { early = refl; nested = refl; unclosed = refl; empty = refl; task = refl; large = or_from _ _ (le-ltb _ _ limits.0) (le-ltb _ _ fits.high); order = le-ltb _ _ fits.low; many = le-ltb _ _ fits.few }
@@ -67,6 +68,7 @@ steps_of : (p : Met) (firsts : List ℕ) (first : ℕ) (repeated : Bool) (offset
 steps_of p firsts first repeated offset (ops.Cancel target) =
     cancel_steps p (repeated && is_none (slice_get firsts target.block)) offset target.sub (unwrap_or (slice_get firsts target.block) first + target.sub) target.block target.sub
 steps_of p firsts first repeated offset (ops.Schedule name delay) = record { next = refl; fault = λ rest. refl }
+steps_of p firsts first repeated offset (ops.Execute name) = record { next = refl; fault = λ rest. refl }
 steps_of p firsts first repeated offset (ops.Rate name delay (Some period)) = record { next = refl; fault = λ rest. refl }
 steps_of p firsts first repeated offset (ops.Rate name delay None) = record { next = refl; fault = λ rest. refl }
 steps_of p firsts first repeated offset (ops.Fixed name delay (Some gap)) = record { next = refl; fault = λ rest. refl }

@@ -91,6 +91,7 @@ op_below earlier firsts start task before op a is aimed = tt
 -- the call of an operation is in order
 call_orderly : (firsts : List ℕ) (start task : ℕ) (op : Op) → IsWithinLimits op → IsBelow firsts start task op → IsOrderlyCall task (code_call firsts start task op)
 call_orderly firsts start task (ops.Schedule name delay) limits below = (refl, limits, tt)
+call_orderly firsts start task (ops.Execute name) limits below = (refl, omega arith, tt)
 call_orderly firsts start task (ops.Rate name first (Some period)) limits below = (refl, limits.0, limits.1.1)
 call_orderly firsts start task (ops.Rate name first None) limits below = refl
 call_orderly firsts start task (ops.Fixed name first (Some delay)) limits below = (refl, limits.0, limits.1.1)

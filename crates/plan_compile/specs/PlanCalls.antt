@@ -1,5 +1,6 @@
 -- The calls that a plan makes, with their moments.
--- All of it is this project's rule.
+-- All of it is this project's rule, but for `execute`, the row of `ops.Execute` (ScheduledThreadPoolExecutor.execute of Java SE 17:
+-- "Executes command with zero required delay. This has effect equivalent to schedule(command, 0, anyUnit).").
 use Rattle.std.specs.Prelude.{ℕ, zero, suc, ◌+◌, ◌*◌, List, [], ◌∷◌, ◌++◌, Some, None, unwrap_or, slice_get}
 use Rattle.sched_time.specs.declared.timing.Timing.TheVariants as t
 use Rattle.queue_code.specs.declared.call.CodeCall.{CodeCall}
@@ -19,6 +20,7 @@ number_of firsts start target = unwrap_or (slice_get firsts target.block) start 
 -- (a submission with no legal period or fixed delay is a call too, and has a number)
 abbrev pub code_call : List ℕ → ℕ → ℕ → Op → CodeCall
 code_call firsts start task (ops.Schedule name delay) = made.Submit task t.Once delay
+code_call firsts start task (ops.Execute name) = made.Submit task t.Once 0
 code_call firsts start task (ops.Rate name first (Some period)) = made.Submit task (t.Rate period) first
 code_call firsts start task (ops.Rate name first None) = made.Illegal task
 code_call firsts start task (ops.Fixed name first (Some delay)) = made.Submit task (t.Fixed delay) first
@@ -26,6 +28,7 @@ code_call firsts start task (ops.Fixed name first None) = made.Illegal task
 code_call firsts start task (ops.Cancel target) = made.Cancel (number_of firsts start target)
 code_call firsts start task (ops.Policy which value) = made.SetPolicy which value
 code_call firsts start task ops.Shutdown = made.Shutdown
+code_call firsts start task ops.ShutdownNow = made.ShutdownNow
 code_call firsts start task ops.Ask = made.Ask
 
 -- some calls of an iteration that begins at the moment `base` and after `start` submissions, where `task` stand before these: the

@@ -1,5 +1,5 @@
 -- The instructions of a plan's code, in which a repeated block stands once, as a loop.
--- All of it is this project's rule.
+-- All of it is this project's rule, but for `execute`, as in `PlanCalls`.
 use Rattle.std.specs.Prelude.{ℕ, ◌+◌, ◌*◌, ◌≤◌, nat_lt, Bool, true, false, ◌&&◌, if◌then◌else◌, List, [], ◌∷◌, ◌++◌, Some, None, is_none, slice_get}
 use Rattle.sched_time.specs.declared.timing.Timing.{Timing}
 use Rattle.sched_time.specs.declared.timing.Timing.TheVariants as t
@@ -26,6 +26,7 @@ cancel_instr firsts first repeated offset target =
 -- the instruction of an operation
 abbrev pub instr_of : List ℕ → ℕ → Bool → ℕ → Op → Instr
 instr_of firsts first repeated offset (ops.Schedule name delay) = instr.Submit offset t.Once delay
+instr_of firsts first repeated offset (ops.Execute name) = instr.Submit offset t.Once 0
 instr_of firsts first repeated offset (ops.Rate name delay (Some period)) = instr.Submit offset (t.Rate period) delay
 instr_of firsts first repeated offset (ops.Rate name delay None) = instr.Illegal offset
 instr_of firsts first repeated offset (ops.Fixed name delay (Some gap)) = instr.Submit offset (t.Fixed gap) delay
@@ -33,6 +34,7 @@ instr_of firsts first repeated offset (ops.Fixed name delay None) = instr.Illega
 instr_of firsts first repeated offset (ops.Cancel target) = cancel_instr firsts first repeated offset target
 instr_of firsts first repeated offset (ops.Policy which value) = instr.SetPolicy offset which value
 instr_of firsts first repeated offset ops.Shutdown = instr.Shutdown offset
+instr_of firsts first repeated offset ops.ShutdownNow = instr.ShutdownNow offset
 instr_of firsts first repeated offset ops.Ask = instr.Ask offset
 
 -- the instructions of some calls of a block that begins at the moment `at`: the call with offset o stands at `at + o`

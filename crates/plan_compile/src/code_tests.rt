@@ -71,6 +71,7 @@ fn count(
 fn made_of(starts: &[u32], task: u32, op: &Op) -> CodeCall {
     match op {
         Op::Schedule { delay, .. } => submit(task, Timing::Once, delay.nanos()),
+        Op::Execute { .. } => submit(task, Timing::Once, 0),
         Op::Rate { first, period, .. } => match period {
             Some(period) => submit(task, Timing::Rate(*period), first.nanos()),
             None => CodeCall::Illegal { task },
@@ -87,6 +88,7 @@ fn made_of(starts: &[u32], task: u32, op: &Op) -> CodeCall {
             value: *value,
         },
         Op::Shutdown => CodeCall::Shutdown,
+        Op::ShutdownNow => CodeCall::ShutdownNow,
         Op::Ask => CodeCall::Ask,
     }
 }
@@ -341,6 +343,77 @@ call = [{ op = \"policy\", which = \"remove\", value = true }, { op = \"shutdown
 "
     );
     assert!(rt; makes_its_calls(&rt, text, 9)?);
+    Ok(())
+}
+
+#[test]
+fn an_execute_is_a_schedule_without_a_delay(rt: HostRuntime) -> Result<(), Fail> {
+    let text = "version = 1
+[[block]]
+at = 5
+call = [
+  { op = \"schedule\", name = \"a\", delay = 0 },
+  { op = \"execute\", name = \"b\", at = 1 },
+  { op = \"cancel\", name = \"b\", at = 1 },
+]
+[[block]]
+at = 20
+unit = \"us\"
+times = 2
+every = 10
+call = [
+  { op = \"execute\", name = \"c\" },
+  { op = \"execute\", name = \"d\", at = 4 },
+  { op = \"cancel\", name = \"d\", at = 4 },
+  { op = \"cancel\", name = \"b\", at = 10 },
+]
+";
+    assert_eq!(rt;
+        listed(&rt, text)?.as_str(),
+        "0 submit 5 schedule 0
+1 submit 6 schedule 0
+2 cancel 6 task 1
+3 loop 2 every 10000
+4 submit 20000 schedule 0
+5 submit 24000 schedule 0
+6 cancel 24000 here 1
+7 cancel 30000 task 1
+8 endloop
+9 halt
+"
+    );
+    assert!(rt; makes_its_calls(&rt, text, 11)?);
+    Ok(())
+}
+
+#[test]
+fn a_shutdown_at_once_is_compiled(rt: HostRuntime) -> Result<(), Fail> {
+    let text = "version = 1
+[[block]]
+call = [{ op = \"shutdown_now\", at = 3 }, { op = \"shutdown\", at = 3 }]
+[[block]]
+at = 4
+times = 2
+every = 2
+call = [
+  { op = \"execute\", name = \"a\" },
+  { op = \"shutdown_now\", at = 1 },
+  { op = \"cancel\", name = \"a\", at = 2 },
+]
+";
+    assert_eq!(rt;
+        listed(&rt, text)?.as_str(),
+        "0 shutdown_now 3
+1 shutdown 3
+2 loop 2 every 2
+3 submit 4 schedule 0
+4 shutdown_now 5
+5 cancel 6 here 0
+6 endloop
+7 halt
+"
+    );
+    assert!(rt; makes_its_calls(&rt, text, 8)?);
     Ok(())
 }
 

@@ -15,7 +15,8 @@ use sched_time::Timing;
 /// The instruction of an operation at an offset from the beginning of the code, in a block that is `repeated` or
 /// not and begins with the number `first`, where `firsts` has the first number of each block before it.
 ///
-/// A submission with a period, or a fixed delay, that is zero or negative is an illegal one.
+/// A submission with a period, or a fixed delay, that is zero or negative is an illegal one. An `execute` is the
+/// submission that a `schedule` with delay 0 is, as the Java documentation of `ScheduledThreadPoolExecutor.execute` has it.
 pub fn instr_of(firsts: &[u32], first: u32, repeated: bool, offset: u64, op: &Op) -> Instr
     requires offset { offset ≤ longest }
     requires target { IsBelow firsts.now first most_calls_of_code op.now }
@@ -23,6 +24,7 @@ pub fn instr_of(firsts: &[u32], first: u32, repeated: bool, offset: u64, op: &Op
 {
     match op {
         Op::Schedule { delay, .. } => Instr::Submit(offset, Timing::Once, delay.nanos()),
+        Op::Execute { .. } => Instr::Submit(offset, Timing::Once, 0),
         Op::Rate {
             first: delay,
             period: Some(period),
@@ -37,6 +39,7 @@ pub fn instr_of(firsts: &[u32], first: u32, repeated: bool, offset: u64, op: &Op
         Op::Cancel(target) => cancel_instr(firsts, first, repeated, offset, *target),
         Op::Policy { which, value } => Instr::SetPolicy(offset, *which, *value),
         Op::Shutdown => Instr::Shutdown(offset),
+        Op::ShutdownNow => Instr::ShutdownNow(offset),
         Op::Ask => Instr::Ask(offset),
     }
 }

@@ -28,6 +28,7 @@
 //! | a block that is made once | its calls; its `every` is not used |
 //! | a block that is repeated | `Loop(times, every)`, its calls, `EndLoop` |
 //! | `schedule`, `rate`, `fixed` | `Submit`, with a delay below 0 as 0; `Illegal` where the period or the fixed delay is illegal |
+//! | `execute` | `Submit`, as that of a `schedule` with the delay 0 |
 //! | `cancel` in a repeated block, of a submission of that block | `CancelHere`, with how many submissions of the iteration stand before that one |
 //! | every other `cancel` | `CancelFixed`, with the submission's number in the whole plan |
 //! | every other call | the instruction that makes it |

@@ -124,6 +124,7 @@ fn write_call(out: &mut String, call: &Call) -> Result<(), Fail> {
         Op::Schedule { name, delay } => {
             write!(out, "schedule {} {}", name.as_str(), delay.nanos())?;
         }
+        Op::Execute { name } => write!(out, "execute {}", name.as_str())?,
         Op::Rate {
             name,
             first,
@@ -139,6 +140,7 @@ fn write_call(out: &mut String, call: &Call) -> Result<(), Fail> {
         Op::Cancel(target) => write!(out, "cancel {} {}", target.block, target.sub)?,
         Op::Policy { which, value } => write!(out, "policy {which:?} {value}")?,
         Op::Shutdown => out.push_str("shutdown")?,
+        Op::ShutdownNow => out.push_str("shutdown_now")?,
         Op::Ask => out.push_str("ask")?,
     }
     out.push('\n')?;

@@ -137,6 +137,10 @@ op_written p verbs.Schedule block unit subs ms is k names short =
     let there = required_all (own_keys verbs.Schedule) ms k.there in
     let typed = typed_all (own_keys verbs.Schedule) ms k.typed in
     (is, new_name p subs ms there.0 typed.0 names, delay_there unit (codes "delay") ms there.1.0 typed.1.0 short)
+op_written p verbs.Execute block unit subs ms is k names short =
+    let there = required_all (own_keys verbs.Execute) ms k.there in
+    let typed = typed_all (own_keys verbs.Execute) ms k.typed in
+    (is, new_name p subs ms there.0 typed.0 names)
 op_written p verbs.Rate block unit subs ms is k names short =
     let there = required_all (own_keys verbs.Rate) ms k.there in
     let typed = typed_all (own_keys verbs.Rate) ms k.typed in
@@ -246,6 +250,15 @@ op_stands p block unit subs ms (ops.Schedule name delay) at w =
       names = new_stands p subs ms name w.1;
       short = rw (w.2.1, ← w.2.2) (test_from_le delay longest w.2.3);
       is = rw (name_is subs ms name w.1, w.2.1, ← w.2.2) refl;
+    }
+op_stands p block unit subs ms (ops.Execute name) at w =
+    record {
+      verb = verbs.Execute;
+      word = w.0;
+      keys = keys_stand p verbs.Execute ms at w.0 (rw w.1.0 refl) (rw w.1.0 refl);
+      names = new_stands p subs ms name w.1;
+      short = refl;
+      is = rw (name_is subs ms name w.1) refl;
     }
 op_stands p block unit subs ms (ops.Rate name first period) at w =
     record {

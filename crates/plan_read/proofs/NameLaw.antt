@@ -23,6 +23,7 @@ distinct-added (x ∷ subs) name s d none =
 
 distinct-named : (subs : List (List ℕ × Site)) (block : ℕ) (unit : TimeUnit) (ms : Members) (op : Op) (s : Site) → WritesOp block unit subs ms op → AreDistinct subs → AreDistinct (subs ++ named s (name_of op))
 distinct-named subs block unit ms (ops.Schedule name delay) s w d = distinct-added subs name s d w.1.2
+distinct-named subs block unit ms (ops.Execute name) s w d = distinct-added subs name s d w.1.2
 distinct-named subs block unit ms (ops.Rate name first period) s w d = distinct-added subs name s d w.1.2
 distinct-named subs block unit ms (ops.Fixed name first delay) s w d = distinct-added subs name s d w.1.2
 distinct-named subs block unit ms op s w d = rw (append-nil subs) d

@@ -94,6 +94,7 @@ fresh_by_verb : (p : Place) (verb : Verb) (found : Option Site) (block : ℕ) (u
     → is_some (name_of (op_of verb found unit ms)) ≡ true → (name_of (op_of verb found unit ms) ≡ Some (name_at ms)) × (found ≡ None)
 unfolding name_checks op_of
 fresh_by_verb p verbs.Schedule found block unit ms h s = (refl, fresh_name p found ms h)
+fresh_by_verb p verbs.Execute found block unit ms h s = (refl, fresh_name p found ms h)
 fresh_by_verb p verbs.Rate found block unit ms h s = (refl, fresh_name p found ms h)
 fresh_by_verb p verbs.Fixed found block unit ms h s = (refl, fresh_name p found ms h)
 fresh_by_verb p verb found block unit ms h s = absurd (cc)

@@ -140,6 +140,7 @@ known_name_checks found block ms =
 -- on the name
 unfoldable pub name_checks : Verb → Option Site → ℕ → Members → List Check
 name_checks verbs.Schedule found block ms = new_name_checks found ms
+name_checks verbs.Execute found block ms = new_name_checks found ms
 name_checks verbs.Rate found block ms = new_name_checks found ms
 name_checks verbs.Fixed found block ms = new_name_checks found ms
 name_checks verbs.Cancel found block ms = known_name_checks found block ms

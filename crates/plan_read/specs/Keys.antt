@@ -16,12 +16,14 @@ use Rattle.plan_read.specs.declared.verbs.Verb.TheVariants as verbs
 abbrev pub verb_of_word : List ℕ → Option Verb
 verb_of_word word =
     if bytes_eq word (codes "schedule") then Some verbs.Schedule else
+    (if bytes_eq word (codes "execute") then Some verbs.Execute else
     (if bytes_eq word (codes "rate") then Some verbs.Rate else
     (if bytes_eq word (codes "fixed") then Some verbs.Fixed else
     (if bytes_eq word (codes "cancel") then Some verbs.Cancel else
     (if bytes_eq word (codes "policy") then Some verbs.Policy else
     (if bytes_eq word (codes "shutdown") then Some verbs.Shutdown else
-    (if bytes_eq word (codes "ask") then Some verbs.Ask else None))))))
+    (if bytes_eq word (codes "shutdown_now") then Some verbs.ShutdownNow else
+    (if bytes_eq word (codes "ask") then Some verbs.Ask else None))))))))
 
 -- the unit that a word names
 abbrev pub unit_of_word : List ℕ → Option TimeUnit
@@ -75,6 +77,7 @@ header_keys =
 -- those that an operation adds to a call's
 abbrev pub own_keys : Verb → List Key
 own_keys verbs.Schedule = required (codes "name") Text ∷ required (codes "delay") Integer ∷ []
+own_keys verbs.Execute = required (codes "name") Text ∷ []
 own_keys verbs.Rate = required (codes "name") Text ∷ required (codes "first") Integer ∷ required (codes "period") Integer ∷ []
 own_keys verbs.Fixed = required (codes "name") Text ∷ required (codes "first") Integer ∷ required (codes "delay") Integer ∷ []
 own_keys verbs.Cancel = required (codes "name") Text ∷ []

@@ -39,6 +39,7 @@ most_calls = 65536
 -- the name of a submission
 abbrev pub name_of : Op → Option (List ℕ)
 name_of (ops.Schedule name delay) = Some name
+name_of (ops.Execute name) = Some name
 name_of (ops.Rate name first period) = Some name
 name_of (ops.Fixed name first delay) = Some name
 name_of _ = None

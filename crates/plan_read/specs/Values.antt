@@ -113,11 +113,13 @@ target_of (Some s) = s.target
 -- the operation, where `found` is the submission of its name that stands before it
 unfoldable pub op_of : Verb → Option Site → TimeUnit → Members → Op
 op_of verbs.Schedule found unit ms = ops.Schedule (name_at ms) (span_at unit (codes "delay") ms)
+op_of verbs.Execute found unit ms = ops.Execute (name_at ms)
 op_of verbs.Rate found unit ms = ops.Rate (name_at ms) (span_at unit (codes "first") ms) (period_at unit (codes "period") ms)
 op_of verbs.Fixed found unit ms = ops.Fixed (name_at ms) (span_at unit (codes "first") ms) (period_at unit (codes "delay") ms)
 op_of verbs.Cancel found unit ms = ops.Cancel (target_of found)
 op_of verbs.Policy found unit ms = ops.Policy (which_at ms) (truth_at (codes "value") ms)
 op_of verbs.Shutdown found unit ms = ops.Shutdown
+op_of verbs.ShutdownNow found unit ms = ops.ShutdownNow
 op_of verbs.Ask found unit ms = ops.Ask
 
 -- the call of an operation

@@ -93,6 +93,7 @@ HasNameOf block subs ms target =
 abbrev pub WritesOp : ℕ → TimeUnit → List (List ℕ × Site) → Members → Op → Type 0
 WritesOp block unit subs ms (ops.Schedule name delay) =
     IsCallOf verbs.Schedule ms × HasNewName subs ms name × DelayAt unit (codes "delay") ms delay
+WritesOp block unit subs ms (ops.Execute name) = IsCallOf verbs.Execute ms × HasNewName subs ms name
 WritesOp block unit subs ms (ops.Rate name first period) =
     IsCallOf verbs.Rate ms × HasNewName subs ms name × DelayAt unit (codes "first") ms first × PeriodAt unit (codes "period") ms period
 WritesOp block unit subs ms (ops.Fixed name first delay) =
@@ -103,6 +104,7 @@ WritesOp block unit subs ms (ops.Policy which value) =
     × (word : List ℕ) × Has ms (codes "which") (string word) × (which_of_word word ≡ Some which)
     × Has ms (codes "value") (boolean value)
 WritesOp block unit subs ms ops.Shutdown = IsCallOf verbs.Shutdown ms
+WritesOp block unit subs ms ops.ShutdownNow = IsCallOf verbs.ShutdownNow ms
 WritesOp block unit subs ms ops.Ask = IsCallOf verbs.Ask ms
 
 -- a call: its offset is not below that of the call before it, no more than `every` in a repeated block, and its moment in the last

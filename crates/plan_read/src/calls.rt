@@ -28,7 +28,7 @@ pub fn submits(table: &CallTable) -> bool
 {
     matches!(
         Verb::of_word(table.text_or_empty(CallKey::Op)),
-        Some(Verb::Schedule | Verb::Rate | Verb::Fixed)
+        Some(Verb::Schedule | Verb::Execute | Verb::Rate | Verb::Fixed)
     )
 }
 
@@ -95,7 +95,9 @@ fn check_name(
     ensures { Reads (λ u. u) result (place_fault place (name_checks verb found block (table_view table.now.table.now))) tt }
 {
     match verb {
-        Verb::Schedule | Verb::Rate | Verb::Fixed => check_new_name(place, found, table),
+        Verb::Schedule | Verb::Execute | Verb::Rate | Verb::Fixed => {
+            check_new_name(place, found, table)
+        }
         Verb::Cancel => check_known_name(place, found, block, table),
         _ => Ok(()),
     }
@@ -184,6 +186,9 @@ fn read_op(
             let delay = read_span(place, table.integer_or(0, CallKey::Delay), unit)?;
             Ok(Op::Schedule { name, delay })
         }
+        Verb::Execute => Ok(Op::Execute {
+            name: Name::new(table.text_or_empty(CallKey::Name)),
+        }),
         Verb::Rate => {
             let name = Name::new(table.text_or_empty(CallKey::Name));
             let first = read_span(place, table.integer_or(0, CallKey::First), unit)?;
@@ -209,6 +214,7 @@ fn read_op(
             value: table.truth_at(CallKey::Value),
         }),
         Verb::Shutdown => Ok(Op::Shutdown),
+        Verb::ShutdownNow => Ok(Op::ShutdownNow),
         Verb::Ask => Ok(Op::Ask),
     }
 }

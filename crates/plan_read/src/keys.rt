@@ -68,7 +68,7 @@ fn is_call_key(verb: Verb, key: &str) -> bool
         Verb::Schedule => matches!(key, "op" | "at" | "name" | "delay"),
         Verb::Rate => matches!(key, "op" | "at" | "name" | "first" | "period"),
         Verb::Fixed => matches!(key, "op" | "at" | "name" | "first" | "delay"),
-        Verb::Cancel => matches!(key, "op" | "at" | "name"),
+        Verb::Execute | Verb::Cancel => matches!(key, "op" | "at" | "name"),
         Verb::Policy => matches!(key, "op" | "at" | "which" | "value"),
         _ => matches!(key, "op" | "at"),
     }
@@ -87,7 +87,7 @@ pub fn has_required_keys(verb: Verb, table: &CallTable) -> bool
             Verb::Fixed => table.has(CallKey::Name)
                 && table.has(CallKey::First)
                 && table.has(CallKey::Delay),
-            Verb::Cancel => table.has(CallKey::Name),
+            Verb::Execute | Verb::Cancel => table.has(CallKey::Name),
             Verb::Policy => table.has(CallKey::Which) && table.has(CallKey::Value),
             _ => true,
         }
@@ -116,7 +116,7 @@ fn has_typed_values(verb: Verb, table: &CallTable) -> bool
                 && table.fits_integer(CallKey::First)
                 && table.fits_integer(CallKey::Delay)
         }
-        Verb::Cancel => table.fits_text(CallKey::Name),
+        Verb::Execute | Verb::Cancel => table.fits_text(CallKey::Name),
         Verb::Policy => table.fits_policy(CallKey::Which) && table.fits_truth(CallKey::Value),
         _ => true,
     }

@@ -42,11 +42,13 @@
 //! | `op` | Keys | Asks for |
 //! |---|---|---|
 //! | `schedule` | `name`, `delay` | a task that runs once, `delay` after the call |
+//! | `execute` | `name` | a task that runs once, as soon as may be: it is due at the call, as with a `schedule` whose `delay` is 0 |
 //! | `rate` | `name`, `first`, `period` | a task that runs `first` after the call, and then every `period` |
 //! | `fixed` | `name`, `first`, `delay` | a task that runs `first` after the call, and then `delay` after the end of each run |
 //! | `cancel` | `name` | the cancel of a task |
 //! | `policy` | `which`, `value` | that a policy is set: `which` is "continue", "execute" or "remove", `value` a truth value |
 //! | `shutdown` | none | a shutdown |
+//! | `shutdown_now` | none | a shutdown at once: what waits is ended |
 //! | `ask` | none | how the executor stands |
 //!
 //! The call with offset `o` is made at `at + r * every + o` in iteration `r`, counted from 0. Moments,

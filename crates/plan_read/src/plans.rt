@@ -28,6 +28,12 @@ pub enum Op {
         /// From the call's moment to the task's due moment.
         delay: Span,
     },
+    /// A task runs once, and is due at the call's moment. Java SE 17, `ScheduledThreadPoolExecutor.execute`:
+    /// "Executes command with zero required delay. This has effect equivalent to schedule(command, 0, anyUnit)."
+    Execute {
+        /// Its name, which no other submission of the plan has.
+        name: Name,
+    },
     /// A task runs again and again, each run due a period after the due moment of the one before.
     Rate {
         /// Its name, which no other submission of the plan has.
@@ -58,6 +64,8 @@ pub enum Op {
     },
     /// The executor is shut down.
     Shutdown,
+    /// The executor is shut down at once, as `ExecutorService.shutdownNow` does it.
+    ShutdownNow,
     /// The executor is asked how it stands.
     Ask,
 }
@@ -69,7 +77,7 @@ impl Op {
     {
         matches!(
             self,
-            Op::Schedule { .. } | Op::Rate { .. } | Op::Fixed { .. }
+            Op::Schedule { .. } | Op::Execute { .. } | Op::Rate { .. } | Op::Fixed { .. }
         )
     }
 }

@@ -8,6 +8,8 @@ ghost use Rattle.plan_read.specs.Keys.{verb_of_word};
 pub enum Verb {
     /// A task runs once, after a delay.
     Schedule,
+    /// A task runs once, without a delay.
+    Execute,
     /// A task runs at a fixed rate.
     Rate,
     /// A task runs with a fixed delay between the end of a run and the next.
@@ -18,6 +20,8 @@ pub enum Verb {
     Policy,
     /// The executor is shut down.
     Shutdown,
+    /// The executor is shut down at once.
+    ShutdownNow,
     /// The executor is asked how it stands.
     Ask,
 }
@@ -29,11 +33,13 @@ impl Verb {
     {
         match word {
             "schedule" => Some(Verb::Schedule),
+            "execute" => Some(Verb::Execute),
             "rate" => Some(Verb::Rate),
             "fixed" => Some(Verb::Fixed),
             "cancel" => Some(Verb::Cancel),
             "policy" => Some(Verb::Policy),
             "shutdown" => Some(Verb::Shutdown),
+            "shutdown_now" => Some(Verb::ShutdownNow),
             "ask" => Some(Verb::Ask),
             _ => None,
         }

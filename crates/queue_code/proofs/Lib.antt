@@ -14,3 +14,4 @@ pub mod Counting
 pub mod LeastFault
 pub mod Accepting
 pub mod Shapes
+pub mod Agendas

@@ -4,7 +4,7 @@ use Rattle.std.specs.Prelude.{ℕ, zero, suc, ◌+◌, ◌*◌, Bool, true, fals
 use Rattle.queue_code.specs.declared.call.CodeCall.{CodeCall}
 use Rattle.queue_code.specs.declared.call.CodeCall.TheVariants as call
 use Rattle.queue_code.specs.declared.instr.Instr.{Instr}
-use Rattle.queue_code.specs.declared.instr.Instr.TheVariants.{Submit, Illegal, CancelFixed, CancelHere, SetPolicy, Shutdown, Ask, Loop, EndLoop, Halt}
+use Rattle.queue_code.specs.declared.instr.Instr.TheVariants.{Submit, Illegal, CancelFixed, CancelHere, SetPolicy, Shutdown, ShutdownNow, Ask, Loop, EndLoop, Halt}
 use Rattle.queue_code.specs.Calls.{Planned}
 
 -- the call of an instruction with its offset, if it makes one, where `count` tasks are made before it and `start` of
@@ -16,6 +16,7 @@ call_with_offset start count (CancelFixed offset task) = Some (offset, call.Canc
 call_with_offset start count (CancelHere offset nth) = Some (offset, call.Cancel (start + nth))
 call_with_offset start count (SetPolicy offset which value) = Some (offset, call.SetPolicy which value)
 call_with_offset start count (Shutdown offset) = Some (offset, call.Shutdown)
+call_with_offset start count (ShutdownNow offset) = Some (offset, call.ShutdownNow)
 call_with_offset start count (Ask offset) = Some (offset, call.Ask)
 call_with_offset start count _ = None
 

@@ -4,6 +4,7 @@ pub mod Calls
 pub mod Codes
 pub mod Checks
 pub mod Cursors
+pub mod Agendas
 pub mod Listings
 pub mod CodeLaws
 pub mod own

@@ -6,7 +6,7 @@ use Rattle.sched_time.specs.Policies.{policy_text, truth_text}
 use Rattle.sched_time.specs.declared.timing.Timing.{Timing}
 use Rattle.sched_time.specs.declared.timing.Timing.TheVariants as timing
 use Rattle.queue_code.specs.declared.instr.Instr.{Instr}
-use Rattle.queue_code.specs.declared.instr.Instr.TheVariants.{Submit, Illegal, CancelFixed, CancelHere, SetPolicy, Shutdown, Ask, Loop, EndLoop, Halt}
+use Rattle.queue_code.specs.declared.instr.Instr.TheVariants.{Submit, Illegal, CancelFixed, CancelHere, SetPolicy, Shutdown, ShutdownNow, Ask, Loop, EndLoop, Halt}
 
 -- how often a task runs, and the delay to its first run
 abbrev pub timing_text : Timing → ℕ → List ℕ
@@ -22,6 +22,7 @@ instr_text (CancelFixed offset task) = codes "cancel " ++ decimal offset ++ code
 instr_text (CancelHere offset nth) = codes "cancel " ++ decimal offset ++ codes " here " ++ decimal nth
 instr_text (SetPolicy offset which value) = codes "policy " ++ decimal offset ++ codes " " ++ policy_text which ++ codes " " ++ truth_text value
 instr_text (Shutdown offset) = codes "shutdown " ++ decimal offset
+instr_text (ShutdownNow offset) = codes "shutdown_now " ++ decimal offset
 instr_text (Ask offset) = codes "ask " ++ decimal offset
 instr_text (Loop times every) = codes "loop " ++ decimal times ++ codes " every " ++ decimal every
 instr_text EndLoop = codes "endloop"

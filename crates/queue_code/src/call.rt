@@ -31,6 +31,8 @@ pub enum CodeCall {
     },
     /// A shutdown: no task is accepted after it.
     Shutdown,
+    /// A shutdown at once: no task is accepted after it, and none starts.
+    ShutdownNow,
     /// The executor is asked how it stands.
     Ask,
 }

@@ -1,6 +1,7 @@
-//! Tests of codes: cursors through loops, faults, and listings.
+//! Tests of codes: cursors and agendas through loops, faults, and listings.
 ghost use Rattle.std.specs.Prelude.{◌≡◌, IfOk};
 
+mod agendas;
 mod faults;
 mod listings;
 mod walks;

@@ -181,6 +181,7 @@ impl Cursor {
                 value: *value,
             },
             Instr::Shutdown(_) => CodeCall::Shutdown,
+            Instr::ShutdownNow(_) => CodeCall::ShutdownNow,
             Instr::Ask(_) => CodeCall::Ask,
             Instr::Loop(..) | Instr::EndLoop | Instr::Halt => return None,
         };

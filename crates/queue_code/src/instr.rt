@@ -26,6 +26,8 @@ pub enum Instr {
     SetPolicy(u64, Which, bool),
     /// Shuts the executor down.
     Shutdown(u64),
+    /// Shuts the executor down at once: what waits is ended.
+    ShutdownNow(u64),
     /// Asks the executor how it stands.
     Ask(u64),
     /// Begins a loop: the instructions up to the next [`EndLoop`](Instr::EndLoop) are executed this number of
@@ -49,6 +51,7 @@ impl Instr {
             | Instr::CancelHere(offset, _)
             | Instr::SetPolicy(offset, ..)
             | Instr::Shutdown(offset)
+            | Instr::ShutdownNow(offset)
             | Instr::Ask(offset) => *offset,
             Instr::Loop(..) | Instr::EndLoop | Instr::Halt => 0,
         }
@@ -100,6 +103,7 @@ impl fmt::Display for Instr {
                 write!(f, "policy {offset} {which} {value}")
             }
             Instr::Shutdown(offset) => write!(f, "shutdown {offset}"),
+            Instr::ShutdownNow(offset) => write!(f, "shutdown_now {offset}"),
             Instr::Ask(offset) => write!(f, "ask {offset}"),
             Instr::Loop(times, every) => write!(f, "loop {times} every {every}"),
             Instr::EndLoop => write!(f, "endloop"),

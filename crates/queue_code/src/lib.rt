@@ -4,7 +4,7 @@
 //! # Usage
 //!
 //! A [`Code`] is a list of instructions in which a block that is repeated stands once, as a loop. A [`Cursor`] fetches
-//! its calls one after the other, and [`listing`] is its text.
+//! its calls one after the other, an [`Agenda`] keeps a code with such a place in it, and [`listing`] is its text.
 //!
 //! ```rust
 //! let instrs = vec![in alloc;
@@ -34,6 +34,7 @@
 //!
 //! [`Cursor::fetch`] answers each call once, in order, with its moment in nanoseconds, and then `None`.
 //! [`Cursor::next_moment`] looks at the next one. Each takes the code that the cursor was made for.
+//! An [`Agenda`] shows the next call as often as it is asked, goes past it, and knows how many are left.
 //! [`Cursor::steps`] counts the instructions that fetches executed: 3 at most in a fetch, one at least up to the first
 //! `None`, and none after it.
 //!
@@ -77,6 +78,7 @@
 //! The tests stand in `src/code_tests`, and those of the largest codes in `src/size_tests.rt`.
 #![tactic(auto)]
 
+mod agenda;
 mod call;
 mod check;
 mod code;
@@ -92,6 +94,7 @@ mod progress;
 mod size_tests;
 mod text;
 
+pub use agenda::Agenda;
 pub use call::CodeCall;
 pub use code::Code;
 pub use cursor::Cursor;

@@ -33,12 +33,16 @@ call that is made, at most 256. A block may have
 All blocks together make at most 65,536 calls. A call has
   op      what it does:
             \"schedule\"  submits a task that runs once
+            \"execute\"   submits a task that runs once and is due at its call
             \"rate\"      submits a task that runs at a fixed rate
             \"fixed\"     submits a task that runs a fixed delay after each of its
                         runs
             \"cancel\"    cancels the task of a call that stands before it
             \"policy\"    sets a policy
             \"shutdown\"  shuts the executor: no task is accepted any more
+            \"shutdown_now\"
+                        shuts the executor at once: no task is accepted any
+                        more, and none that waits starts
             \"ask\"       asks how many tasks are queued and run
   name    the task's name: 1 to 32 ASCII letters, digits, '-' and '_';
           no other task of the plan has it, and a cancel has that of its task,
@@ -134,7 +138,8 @@ Exit status:
 /// statuses.
 const CODE: &str = "\
 A listing has a line for each instruction, with its index in front:
-  submit O schedule D     submits a task that is due D after the call
+  submit O schedule D     submits a task that is due D after the call; D is 0
+                          for an execute
   submit O rate F P       submits a task that is due F after the call, and then
                           each P
   submit O fixed F D      submits a task that is due F after the call, and then
@@ -145,6 +150,7 @@ A listing has a line for each instruction, with its index in front:
                           iteration before it
   policy O WHICH VALUE    sets a policy
   shutdown O              shuts the executor
+  shutdown_now O          shuts the executor at once
   ask O                   asks how many tasks are queued and run
   loop N every E          begins a loop of N iterations, each E after the other
   endloop                 ends the loop

@@ -18,6 +18,7 @@ mod long_runs;
 mod periodic;
 mod policies;
 mod scripted;
+mod stopping;
 mod turns;
 
 /// The plan of one delayed task.

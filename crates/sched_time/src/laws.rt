@@ -5,7 +5,7 @@ ghost use Rattle.sched_time.specs.Dues.{next_due, due_of_run};
 
 use crate::error::TimeError;
 use crate::limits::LONGEST;
-use crate::policies::Which;
+use crate::policies::{Policies, Which};
 use crate::spans::Span;
 use crate::timing::{Ending, Timing};
 use crate::unit::Unit;
@@ -53,4 +53,9 @@ pub fn which_equality_tells()
 /// Two errors compare as equal exactly when they are the same.
 pub fn time_error_equality_tells()
     ensures { (a b : TimeError) → (⟦<TimeError as PartialEq>⟧.eq a b ≡ true) ↔ (a ≡ b) }
+{}
+
+/// Two values of the policies compare as equal exactly when they are the same.
+pub fn policies_equality_tells()
+    ensures { (a b : Policies) → (⟦<Policies as PartialEq>⟧.eq a b ≡ true) ↔ (a ≡ b) }
 {}

@@ -1,4 +1,5 @@
-//! Moments and spans of time in whole nanoseconds, how a task is timed, and how a run of it ended.
+//! Moments and spans of time in whole nanoseconds, how a task is timed, how a run of it ended, and the policies of an
+//! executor.
 //!
 //! # Usage
 //!
@@ -14,13 +15,18 @@
 //! next_due(Timing::Once, at, at + 3);                // None: there is one run
 //! next_due(Timing::Rate(delay), at, at + 3);         // Some(10,000,007): a period after the moment it was due
 //! next_due(Timing::Fixed(delay), at, at + 3);        // Some(10,000,010): a delay after its end
+//!
+//! Policies::defaults().with(Which::Remove, true);    // the policies once a cancelled task leaves the queue at once
 //! ```
 //!
 //! # Behaviour
 //!
 //! A moment is a number of nanoseconds since a beginning that the caller chooses. Nothing here reads a clock: each moment
 //! is handed in. A moment and a span are 0 to [`LONGEST`] nanoseconds, 2^62, some 146 years; so the sum of two is exact,
-//! and a run is due at most at 2^63. No value is rounded or cut. [`Which`] names the policies of an executor.
+//! and a run is due at most at 2^63. No value is rounded or cut.
+//!
+//! [`Which`] names the three policies of an executor, and [`Policies`] are their values: [`Policies::defaults`] before any
+//! is set, and [`Policies::with`] after one is.
 //!
 //! # Order and ties
 //!
@@ -55,7 +61,7 @@ mod unit;
 pub use conversions::{moment, period, span};
 pub use error::TimeError;
 pub use limits::LONGEST;
-pub use policies::Which;
+pub use policies::{Policies, Which};
 pub use spans::Span;
 pub use timing::{Ending, Timing, next_due};
 pub use unit::Unit;

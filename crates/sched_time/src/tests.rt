@@ -1,5 +1,7 @@
 //! Spans and moments by hand.
-use crate::{Ending, LONGEST, TimeError, Timing, Unit, moment, next_due, period, span};
+use crate::{
+    Ending, LONGEST, Policies, TimeError, Timing, Unit, Which, moment, next_due, period, span,
+};
 use std::test::Fail;
 
 #[test]
@@ -82,5 +84,25 @@ fn values_are_told_apart(rt: HostRuntime) -> Result<(), Fail> {
     assert!(rt; Timing::Rate(ten) != Timing::Fixed(ten) && Timing::Rate(ten) != Timing::Rate(six));
     assert!(rt; Ending::Value(1) != Ending::Fault(1) && Ending::Fault(1) != Ending::Fault(2));
     assert!(rt; Unit::Us != Unit::Ms && Unit::Us == Unit::Us);
+    Ok(())
+}
+
+#[test]
+fn policies_are_set_one_by_one(rt: HostRuntime) -> Result<(), Fail> {
+    let start = Policies::defaults();
+    assert!(rt; !start.continues && start.executes && !start.removes);
+    let goes_on = start.with(Which::Continue, true);
+    assert!(rt; goes_on.continues && goes_on.executes && !goes_on.removes);
+    let ends = goes_on.with(Which::Execute, false);
+    assert!(rt; ends.continues && !ends.executes && !ends.removes);
+    let removes = ends.with(Which::Remove, true);
+    assert!(rt; removes.continues && !removes.executes && removes.removes);
+    // Set to what it is, a policy stays as it is.
+    assert!(rt; removes.with(Which::Remove, true) == removes && removes != ends);
+    let back = removes
+        .with(Which::Continue, false)
+        .with(Which::Execute, true)
+        .with(Which::Remove, false);
+    assert!(rt; back == start);
     Ok(())
 }

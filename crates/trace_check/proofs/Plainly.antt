@@ -198,7 +198,7 @@ finishes_plainly calls workers v lines w ending few busy =
             erring calls workers v lines (h.Finish w ending) (h.Finish u (e.Value 0)) x.NotRunning (λ i. says w ending (is i) (free i)) (ap (option_map (λ z. h.Finish z (e.Value 0))) there.1) (has (v.work u) refl) refl refl tt
         | Some k ↦ λ is work.
             let timing = (terms_of calls k).timing in
-            let stops = stops_periodic v.shut v.policies in
+            let stops = stops_periodic v.shut v.stopped v.policies in
             let outcome = outcome_in (v.fate k).cancelled stops timing (due_next calls v k) ending in
             record {
               happening = h.Finish w (representative_ending outcome);

@@ -10,7 +10,7 @@ use Rattle.executor_core.specs.declared.types.Answer.TheVariants as a
 use Rattle.queue_code.specs.Calls.{Planned, IsOrderly, task_count, submits_task}
 use Rattle.executor_core.specs.View.{View}
 use Rattle.executor_core.specs.Answers.{Reply, reply, moment_after}
-use Rattle.executor_core.specs.Histories.{HistoryEntry, entry_of, happenings, is_call, view_of_history, now_of, answer, work_of, work_after, policies_after, is_shutdown, IsHistoryOf, MayFrom}
+use Rattle.executor_core.specs.Histories.{HistoryEntry, entry_of, happenings, is_call, view_of_history, now_of, answer, work_of, work_after, policies_after, is_shutdown, is_stop, IsHistoryOf, MayFrom}
 use Rattle.executor_core.proofs.Flowing.{how_many-le}
 use Rattle.executor_core.proofs.Views.{view_after, fate_after, look_moves}
 use Rattle.executor_core.proofs.Within.{now_within}
@@ -77,6 +77,7 @@ one_view calls v y g r call moment = λ i. record {
   work = λ w. work_after w r.answer (v.work w);
   policies = policies_after r.answer v.policies;
   shut = is_shutdown r.answer || v.shut;
+  stopped = is_stop r.answer || v.stopped;
 }
 
 one_more : (calls : List Planned) (workers : ℕ) (past : List HistoryEntry) (y : Happening) → workers ≤ 64 → task_count calls ≤ 65536 → now_of calls (happenings past) ≤ 2 ^ 62 →

@@ -105,6 +105,7 @@ answer_text (answer.Outside k e) = codes " outside " ++ cancel_text (k, e)
 answer_text (answer.Policy which value) = codes " policy " ++ (policy_text which ++ (codes " " ++ (truth_text value ++ codes "\n")))
 answer_text answer.Shutdown = codes " shutdown\n"
 answer_text answer.ShutdownAgain = codes " shutdown again\n"
+answer_text answer.ShutdownNow = codes " shutdown now\n"
 answer_text (answer.Ask q r shut over) =
     codes " ask queue " ++ (decimal q ++ (codes " running " ++ (decimal r ++ (codes " shutdown " ++ (whether_text shut ++ (codes " terminated " ++ (whether_text over ++ codes "\n")))))))
 answer_text answer.Clock = codes " clock\n"

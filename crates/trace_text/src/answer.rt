@@ -157,7 +157,7 @@ pub fn split_ask(bytes: &[u8]) -> Option<(Message, &[u8])>
     ))
 }
 
-/// The executor was shut, now or before.
+/// The executor was shut, or was shut before, or was shut at once.
 pub fn split_shutdown(bytes: &[u8]) -> Option<(Message, &[u8])>
     ensures { MatchOption result (IsUnread message_text FitsMessage (codes " shutdown" ++ bytes.now)) (λ r. IsRead message_text FitsMessage (codes " shutdown" ++ bytes.now) r.0 r.1.now) }
 {
@@ -166,6 +166,9 @@ pub fn split_shutdown(bytes: &[u8]) -> Option<(Message, &[u8])>
     }
     if let Some(rest) = strip(bytes, b" again\n") {
         return Some((Message::Answer(Answer::ShutdownAgain), rest));
+    }
+    if let Some(rest) = strip(bytes, b" now\n") {
+        return Some((Message::Answer(Answer::ShutdownNow), rest));
     }
     None
 }

@@ -37,6 +37,7 @@ pub fn put_answer(buffer: &mut [u8], at: usize, answer: Answer) -> usize
         Answer::Policy { which, value } => put_policy(buffer, at, which, value),
         Answer::Shutdown => put_text(buffer, at, *b" shutdown\n"),
         Answer::ShutdownAgain => put_text(buffer, at, *b" shutdown again\n"),
+        Answer::ShutdownNow => put_text(buffer, at, *b" shutdown now\n"),
         Answer::Ask {
             queue,
             running,

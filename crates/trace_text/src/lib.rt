@@ -47,7 +47,7 @@
 //! | `Cancel` | `M cancel K yes`, `M cancel K no`, `M cancel K none` |
 //! | `Outside` | `M outside K yes`, `M outside K no`, `M outside K none` |
 //! | `Policy` | `M policy`, and one of `continue`, `execute`, `remove`, and one of `true`, `false` |
-//! | `Shutdown`, `ShutdownAgain` | `M shutdown`, `M shutdown again` |
+//! | `Shutdown`, `ShutdownAgain`, `ShutdownNow` | `M shutdown`, `M shutdown again`, `M shutdown now` |
 //! | `Ask` | `M ask queue Q running R shutdown yes terminated no`, each of the two words `yes` or `no` |
 //! | `Clock` | `M clock` |
 //! | `Start` | `M start W task K run N due D` |

@@ -26,7 +26,8 @@ use Rattle.executor_core.specs.declared.types.Happening.TheVariants as h
 use Rattle.executor_core.specs.declared.types.Need.{Need}
 use Rattle.executor_core.specs.declared.types.Need.TheVariants as n
 use Rattle.executor_core.specs.View.{View}
-use Rattle.executor_core.specs.Answers.{Reply, bare, called, swept, set_policy, setting_sweeps}
+use Rattle.executor_core.specs.Answers.{Reply, bare, called, swept, setting_sweeps}
+use Rattle.sched_time.specs.Policies.{set_policy}
 use Rattle.executor_core.specs.Histories.{HistoryEntry, IsHistoryOf, happenings, answer, entry_of, had_effect, is_end, cancels, was_cancelled}
 use Rattle.executor_core.specs.State.{State, view_of_state, after, reply_of}
 use Rattle.executor_core.specs.Needs.{need_of, need_of_answer}

@@ -96,7 +96,7 @@ outside_still calls s j effect w ending false work q = absurd (false≢true q)
 outside_still calls s j effect w ending true None q = absurd (false≢true q)
 outside_still calls s j effect w ending true (Some k) q =
     let u = view_of_state calls s in
-    less_cancelled (cancels k (a.Outside j effect) []) (s.tasks k).cancelled (stops_periodic s.shut s.policies) (terms_of calls k).timing (due_next calls u k) k ending q
+    less_cancelled (cancels k (a.Outside j effect) []) (s.tasks k).cancelled (stops_periodic s.shut s.stopped s.policies) (terms_of calls k).timing (due_next calls u k) k ending q
 
 refused_still : (calls : List Planned) (s : State) (j w : ℕ) (ending : Ending) (b : Bool) (work : Option ℕ) → puts_in calls (state_after calls s (h.Cancel j) (bare (a.Error x.NoTask))) w ending b work ≡ true → puts_in calls s w ending b work ≡ true
 refused_still calls s j w ending false work q = absurd (false≢true q)

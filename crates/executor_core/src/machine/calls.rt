@@ -48,6 +48,7 @@ impl<A: Allocator> Core<A> {
                 return self.set_policy(which, value, out);
             }
             CodeCall::Shutdown => return self.shut_down(out),
+            CodeCall::ShutdownNow => return self.shut_down_now(out),
             CodeCall::Submit {
                 task,
                 timing,

@@ -65,6 +65,7 @@ impl<A: Allocator> Core<A> {
                     Need::Sweep
                 }
             }
+            CodeCall::ShutdownNow => Need::Sweep,
             CodeCall::Illegal { .. } | CodeCall::Ask => Need::Nothing,
         }
     }
@@ -77,10 +78,13 @@ impl<A: Allocator> Core<A> {
             return false;
         };
         let now = self.moment.max(at);
+        let task = task as usize;
         match call {
             CodeCall::SetPolicy { which, value } => setting_sweeps(self.shut, which, value)
-                && self.ends_under(task as usize, self.policies.with(which, value), now),
-            CodeCall::Shutdown => !self.shut && self.ends_under(task as usize, self.policies, now),
+                && self.ends_under(task, self.stopped, self.policies.with(which, value), now),
+            CodeCall::Shutdown => !self.shut
+                && self.ends_under(task, self.stopped, self.policies, now),
+            CodeCall::ShutdownNow => self.ends_under(task, true, self.policies, now),
             CodeCall::Submit { .. }
             | CodeCall::Illegal { .. }
             | CodeCall::Cancel { .. }

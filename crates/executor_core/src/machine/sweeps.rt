@@ -1,4 +1,4 @@
-//! Policies, the shutdown, and the sweep that they make.
+//! Policies, the shutdowns, and the sweep that they make.
 ghost use Rattle.std.specs.Prelude.{◌≡◌, ◌+◌, ◌<◌, ◌≤◌, ℕ, [], ◌∷◌, ◌++◌, length, Some, slice_get, slice_set, slice_index_or, true, false, vec_len, vec_capacity};
 ghost use Rattle.executor_core.specs.declared.types.Happening.TheVariants as happening;
 ghost use Rattle.queue_code.specs.declared.call.CodeCall.TheVariants as call;
@@ -11,10 +11,9 @@ ghost use Rattle.executor_core.specs.Tasks.{uncancelled_in};
 ghost use Rattle.executor_core.specs.own.Tables.{waits_with};
 
 use super::Core;
-use crate::policies::Policies;
 use crate::task::{Stage, Task};
 use crate::types::{Answer, Line, Message};
-use sched_time::{Timing, Which};
+use sched_time::{Policies, Timing, Which};
 use std::alloc::Allocator;
 
 impl<A: Allocator> Core<A> {
@@ -77,6 +76,28 @@ impl<A: Allocator> Core<A> {
         self.sweep(out);
     }
 
+    /// The next call is a shutdown at once.
+    #[cold]
+    pub(super) fn shut_down_now<B: Allocator>(&mut self, out: &mut Vec<Line, B>)
+        requires call { (at : ℕ) × (slice_get self.old.calls self.old.made ≡ Some (at, call.ShutdownNow)) }
+        requires room { vec_len out.old + room_of self.old ≤ vec_capacity out.old }
+        ensures steps { Steps self.old self.new out.old.items out.new.items (happening.Call ∷ []) }
+        ensures made { self.new.made ≡ self.old.made + 1 }
+        ensures taken { self.new.taken ≡ self.old.taken }
+        ensures tasks { length self.new.tasks ≡ task_count self.new.calls }
+        ensures room { vec_len out.new + room_of self.new ≤ vec_len out.old + room_of self.old }
+        ensures capacity { vec_capacity out.new ≡ vec_capacity out.old }
+    {
+        self.moment = self.calls.pass();
+        self.shut = true;
+        self.stopped = true;
+        out.push_reserved(Line {
+            moment: self.moment,
+            message: Message::Answer(Answer::ShutdownNow),
+        });
+        self.sweep(out);
+    }
+
     /// Ends what a sweep under the present policies ends, a line for each, and drops the kept tasks.
     fn sweep<B: Allocator>(&mut self, out: &mut Vec<Line, B>)
         requires shut { self.old.shut ≡ true }
@@ -97,6 +118,9 @@ impl<A: Allocator> Core<A> {
         ensures none { result ≡ false → (k : ℕ) → is_swept self.now.calls (view_of_state self.now.calls (state_of self.now)) self.now.policies k ≡ false }
         ensures tasks { length self.now.tasks ≡ task_count self.now.calls }
     {
+        if self.stopped {
+            return !self.queue.is_empty();
+        }
         (!self.policies.continues && self.tasks.periodic() > 0)
             || (!self.policies.executes && !self.sought.delayed())
     }
@@ -110,7 +134,7 @@ impl<A: Allocator> Core<A> {
     {
         let mut task = self.candidate(0);
         while task < self.tasks.len() {
-            if self.ends_under(task, self.policies, self.moment) {
+            if self.ends_under(task, self.stopped, self.policies, self.moment) {
                 self.end(task, out);
             }
             task = self.candidate(task + 1);
@@ -118,13 +142,17 @@ impl<A: Allocator> Core<A> {
     }
 
     /// The first task from this number on that a sweep may end, or how many tasks there are where none is left. Once
-    /// sweeps have looked for each sort of tasks that the policies now end, it is one of those that were noted then.
+    /// sweeps have looked for each sort of tasks that the policies now end, it is one of those that were noted then, unless
+    /// the executor is stopped.
     fn candidate(&self, from: usize) -> usize
         requires { from ≤ length self.now.tasks }
         ensures from { from ≤ result }
         ensures within { result ≤ length self.now.tasks }
         ensures passed { (k : ℕ) → from ≤ k → k < result → is_swept self.now.calls (view_of_state self.now.calls (state_of self.now)) self.now.policies k ≡ false }
     {
+        if self.stopped {
+            return from;
+        }
         if self.sought.periodic() && (self.policies.executes || self.sought.delayed()) {
             return self.sought.first_from(from).unwrap_or(self.tasks.len());
         }
@@ -165,16 +193,22 @@ impl<A: Allocator> Core<A> {
         self.sought.note_periodic(&self.tasks);
     }
 
-    /// Whether a sweep under these policies, at the moment `now`, ends a task.
-    pub(super) fn ends_under(&self, task: usize, policies: Policies, now: u64) -> bool
-        ensures test { result ≡ is_swept self.now.calls (record (view_of_state self.now.calls (state_of self.now)) { moment = now }) policies task }
-        ensures end { result ≡ is_end task (swept self.now.calls (record (view_of_state self.now.calls (state_of self.now)) { moment = now }) policies) }
+    /// Whether a sweep under these policies, at the moment `now`, ends a task, where the executor is `stopped` or not.
+    pub(super) fn ends_under(
+        &self,
+        task: usize,
+        stopped: bool,
+        policies: Policies,
+        now: u64,
+    ) -> bool
+        ensures test { result ≡ is_swept self.now.calls (record (view_of_state self.now.calls (state_of self.now)) { moment = now; stopped = stopped }) policies task }
+        ensures end { result ≡ is_end task (swept self.now.calls (record (view_of_state self.now.calls (state_of self.now)) { moment = now; stopped = stopped }) policies) }
     {
         if task >= self.tasks.len() {
             return false;
         }
         let task = self.tasks.get(task);
-        waits(&task) && is_ended_by(policies, now, task.timing, task.due)
+        waits(&task) && is_ended_by(stopped, policies, now, task.timing, task.due)
     }
 
     /// Ends a task that waits.
@@ -220,11 +254,13 @@ fn waits(task: &Task) -> bool
     matches!(task.phase, Stage::Waiting) && !task.cancelled
 }
 
-/// Whether a sweep under these policies ends a task that waits, is timed so and due at `due`, at the moment `now`.
-fn is_ended_by(policies: Policies, now: u64, timing: Timing, due: u64) -> bool
-    ensures { result ≡ is_ended_by policies now timing due }
+/// Whether a sweep under these policies ends a task that waits, is timed so and due at `due`, at the moment `now`, where
+/// the executor is `stopped` or not.
+fn is_ended_by(stopped: bool, policies: Policies, now: u64, timing: Timing, due: u64) -> bool
+    ensures { result ≡ is_ended_by stopped policies now timing due }
 {
     match timing {
+        _ if stopped => true,
         Timing::Once => !policies.executes && now < due,
         Timing::Rate(_) | Timing::Fixed(_) => !policies.continues,
     }

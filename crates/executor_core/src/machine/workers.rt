@@ -137,11 +137,11 @@ impl<A: Allocator> Core<A> {
     /// it, where one would come.
     pub(super) fn end_of_run(&self, task: Task, ending: Ending) -> (Outcome, u64)
         requires { task.due ≤ longest }
-        ensures outcome { result.0 ≡ outcome_in task.cancelled (stops_periodic self.now.shut self.now.policies) task.timing (due_past task.timing task.due self.now.moment) ending }
+        ensures outcome { result.0 ≡ outcome_in task.cancelled (stops_periodic self.now.shut self.now.stopped self.now.policies) task.timing (due_past task.timing task.due self.now.moment) ending }
         ensures due { result.1 ≡ due_past task.timing task.due self.now.moment }
     {
         let next = next_due(task.timing, task.due, self.moment);
-        let stops = self.shut && !self.policies.continues;
+        let stops = self.stopped || (self.shut && !self.policies.continues);
         let outcome = outcome_in(task.cancelled, stops, next, ending);
         (outcome, next.unwrap_or(task.due))
     }

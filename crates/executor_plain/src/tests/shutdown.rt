@@ -142,16 +142,6 @@ fn a_run_under_way_at_a_shutdown_goes_on_to_its_end(rt: HostRuntime) -> Result<(
     Ok(())
 }
 
-/// A worker finished the first run of a task.
-fn finished_by(worker: u8, task: u32, outcome: Outcome) -> Answer {
-    Answer::Finish {
-        worker,
-        task,
-        run: 0,
-        outcome,
-    }
-}
-
 #[test]
 fn a_later_sweep_ends_tasks_that_ran_at_the_first(rt: HostRuntime) -> Result<(), Fail> {
     let rate = Timing::Rate(nanos(5)?);

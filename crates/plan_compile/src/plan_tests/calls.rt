@@ -6,6 +6,8 @@ const CALLS: &str = r#"WrongType block 1 call 1 | op = 1
 WrongType block 1 call 1 | op = "rates"
 Missing block 1 call 1 | op = "schedule"
 Missing block 1 call 1 | op = "schedule" / name = "a"
+Missing block 1 call 1 | op = "execute"
+Missing block 1 call 1 | op = "execute" / at = 1
 Missing block 1 call 1 | op = "rate" / name = "a" / first = 1
 Missing block 1 call 1 | op = "rate" / name = "a" / period = 1
 Missing block 1 call 1 | op = "rate" / first = 1 / period = 1
@@ -14,11 +16,18 @@ Missing block 1 call 1 | op = "fixed" / name = "a" / delay = 1
 Missing block 1 call 1 | op = "fixed" / first = 1 / delay = 1
 Missing block 1 call 1 | op = "cancel"
 UnknownKey block 1 call 1 | op = "schedule" / name = "a" / delay = 1 / first = 1
+UnknownKey block 1 call 1 | op = "execute" / name = "a" / delay = 0
+UnknownKey block 1 call 1 | op = "execute" / name = "a" / first = 0
+UnknownKey block 1 call 1 | op = "execute" / name = "a" / period = 1
+UnknownKey block 1 call 1 | op = "execute" / delay = 0
 UnknownKey block 1 call 1 | op = "rate" / name = "a" / first = 1 / delay = 1
 UnknownKey block 1 call 1 | op = "fixed" / name = "a" / first = 1 / period = 1
 UnknownKey block 1 call 1 | op = "cancel" / name = "a" / value = true
 WrongType block 1 call 1 | op = "schedule" / name = "a" / delay = 1.5
 WrongType block 1 call 1 | op = "schedule" / name = 1 / delay = 1
+WrongType block 1 call 1 | op = "execute" / name = 1
+WrongType block 1 call 1 | op = "execute" / name = "a" / at = "0"
+WrongType block 1 call 1 | op = "Execute" / name = "a"
 WrongType block 1 call 1 | op = "rate" / name = "a" / first = "1" / period = 1
 WrongType block 1 call 1 | op = "rate" / name = "a" / first = 1 / period = "1"
 WrongType block 1 call 1 | op = "fixed" / name = "a" / first = 1 / delay = 1.0
@@ -26,10 +35,16 @@ WrongType block 1 call 1 | op = "cancel" / name = 1
 WrongType block 1 call 1 | op = "cancel" / name = "a" / at = "0"
 BadName block 1 call 1 | op = "schedule" / name = "a b" / delay = 1
 BadName block 1 call 1 | op = "schedule" / name = "é" / delay = 1
+BadName block 1 call 1 | op = "execute" / name = ""
+BadName block 1 call 1 | op = "execute" / name = "a b"
 BadName block 1 call 1 | op = "rate" / name = "" / first = 1 / period = 1
 BadName block 1 call 1 | op = "fixed" / name = "" / first = 1 / delay = 1
 Negative block 1 call 1 | op = "schedule" / name = "a" / delay = 1 / at = -1
+Negative block 1 call 1 | op = "execute" / name = "a" / at = -1
 TooLarge block 1 call 1 | op = "schedule" / name = "a" / delay = 1 / at = 4611686018427387905
+TooLarge block 1 call 1 | op = "execute" / name = "a" / at = 4611686018427387905
+plan | op = "execute" / name = "a" / at = 4611686018427387904
+plan | op = "execute" / name = "a"
 TooLarge block 1 call 1 | op = "rate" / name = "a" / first = 4611686018427387905 / period = 1
 TooLarge block 1 call 1 | op = "rate" / name = "a" / first = 1 / period = 4611686018427387905
 TooLarge block 1 call 1 | op = "fixed" / name = "a" / first = 4611686018427387905 / delay = 1
@@ -40,15 +55,20 @@ fn refuses_at_a_call(rt: HostRuntime) -> Result<(), Fail> {
     tells_each(&rt, CALL, CALLS)
 }
 
-/// Faults of a policy, a shutdown and a question.
+/// Faults of a policy, of both kinds of shutdown and of a question.
 const OTHER_CALLS: &str = r#"WrongType block 1 call 1 | op = "Policy"
-WrongType block 1 call 1 | op = "shutdown_now"
+WrongType block 1 call 1 | op = "invokeAll"
+WrongType block 1 call 1 | op = "shutdownNow"
+WrongType block 1 call 1 | op = "shutdown_no"
 Missing block 1 call 1 | op = "policy"
 Missing block 1 call 1 | op = "policy" / which = "remove"
 Missing block 1 call 1 | op = "policy" / value = true
 UnknownKey block 1 call 1 | op = "policy" / which = "remove" / value = true / name = "a"
 UnknownKey block 1 call 1 | op = "shutdown" / name = "a"
 UnknownKey block 1 call 1 | op = "shutdown" / value = true
+UnknownKey block 1 call 1 | op = "shutdown_now" / name = "a"
+UnknownKey block 1 call 1 | op = "shutdown_now" / which = "remove"
+UnknownKey block 1 call 1 | op = "shutdown_now" / delay = 0
 UnknownKey block 1 call 1 | op = "ask" / which = "remove"
 UnknownKey block 1 call 1 | op = "ask" / delay = 1
 WrongType block 1 call 1 | op = "policy" / which = "" / value = true
@@ -58,12 +78,17 @@ WrongType block 1 call 1 | op = "policy" / which = "remove" / value = 1
 WrongType block 1 call 1 | op = "policy" / which = "remove" / value = "true"
 WrongType block 1 call 1 | op = "policy" / which = "remove" / value = true / at = "0"
 WrongType block 1 call 1 | op = "shutdown" / at = 0.5
+WrongType block 1 call 1 | op = "shutdown_now" / at = 0.5
 WrongType block 1 call 1 | op = "ask" / at = true
 Negative block 1 call 1 | op = "policy" / which = "remove" / value = true / at = -1
 Negative block 1 call 1 | op = "shutdown" / at = -1
+Negative block 1 call 1 | op = "shutdown_now" / at = -1
 Negative block 1 call 1 | op = "ask" / at = -9223372036854775808
 TooLarge block 1 call 1 | op = "policy" / which = "remove" / value = true / at = 4611686018427387905
 TooLarge block 1 call 1 | op = "shutdown" / at = 4611686018427387905
+TooLarge block 1 call 1 | op = "shutdown_now" / at = 4611686018427387905
+plan | op = "shutdown_now" / at = 4611686018427387904
+plan | op = "shutdown_now"
 TooLarge block 1 call 1 | op = "ask" / at = 9223372036854775807"#;
 
 #[test]
@@ -88,6 +113,10 @@ UnknownName block 1 call 1 | op = "cancel" / name = "a" / at = -1
 UnknownName block 1 call 1 | at = -1 / op = "cancel" / name = "a"
 Negative block 1 call 1 | op = "schedule" / name = "a" / at = -1 / delay = 4611686018427387905
 Negative block 1 call 1 | delay = 4611686018427387905 / op = "schedule" / name = "a" / at = -1
+UnknownKey block 1 call 1 | op = "execute" / name = "" / delay = -1
+UnknownKey block 1 call 1 | delay = -1 / op = "execute" / name = ""
+BadName block 1 call 1 | op = "execute" / name = "" / at = -1
+BadName block 1 call 1 | at = -1 / op = "execute" / name = ""
 UnknownKey block 1 call 1 | op = "policy" / x = 1 / which = 1
 UnknownKey block 1 call 1 | which = 1 / op = "policy" / x = 1
 Missing block 1 call 1 | op = "policy" / which = "x"
@@ -96,6 +125,8 @@ WrongType block 1 call 1 | op = "policy" / which = "x" / value = true / at = -1
 WrongType block 1 call 1 | value = true / at = -1 / op = "policy" / which = "x"
 UnknownKey block 1 call 1 | op = "shutdown" / name = "" / at = -1
 UnknownKey block 1 call 1 | at = -1 / op = "shutdown" / name = ""
+UnknownKey block 1 call 1 | op = "shutdown_now" / x = 1 / at = "1"
+UnknownKey block 1 call 1 | at = "1" / x = 1 / op = "shutdown_now"
 WrongType block 1 call 1 | op = "ask" / at = "-1"
 WrongType block 1 call 1 | at = "-1" / op = "ask""#;
 
@@ -108,6 +139,12 @@ fn tells_the_first_fault_of_a_call(rt: HostRuntime) -> Result<(), Fail> {
 const LATER_CALLS: &str =
     r#"DuplicateName block 1 call 2 | call = [{ op = "schedule", name = "a", delay = 1, at = 2 }, { op = "schedule", name = "a", delay = 1, at = -1 }]
 DuplicateName block 1 call 2 | call = [{ op = "schedule", name = "a", delay = 1, at = 2 }, { at = -1, delay = 1, name = "a", op = "schedule" }]
+DuplicateName block 1 call 2 | call = [{ op = "schedule", name = "a", delay = 1, at = 2 }, { op = "execute", name = "a", at = 2 }]
+DuplicateName block 1 call 2 | call = [{ op = "execute", name = "a", at = 2 }, { op = "schedule", name = "a", delay = 1, at = 2 }]
+DuplicateName block 1 call 2 | call = [{ op = "execute", name = "a" }, { op = "execute", name = "a" }]
+OutOfOrder block 1 call 2 | call = [{ op = "execute", name = "a", at = 2 }, { op = "execute", name = "b", at = 1 }]
+plan | call = [{ op = "execute", name = "a", at = 2 }, { op = "cancel", name = "a", at = 2 }]
+OutOfOrder block 1 call 2 | call = [{ op = "execute", name = "a", at = 2 }, { op = "shutdown_now", at = 1 }]
 UnknownName block 1 call 2 | call = [{ op = "schedule", name = "a", delay = 1, at = 2 }, { op = "cancel", name = "b", at = -1 }]
 Negative block 1 call 2 | call = [{ op = "schedule", name = "a", delay = 1, at = 2 }, { op = "cancel", name = "a", at = -1 }]
 TooLarge block 1 call 2 | call = [{ op = "schedule", name = "a", delay = 1, at = 2 }, { op = "cancel", name = "a", at = 4611686018427387905 }]

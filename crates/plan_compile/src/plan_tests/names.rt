@@ -7,6 +7,8 @@ const NAMES_OF_BLOCKS: &str =
 DuplicateName block 3 call 1 | call = [{ op = "schedule", name = "a", delay = 1 }] / [[block]] / at = 9 / [[block]] / at = 9 / call = [{ op = "rate", name = "a", first = 1, period = 0 }]
 UnknownName block 3 call 1 | call = [{ op = "schedule", name = "a", delay = 1 }] / [[block]] / at = 9 / [[block]] / at = 9 / call = [{ op = "cancel", name = "b" }]
 DuplicateName block 3 call 1 | times = 2 / every = 5 / call = [{ op = "schedule", name = "a", delay = 1 }] / [[block]] / at = 9 / [[block]] / at = 9 / call = [{ op = "fixed", name = "a", first = 1, delay = 1 }]
+DuplicateName block 3 call 1 | call = [{ op = "execute", name = "a" }] / [[block]] / at = 9 / [[block]] / at = 9 / call = [{ op = "execute", name = "a" }]
+Ambiguous block 3 call 1 | times = 2 / every = 5 / call = [{ op = "execute", name = "a" }] / [[block]] / at = 9 / [[block]] / at = 9 / call = [{ op = "cancel", name = "a" }]
 Ambiguous block 3 call 1 | times = 2 / every = 5 / call = [{ op = "schedule", name = "a", delay = 1 }] / [[block]] / at = 9 / [[block]] / at = 9 / call = [{ op = "cancel", name = "a" }]
 Ambiguous block 3 call 1 | times = 2 / every = 5 / call = [{ op = "schedule", name = "a", delay = 1 }] / [[block]] / at = 9 / [[block]] / at = 9 / call = [{ op = "cancel", name = "a", at = -1 }]
 UnknownName block 3 call 1 | times = 2 / every = 5 / call = [{ op = "schedule", name = "a", delay = 1 }] / [[block]] / at = 9 / [[block]] / at = 9 / call = [{ op = "cancel", name = "b", at = -1 }]"#;

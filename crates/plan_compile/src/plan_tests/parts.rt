@@ -55,6 +55,7 @@ call = [
   { op = \"policy\", which = \"execute\", value = false, at = 1 },
   { op = \"policy\", which = \"remove\", value = true, at = 2 },
   { op = \"shutdown\", at = 2 },
+  { op = \"shutdown_now\", at = 2 },
   { op = \"ask\", at = 3 },
 ]
 ",
@@ -63,6 +64,7 @@ call = [
 1000 policy Execute false
 2000 policy Remove true
 2000 shutdown
+2000 shutdown_now
 3000 ask
 ",
     )
@@ -85,7 +87,9 @@ call = [
   { op = \"schedule\", name = \"c\", delay = 1 },
   { op = \"cancel\", name = \"b\" },
   { op = \"fixed\", name = \"d\", first = 1, delay = 1 },
+  { op = \"execute\", name = \"e\", at = 3 },
   { op = \"cancel\", name = \"d\", at = 5 },
+  { op = \"cancel\", name = \"e\", at = 5 },
 ]
 ",
         "block 0 Ns 1 0
@@ -95,7 +99,9 @@ block 0 Ns 2 5
 0 schedule c 1
 0 cancel 0 1
 0 fixed d 1 1
+3 execute e
 5 cancel 1 1
+5 cancel 1 2
 ",
     )
 }

@@ -7,6 +7,7 @@ use Rattle.plan_read.specs.declared.verbs.Verb.TheVariants as verbs
 -- an operation submits a task, also an illegal one
 abbrev pub submits : Verb → Bool
 submits verbs.Schedule = true
+submits verbs.Execute = true
 submits verbs.Rate = true
 submits verbs.Fixed = true
 submits _ = false

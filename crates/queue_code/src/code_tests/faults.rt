@@ -81,6 +81,14 @@ fn policies_shutdowns_and_questions_have_their_faults(rt: HostRuntime) -> Result
     assert!(rt;
         has_its_faults(
             alloc,
+            &Instr::ShutdownNow(LONGEST),
+            &Instr::ShutdownNow(late),
+            &Instr::ShutdownNow(6)
+        )
+    );
+    assert!(rt;
+        has_its_faults(
+            alloc,
             &Instr::Ask(LONGEST),
             &Instr::Ask(late),
             &Instr::Ask(6)

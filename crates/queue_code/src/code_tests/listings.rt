@@ -42,13 +42,14 @@ fn policies_shutdowns_and_questions_have_their_lines(rt: HostRuntime) -> Result<
             Instr::SetPolicy(1, Which::Execute, false),
             Instr::SetPolicy(LONGEST, Which::Remove, true),
             Instr::Shutdown(LONGEST),
+            Instr::ShutdownNow(LONGEST),
             Instr::Ask(LONGEST),
             Instr::Halt,
         ],
     )?;
     let text = listing(alloc, &code)?;
     let lines =
-        "0 policy 0 continue true\n1 policy 1 execute false\n2 policy 4611686018427387904 remove true\n3 shutdown 4611686018427387904\n4 ask 4611686018427387904\n5 halt\n";
+        "0 policy 0 continue true\n1 policy 1 execute false\n2 policy 4611686018427387904 remove true\n3 shutdown 4611686018427387904\n4 shutdown_now 4611686018427387904\n5 ask 4611686018427387904\n6 halt\n";
     assert!(rt; text.as_str() == lines);
     let ask = [
         Instr::Loop(65_536, 1),

@@ -176,6 +176,7 @@ fn policies_shutdowns_and_questions_are_made(rt: HostRuntime) -> Result<(), Fail
             Instr::Illegal(3),
             Instr::SetPolicy(4, Which::Execute, false),
             Instr::CancelHere(4, 0),
+            Instr::ShutdownNow(4),
             Instr::EndLoop,
             Instr::Shutdown(14),
             Instr::SetPolicy(14, Which::Remove, true),
@@ -183,7 +184,7 @@ fn policies_shutdowns_and_questions_are_made(rt: HostRuntime) -> Result<(), Fail
             Instr::Halt,
         ],
     )?;
-    assert_eq!(rt; code.calls(), 12);
+    assert_eq!(rt; code.calls(), 14);
     assert_eq!(rt; code.tasks(), 2);
     let mut cursor = Cursor::new(&code);
     let calls = [
@@ -192,10 +193,12 @@ fn policies_shutdowns_and_questions_are_made(rt: HostRuntime) -> Result<(), Fail
         (3, CodeCall::Illegal { task: 0 }),
         (4, set(Which::Execute, false)),
         (4, CodeCall::Cancel { task: 0 }),
+        (4, CodeCall::ShutdownNow),
         (12, CodeCall::Ask),
         (13, CodeCall::Illegal { task: 1 }),
         (14, set(Which::Execute, false)),
         (14, CodeCall::Cancel { task: 1 }),
+        (14, CodeCall::ShutdownNow),
         (14, CodeCall::Shutdown),
         (14, set(Which::Remove, true)),
         (15, CodeCall::Ask),

@@ -34,6 +34,21 @@ call = [
 ",
         "0 loop 3 every 10\n1 submit 100 schedule 50\n2 cancel 104 here 0\n3 endloop\n4 halt\n",
     );
+    lists(
+        &rt,
+        "version = 1
+[[block]]
+at = 7
+times = 2
+every = 10
+call = [
+  { op = \"execute\", name = \"a\" },
+  { at = 5, op = \"shutdown_now\" },
+  { at = 5, op = \"shutdown\" },
+]
+",
+        "0 loop 2 every 10\n1 submit 7 schedule 0\n2 shutdown_now 12\n3 shutdown 12\n4 endloop\n5 halt\n",
+    );
 }
 
 #[test]

@@ -1,5 +1,7 @@
 //! Texts that are no trace of a plan, beside some that are one.
-use super::plans::{A_SWEEP, NO_OVERLAP_TRACE, ONE_DELAY, TWO_WORKERS, TWO_WORKERS_TRACE};
+use super::plans::{
+    A_SWEEP, NO_OVERLAP_TRACE, ONE_DELAY, STOPPED, STOPPED_AGAIN, TWO_WORKERS, TWO_WORKERS_TRACE,
+};
 use super::*;
 
 /// A plan without calls.
@@ -117,6 +119,120 @@ fn ends_of_tasks(rt: HostRuntime) -> Result<(), Fail> {
         ("6 end 1\n5 end 2\n", Finding::Breaks(6)),
     ] {
         assert_eq!(rt; found(&rt, A_SWEEP, &[front, ends])?, finding, "{ends}");
+    }
+    Ok(())
+}
+
+/// The line of a shutdown at once, and those of the tasks that it ends.
+#[test]
+fn ends_of_a_shutdown_at_once(rt: HostRuntime) -> Result<(), Fail> {
+    let front = "\
+0 submit 0 schedule due 9
+0 submit 1 rate due 0
+0 submit 2 schedule due 0
+0 submit 3 schedule due 7
+0 clock
+0 start 0 task 1 run 0 due 0
+1 cancel 3 yes
+";
+    for (lines, finding) in [
+        ("2 shutdown now\n2 end 0\n2 end 2\n", Finding::Conforms),
+        ("2 shutdown\n2 end 0\n2 end 2\n", Finding::Breaks(8)),
+        ("2 shutdown again\n", Finding::Breaks(8)),
+        (
+            "2 ask queue 2 running 1 shutdown no terminated no\n",
+            Finding::Breaks(8),
+        ),
+        ("2 shutdown now\n", Finding::Breaks(9)),
+        ("2 shutdown now\n2 end 0\n", Finding::Breaks(10)),
+        ("2 shutdown now\n2 end 2\n", Finding::Breaks(9)),
+        ("2 shutdown now\n2 end 2\n2 end 0\n", Finding::Breaks(9)),
+        (
+            "2 shutdown now\n2 end 0\n2 end 1\n2 end 2\n",
+            Finding::Breaks(10),
+        ),
+        (
+            "2 shutdown now\n2 end 0\n2 end 2\n2 end 3\n",
+            Finding::Breaks(11),
+        ),
+        (
+            "2 shutdown now\n2 end 0\n2 end 2\n2 start 0 task 0 run 0 due 9\n",
+            Finding::Breaks(11),
+        ),
+    ] {
+        assert_eq!(rt; found(&rt, STOPPED, &[front, lines])?, finding, "{lines}");
+    }
+    Ok(())
+}
+
+/// What comes of a run that is under way at a shutdown at once, of questions, of policies and of submissions after it.
+#[test]
+fn lines_after_a_shutdown_at_once(rt: HostRuntime) -> Result<(), Fail> {
+    let front = "\
+0 submit 0 schedule due 9
+0 submit 1 rate due 0
+0 submit 2 schedule due 0
+0 submit 3 schedule due 7
+0 clock
+0 start 0 task 1 run 0 due 0
+1 cancel 3 yes
+2 shutdown now
+2 end 0
+2 end 2
+";
+    let asked = "2 ask queue 0 running 1 shutdown yes terminated no\n";
+    let counted = "2 ask queue 1 running 1 shutdown yes terminated no\n";
+    let set = "3 policy continue true\n3 clock\n";
+    let again = "3 finish 0 task 1 run 0 again due 2\n";
+    let dropped = "3 finish 0 task 1 run 0 dropped\n";
+    for (asked, last, finding) in [
+        (asked, "3 finish 0 task 1 run 0 ended\n", Finding::Conforms),
+        (asked, "4 refuse 4 rejected\n", Finding::Conforms),
+        (counted, "4 refuse 4 rejected\n", Finding::Breaks(11)),
+        (asked, again, Finding::Breaks(14)),
+        (asked, dropped, Finding::Breaks(14)),
+        (asked, "4 submit 4 schedule due 4\n", Finding::Breaks(14)),
+        (asked, "4 refuse 4 illegal\n", Finding::Breaks(14)),
+    ] {
+        let found = found(&rt, STOPPED, &[front, asked, set, last])?;
+        assert_eq!(rt; found, finding, "{asked}{last}");
+    }
+    Ok(())
+}
+
+/// Shutdowns of both kinds, one after the other.
+#[test]
+fn shutdowns_of_both_kinds(rt: HostRuntime) -> Result<(), Fail> {
+    let front = "0 submit 0 rate due 5\n0 policy continue true\n1 shutdown\n";
+    let now = "2 shutdown now\n2 end 0\n";
+    for (lines, finding) in [
+        (
+            [now, "3 shutdown again\n3 shutdown now\n"],
+            Finding::Conforms,
+        ),
+        ([now, "3 shutdown\n"], Finding::Breaks(6)),
+        ([now, "3 shutdown now\n"], Finding::Breaks(6)),
+        ([now, "2 end 0\n"], Finding::Breaks(6)),
+        (
+            [now, "3 shutdown again\n3 shutdown again\n"],
+            Finding::Breaks(7),
+        ),
+        (
+            [now, "3 shutdown again\n3 shutdown now\n3 end 0\n"],
+            Finding::Breaks(8),
+        ),
+        (["2 shutdown again\n", ""], Finding::Breaks(4)),
+        (
+            ["2 shutdown now\n", "3 shutdown again\n"],
+            Finding::Breaks(5),
+        ),
+    ] {
+        let [first, second] = lines;
+        assert_eq!(rt;
+            found(&rt, STOPPED_AGAIN, &[front, first, second])?,
+            finding,
+            "{first}{second}"
+        );
     }
     Ok(())
 }

@@ -7,8 +7,8 @@ ghost use Rattle.queue_code.specs.Codes.{calls_of};
 use super::plainly::plain_finding;
 use super::plans::{
     A_CANCEL_OF_A_RUN, A_CANCEL_OF_A_RUN_TRACE, A_SWEEP, A_SWEEP_TRACE, AN_ENDED_RUN,
-    AN_ENDED_RUN_TRACE, ERRORS, ERRORS_TRACE, POLICIES, POLICIES_TRACE, TWO_WORKERS,
-    TWO_WORKERS_TRACE,
+    AN_ENDED_RUN_TRACE, ERRORS, ERRORS_TRACE, POLICIES, POLICIES_TRACE, STOPPED, STOPPED_AGAIN,
+    STOPPED_AGAIN_TRACE, STOPPED_TRACE, TWO_WORKERS, TWO_WORKERS_TRACE,
 };
 use super::*;
 use plan_compile::compile;
@@ -255,6 +255,37 @@ fn of_policies_that_sweep(rt: HostRuntime) -> Result<(), Fail> {
         (4, CodeCall::Ask),
     ];
     finds_changes(&rt, POLICIES, &calls, 1, POLICIES_TRACE, 2)
+}
+
+/// The last clock may show 9 as well, and 44.
+#[test]
+fn of_a_shutdown_at_once(rt: HostRuntime) -> Result<(), Fail> {
+    let calls = [
+        (0, submit(0, Timing::Once, 9)),
+        (0, submit(1, Timing::Rate(span(2, Unit::Ns)?), 0)),
+        (0, submit(2, Timing::Once, 0)),
+        (0, submit(3, Timing::Once, 7)),
+        (1, CodeCall::Cancel { task: 3 }),
+        (2, CodeCall::ShutdownNow),
+        (2, CodeCall::Ask),
+        (3, set(Which::Continue, true)),
+        (4, submit(4, Timing::Once, 0)),
+    ];
+    finds_changes(&rt, STOPPED, &calls, 1, STOPPED_TRACE, 2)
+}
+
+/// The last clock may show 9 as well, and 33.
+#[test]
+fn of_shutdowns_of_both_kinds(rt: HostRuntime) -> Result<(), Fail> {
+    let calls = [
+        (0, submit(0, Timing::Rate(span(5, Unit::Ns)?), 5)),
+        (0, set(Which::Continue, true)),
+        (1, CodeCall::Shutdown),
+        (2, CodeCall::ShutdownNow),
+        (3, CodeCall::Shutdown),
+        (3, CodeCall::ShutdownNow),
+    ];
+    finds_changes(&rt, STOPPED_AGAIN, &calls, 1, STOPPED_AGAIN_TRACE, 2)
 }
 
 #[test]

@@ -95,7 +95,8 @@ fn happen_plainly(
 fn plain_happening(workers: u8, before: &[Line], moment: u64, answer: Answer) -> Option<Happening> {
     Some(match answer {
         Answer::Submit { .. } | Answer::Refuse { .. } | Answer::Cancel { .. } => Happening::Call,
-        Answer::Policy { .. } | Answer::Shutdown | Answer::ShutdownAgain => Happening::Call,
+        Answer::Policy { .. } => Happening::Call,
+        Answer::Shutdown | Answer::ShutdownAgain | Answer::ShutdownNow => Happening::Call,
         Answer::Ask { .. } => Happening::Call,
         Answer::Clock => Happening::Clock(moment),
         Answer::Start { worker, .. } | Answer::Idle { worker } => Happening::Start(worker),

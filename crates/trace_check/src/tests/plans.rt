@@ -185,3 +185,65 @@ pub const POLICIES_TRACE: &str = "\
 4 ask queue 0 running 0 shutdown yes terminated yes
 4 clock
 ";
+
+pub const STOPPED: &str = "\
+version = 1
+
+[[block]]
+call = [
+  { op = \"schedule\", name = \"a\", delay = 9 },
+  { op = \"rate\", name = \"b\", first = 0, period = 2 },
+  { op = \"execute\", name = \"c\" },
+  { op = \"schedule\", name = \"d\", delay = 7 },
+  { op = \"cancel\", name = \"d\", at = 1 },
+  { op = \"shutdown_now\", at = 2 },
+  { op = \"ask\", at = 2 },
+  { op = \"policy\", which = \"continue\", value = true, at = 3 },
+  { op = \"execute\", name = \"e\", at = 4 },
+]
+";
+
+pub const STOPPED_TRACE: &str = "\
+0 submit 0 schedule due 9
+0 submit 1 rate due 0
+0 submit 2 schedule due 0
+0 submit 3 schedule due 7
+0 clock
+0 start 0 task 1 run 0 due 0
+1 cancel 3 yes
+2 shutdown now
+2 end 0
+2 end 2
+2 ask queue 0 running 1 shutdown yes terminated no
+3 policy continue true
+3 clock
+3 finish 0 task 1 run 0 ended
+3 start 0 idle
+4 refuse 4 rejected
+4 clock
+";
+
+pub const STOPPED_AGAIN: &str = "\
+version = 1
+
+[[block]]
+call = [
+  { op = \"rate\", name = \"a\", first = 5, period = 5 },
+  { op = \"policy\", which = \"continue\", value = true },
+  { op = \"shutdown\", at = 1 },
+  { op = \"shutdown_now\", at = 2 },
+  { op = \"shutdown\", at = 3 },
+  { op = \"shutdown_now\", at = 3 },
+]
+";
+
+pub const STOPPED_AGAIN_TRACE: &str = "\
+0 submit 0 rate due 5
+0 policy continue true
+1 shutdown
+2 shutdown now
+2 end 0
+3 shutdown again
+3 shutdown now
+3 clock
+";

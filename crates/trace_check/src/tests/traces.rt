@@ -2,6 +2,7 @@
 use super::plans::{
     A_CANCEL_OF_A_RUN, A_CANCEL_OF_A_RUN_TRACE, A_SWEEP, A_SWEEP_TRACE, AN_ENDED_RUN,
     AN_ENDED_RUN_TRACE, ERRORS, ERRORS_TRACE, ONE_DELAY, ONE_DELAY_TRACE, POLICIES, POLICIES_TRACE,
+    STOPPED, STOPPED_AGAIN, STOPPED_AGAIN_TRACE, STOPPED_TRACE,
 };
 use super::*;
 
@@ -211,6 +212,16 @@ fn an_ended_run(rt: HostRuntime) -> Result<(), Fail> {
 #[test]
 fn policies_that_sweep(rt: HostRuntime) -> Result<(), Fail> {
     conforms(&rt, POLICIES, POLICIES_TRACE)
+}
+
+#[test]
+fn a_shutdown_at_once(rt: HostRuntime) -> Result<(), Fail> {
+    conforms(&rt, STOPPED, STOPPED_TRACE)
+}
+
+#[test]
+fn a_shutdown_at_once_after_a_shutdown(rt: HostRuntime) -> Result<(), Fail> {
+    conforms(&rt, STOPPED_AGAIN, STOPPED_AGAIN_TRACE)
 }
 
 #[test]

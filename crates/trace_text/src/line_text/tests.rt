@@ -90,6 +90,13 @@ fn writes_policies(rt: HostRuntime) {
 fn writes_shutdowns(rt: HostRuntime) {
     writes(&rt, 0, Answer::Shutdown, "0 shutdown\n");
     writes(&rt, 9, Answer::ShutdownAgain, "9 shutdown again\n");
+    writes(&rt, 0, Answer::ShutdownNow, "0 shutdown now\n");
+    writes(
+        &rt,
+        u64::MAX,
+        Answer::ShutdownNow,
+        "18446744073709551615 shutdown now\n",
+    );
 }
 
 #[test]

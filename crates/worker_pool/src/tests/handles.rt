@@ -109,6 +109,51 @@ fn a_sweep_meets_the_last_tasks_cancelled(rt: HostRuntime) -> Result<(), Fail> {
     )
 }
 
+/// A periodic task runs at a shutdown at once, before which a handle cancelled one of the tasks that wait. After it the handle
+/// cancels the one that runs, and no other.
+#[test]
+fn a_shutdown_at_once_meets_a_cancel(rt: HostRuntime) -> Result<(), Fail> {
+    let instrs = [
+        Instr::Submit(0, Timing::Rate(span(5, Unit::Ns)?), 0),
+        once(0),
+        once(9),
+        once(9),
+        Instr::ShutdownNow(5),
+    ];
+    let steps = [
+        Step::Apply(Event::Clock(0)),
+        Step::Apply(Event::Start(0)),
+        Step::Admit,
+        Step::Cancel(0, 2),
+        Step::Apply(Event::Clock(5)),
+        Step::Cancel(0, 1),
+        Step::Cancel(0, 3),
+        Step::Cancel(0, 0),
+        Step::Apply(Event::Finish(0, Ending::Value(7))),
+        Step::Retire(0),
+    ];
+    let told = [
+        lines(5),
+        Told::Lines(1, Some(Work { task: 0, run: 0 })),
+        Told::Admitted,
+        Told::Cancel(CancelAnswer::Yes),
+        lines(5),
+        Told::Cancel(CancelAnswer::No),
+        Told::Cancel(CancelAnswer::No),
+        Told::Cancel(CancelAnswer::Yes),
+        lines(2),
+        Told::Retired,
+    ];
+    let played = play(rt.alloc(), &instrs, 1, 1_000_000, &steps)?;
+    check(&rt, &played, &told, AROUND_A_STOP)
+}
+
+/// The lines of a book around a shutdown at once, of whose four tasks a handle cancelled two.
+const AROUND_A_STOP: &str =
+    "0 submit 0 rate due 0\n0 submit 1 schedule due 0\n0 submit 2 schedule due 9\n\
+    0 submit 3 schedule due 9\n0 clock\n0 start 0 task 0 run 0 due 0\n0 outside 2 yes\n\
+    5 shutdown now\n5 end 1\n5 end 3\n5 clock\n5 outside 0 yes\n5 finish 0 task 0 run 0 dropped\n";
+
 /// Two handles cancel a task each, and come back in this order.
 fn retired_in(
     rt: &(impl Abort + AllocGlobal),

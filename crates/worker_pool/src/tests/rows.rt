@@ -93,6 +93,44 @@ fn a_sweep_meets_a_cancel(rt: HostRuntime) -> Result<(), Fail> {
 }
 
 #[test]
+fn a_sweep_at_once_meets_a_cancel(rt: HostRuntime) -> Result<(), Fail> {
+    let instrs = [
+        Instr::SetPolicy(0, Which::Execute, false),
+        once(9),
+        Instr::ShutdownNow(5),
+    ];
+    let row = Row {
+        instrs: &instrs,
+        steps: &[
+            Step::Apply(Event::Clock(0)),
+            Step::Admit,
+            Step::Cancel(0, 0),
+            Step::Apply(Event::Clock(5)),
+            Step::Retire(0),
+        ],
+        told: &[
+            lines(3),
+            Told::Admitted,
+            Told::Cancel(CancelAnswer::Yes),
+            lines(3),
+            Told::Retired,
+        ],
+        text: "0 policy execute false\n0 submit 0 schedule due 9\n0 clock\n0 outside 0 yes\n5 shutdown now\n5 clock\n",
+    };
+    refuse_each(
+        &rt,
+        &row,
+        &[
+            Refused::Shared,
+            Refused::Book,
+            Refused::Step(0),
+            Refused::Step(1),
+            Refused::Step(3),
+        ],
+    )
+}
+
+#[test]
 fn a_finish_meets_a_cancel(rt: HostRuntime) -> Result<(), Fail> {
     let heartbeat = Instr::Submit(0, Timing::Rate(span(5, Unit::Ns)?), 0);
     let row = Row {

@@ -1,4 +1,4 @@
-//! All sequences of four steps, and those of five that begin with the clock: the text of the book's lines conforms, by the plan
+//! All sequences of four steps, and those of five that begin with the clock, also with a shutdown at once: the text of the book's lines conforms, by the plan
 //! alone, and the lines are those that the plain program has for the happenings.
 ghost use Rattle.std.specs.Prelude.{◌≡◌, IfOk};
 ghost use Rattle.queue_code.specs.Codes.{calls_of};
@@ -25,6 +25,18 @@ call = [
   { op = "schedule", name = "a", delay = 0 },
   { op = "rate", name = "b", first = 0, period = 2 },
   { op = "shutdown", at = 5 },
+]
+"#;
+
+/// The same with a shutdown at once, and a task that is due later.
+const STOPPED: &str = r#"version = 1
+
+[[block]]
+call = [
+  { op = "execute", name = "a" },
+  { op = "rate", name = "b", first = 0, period = 2 },
+  { op = "schedule", name = "c", delay = 9 },
+  { op = "shutdown_now", at = 5 },
 ]
 "#;
 
@@ -139,6 +151,15 @@ fn all_sequences_of_four_conform(rt: HostRuntime) -> Result<(), Fail> {
 #[test]
 fn all_sequences_behind_a_clock_conform(rt: HostRuntime) -> Result<(), Fail> {
     let plan = read_plan(rt.alloc(), PLAN.as_bytes())?;
+    for number in 0..6_561u32 {
+        compare(&rt, rt.alloc(), &plan, Step::Apply(Event::Clock(0)), number)?;
+    }
+    Ok(())
+}
+
+#[test]
+fn all_sequences_around_a_shutdown_at_once_conform(rt: HostRuntime) -> Result<(), Fail> {
+    let plan = read_plan(rt.alloc(), STOPPED.as_bytes())?;
     for number in 0..6_561u32 {
         compare(&rt, rt.alloc(), &plan, Step::Apply(Event::Clock(0)), number)?;
     }

@@ -7,7 +7,7 @@ use Rattle.executor_plain.proofs.ends.swept.Goals as goal
 
 pub loop-k-preserved : goal.loop-k-preserved
 loop-k-preserved g c =
-    let test : ℕ → Bool = is_swept c.args.calls.now (record (view_of_history c.args.calls.now c.args.past.now) { moment = c.args.now }) c.args.policies in
+    let test : ℕ → Bool = is_swept c.args.calls.now (record (view_of_history c.args.calls.now c.args.past.now) { moment = c.args.now; stopped = c.args.stopped }) c.args.policies in
     let k = c.loop-k.k in
     let already : List ℕ = c.loop-k.ends.items in
     elim c.if-is_swept.branch [

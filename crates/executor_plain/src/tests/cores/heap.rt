@@ -109,22 +109,25 @@ fn room_is_made_where_there_is_less(rt: HostRuntime) -> Result<(), Fail> {
     Ok(())
 }
 
-/// Three tasks, and then what ends them all: five calls.
-fn plan_with_shutdown() -> Result<[Instr; 5], Fail> {
+/// Three tasks, and then what ends them all, the last of it this instruction: five calls.
+fn plan_that_ends_with(last: Instr) -> Result<[Instr; 5], Fail> {
     Ok([
         Instr::Submit(0, Timing::Rate(nanos(5)?), 1),
         Instr::Submit(0, Timing::Fixed(nanos(5)?), 1),
         submission(0, 1),
         Instr::SetPolicy(0, Which::Execute, false),
-        Instr::Shutdown(0),
+        last,
     ])
 }
 
 /// The clock needs room for its own line, one for each of the five calls, and one for each of the three tasks that end.
 #[test]
 fn a_sweep_with_exactly_its_room_takes_no_memory(rt: HostRuntime) -> Result<(), Fail> {
-    let instrs = plan_with_shutdown()?;
-    takes_no_memory(&rt, &instrs, 9, &[Event::Clock(0)], (9, 0, 1, 3))
+    for last in [Instr::Shutdown(0), Instr::ShutdownNow(0)] {
+        let instrs = plan_that_ends_with(last)?;
+        takes_no_memory(&rt, &instrs, 9, &[Event::Clock(0)], (9, 0, 1, 3))?;
+    }
+    Ok(())
 }
 
 /// Why no core is made of these instructions in a heap, and none where one is made; either way all memory is given

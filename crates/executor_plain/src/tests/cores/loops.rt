@@ -32,6 +32,33 @@ fn each_iteration_submits_and_cancels_its_own_task(rt: HostRuntime) -> Result<()
     )
 }
 
+/// The first shutdown at once ends the first task, and the others are rejected.
+#[test]
+fn each_iteration_shuts_down_at_once(rt: HostRuntime) -> Result<(), Fail> {
+    let instrs = [
+        Instr::Submit(0, Timing::Once, 500),
+        Instr::Loop(3, 10),
+        Instr::Submit(100, Timing::Once, 50),
+        Instr::ShutdownNow(104),
+        Instr::EndLoop,
+    ];
+    says_after(
+        &rt,
+        &instrs,
+        &[Event::Clock(124)],
+        "0 Answer(Submit { task: 0, kind: Schedule, due: 500 })\n\
+         100 Answer(Submit { task: 1, kind: Schedule, due: 150 })\n\
+         104 Answer(ShutdownNow)\n\
+         104 End(0)\n\
+         104 End(1)\n\
+         110 Answer(Refuse { task: 2, refusal: Rejected })\n\
+         114 Answer(ShutdownNow)\n\
+         120 Answer(Refuse { task: 3, refusal: Rejected })\n\
+         124 Answer(ShutdownNow)\n\
+         124 Answer(Clock)\n",
+    )
+}
+
 /// How much of its heap a core has taken that asks this many times, as much after it as before.
 fn asks_take_no_memory(
     rt: &(impl AllocGlobal + Abort),

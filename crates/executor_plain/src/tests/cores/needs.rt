@@ -254,6 +254,36 @@ fn sweeps_tell_whom_the_next_call_ends(rt: HostRuntime) -> Result<(), Fail> {
     calls_tell_ends(&rt, &mut core_of(rt.alloc(), &calls, 1, 100)?, &ends)
 }
 
+/// A sweep of a shutdown at once ends each task that waits, whatever the policies say: the second one here has nothing
+/// more to end, and no task there is.
+#[test]
+fn a_shutdown_at_once_ends_each_task_that_waits(rt: HostRuntime) -> Result<(), Fail> {
+    let calls = [
+        Instr::Submit(0, Timing::Rate(nanos(5)?), 9),
+        submission(0, 4),
+        submission(0, 3),
+        Instr::CancelFixed(2, 1),
+        Instr::Illegal(3),
+        Instr::ShutdownNow(3),
+        Instr::ShutdownNow(3),
+        stop(3, Which::Continue),
+        stop(3, Which::Execute),
+    ];
+    let none = [false; 4];
+    let ends = [
+        none,
+        none,
+        none,
+        none,
+        [true, false, true, false],
+        none,
+        none,
+        none,
+        none,
+    ];
+    calls_tell_ends(&rt, &mut core_of(rt.alloc(), &calls, 1, 100)?, &ends)
+}
+
 /// Checks what a core needs for the calls up to a moment, and makes its next call where there is one.
 fn call_needs<A: Allocator, B: Allocator>(
     rt: &impl Abort,
@@ -292,4 +322,69 @@ fn calls_are_needed_from_their_moments_on(rt: HostRuntime) -> Result<(), Fail> {
         (u64::MAX, None),
     ];
     calls_need(&rt, &mut two_timers(rt.alloc())?, &steps)
+}
+
+/// Each shutdown at once needs a sweep, whether the executor is shut before it or not; a shutdown and a submission after it
+/// need nothing.
+#[test]
+fn a_shutdown_at_once_needs_a_sweep(rt: HostRuntime) -> Result<(), Fail> {
+    let calls = [
+        submission(0, 9),
+        Instr::ShutdownNow(1),
+        Instr::ShutdownNow(2),
+        Instr::Shutdown(2),
+        submission(2, 0),
+        Instr::CancelFixed(2, 0),
+        stop(3, Which::Execute),
+        Instr::SetPolicy(3, Which::Execute, true),
+        stop(3, Which::Remove),
+        Instr::Shutdown(3),
+    ];
+    let none = Some(Need::Nothing);
+    let sweep = Some(Need::Sweep);
+    let steps = [
+        (0, Some(Need::Submit(0))),
+        (0, None),
+        (1, sweep),
+        (2, sweep),
+        (2, none),
+        (2, none),
+        (2, none),
+        (3, sweep),
+        (3, none),
+        (3, none),
+        (u64::MAX, none),
+        (u64::MAX, None),
+    ];
+    calls_need(&rt, &mut core_of(rt.alloc(), &calls, 1, 100)?, &steps)
+}
+
+/// What happens around a shutdown at once: a periodic task runs, one with one run waits, and the first ends with its run.
+#[test]
+fn a_run_under_way_at_a_shutdown_at_once_needs_a_cancel_at_its_end(
+    rt: HostRuntime,
+) -> Result<(), Fail> {
+    let calls = [
+        Instr::SetPolicy(0, Which::Continue, true),
+        Instr::Submit(0, Timing::Rate(nanos(5)?), 0),
+        submission(0, 9),
+        Instr::ShutdownNow(1),
+    ];
+    let call = Happening::Call;
+    let none = Need::Nothing;
+    let steps = [
+        (call, none, " v0 v0"),
+        (call, Need::Submit(0), " n0 v0"),
+        (call, Need::Submit(1), " n0 n0"),
+        (Happening::Start(0), Need::Start(0), " r0 n0"),
+        (call, Need::Sweep, " r0 n0!"),
+        (Happening::Clock(9), none, " r0 n0!"),
+        (
+            Happening::Finish(0, Ending::Value(1)),
+            Need::Cancel(0),
+            " r0! n0!",
+        ),
+        (Happening::Start(0), none, " r0! n0!"),
+    ];
+    needs_say(&rt, &mut core_of(rt.alloc(), &calls, 1, 100)?, &steps)
 }

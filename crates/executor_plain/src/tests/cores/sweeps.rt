@@ -1,4 +1,4 @@
-//! The lines of the tasks that a shutdown ends.
+//! The lines of the tasks that a shutdown ends, orderly or at once.
 use super::{lines_after, nanos, submission};
 use executor_core::{Answer, Event, Line, Message};
 use queue_code::Instr;
@@ -7,11 +7,11 @@ use std::alloc::{AllocGlobal, Global};
 use std::process::Abort;
 use std::test::Fail;
 
-/// A plan of 1,000 tasks at a fixed rate, then a shutdown, and then a question.
-fn plan_with_shutdown(alloc: Global) -> Result<Vec<Instr>, Fail> {
+/// A plan of 1,000 tasks at a fixed rate, then this instruction, and then a question.
+fn plan_of_thousand(alloc: Global, last: Instr) -> Result<Vec<Instr>, Fail> {
     let task = Instr::Submit(0, Timing::Rate(nanos(5)?), 9);
     let mut instrs = Vec::from_elem(alloc, task, 1_000)?;
-    instrs.push(Instr::Shutdown(3))?;
+    instrs.push(last)?;
     instrs.push(Instr::Ask(3))?;
     Ok(instrs)
 }
@@ -22,8 +22,8 @@ fn line_says(rt: &impl Abort, line: Option<&Line>, message: Message) {
     assert_eq!(rt; line.copied(), Some(Line { moment, message }));
 }
 
-/// Checks the lines of a thousand tasks that end, and of the calls before and behind them.
-fn thousand_end(rt: &impl Abort, lines: &[Line]) {
+/// Checks the lines of a thousand tasks that end behind this answer, and of the calls before and behind them.
+fn thousand_end(rt: &impl Abort, lines: &[Line], answer: Answer) {
     let asked = Answer::Ask {
         queue: 0,
         running: 0,
@@ -31,7 +31,7 @@ fn thousand_end(rt: &impl Abort, lines: &[Line]) {
         terminated: true,
     };
     assert_eq!(rt; lines.len(), 2_003);
-    line_says(rt, lines.get(1_000), Message::Answer(Answer::Shutdown));
+    line_says(rt, lines.get(1_000), Message::Answer(answer));
     for task in 0..1_000u32 {
         line_says(rt, lines.get(1_001 + task as usize), Message::End(task));
     }
@@ -41,8 +41,15 @@ fn thousand_end(rt: &impl Abort, lines: &[Line]) {
 
 #[test]
 fn one_clock_ends_a_thousand_tasks(rt: HostRuntime) -> Result<(), Fail> {
-    let instrs = plan_with_shutdown(rt.alloc())?;
-    thousand_end(&rt, &lines_after(&rt, &instrs, 1, &[Event::Clock(3)])?);
+    let cases = [
+        (Instr::Shutdown(3), Answer::Shutdown),
+        (Instr::ShutdownNow(3), Answer::ShutdownNow),
+    ];
+    for (last, answer) in cases {
+        let instrs = plan_of_thousand(rt.alloc(), last)?;
+        let lines = lines_after(&rt, &instrs, 1, &[Event::Clock(3)])?;
+        thousand_end(&rt, &lines, answer);
+    }
     Ok(())
 }
 
@@ -189,4 +196,69 @@ fn periodic_tasks_are_ended_after_the_delayed_ones(rt: HostRuntime) -> Result<()
         go_on(3, false),
     ];
     finishes_and_ends_are(&rt, &instrs, 1, &[Event::Clock(3)], "2 1 ends; 3 0 ends; ")
+}
+
+/// The shutdown notes the periodic task that runs, and the delayed ones are not noted: a shutdown at once ends both, and a
+/// task between them.
+#[test]
+fn a_shutdown_at_once_ends_tasks_that_were_not_noted(rt: HostRuntime) -> Result<(), Fail> {
+    let instrs = [
+        submission(0, 20),
+        Instr::Submit(0, Timing::Rate(nanos(5)?), 0),
+        submission(0, 0),
+        submission(0, 30),
+        Instr::Shutdown(1),
+        go_on(2, true),
+        Instr::ShutdownNow(4),
+        go_on(5, false),
+        Instr::SetPolicy(5, Which::Execute, false),
+    ];
+    let events = [
+        Event::Clock(0),
+        Event::Start(0),
+        Event::Clock(2),
+        ends(0),
+        Event::Clock(5),
+    ];
+    finishes_and_ends_are(
+        &rt,
+        &instrs,
+        1,
+        &events,
+        "2 1 Again(5); 4 0 ends; 4 1 ends; 4 2 ends; 4 3 ends; ",
+    )
+}
+
+/// After a shutdown at once nothing waits: later sweeps end nothing, and periodic runs end with their finish.
+#[test]
+fn sweeps_after_a_shutdown_at_once_end_nothing(rt: HostRuntime) -> Result<(), Fail> {
+    let rate = Timing::Rate(nanos(5)?);
+    let instrs = [
+        Instr::Submit(0, rate, 0),
+        Instr::Submit(0, rate, 0),
+        Instr::Submit(0, rate, 0),
+        submission(0, 9),
+        Instr::ShutdownNow(1),
+        go_on(2, false),
+        go_on(4, true),
+        Instr::SetPolicy(4, Which::Execute, false),
+        Instr::ShutdownNow(6),
+    ];
+    let events = [
+        Event::Clock(0),
+        Event::Start(0),
+        Event::Start(1),
+        Event::Clock(2),
+        ends(1),
+        Event::Clock(4),
+        ends(0),
+        Event::Clock(9),
+    ];
+    finishes_and_ends_are(
+        &rt,
+        &instrs,
+        2,
+        &events,
+        "1 2 ends; 1 3 ends; 2 1 Ended; 4 0 Ended; ",
+    )
 }

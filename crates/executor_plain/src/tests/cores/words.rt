@@ -125,3 +125,30 @@ fn words_tell_which_tasks_were_ended(rt: HostRuntime) -> Result<(), Fail> {
     ];
     words_say(&rt, &instrs, "Vacant 0;Vacant 0;Vacant 0;", &steps)
 }
+
+/// A shutdown at once ends each task that waits, also one that is due, and the periodic task that runs ends at its finish.
+#[test]
+fn words_tell_which_tasks_were_ended_at_once(rt: HostRuntime) -> Result<(), Fail> {
+    let instrs = [
+        Instr::SetPolicy(0, Which::Continue, true),
+        Instr::Submit(0, Timing::Rate(nanos(5)?), 0),
+        Instr::Submit(0, Timing::Fixed(nanos(5)?), 3),
+        submission(0, 1),
+        Instr::ShutdownNow(2),
+        submission(4, 0),
+    ];
+    let end = Event::Finish(0, Ending::Value(1));
+    let steps = [
+        (Event::Clock(0), "New 0;New 0;New 0;Vacant 0;"),
+        (Event::Start(0), "Running 0;New 0;New 0;Vacant 0;"),
+        (
+            Event::Clock(4),
+            "Running 0;New 0 cancelled;New 0 cancelled;Vacant 0;",
+        ),
+        (
+            end,
+            "Running 0 cancelled;New 0 cancelled;New 0 cancelled;Vacant 0;",
+        ),
+    ];
+    words_say(&rt, &instrs, "Vacant 0;Vacant 0;Vacant 0;Vacant 0;", &steps)
+}

@@ -272,3 +272,134 @@ clock 40
         },
     )
 }
+
+/// A service with two workers that is stopped at once.
+#[test]
+fn stop(rt: HostRuntime) -> Result<(), Fail> {
+    conforms(
+        &rt,
+        &Row {
+            plan: STOP,
+            workers: 2,
+            limit: 1_000_000,
+            events: STOP_EVENTS,
+            answer: Ok(Report {
+                events: 12,
+                lines: 26,
+            }),
+            trace: STOP_TRACE,
+        },
+    )
+}
+
+const STOP: &str = "\
+# A service that is stopped at once, with two workers. At 15 an import and a beat
+# of the heartbeat are under way: both go on to their ends. A mail that is due
+# already, since no worker was free, and a report that is due later are ended, and
+# a reminder that was cancelled leaves the queue. Nothing starts any more, and a
+# task that is submitted then is rejected. The heartbeat ends with its run, though
+# the policy says that periodic tasks go on after a shutdown.
+version = 1
+
+[[block]]
+
+[[block.call]]
+op = \"policy\"
+which = \"continue\"
+value = true
+
+[[block.call]]
+op = \"execute\"
+name = \"import\"
+
+[[block.call]]
+op = \"rate\"
+name = \"heartbeat\"
+first = 10
+period = 10
+
+[[block.call]]
+op = \"schedule\"
+name = \"mail\"
+delay = 12
+
+[[block.call]]
+op = \"schedule\"
+name = \"report\"
+delay = 30
+
+[[block.call]]
+op = \"schedule\"
+name = \"reminder\"
+delay = 25
+
+[[block.call]]
+op = \"cancel\"
+name = \"reminder\"
+at = 8
+
+[[block.call]]
+op = \"ask\"
+at = 14
+
+[[block.call]]
+op = \"shutdown_now\"
+at = 15
+
+[[block.call]]
+op = \"ask\"
+at = 15
+
+[[block.call]]
+op = \"execute\"
+name = \"late\"
+at = 16
+
+[[block.call]]
+op = \"ask\"
+at = 40
+";
+
+const STOP_EVENTS: &str = "\
+clock 0
+start 0
+clock 10
+start 1
+clock 14
+clock 16
+clock 18
+finish 1 ok 0
+start 1
+clock 25
+finish 0 ok 7
+clock 40
+";
+
+const STOP_TRACE: &str = "\
+0 policy continue true
+0 submit 0 schedule due 0
+0 submit 1 rate due 10
+0 submit 2 schedule due 12
+0 submit 3 schedule due 30
+0 submit 4 schedule due 25
+0 clock
+0 start 0 task 0 run 0 due 0
+8 cancel 4 yes
+10 clock
+10 start 1 task 1 run 0 due 10
+14 ask queue 3 running 2 shutdown no terminated no
+14 clock
+15 shutdown now
+15 end 2
+15 end 3
+15 ask queue 0 running 2 shutdown yes terminated no
+16 refuse 5 rejected
+16 clock
+18 clock
+18 finish 1 task 1 run 0 ended
+18 start 1 idle
+25 clock
+25 finish 0 task 0 run 0 done 7
+40 ask queue 0 running 0 shutdown yes terminated yes
+40 clock
+";

@@ -8,16 +8,6 @@ fn reads_words_alone(rt: HostRuntime) {
     for (answer, least, greatest) in [
         (Answer::Clock, "0 clock\n", "18446744073709551615 clock\n"),
         (
-            Answer::Shutdown,
-            "0 shutdown\n",
-            "18446744073709551615 shutdown\n",
-        ),
-        (
-            Answer::ShutdownAgain,
-            "0 shutdown again\n",
-            "18446744073709551615 shutdown again\n",
-        ),
-        (
             Answer::Error(EventError::Backward),
             "0 error backward\n",
             "18446744073709551615 error backward\n",
@@ -46,6 +36,30 @@ fn reads_words_alone(rt: HostRuntime) {
             Answer::Error(EventError::NoTask),
             "0 error no task\n",
             "18446744073709551615 error no task\n",
+        ),
+    ] {
+        reads(&rt, 0, answer, least);
+        reads(&rt, u64::MAX, answer, greatest);
+    }
+}
+
+#[test]
+fn reads_shutdowns(rt: HostRuntime) {
+    for (answer, least, greatest) in [
+        (
+            Answer::Shutdown,
+            "0 shutdown\n",
+            "18446744073709551615 shutdown\n",
+        ),
+        (
+            Answer::ShutdownAgain,
+            "0 shutdown again\n",
+            "18446744073709551615 shutdown again\n",
+        ),
+        (
+            Answer::ShutdownNow,
+            "0 shutdown now\n",
+            "18446744073709551615 shutdown now\n",
         ),
     ] {
         reads(&rt, 0, answer, least);

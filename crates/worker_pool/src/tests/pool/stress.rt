@@ -25,6 +25,17 @@ const SHUT: &str = "version = 1\n[[block]]\ntimes = 16\nevery = 0\n\
                     { op = \"shutdown\" },\n\
                     { op = \"policy\", which = \"continue\", value = false, at = 1 }]\n";
 
+/// A shutdown at once ends tasks of each kind that wait, whatever the policies are.
+const STOPPED: &str = "version = 1\n[[block]]\ntimes = 16\nevery = 0\n\
+                       call = [{ op = \"execute\", name = \"a\" },\n\
+                       { op = \"schedule\", name = \"b\", delay = 9 },\n\
+                       { op = \"rate\", name = \"c\", first = 0, period = 1 },\n\
+                       { op = \"fixed\", name = \"d\", first = 0, delay = 1 }]\n\
+                       [[block]]\nat = 1\n\
+                       call = [{ op = \"policy\", which = \"continue\", value = true },\n\
+                       { op = \"shutdown_now\" },\n\
+                       { op = \"shutdown_now\", at = 1 }]\n";
+
 /// Two workers and two handles over tasks with one run.
 const RACE: Race<'static> = Race {
     plan: ONCE,
@@ -78,6 +89,18 @@ fn periodic_tasks_are_cancelled_between_runs(rt: HostRuntime) -> Result<(), Fail
 fn a_shutdown_comes_in_between(rt: HostRuntime) -> Result<(), Fail> {
     let race = Race {
         plan: SHUT,
+        moments: &[0, 1, 2, 9],
+        beside: 1,
+        all_end: false,
+        ..RACE
+    };
+    run_races(&rt, &race)
+}
+
+#[test]
+fn a_shutdown_at_once_comes_in_between(rt: HostRuntime) -> Result<(), Fail> {
+    let race = Race {
+        plan: STOPPED,
         moments: &[0, 1, 2, 9],
         beside: 1,
         all_end: false,

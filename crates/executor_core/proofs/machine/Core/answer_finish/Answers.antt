@@ -49,7 +49,7 @@ invariant_of-self g c =
     let busy : slice_index_or m.work.items c.args.worker None ≡ Some k = sym (read_at m.work.items c.args.worker c.index.result.now None l c.index.ensures) ∙ c.in-Some.is in
     let task = c.get-task.result in
     let next = c.end_of_run-outcome.ensures.due ∙ ap (λ (x : CoreView). due_past task.timing task.due x.moment) (sym c.self.view_is) in
-    let out = c.end_of_run-outcome.ensures.outcome ∙ ap (λ (x : CoreView). outcome_in task.cancelled (stops_periodic x.shut x.policies) task.timing (due_past task.timing task.due x.moment) c.args.ending) (sym c.self.view_is) in
+    let out = c.end_of_run-outcome.ensures.outcome ∙ ap (λ (x : CoreView). outcome_in task.cancelled (stops_periodic x.shut x.stopped x.policies) task.timing (due_past task.timing task.due x.moment) c.args.ending) (sym c.self.view_is) in
     finish_keeps _ m.queue.entries m.kept.entries c.queue_if_again.new.queue.entries m.sought c.args.worker k c.end_of_run-outcome.result.1 c.args.ending c.end_of_run-outcome.result.0 task c.end_run.new.tasks c.self.invariant
     (record { worker = l; busy = busy; is = c.get-task.ensures; out = out; next = next }) c.end_run.ensures c.queue_if_again.ensures
 
@@ -61,7 +61,7 @@ returns-clause-step g c =
     let busy : slice_index_or m.work.items c.args.worker None ≡ Some k = sym (read_at m.work.items c.args.worker c.index.result.now None l c.index.ensures) ∙ c.in-Some.is in
     let task = c.get-task.result in
     let next = c.end_of_run-outcome.ensures.due ∙ ap (λ (x : CoreView). due_past task.timing task.due x.moment) (sym c.self.view_is) in
-    let out = c.end_of_run-outcome.ensures.outcome ∙ ap (λ (x : CoreView). outcome_in task.cancelled (stops_periodic x.shut x.policies) task.timing (due_past task.timing task.due x.moment) c.args.ending) (sym c.self.view_is) in
+    let out = c.end_of_run-outcome.ensures.outcome ∙ ap (λ (x : CoreView). outcome_in task.cancelled (stops_periodic x.shut x.stopped x.policies) task.timing (due_past task.timing task.due x.moment) c.args.ending) (sym c.self.view_is) in
     of_view _ c.args.self.now _ _ _ c.self.view_is
     (finish_takes _ m.queue.entries m.kept.entries m.sought c.args.worker k c.from-run.result c.end_of_run-outcome.result.1 c.args.ending c.end_of_run-outcome.result.0 task c.end_run.new.tasks c.self.invariant
     (record { worker = l; busy = busy; is = c.get-task.ensures; out = out; next = next }) c.end_run.ensures c.from-run.ensures)

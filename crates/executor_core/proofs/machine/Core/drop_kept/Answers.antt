@@ -19,12 +19,12 @@ pub invariant_of-self : goal.invariant_of-self
 invariant_of-self g c =
     let kept = c.loop-entry.invariant in
     dropped_kept _ _ c.self.inside.queue.entries c.loop-entry.self-inside.queue.entries c.self.inside.kept.entries c.loop-entry.self-inside.kept.entries c.self.inside.sought c.loop-entry.self-inside.sought c.self.invariant
-    (λ i. record { calls = (kept.rest i).calls.items; limit = (kept.rest i).limit; taken = (kept.rest i).taken; made = (kept.rest i).calls.made; moment = (kept.rest i).moment; tasks = c.loop-entry.self-inside.tasks; work = (kept.rest i).work.items; policies = (kept.rest i).policies; shut = (kept.rest i).shut })
+    (λ i. record { calls = (kept.rest i).calls.items; limit = (kept.rest i).limit; taken = (kept.rest i).taken; made = (kept.rest i).calls.made; moment = (kept.rest i).moment; tasks = c.loop-entry.self-inside.tasks; work = (kept.rest i).work.items; policies = (kept.rest i).policies; shut = (kept.rest i).shut; stopped = (kept.rest i).stopped })
     (λ i. (kept.rest i).queue.entries) (λ i. (kept.rest i).sought) kept.dropped kept.keeping
 
 pub returns : goal.returns
 returns g c =
     let kept = c.loop-entry.invariant in
     drops _ c.args.self.now _ c.loop-entry.self-inside.kept.entries c.self.view_is
-    (λ i. record { calls = (kept.rest i).calls.items; limit = (kept.rest i).limit; taken = (kept.rest i).taken; made = (kept.rest i).calls.made; moment = (kept.rest i).moment; tasks = c.loop-entry.self-inside.tasks; work = (kept.rest i).work.items; policies = (kept.rest i).policies; shut = (kept.rest i).shut })
+    (λ i. record { calls = (kept.rest i).calls.items; limit = (kept.rest i).limit; taken = (kept.rest i).taken; made = (kept.rest i).calls.made; moment = (kept.rest i).moment; tasks = c.loop-entry.self-inside.tasks; work = (kept.rest i).work.items; policies = (kept.rest i).policies; shut = (kept.rest i).shut; stopped = (kept.rest i).stopped })
     kept.dropped kept.keeping c.in_default.ensures.empty

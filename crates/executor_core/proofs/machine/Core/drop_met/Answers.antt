@@ -10,7 +10,7 @@ use Rattle.executor_core.proofs.machine.Core.drop_met.Goals as goal
 pub invariant_of-self : goal.invariant_of-self
 invariant_of-self g c =
     let meeting = c.loop-entry.invariant.meeting in
-    subst (λ x. IsWellFormedCore (record { calls = x.calls.items; limit = x.limit; taken = x.taken; made = x.calls.made; moment = x.moment; tasks = x.tasks; work = x.work.items; policies = x.policies; shut = x.shut }) x.queue.entries x.kept.entries x.sought)
+    subst (λ x. IsWellFormedCore (record { calls = x.calls.items; limit = x.limit; taken = x.taken; made = x.calls.made; moment = x.moment; tasks = x.tasks; work = x.work.items; policies = x.policies; shut = x.shut; stopped = x.stopped }) x.queue.entries x.kept.entries x.sought)
     (sym c.loop-entry.invariant.rest)
     (fewer_keeps _ c.self.inside.queue.entries c.self.inside.kept.entries c.loop-entry.self-inside.kept.entries c.self.inside.sought c.loop-entry.self-inside.tasks c.self.invariant meeting.fewer meeting.keeping)
 
@@ -39,7 +39,7 @@ loop-entry-preserved g c =
 pub invariant_of-self-in_default : goal.invariant_of-self-in_default
 invariant_of-self-in_default g c =
     let meeting = c.loop-entry.invariant.meeting in
-    subst (λ x. IsWellFormedCore (record { calls = x.calls.items; limit = x.limit; taken = x.taken; made = x.calls.made; moment = x.moment; tasks = x.tasks; work = x.work.items; policies = x.policies; shut = x.shut }) x.queue.entries x.kept.entries x.sought)
+    subst (λ x. IsWellFormedCore (record { calls = x.calls.items; limit = x.limit; taken = x.taken; made = x.calls.made; moment = x.moment; tasks = x.tasks; work = x.work.items; policies = x.policies; shut = x.shut; stopped = x.stopped }) x.queue.entries x.kept.entries x.sought)
     (sym c.loop-entry.invariant.rest)
     (fewer_keeps _ c.self.inside.queue.entries c.self.inside.kept.entries c.loop-entry.self-inside.kept.entries c.self.inside.sought c.loop-entry.self-inside.tasks c.self.invariant meeting.fewer meeting.keeping)
 

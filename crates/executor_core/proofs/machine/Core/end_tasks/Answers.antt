@@ -27,7 +27,7 @@ end-requires-clause-room g c =
     let cur = c.loop-task.self in
     let kept = c.loop-task.invariant in
     let k = c.loop-task.task in
-    let told = c.ends_under.ensures.test ∙ ap (λ (x : CoreView). is_swept cur.calls (record (view_of_state cur.calls (state_of cur)) { moment = x.moment }) x.policies k) c.self.view_is in
+    let told = c.ends_under.ensures.test ∙ ap (λ (x : CoreView). is_swept cur.calls (record (view_of_state cur.calls (state_of cur)) { moment = x.moment; stopped = x.stopped }) x.policies k) c.self.view_is in
     let swept : sweeps_at cur k ≡ true = sym told ∙ c.if-ends_under.true in
     let low : k < length cur.tasks = omega (arith, c.loop-task-test.true, c.len.ensures, ap (λ (x : CoreView). length x.tasks) c.self.view_is) in
     let live = waits_uncancelled (slice_index_or cur.tasks k vacant) (swept_waits_in _ cur m.queue.entries m.kept.entries m.sought k c.self.invariant c.self.view_is swept) in
@@ -39,7 +39,7 @@ loop-task-preserved g c =
     let cur = c.loop-task.self in
     let kept = c.loop-task.invariant in
     let k = c.loop-task.task in
-    let told = c.ends_under.ensures.test ∙ ap (λ (x : CoreView). is_swept cur.calls (record (view_of_state cur.calls (state_of cur)) { moment = x.moment }) x.policies k) c.self.view_is in
+    let told = c.ends_under.ensures.test ∙ ap (λ (x : CoreView). is_swept cur.calls (record (view_of_state cur.calls (state_of cur)) { moment = x.moment; stopped = x.stopped }) x.policies k) c.self.view_is in
     let low : k < length cur.tasks = omega (arith, c.loop-task-test.true, c.len.ensures, ap (λ (x : CoreView). length x.tasks) c.self.view_is) in
     elim c.if-ends_under.branch [
       | then-ends_under w ↦

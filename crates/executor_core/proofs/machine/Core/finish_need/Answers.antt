@@ -23,6 +23,6 @@ returns g c =
     let l : c.args.worker < length m.work.items = omega (arith, c.if-place-len.false, c.len.ensures, m.work.ok.0) in
     let busy : slice_index_or m.work.items c.args.worker None ≡ Some k = sym (read_at m.work.items c.args.worker c.index.result.now None l c.index.ensures) ∙ c.in-Some.is in
     let task = c.get-task.result in
-    let out = c.end_of_run-outcome.ensures.outcome ∙ ap (λ (x : CoreView). outcome_in task.cancelled (stops_periodic x.shut x.policies) task.timing (due_past task.timing task.due x.moment) c.args.ending) (sym c.self.view_is) in
+    let out = c.end_of_run-outcome.ensures.outcome ∙ ap (λ (x : CoreView). outcome_in task.cancelled (stops_periodic x.shut x.stopped x.policies) task.timing (due_past task.timing task.due x.moment) c.args.ending) (sym c.self.view_is) in
     finished_needs _ c.args.self.now m.queue.entries m.kept.entries m.sought c.args.worker k c.args.ending c.end_of_run-outcome.result.0 task c.need_of_finish.result c.self.view_is c.self.invariant
     (record { worker = l; busy = busy; is = c.get-task.ensures; out = out; next = refl }) c.need_of_finish.ensures

@@ -38,11 +38,17 @@ returns-in-SetPolicy-clause-history g c = step_continues c.args.self.now c.set_p
 pub returns-in-Shutdown-clause-history : goal.returns-in-Shutdown-clause-history
 returns-in-Shutdown-clause-history g c = step_continues c.args.self.now c.shut_down.new.self c.args.out.now.items c.shut_down.new.out.items happening.Call c.shut_down.ensures.steps
 
+pub returns-in-ShutdownNow-clause-history : goal.returns-in-ShutdownNow-clause-history
+returns-in-ShutdownNow-clause-history g c = step_continues c.args.self.now c.shut_down_now.new.self c.args.out.now.items c.shut_down_now.new.out.items happening.Call c.shut_down_now.ensures.steps
+
 pub returns-in-SetPolicy-clause-counted : goal.returns-in-SetPolicy-clause-counted
 returns-in-SetPolicy-clause-counted g c = call_counted c.args.self.now c.set_policy.new.self c.args.out.now.items c.set_policy.new.out.items c.set_policy.ensures.taken c.set_policy.ensures.steps
 
 pub returns-in-Shutdown-clause-counted : goal.returns-in-Shutdown-clause-counted
 returns-in-Shutdown-clause-counted g c = call_counted c.args.self.now c.shut_down.new.self c.args.out.now.items c.shut_down.new.out.items c.shut_down.ensures.taken c.shut_down.ensures.steps
+
+pub returns-in-ShutdownNow-clause-counted : goal.returns-in-ShutdownNow-clause-counted
+returns-in-ShutdownNow-clause-counted g c = call_counted c.args.self.now c.shut_down_now.new.self c.args.out.now.items c.shut_down_now.new.out.items c.shut_down_now.ensures.taken c.shut_down_now.ensures.steps
 
 pub returns-clause-counted : goal.returns-clause-counted
 returns-clause-counted g c =

@@ -1,8 +1,10 @@
 use Rattle.std.proofs.Common.{◌≡◌, ℕ, nat_lt, ◌⊎◌, inl, inr, true, false, sym, ◌∙◌, arith, subst}
+use Rattle.std.proofs.lemmas.Bool.{eqb-true}
 use Rattle.std.proofs.lemmas.Bool.Decides.{nat_tests}
+use Rattle.delay_queue.specs.Queues.{entry_count}
 use Rattle.executor_core.specs.own.Tables.{periodic_in}
 use Rattle.executor_core.specs.CoreView.{CoreView}
-use Rattle.executor_core.proofs.Sweeping.{sweeps_at, none_swept, not_false}
+use Rattle.executor_core.proofs.Sweeping.{sweeps_at, none_swept, none_queued, not_false}
 use Rattle.executor_core.proofs.machine.Core.may_end.Goals as goal
 use Rattle.executor_core.proofs.machine.Core.may_end.Goals.{then-not-self, else-not-self}
 
@@ -18,7 +20,7 @@ returns-then-not-self-2-clause-none g c = λ sought.
     ]
     in
     subst (λ (x : CoreView). (k : ℕ) → sweeps_at x k ≡ false) c.self.view_is
-    (none_swept _ m.queue.entries m.kept.entries m.sought c.self.invariant periodic (inr (sym c.delayed.ensures ∙ not_false c.delayed.result sought)))
+    (none_swept _ m.queue.entries m.kept.entries m.sought c.self.invariant c.if-self.false periodic (inr (sym c.delayed.ensures ∙ not_false c.delayed.result sought)))
 
 pub returns-else-not-self-2-clause-none : goal.returns-else-not-self-2-clause-none
 returns-else-not-self-2-clause-none g c = λ runs.
@@ -29,4 +31,10 @@ returns-else-not-self-2-clause-none g c = λ runs.
     ]
     in
     subst (λ (x : CoreView). (k : ℕ) → sweeps_at x k ≡ false) c.self.view_is
-    (none_swept _ m.queue.entries m.kept.entries m.sought c.self.invariant periodic (inl c.if-not-self-2.false))
+    (none_swept _ m.queue.entries m.kept.entries m.sought c.self.invariant c.if-self.false periodic (inl c.if-not-self-2.false))
+
+pub returns-then-self-clause-none : goal.returns-then-self-clause-none
+returns-then-self-clause-none g c = λ busy.
+    let m = c.self.inside in
+    let empty : entry_count m.queue.entries ≡ 0 = eqb-true (entry_count m.queue.entries) 0 (sym c.is_empty.ensures ∙ not_false c.is_empty.result busy) in
+    subst (λ (x : CoreView). (k : ℕ) → sweeps_at x k ≡ false) c.self.view_is (none_queued _ m.queue.entries m.kept.entries m.sought c.self.invariant empty)

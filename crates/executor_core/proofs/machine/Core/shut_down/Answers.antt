@@ -9,13 +9,13 @@ pub invariant_of-self : goal.invariant_of-self
 invariant_of-self g c =
     let m = c.self.inside in
     let is : slice_get m.calls.items m.calls.made ≡ Some (c.requires.call.0, call.Shutdown) = ap (λ x. slice_get x.calls x.made) c.self.view_is ∙ c.requires.call.1 in
-    rw c.pass-self-inside.ensures.passed (made_kept _ m.queue.entries m.kept.entries m.sought c.pass-self-inside.result c.requires.call.0 call.Shutdown m.policies m.shut c.self.invariant is (called_at m.moment c.requires.call.0 c.pass-self-inside.result (c.self.invariant.ahead (c.requires.call.0, call.Shutdown) is) (c.pass-self-inside.ensures.moment (c.requires.call.0, call.Shutdown) is)) (λ q. q))
+    rw c.pass-self-inside.ensures.passed (made_kept _ m.queue.entries m.kept.entries m.sought c.pass-self-inside.result c.requires.call.0 call.Shutdown m.policies m.shut m.stopped c.self.invariant is (called_at m.moment c.requires.call.0 c.pass-self-inside.result (c.self.invariant.ahead (c.requires.call.0, call.Shutdown) is) (c.pass-self-inside.ensures.moment (c.requires.call.0, call.Shutdown) is)) (λ q. q))
 
 pub invariant_of-self-2 : goal.invariant_of-self-2
 invariant_of-self-2 g c =
     let m = c.self.inside in
     let is : slice_get m.calls.items m.calls.made ≡ Some (c.requires.call.0, call.Shutdown) = ap (λ x. slice_get x.calls x.made) c.self.view_is ∙ c.requires.call.1 in
-    rw c.pass-self-inside.ensures.passed (made_kept _ m.queue.entries m.kept.entries m.sought c.pass-self-inside.result c.requires.call.0 call.Shutdown m.policies true c.self.invariant is (called_at m.moment c.requires.call.0 c.pass-self-inside.result (c.self.invariant.ahead (c.requires.call.0, call.Shutdown) is) (c.pass-self-inside.ensures.moment (c.requires.call.0, call.Shutdown) is)) (λ q. refl))
+    rw c.pass-self-inside.ensures.passed (made_kept _ m.queue.entries m.kept.entries m.sought c.pass-self-inside.result c.requires.call.0 call.Shutdown m.policies true m.stopped c.self.invariant is (called_at m.moment c.requires.call.0 c.pass-self-inside.result (c.self.invariant.ahead (c.requires.call.0, call.Shutdown) is) (c.pass-self-inside.ensures.moment (c.requires.call.0, call.Shutdown) is)) (λ q. refl))
 
 pub returns-then-self-clause-steps : goal.returns-then-self-clause-steps
 returns-then-self-clause-steps g c =

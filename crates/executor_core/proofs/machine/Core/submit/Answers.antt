@@ -62,7 +62,7 @@ pub returns-then-self-clause-step : goal.returns-then-self-clause-step
 returns-then-self-clause-step g c =
     let m = c.self.inside in
     let is : slice_get m.calls.items m.calls.made ≡ Some (c.args.moment, call.Submit c.args.task c.args.timing c.args.delay) = ap (λ x. slice_get x.calls x.made) c.self.view_is ∙ c.requires in
-    let view : CoreView = record { calls = m.calls.items; limit = m.limit; taken = m.taken; made = m.calls.made; moment = m.moment; tasks = m.tasks; work = m.work.items; policies = m.policies; shut = m.shut } in
+    let view : CoreView = record { calls = m.calls.items; limit = m.limit; taken = m.taken; made = m.calls.made; moment = m.moment; tasks = m.tasks; work = m.work.items; policies = m.policies; shut = m.shut; stopped = m.stopped } in
     rw c.pass-self-inside.ensures.passed (refuse_steps view c.args.self.now c.pass-self-inside.result c.args.moment c.args.task (call.Submit c.args.task c.args.timing c.args.delay) refusal.Rejected is
     (shut_reply view c.args.moment c.args.task c.args.delay c.args.timing c.if-self.true) (called_at m.moment c.args.moment c.pass-self-inside.result (c.self.invariant.ahead (c.args.moment, call.Submit c.args.task c.args.timing c.args.delay) is) (c.pass-self-inside.ensures.moment (c.args.moment, call.Submit c.args.task c.args.timing c.args.delay) is)) c.self.view_is)
 

@@ -7,7 +7,7 @@ use Rattle.queue_code.specs.declared.cursor.Cursor.{Cursor}
 use Rattle.queue_code.specs.Calls.{Planned}
 use Rattle.queue_code.specs.Codes.{calls_of}
 use Rattle.queue_code.specs.Cursors.{IsCursorOf, calls_left}
-use Rattle.executor_core.specs.own.Agendas.{made_of, IsAhead}
+use Rattle.queue_code.specs.own.Agendas.{made_of, IsAhead}
 
 -- the first of what is left
 first_left : (calls : List Planned) (n : ℕ) → slice_get (drop n calls) 0 ≡ slice_get calls n

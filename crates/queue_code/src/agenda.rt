@@ -1,15 +1,16 @@
-//! The calls of a code, as a core makes them one after the other.
 ghost use Rattle.std.specs.Prelude.{◌≡◌, ◌+◌, ◌-◌, ◌<◌, Some, length, slice_get};
 ghost use Rattle.queue_code.specs.Calls.{IsOrderly, Planned};
 ghost use Rattle.queue_code.specs.Codes.{calls_of};
 
-use queue_code::{Code, CodeCall, Cursor};
+use crate::call::CodeCall;
+use crate::code::Code;
+use crate::cursor::Cursor;
 use std::alloc::Allocator;
 use std::marker::Model;
 
-/// The calls of a code, and how many of them were made. No list of them is ever made.
+/// The calls of a code as they are made one after the other: it keeps the code and its place in it, and no list of calls.
 #[derive(Drop)]
-pub(crate) struct Agenda<A: Allocator> {
+pub struct Agenda<A: Allocator> {
     code: Code<A>,
     /// Behind the next call.
     cursor: Cursor,
@@ -20,7 +21,8 @@ pub(crate) struct Agenda<A: Allocator> {
 }
 
 impl<A: Allocator> Model for Agenda<A> {
-    ghost use Rattle.executor_core.specs.own.Agendas.{Course, course_of, IsAhead};
+    ghost use Rattle.queue_code.specs.Agendas.{Course};
+    ghost use Rattle.queue_code.specs.own.Agendas.{course_of, IsAhead};
 
     ghost Value = { Course };
 
@@ -30,8 +32,8 @@ impl<A: Allocator> Model for Agenda<A> {
 }
 
 impl<A: Allocator> Agenda<A> {
-    /// The calls of a code before the first of them.
-    pub(crate) fn new(code: Code<A>) -> Agenda<A>
+    /// The calls of a code, of which none was made.
+    pub fn new(code: Code<A>) -> Agenda<A>
         ensures start { result ≡ record { items = calls_of code; made = 0 } }
         ensures orderly { IsOrderly (calls_of code) }
     {
@@ -46,22 +48,24 @@ impl<A: Allocator> Agenda<A> {
         }
     }
 
-    /// The next call with its moment, and none after the last.
-    pub(crate) fn next(&self) -> Option<(u64, CodeCall)>
+    /// The next call with its moment, in nanoseconds, and none after the last.
+    pub fn next(&self) -> Option<(u64, CodeCall)>
         ensures { result ≡ slice_get self.now.items self.now.made }
     {
         self.next
     }
 
     /// How many calls are left.
-    pub(crate) fn left(&self) -> usize
+    pub fn left(&self) -> usize
         ensures { result ≡ length self.now.items - self.now.made }
     {
         self.left
     }
 
-    /// The next call is made; the answer is its moment.
-    pub(crate) fn pass(&mut self) -> u64
+    /// Goes past the next call; the answer is its moment, in nanoseconds.
+    ///
+    /// A call has to be left.
+    pub fn pass(&mut self) -> u64
         requires left { self.old.made < length self.old.items }
         ensures passed { self.new ≡ record self.old { made = self.old.made + 1 } }
         ensures moment { (call : Planned) → slice_get self.old.items self.old.made ≡ Some call → result ≡ call.0 }

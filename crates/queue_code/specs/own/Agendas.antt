@@ -1,15 +1,12 @@
--- What contracts see of the calls of a code that are made one after the other. All of it is this project's rule.
+-- How an agenda keeps its place in the calls of a code. No contract cites it but through the view or the invariant of `Agenda`.
+-- All of it is this project's rule.
 use Rattle.std.specs.Prelude.{◌≡◌, ℕ, ◌+◌, ◌-◌, ◌≤◌, List, Option, length, drop, slice_get}
 use Rattle.queue_code.specs.declared.instr.Instr.{Instr}
 use Rattle.queue_code.specs.declared.cursor.Cursor.{Cursor}
 use Rattle.queue_code.specs.Calls.{Planned}
+use Rattle.queue_code.specs.Agendas.{Course}
 use Rattle.queue_code.specs.Codes.{calls_of}
 use Rattle.queue_code.specs.Cursors.{IsCursorOf, calls_left}
-
--- some calls, and how many of them were made
-pub record Course : Type 0 where
-  pub items : List Planned
-  pub made : ℕ
 
 -- how many calls of a code were made, where this many are left
 abbrev pub made_of : List Instr → ℕ → ℕ

@@ -1,8 +1,9 @@
 use Rattle.std.proofs.Common.{◌<◌, length, sym, subst}
 use Rattle.queue_code.specs.Codes.{calls_of}
-use Rattle.executor_core.specs.own.Agendas.{Course, made_of}
-use Rattle.executor_core.proofs.Agendas.{next_ahead}
-use Rattle.executor_core.proofs.agenda.Agenda.pass.Goals as goal
+use Rattle.queue_code.specs.own.Agendas.{made_of}
+use Rattle.queue_code.specs.Agendas.{Course}
+use Rattle.queue_code.proofs.Agendas.{next_ahead}
+use Rattle.queue_code.proofs.agenda.Agenda.pass.Goals as goal
 
 pub invariant_of-self : goal.invariant_of-self
 invariant_of-self g c =
