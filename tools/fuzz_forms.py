@@ -47,7 +47,7 @@ K submit V rate|fixed V V
 K illegal V
 K cancel V task|here K
 K policy V continue|execute|remove true|false
-K shutdown V
+K shutdown|shutdown_now V
 K ask V
 K loop K every V
 K endloop

@@ -58,17 +58,20 @@ class Plan:
     def new_call(self, at, offset, nanos, times, own):
         """A call of a block; `own` are the names of its tasks before this one."""
         choose = self.choose
-        op = choose.choice(("schedule",) * 3 + ("rate", "fixed") * 2 + ("cancel", "policy", "ask") * 2 + ("shutdown",))
+        op = choose.choice(("schedule",) * 3 + ("execute", "rate", "fixed", "cancel", "policy", "ask") * 2 + ("shutdown", "shutdown_now"))
         known = own + self.named
         if op == "cancel" and not known:
             op = "schedule"
         call = {"op": op, "at": offset}
-        if op in ("schedule", "rate", "fixed"):
+        if op in ("schedule", "execute", "rate", "fixed"):
             first, span = (choose.choice((0, 1, choose.randrange(40), choose.randrange(-9, 40))) for _ in range(2))
             if choose.random() < 0.03:
                 first, span = (LONGEST // nanos - choose.choice((0, 1, choose.randrange(1_000))) for _ in range(2))
             call["name"] = choose.choice(("t", "task-", "_", "Z" * 20)) + str(self.tasks)
-            call |= {"delay": first} if op == "schedule" else {"first": first, ("period" if op == "rate" else "delay"): span}
+            if op == "execute":
+                first = 0
+            else:
+                call |= {"delay": first} if op == "schedule" else {"first": first, ("period" if op == "rate" else "delay"): span}
             own.append(call["name"])
             self.tasks += times
             self.moments += [(at + offset) * nanos, (at + offset + max(first, 0)) * nanos]
@@ -139,9 +142,9 @@ class Raw:
 # ---- plans, events and traces that are changed
 
 WORDS = """version block call at unit times every op name delay first period which value schedule rate fixed cancel policy
-shutdown ask continue execute remove true false ns us ms s a b clock start finish ok fail submit refuse illegal rejected due
-yes no none again queue running terminated idle task run done failed dropped ended outside end error backward too far worker
-busy not""".split()
+shutdown shutdown_now ask continue execute remove true false ns us ms s a b clock start finish ok fail submit refuse illegal
+rejected due yes no none again queue running terminated idle task run done failed dropped ended outside end error backward
+too far worker busy not""".split()
 STRANGE_NAMES = ['""', '"a b"', '"' + "a" * 32 + '"', '"' + "a" * 33 + '"', '"none"', '"a.b"', '"\\u00e9"', '"-_9Z"']
 STRANGE_BYTES = (b"\0", b"\n", b"\r\n", b" ", b"\xff", b"\xc3\xa9", b'"', b"]", b"0", b"#", b"=")
 STRANGE = ['""', '"a b"', '"' + "a" * 33 + '"', '"year"', '"run"', '"ns"', '"a"', "true", "1.5", "nan", "1979-05-27",
@@ -391,6 +394,8 @@ ROWS = [
     'at=9,op="policy",which="continue",value=false',
     'op="rate",name="a",first=0,period=5; op="schedule",name="b",delay=6; at=1,op="cancel",name="b"; at=8,op="ask"',
     'at=4611686018427387904,op="rate",name="a",first=4611686018427387904,period=4611686018427387904',
+    'op="execute",name="a"; op="rate",name="b",first=0,period=5; op="schedule",name="c",delay=3; at=1,op="cancel",name="a"; '
+    'at=4,op="shutdown_now"; at=4,op="execute",name="d"; at=5,op="shutdown_now"; at=5,op="ask"',
 ]
 EVENT_ROWS = [
     "clock 0; start 0; clock 3; finish 0 ok 1; clock 7; start 0; clock 9; finish 0 ok 1",
