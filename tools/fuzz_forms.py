@@ -23,6 +23,7 @@ V cancel K yes|no|none
 V policy continue|execute|remove true|false
 V shutdown
 V shutdown again
+V shutdown now
 V ask queue K running K shutdown yes|no terminated yes|no"""
 END_FORMS = "V end K"
 ANSWER_FORMS = """V clock
