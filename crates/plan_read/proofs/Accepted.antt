@@ -6,7 +6,8 @@ use Rattle.std.specs.List.{AllByRecursion, list_all}
 use Rattle.toml.specs.Data.{Members, get_member}
 use Rattle.plan_read.specs.declared.faults.Place.{Place}
 use Rattle.plan_read.specs.Checks.{place_fault, header_checks, top_checks}
-use Rattle.plan_read.specs.Keys.{fits, Tables, header_keys, top_keys}
+use Rattle.plan_read.specs.Keys.{fits, header_keys, top_keys}
+use Rattle.plan_read.specs.declared.keys.Shape.TheVariants.{Tables}
 use Rattle.plan_read.specs.Plans.{BlockTree, PlanTree, end_from, end_of_block, made_from}
 use Rattle.plan_read.specs.Values.{tables_at, header_of}
 use Rattle.plan_read.proofs.Failing.{all_pass}

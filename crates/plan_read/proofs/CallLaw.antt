@@ -14,10 +14,11 @@ use Rattle.plan_read.specs.declared.plans.Header.{Header}
 use Rattle.plan_read.specs.declared.plans.Op.{Op}
 use Rattle.plan_read.specs.declared.plans.Op.TheVariants as ops
 use Rattle.plan_read.specs.declared.sites.Site.{Site}
+use Rattle.plan_read.specs.declared.keys.Shape.TheVariants.{Text, Integer, Truth, Policy}
 use Rattle.plan_read.specs.declared.verbs.Verb.{Verb}
 use Rattle.plan_read.specs.declared.verbs.Verb.TheVariants as verbs
 use Rattle.plan_read.specs.Checks.{place_fault, call_checks, verb_checks, key_checks, new_name_checks, known_name_checks, name_checks, time_checks, is_clear, are_spans_short, is_verb}
-use Rattle.plan_read.specs.Keys.{fits, Text, Integer, Truth, Policy, Key, call_keys, own_keys, has_required, are_typed, verb_of_word, which_of_word}
+use Rattle.plan_read.specs.Keys.{fits, Key, call_keys, own_keys, has_required, are_typed, verb_of_word, which_of_word}
 use Rattle.plan_read.specs.Plans.{PlanTree, find, submissions_before, moment_in_last, last_offset}
 use Rattle.plan_read.specs.Values.{text_or, integer_or, verb_at, name_at, op_of, written_call, target_of, span_at, period_at}
 use Rattle.plan_read.specs.Writes.{HasOnly, IsCallOf, HasNewName, DelayAt, PeriodAt, WritesOp, WritesCall}

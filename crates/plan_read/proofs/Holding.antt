@@ -5,7 +5,8 @@ use Rattle.std.specs.Prelude.{unwrap_or, option_and_then, int_lt}
 use Rattle.toml.specs.Data.{Data, string, integer, float, boolean, datetime, array, table, Items, no_items, item, Members, get_member, as_integer, as_str, as_array}
 use Rattle.sched_time.specs.Times.{longest, delay_units}
 use Rattle.sched_time.specs.declared.unit.Unit.{Unit as TimeUnit}
-use Rattle.plan_read.specs.Keys.{fits, Text, Integer, Tables, are_tables}
+use Rattle.plan_read.specs.declared.keys.Shape.TheVariants.{Text, Integer, Tables}
+use Rattle.plan_read.specs.Keys.{fits, are_tables}
 use Rattle.plan_read.specs.Values.{integer_or, text_or, tables_in, tables_at, span_at, is_negative}
 use Rattle.plan_read.specs.Writes.{IntegerAt, TextAt, HoldTables, TablesAt, SpanAt}
 

@@ -15,4 +15,4 @@ pub mod NameText
 pub mod Found
 pub mod OrderLaw
 pub mod Words
-pub mod CallKeysLaw
+pub mod RowLaw

@@ -7,6 +7,8 @@ use Rattle.sched_time.specs.declared.policies.Which.{Which}
 use Rattle.sched_time.specs.declared.policies.Which.TheVariants.{Continue, Execute, Remove}
 use Rattle.sched_time.specs.declared.unit.Unit.{Unit as TimeUnit}
 use Rattle.sched_time.specs.declared.unit.Unit.TheVariants.{Ns, Us, Ms, S}
+use Rattle.plan_read.specs.declared.keys.Shape.{Shape}
+use Rattle.plan_read.specs.declared.keys.Shape.TheVariants.{Text, Integer, Truth, Policy, Tables}
 use Rattle.plan_read.specs.declared.verbs.Verb.{Verb}
 use Rattle.plan_read.specs.declared.verbs.Verb.TheVariants as verbs
 
@@ -41,14 +43,6 @@ which_of_word word =
     (if bytes_eq word (codes "remove") then Some Remove else None))
 
 -- ---- the keys of each table
-
--- what the value of a key has to be
-pub data Shape : Type 0 where
-  Text : Shape
-  Integer : Shape
-  Truth : Shape
-  Policy : Shape
-  Tables : Shape
 
 -- a key of a table: its name, what its value is, and whether it has to be there
 pub record Key : Type 0 where

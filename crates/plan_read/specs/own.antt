@@ -1,4 +1,4 @@
 -- What no public clause of this crate, or of those above it, leads to: means of its own contracts and proofs.
-pub mod CallKeys
 pub mod Reads
+pub mod Rows
 pub mod Values

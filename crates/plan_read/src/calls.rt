@@ -9,13 +9,13 @@ ghost use Rattle.plan_read.specs.Values.{verb_at, op_of, timed_call, written_cal
 ghost use Rattle.plan_read.specs.own.Values.{submits};
 ghost use Rattle.plan_read.specs.declared.faults.PlanFaultKind.TheVariants as kinds;
 
-use crate::call_keys::CallKey;
-use crate::call_tables::CallTable;
 use crate::faults::{Place, PlanFaultKind, ReadError};
 use crate::headers::{moment_in_last, read_span};
-use crate::keys::{has_only_call_keys, has_required_keys, is_typed_call};
+use crate::key_names::KeyName;
+use crate::keys::{are_typed, call_keys, has_only, has_required};
 use crate::names::{Name, is_name};
 use crate::plans::{Call, Header, Op};
+use crate::rows::Row;
 use crate::sites::Site;
 use crate::units::which_of_word;
 use crate::verbs::Verb;
@@ -23,11 +23,11 @@ use sched_time::{LONGEST, Span, Unit, Which, period};
 
 /// Whether a table asks for a submission.
 #[tactic(auto, unfolding(crate::specs::Values::verb_at))]
-pub fn submits(table: &CallTable) -> bool
-    ensures { result ≡ submits (verb_at (table_view table.now.table.now)) }
+pub fn submits(row: &Row) -> bool
+    ensures { result ≡ submits (verb_at (table_view row.now.table.now)) }
 {
     matches!(
-        Verb::of_word(table.text_or_empty(CallKey::Op)),
+        Verb::of_word(row.text_or("", KeyName::Op)),
         Some(Verb::Schedule | Verb::Execute | Verb::Rate | Verb::Fixed)
     )
 }
@@ -40,26 +40,26 @@ pub fn read_call(
     block: usize,
     header: Header,
     last: u64,
-    table: &CallTable,
+    row: &Row,
 ) -> Result<Call, ReadError>
     requires { 1 ≤ header.times }
-    ensures { Reads (λ c. c) result (place_fault place (call_checks found block header last (table_view table.now.table.now))) (written_call found header (table_view table.now.table.now)) }
+    ensures { Reads (λ c. c) result (place_fault place (call_checks found block header last (table_view row.now.table.now))) (written_call found header (table_view row.now.table.now)) }
 {
-    let verb = read_verb(place, table)?;
-    check_keys(place, verb, table)?;
-    check_name(place, verb, found, block, table)?;
-    read_timed(place, verb, found, block, header, last, table)
+    let verb = read_verb(place, row)?;
+    check_keys(place, verb, row)?;
+    check_name(place, verb, found, block, row)?;
+    read_timed(place, verb, found, block, header, last, row)
 }
 
 /// The operation of a call.
 #[tactic(auto, unfolding(crate::specs::Checks::verb_checks, crate::specs::Values::verb_at))]
-fn read_verb(place: Place, table: &CallTable) -> Result<Verb, ReadError>
-    ensures { Reads (λ v. v) result (place_fault place (verb_checks (table_view table.now.table.now))) (verb_at (table_view table.now.table.now)) }
+fn read_verb(place: Place, row: &Row) -> Result<Verb, ReadError>
+    ensures { Reads (λ v. v) result (place_fault place (verb_checks (table_view row.now.table.now))) (verb_at (table_view row.now.table.now)) }
 {
-    if !table.has(CallKey::Op) {
+    if !row.has(KeyName::Op) {
         return Err(place.fault(PlanFaultKind::Missing));
     }
-    match Verb::of_word(table.text_or_empty(CallKey::Op)) {
+    match Verb::of_word(row.text_or("", KeyName::Op)) {
         Some(verb) => Ok(verb),
         None => Err(place.fault(PlanFaultKind::WrongType)),
     }
@@ -67,16 +67,17 @@ fn read_verb(place: Place, table: &CallTable) -> Result<Verb, ReadError>
 
 /// That the keys of a call are those of its operation.
 #[tactic(auto, unfolding(crate::specs::Checks::key_checks))]
-fn check_keys(place: Place, verb: Verb, table: &CallTable) -> Result<(), ReadError>
-    ensures { Reads (λ u. u) result (place_fault place (key_checks verb (table_view table.now.table.now))) tt }
+fn check_keys(place: Place, verb: Verb, row: &Row) -> Result<(), ReadError>
+    ensures { Reads (λ u. u) result (place_fault place (key_checks verb (table_view row.now.table.now))) tt }
 {
-    if !has_only_call_keys(verb, table.table) {
+    let keys = call_keys(verb);
+    if !has_only(keys, row) {
         return Err(place.fault(PlanFaultKind::UnknownKey));
     }
-    if !has_required_keys(verb, table) {
+    if !has_required(keys, row) {
         return Err(place.fault(PlanFaultKind::Missing));
     }
-    if !is_typed_call(verb, table) {
+    if !are_typed(keys, row) {
         return Err(place.fault(PlanFaultKind::WrongType));
     }
     Ok(())
@@ -90,24 +91,24 @@ fn check_name(
     verb: Verb,
     found: Option<Site>,
     block: usize,
-    table: &CallTable,
+    row: &Row,
 ) -> Result<(), ReadError>
-    ensures { Reads (λ u. u) result (place_fault place (name_checks verb found block (table_view table.now.table.now))) tt }
+    ensures { Reads (λ u. u) result (place_fault place (name_checks verb found block (table_view row.now.table.now))) tt }
 {
     match verb {
         Verb::Schedule | Verb::Execute | Verb::Rate | Verb::Fixed => {
-            check_new_name(place, found, table)
+            check_new_name(place, found, row)
         }
-        Verb::Cancel => check_known_name(place, found, block, table),
+        Verb::Cancel => check_known_name(place, found, block, row),
         _ => Ok(()),
     }
 }
 
 /// That the name is one that a submission can have.
-fn check_new_name(place: Place, found: Option<Site>, table: &CallTable) -> Result<(), ReadError>
-    ensures { Reads (λ u. u) result (place_fault place (new_name_checks found (table_view table.now.table.now))) tt }
+fn check_new_name(place: Place, found: Option<Site>, row: &Row) -> Result<(), ReadError>
+    ensures { Reads (λ u. u) result (place_fault place (new_name_checks found (table_view row.now.table.now))) tt }
 {
-    if !is_name(table.text_or_empty(CallKey::Name)) {
+    if !is_name(row.text_or("", KeyName::Name)) {
         return Err(place.fault(PlanFaultKind::BadName));
     }
     match found {
@@ -121,11 +122,11 @@ fn check_known_name(
     place: Place,
     found: Option<Site>,
     block: usize,
-    table: &CallTable,
+    row: &Row,
 ) -> Result<(), ReadError>
-    ensures { Reads (λ u. u) result (place_fault place (known_name_checks found block (table_view table.now.table.now))) tt }
+    ensures { Reads (λ u. u) result (place_fault place (known_name_checks found block (table_view row.now.table.now))) tt }
 {
-    if !is_name(table.text_or_empty(CallKey::Name)) {
+    if !is_name(row.text_or("", KeyName::Name)) {
         return Err(place.fault(PlanFaultKind::BadName));
     }
     match found {
@@ -146,18 +147,18 @@ fn read_timed(
     block: usize,
     header: Header,
     last: u64,
-    table: &CallTable,
+    row: &Row,
 ) -> Result<Call, ReadError>
     requires times { 1 ≤ header.times }
-    requires name { place_fault place (name_checks verb found block (table_view table.now.table.now)) ≡ None }
-    ensures { Reads (λ c. c) result (place_fault place (time_checks verb header last (table_view table.now.table.now))) (timed_call verb found header (table_view table.now.table.now)) }
+    requires name { place_fault place (name_checks verb found block (table_view row.now.table.now)) ≡ None }
+    ensures { Reads (λ c. c) result (place_fault place (time_checks verb header last (table_view row.now.table.now))) (timed_call verb found header (table_view row.now.table.now)) }
 {
-    let at = table.integer_or(0, CallKey::At);
+    let at = row.integer_or(0, KeyName::At);
     if at < 0 {
         return Err(place.fault(PlanFaultKind::Negative));
     }
     let at = read_span(place, at, header.unit)?.nanos();
-    let op = read_op(place, verb, found, block, header.unit, table)?;
+    let op = read_op(place, verb, found, block, header.unit, row)?;
     if moment_in_last(header, at) > u128::from(LONGEST) {
         return Err(place.fault(PlanFaultKind::TooLarge));
     }
@@ -175,24 +176,24 @@ fn read_op(
     found: Option<Site>,
     block: usize,
     unit: Unit,
-    table: &CallTable,
+    row: &Row,
 ) -> Result<Op, ReadError>
-    requires { place_fault place (name_checks verb found block (table_view table.now.table.now)) ≡ None }
-    ensures { Reads (λ o. o) result (place_fault place ((kinds.TooLarge unless are_spans_short verb unit (table_view table.now.table.now)) ∷ [])) (op_of verb found unit (table_view table.now.table.now)) }
+    requires { place_fault place (name_checks verb found block (table_view row.now.table.now)) ≡ None }
+    ensures { Reads (λ o. o) result (place_fault place ((kinds.TooLarge unless are_spans_short verb unit (table_view row.now.table.now)) ∷ [])) (op_of verb found unit (table_view row.now.table.now)) }
 {
     match verb {
         Verb::Schedule => {
-            let name = Name::new(table.text_or_empty(CallKey::Name));
-            let delay = read_span(place, table.integer_or(0, CallKey::Delay), unit)?;
+            let name = Name::new(row.text_or("", KeyName::Name));
+            let delay = read_span(place, row.integer_or(0, KeyName::Delay), unit)?;
             Ok(Op::Schedule { name, delay })
         }
         Verb::Execute => Ok(Op::Execute {
-            name: Name::new(table.text_or_empty(CallKey::Name)),
+            name: Name::new(row.text_or("", KeyName::Name)),
         }),
         Verb::Rate => {
-            let name = Name::new(table.text_or_empty(CallKey::Name));
-            let first = read_span(place, table.integer_or(0, CallKey::First), unit)?;
-            let period = read_period(place, table.integer_or(0, CallKey::Period), unit)?;
+            let name = Name::new(row.text_or("", KeyName::Name));
+            let first = read_span(place, row.integer_or(0, KeyName::First), unit)?;
+            let period = read_period(place, row.integer_or(0, KeyName::Period), unit)?;
             Ok(Op::Rate {
                 name,
                 first,
@@ -200,9 +201,9 @@ fn read_op(
             })
         }
         Verb::Fixed => {
-            let name = Name::new(table.text_or_empty(CallKey::Name));
-            let first = read_span(place, table.integer_or(0, CallKey::First), unit)?;
-            let delay = read_period(place, table.integer_or(0, CallKey::Delay), unit)?;
+            let name = Name::new(row.text_or("", KeyName::Name));
+            let first = read_span(place, row.integer_or(0, KeyName::First), unit)?;
+            let delay = read_period(place, row.integer_or(0, KeyName::Delay), unit)?;
             Ok(Op::Fixed { name, first, delay })
         }
         Verb::Cancel => match found {
@@ -210,8 +211,8 @@ fn read_op(
             None => unreachable!(),
         },
         Verb::Policy => Ok(Op::Policy {
-            which: which_at(table),
-            value: table.truth_at(CallKey::Value),
+            which: which_at(row),
+            value: row.truth_at(KeyName::Value),
         }),
         Verb::Shutdown => Ok(Op::Shutdown),
         Verb::ShutdownNow => Ok(Op::ShutdownNow),
@@ -230,8 +231,8 @@ fn read_period(place: Place, value: i64, unit: Unit) -> Result<Option<Span>, Rea
 }
 
 /// The policy that a table names, `continue` where it names none.
-fn which_at(table: &CallTable) -> Which
-    ensures { result ≡ which_at (table_view table.now.table.now) }
+fn which_at(row: &Row) -> Which
+    ensures { result ≡ which_at (table_view row.now.table.now) }
 {
-    which_of_word(table.text_or_empty(CallKey::Which)).unwrap_or(Which::Continue)
+    which_of_word(row.text_or("", KeyName::Which)).unwrap_or(Which::Continue)
 }

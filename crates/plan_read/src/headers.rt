@@ -5,39 +5,41 @@ ghost use Rattle.toml.specs.View.{table_view, items_view};
 ghost use Rattle.toml.specs.Data.{get_member};
 ghost use Rattle.sched_time.specs.Times.{longest, span_of};
 ghost use Rattle.plan_read.specs.Checks.{◌unless◌, place_fault, top, top_checks, header_checks};
-ghost use Rattle.plan_read.specs.Keys.{are_tables, fits, Tables};
+ghost use Rattle.plan_read.specs.Keys.{are_tables, fits};
+ghost use Rattle.plan_read.specs.declared.keys.Shape.TheVariants.{Tables};
 ghost use Rattle.plan_read.specs.Plans.{moment_in_last, most_calls};
 ghost use Rattle.plan_read.specs.own.Reads.{Reads};
 ghost use Rattle.plan_read.specs.Values.{tables_in, tables_at, header_of};
 ghost use Rattle.plan_read.specs.declared.faults.PlanFaultKind.TheVariants as kinds;
 
 use crate::faults::{Place, PlanFaultKind, ReadError};
-use crate::keys::{has_only_header_keys, has_only_top_keys, is_typed_header, is_typed_top};
+use crate::key_names::KeyName;
+use crate::keys::{HEADER_KEYS, TOP_KEYS, are_typed, has_only};
 use crate::limits::{MOST_BLOCK_CALLS, MOST_BLOCKS, MOST_CALLS};
 use crate::plans::Header;
-use crate::tables::{has, integer_or, tables_at, text_or};
+use crate::rows::Row;
 use crate::units::unit_of_word;
 use sched_time::{Span, Unit, span};
-use toml::{Table, Value};
+use toml::Value;
 
 /// The tables of the blocks.
 #[tactic(auto, unfolding(crate::specs::Checks::top_checks))]
-pub fn read_top(table: &Table) -> Result<&[Value], ReadError>
-    ensures each { IfOk result (λ vs. fits Tables (get_member (codes "block") (table_view table.now)) ≡ true → are_tables (items_view vs.now) ≡ true) }
-    ensures count { IfOk result (λ vs. length vs.now ≡ length (tables_at (codes "block") (table_view table.now))) }
-    ensures top { Reads (λ vs. tables_in (items_view vs.now)) result (place_fault top (top_checks (table_view table.now))) (tables_at (codes "block") (table_view table.now)) }
+pub fn read_top<'a>(row: &Row<'a>) -> Result<&'a [Value], ReadError>
+    ensures each { IfOk result (λ vs. fits Tables (get_member (codes "block") (table_view row.now.table.now)) ≡ true → are_tables (items_view vs.now) ≡ true) }
+    ensures count { IfOk result (λ vs. length vs.now ≡ length (tables_at (codes "block") (table_view row.now.table.now))) }
+    ensures top { Reads (λ vs. tables_in (items_view vs.now)) result (place_fault top (top_checks (table_view row.now.table.now))) (tables_at (codes "block") (table_view row.now.table.now)) }
 {
     let place = Place::top();
-    if !has(table, "version") || integer_or(0, "version", table) != 1 {
+    if !row.has(KeyName::Version) || row.integer_or(0, KeyName::Version) != 1 {
         return Err(place.fault(PlanFaultKind::Version));
     }
-    if !has_only_top_keys(table) {
+    if !has_only(TOP_KEYS, row) {
         return Err(place.fault(PlanFaultKind::UnknownKey));
     }
-    if !is_typed_top(table) {
+    if !are_typed(TOP_KEYS, row) {
         return Err(place.fault(PlanFaultKind::WrongType));
     }
-    let blocks = tables_at("block", table);
+    let blocks = row.tables_at(KeyName::Block);
     if blocks.len() > MOST_BLOCKS {
         return Err(place.fault(PlanFaultKind::TooMany));
     }
@@ -47,28 +49,28 @@ pub fn read_top(table: &Table) -> Result<&[Value], ReadError>
 /// A header, where the last call before the block is at the moment `end`, and `made` calls are made
 /// before it.
 #[tactic(auto, unfolding(crate::specs::Checks::header_checks, crate::specs::Values::header_of))]
-pub fn read_header(place: Place, end: u128, made: u64, table: &Table) -> Result<Header, ReadError>
+pub fn read_header(place: Place, end: u128, made: u64, row: &Row) -> Result<Header, ReadError>
     requires { made ≤ most_calls }
-    ensures { Reads (λ h. h) result (place_fault place (header_checks end made (table_view table.now))) (header_of (table_view table.now)) }
+    ensures { Reads (λ h. h) result (place_fault place (header_checks end made (table_view row.now.table.now))) (header_of (table_view row.now.table.now)) }
 {
-    if !has_only_header_keys(table) {
+    if !has_only(HEADER_KEYS, row) {
         return Err(place.fault(PlanFaultKind::UnknownKey));
     }
-    if !is_typed_header(table) {
+    if !are_typed(HEADER_KEYS, row) {
         return Err(place.fault(PlanFaultKind::WrongType));
     }
-    let Some(unit) = unit_of_word(text_or("ns", "unit", table)) else {
+    let Some(unit) = unit_of_word(row.text_or("ns", KeyName::Unit)) else {
         return Err(place.fault(PlanFaultKind::BadUnit));
     };
-    let times = integer_or(1, "times", table);
+    let times = row.integer_or(1, KeyName::Times);
     if times < 1 || times > MOST_CALLS as i64 {
         return Err(place.fault(PlanFaultKind::BadTimes));
     }
-    if times > 1 && !has(table, "every") {
+    if times > 1 && !row.has(KeyName::Every) {
         return Err(place.fault(PlanFaultKind::Missing));
     }
-    let at = integer_or(0, "at", table);
-    let every = integer_or(0, "every", table);
+    let at = row.integer_or(0, KeyName::At);
+    let every = row.integer_or(0, KeyName::Every);
     if at < 0 || every < 0 {
         return Err(place.fault(PlanFaultKind::Negative));
     }
@@ -77,7 +79,7 @@ pub fn read_header(place: Place, end: u128, made: u64, table: &Table) -> Result<
     if u128::from(at) < end {
         return Err(place.fault(PlanFaultKind::OutOfOrder));
     }
-    let calls = tables_at("call", table).len();
+    let calls = row.tables_at(KeyName::Call).len();
     if calls > MOST_BLOCK_CALLS || made + times as u64 * calls as u64 > MOST_CALLS {
         return Err(place.fault(PlanFaultKind::TooMany));
     }

@@ -1,123 +1,197 @@
-//! Tests of a table against the keys that belong there.
+//! The keys of a plan's tables, and tests of a table against them.
 
-ghost use Rattle.std.specs.Prelude.{◌≡◌};
-ghost use Rattle.toml.specs.View.{table_view};
-ghost use Rattle.plan_read.specs.Keys.{top_keys, header_keys, call_keys, own_keys, is_key, has_only, has_required, are_typed};
+ghost use Rattle.std.specs.Prelude.{◌≡◌, ◌==◌, ◌||◌, not, is_some};
+ghost use Rattle.toml.specs.Data.{get_member};
+ghost use Rattle.toml.specs.View.{view, table_view, items_view};
+ghost use Rattle.plan_read.specs.Keys.{call_keys, are_tables, has_shape, fits, is_key, has_only, has_required, are_typed};
+ghost use Rattle.plan_read.specs.own.Rows.{word_of, place, as_defined};
 
-use crate::call_keys::CallKey;
-use crate::call_tables::CallTable;
-use crate::tables::{fits_integer, fits_tables, fits_text};
+use crate::key_names::KeyName;
+use crate::rows::Row;
+use crate::units::which_of_word;
 use crate::verbs::Verb;
-use toml::Table;
+use toml::Value;
 
-/// Whether the top has no other keys than its own.
-pub fn has_only_top_keys(table: &Table) -> bool
-    ensures { result ≡ has_only top_keys (table_view table.now) }
-{
-    table.keys().all(|key| is_top_key(key.as_str()))
+/// What the value of a key has to be.
+#[derive(Clone, Copy)]
+pub enum Shape {
+    Text,
+    Integer,
+    Truth,
+    /// A text that is the word of a policy.
+    Policy,
+    /// An array of tables.
+    Tables,
 }
 
-fn is_top_key(key: &str) -> bool
-    ensures { result ≡ is_key top_keys key.now }
-{
-    matches!(key, "version" | "block")
+/// A key of a table: its name, what its value is, and whether it has to be there.
+#[derive(Clone, Copy)]
+pub struct Key {
+    pub name: KeyName,
+    pub shape: Shape,
+    pub required: bool,
 }
 
-/// Whether the values of the top are of their types.
-pub fn is_typed_top(table: &Table) -> bool
-    ensures { result ≡ are_typed top_keys (table_view table.now) }
-{
-    fits_integer("version", table) && fits_tables("block", table)
+/// A key that may be left out.
+macro_rules! optional {
+    ($name:ident, $shape:ident) => {
+        Key {
+            name: KeyName::$name,
+            shape: Shape::$shape,
+            required: false,
+        }
+    };
 }
 
-/// Whether a header has no other keys than its own.
-pub fn has_only_header_keys(table: &Table) -> bool
-    ensures { result ≡ has_only header_keys (table_view table.now) }
-{
-    table.keys().all(|key| is_header_key(key.as_str()))
+/// A key that has to be there.
+macro_rules! required {
+    ($name:ident, $shape:ident) => {
+        Key {
+            name: KeyName::$name,
+            shape: Shape::$shape,
+            required: true,
+        }
+    };
 }
 
-fn is_header_key(key: &str) -> bool
-    ensures { result ≡ is_key header_keys key.now }
-{
-    matches!(key, "at" | "unit" | "times" | "every" | "call")
-}
+const OP: Key = required!(Op, Text);
 
-/// Whether the values of a header are of their types.
-pub fn is_typed_header(table: &Table) -> bool
-    ensures { result ≡ are_typed header_keys (table_view table.now) }
-{
-    fits_integer("at", table)
-        && fits_text("unit", table)
-        && fits_integer("times", table)
-        && fits_integer("every", table)
-        && fits_tables("call", table)
-}
+const AT: Key = optional!(At, Integer);
 
-/// Whether a call has no other keys than those of its operation.
-pub fn has_only_call_keys(verb: Verb, table: &Table) -> bool
-    ensures { result ≡ has_only (call_keys verb) (table_view table.now) }
-{
-    table.keys().all(|key| is_call_key(verb, key.as_str()))
-}
+const NAME: Key = required!(Name, Text);
 
-fn is_call_key(verb: Verb, key: &str) -> bool
-    ensures { result ≡ is_key (call_keys verb) key.now }
+/// The keys of the top.
+pub const TOP_KEYS: &[Key] = &[required!(Version, Integer), optional!(Block, Tables)];
+
+/// The keys of a block.
+pub const HEADER_KEYS: &[Key] = &[
+    AT,
+    optional!(Unit, Text),
+    optional!(Times, Integer),
+    optional!(Every, Integer),
+    optional!(Call, Tables),
+];
+
+const SCHEDULE_KEYS: &[Key] = &[OP, AT, NAME, required!(Delay, Integer)];
+
+const EXECUTE_KEYS: &[Key] = &[OP, AT, NAME];
+
+const RATE_KEYS: &[Key] = &[
+    OP,
+    AT,
+    NAME,
+    required!(First, Integer),
+    required!(Period, Integer),
+];
+
+const FIXED_KEYS: &[Key] = &[
+    OP,
+    AT,
+    NAME,
+    required!(First, Integer),
+    required!(Delay, Integer),
+];
+
+const CANCEL_KEYS: &[Key] = &[OP, AT, NAME];
+
+const POLICY_KEYS: &[Key] = &[OP, AT, required!(Which, Policy), required!(Value, Truth)];
+
+const BARE_KEYS: &[Key] = &[OP, AT];
+
+/// The keys of a call, by its operation: those of each call, and the operation's own.
+pub fn call_keys(verb: Verb) -> &'static [Key]
+    ensures { as_defined result.now ≡ call_keys verb }
 {
     match verb {
-        Verb::Schedule => matches!(key, "op" | "at" | "name" | "delay"),
-        Verb::Rate => matches!(key, "op" | "at" | "name" | "first" | "period"),
-        Verb::Fixed => matches!(key, "op" | "at" | "name" | "first" | "delay"),
-        Verb::Execute | Verb::Cancel => matches!(key, "op" | "at" | "name"),
-        Verb::Policy => matches!(key, "op" | "at" | "which" | "value"),
-        _ => matches!(key, "op" | "at"),
+        Verb::Schedule => SCHEDULE_KEYS,
+        Verb::Execute => EXECUTE_KEYS,
+        Verb::Rate => RATE_KEYS,
+        Verb::Fixed => FIXED_KEYS,
+        Verb::Cancel => CANCEL_KEYS,
+        Verb::Policy => POLICY_KEYS,
+        _ => BARE_KEYS,
     }
 }
 
-/// Whether a call has the keys that its operation needs.
-pub fn has_required_keys(verb: Verb, table: &CallTable) -> bool
-    ensures { result ≡ has_required (call_keys verb) (table_view table.now.table.now) }
-{
-    table.has(CallKey::Op)
-        && match verb {
-            Verb::Schedule => table.has(CallKey::Name) && table.has(CallKey::Delay),
-            Verb::Rate => table.has(CallKey::Name)
-                && table.has(CallKey::First)
-                && table.has(CallKey::Period),
-            Verb::Fixed => table.has(CallKey::Name)
-                && table.has(CallKey::First)
-                && table.has(CallKey::Delay),
-            Verb::Execute | Verb::Cancel => table.has(CallKey::Name),
-            Verb::Policy => table.has(CallKey::Which) && table.has(CallKey::Value),
-            _ => true,
-        }
-}
-
-/// Whether the values of a call are of the types that its operation needs.
-pub fn is_typed_call(verb: Verb, table: &CallTable) -> bool
-    ensures { result ≡ are_typed (call_keys verb) (table_view table.now.table.now) }
-{
-    table.fits_text(CallKey::Op) && table.fits_integer(CallKey::At) && has_typed_values(verb, table)
-}
-
-/// Whether the values of an operation's own keys are of the types that it needs.
-fn has_typed_values(verb: Verb, table: &CallTable) -> bool
-    ensures { result ≡ are_typed (own_keys verb) (table_view table.now.table.now) }
-{
-    match verb {
-        Verb::Schedule => table.fits_text(CallKey::Name) && table.fits_integer(CallKey::Delay),
-        Verb::Rate => {
-            table.fits_text(CallKey::Name)
-                && table.fits_integer(CallKey::First)
-                && table.fits_integer(CallKey::Period)
-        }
-        Verb::Fixed => {
-            table.fits_text(CallKey::Name)
-                && table.fits_integer(CallKey::First)
-                && table.fits_integer(CallKey::Delay)
-        }
-        Verb::Execute | Verb::Cancel => table.fits_text(CallKey::Name),
-        Verb::Policy => table.fits_policy(CallKey::Which) && table.fits_truth(CallKey::Value),
-        _ => true,
+impl Key {
+    /// Whether a name is that of this key.
+    fn is_named(&self, name: KeyName) -> bool
+        ensures { result ≡ (place self.now.name == place name) }
+    {
+        self.name.place() == name.place()
     }
+
+    /// Whether this key is there, or may be left out.
+    fn is_met(&self, row: &Row) -> bool
+        ensures { result ≡ (not self.now.required || is_some (get_member (word_of self.now.name) (table_view row.now.table.now))) }
+    {
+        !self.required || row.has(self.name)
+    }
+
+    /// Whether there is no value at this key, or one of its shape.
+    fn is_typed(&self, row: &Row) -> bool
+        ensures { result ≡ fits self.now.shape (get_member (word_of self.now.name) (table_view row.now.table.now)) }
+    {
+        match row.get(self.name) {
+            Some(value) => has_shape(self.shape, value),
+            None => true,
+        }
+    }
+}
+
+/// Whether each key of a table is one of these.
+pub fn has_only(keys: &[Key], row: &Row) -> bool
+    ensures { result ≡ has_only (as_defined keys.now) (table_view row.now.table.now) }
+{
+    row.table.keys().all(|word| is_key(keys, word.as_str()))
+}
+
+/// Whether one of these keys has the name that a word is.
+fn is_key(keys: &[Key], word: &str) -> bool
+    ensures { result ≡ is_key (as_defined keys.now) word.now }
+{
+    match KeyName::of_word(word) {
+        Some(name) => keys.iter().any(|key| key.is_named(name)),
+        None => false,
+    }
+}
+
+/// Whether each of these keys that has to be there is there.
+pub fn has_required(keys: &[Key], row: &Row) -> bool
+    ensures { result ≡ has_required (as_defined keys.now) (table_view row.now.table.now) }
+{
+    keys.iter().all(|key| key.is_met(row))
+}
+
+/// Whether the value at each of these keys is of its shape.
+pub fn are_typed(keys: &[Key], row: &Row) -> bool
+    ensures { result ≡ are_typed (as_defined keys.now) (table_view row.now.table.now) }
+{
+    keys.iter().all(|key| key.is_typed(row))
+}
+
+/// Whether a value is of a shape.
+fn has_shape(shape: Shape, value: &Value) -> bool
+    ensures { result ≡ has_shape shape (view value.now) }
+{
+    match shape {
+        Shape::Text => value.as_str().is_some(),
+        Shape::Integer => value.as_integer().is_some(),
+        Shape::Truth => value.as_bool().is_some(),
+        Shape::Policy => match value.as_str() {
+            Some(word) => which_of_word(word).is_some(),
+            None => false,
+        },
+        Shape::Tables => match value.as_array() {
+            Some(array) => are_tables(array.as_slice()),
+            None => false,
+        },
+    }
+}
+
+/// Whether each value is a table.
+fn are_tables(values: &[Value]) -> bool
+    ensures { result ≡ are_tables (items_view values.now) }
+{
+    values.iter().all(|value| value.is_table())
 }

@@ -96,19 +96,18 @@
 //! The tests of this crate stand in the crate above it, in `plan_compile/src/plan_tests.rt`.
 #![tactic(auto)]
 
-mod call_keys;
-mod call_tables;
 mod calls;
 mod faults;
 mod headers;
+mod key_names;
 mod keys;
 mod laws;
 mod limits;
 mod names;
 mod plans;
 mod reading;
+mod rows;
 mod sites;
-mod tables;
 mod units;
 mod verbs;
 

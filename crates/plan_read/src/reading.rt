@@ -10,15 +10,14 @@ ghost use Rattle.plan_read.specs.own.Reads.{Reads, Knows};
 ghost use Rattle.plan_read.specs.Texts.{toml_checks, tree_at, fault_of_text, plan_of_text, TextWrites};
 ghost use Rattle.plan_read.specs.Values.{tables_in, next_call, calls_through, block_of, blocks_through, plan_of};
 
-use crate::call_keys::CallKey;
-use crate::call_tables::CallTable;
 use crate::calls::{read_call, submits};
 use crate::faults::{Place, PlanFault, PlanFaultKind, ReadError};
 use crate::headers::{moment_in_last, read_header, read_top};
+use crate::key_names::KeyName;
 use crate::limits::LONGEST_TEXT;
 use crate::plans::{Block, Call, Header, Op, Plan, Target};
+use crate::rows::Row;
 use crate::sites::{Site, find_or_add};
-use crate::tables::tables_at;
 use heap_allocator::HeapAllocator;
 use std::alloc::{Allocator, Global};
 use std::collections::BTreeMap;
@@ -75,7 +74,8 @@ fn parse(heap: Global, text: &[u8]) -> Result<Table, ReadError>
 fn read_tree<A: Allocator + Copy>(alloc: A, table: &Table) -> Result<Plan<A>, ReadError>
     ensures { Reads (λ p. p) result (tree_fault (table_view table.now)) (plan_of (table_view table.now)) }
 {
-    let tables = read_top(table)?;
+    let row = Row::new(table);
+    let tables = read_top(&row)?;
     let blocks = read_blocks(alloc, tables)?;
     Ok(Plan::new(blocks))
 }
@@ -130,8 +130,9 @@ fn read_block<'a, A: Allocator + Copy>(
         block: earlier.len() as u32 + 1,
         call: 0,
     };
-    let header = read_header(place, end, made, table)?;
-    let tables = tables_at("call", table);
+    let row = Row::new(table);
+    let header = read_header(place, end, made, &row)?;
+    let tables = row.tables_at(KeyName::Call);
     let calls = read_calls(alloc, earlier, header, tables, names)?;
     Ok(Block::new(header, calls))
 }
@@ -202,15 +203,15 @@ fn read_next<'a, A: Allocator + Copy>(
         block: block as u32 + 1,
         call: before.len() as u32 + 1,
     };
-    let table = CallTable::new(table);
+    let row = Row::new(table);
     let site = Site {
         target: Target { block, sub },
         repeated: header.times > 1,
     };
-    let name = table.text_or_empty(CallKey::Name);
-    let found = find_or_add(names, name, submits(&table), site)?;
+    let name = row.text_or("", KeyName::Name);
+    let found = find_or_add(names, name, submits(&row), site)?;
     let last = last_offset(before);
-    read_call(place, found, block, header, last, &table)
+    read_call(place, found, block, header, last, &row)
 }
 
 /// The offset of the last call, 0 where there is none.

@@ -11,15 +11,15 @@ use Rattle.plan_read.proofs.headers.read_header.Goals.{then-times-lt1-via-then-t
 use mir.Syntax.{w64}
 use mir.Val.{SFits}
 
-pub returns-then-not-is_typed_header : goal.returns-then-not-is_typed_header
+pub returns-then-not-are_typed : goal.returns-then-not-are_typed
 unfolding header_checks
-returns-then-not-is_typed_header c =
-    rw (c.fault-then-not-is_typed_header.ensures, ← c.has_only_header_keys.ensures, c.if-not-has_only_header_keys.false, ← c.is_typed_header.ensures, c.if-not-is_typed_header.true) refl
+returns-then-not-are_typed c =
+    rw (c.fault-then-not-are_typed.ensures, ← c.has_only.ensures, c.if-not-has_only.false, ← c.are_typed.ensures, c.if-not-are_typed.true) refl
 
 pub returns-in_default : goal.returns-in_default
 unfolding header_checks
 returns-in_default c =
-    rw (c.fault-in_default.ensures, ← c.has_only_header_keys.ensures, c.if-not-has_only_header_keys.false, ← c.is_typed_header.ensures, c.if-not-is_typed_header.false, ← c.text_or.ensures, ← c.unit_of_word.ensures, c.in_default.is) refl
+    rw (c.fault-in_default.ensures, ← c.has_only.ensures, c.if-not-has_only.false, ← c.are_typed.ensures, c.if-not-are_typed.false, ← c.text_or.ensures, ← c.unit_of_word.ensures, c.in_default.is) refl
 
 pub returns-then-times-lt1 : goal.returns-then-times-lt1
 unfolding header_checks header_of
@@ -31,7 +31,7 @@ returns-then-times-lt1 c =
       | then-times-lt1-via-then-times-lt1 w ↦ too_few z (simp to_z-of_z at w.if-times-lt1.true)
       | then-times-lt1-via-else-times-lt1+then-times w ↦ too_often z (simp to_z-of_z at w.if-times.true)
     ] in
-    rw (c.fault-then-times-lt1.ensures, ← c.has_only_header_keys.ensures, c.if-not-has_only_header_keys.false, ← c.is_typed_header.ensures, c.if-not-is_typed_header.false, ← c.text_or.ensures, ← c.unit_of_word.ensures, c.in-Some.is, ← c.integer_or-times.ensures, range) refl
+    rw (c.fault-then-times-lt1.ensures, ← c.has_only.ensures, c.if-not-has_only.false, ← c.are_typed.ensures, c.if-not-are_typed.false, ← c.text_or.ensures, ← c.unit_of_word.ensures, c.in-Some.is, ← c.integer_or-times.ensures, range) refl
 
 pub returns-then-not-has : goal.returns-then-not-has
 unfolding header_checks header_of
@@ -40,7 +40,7 @@ returns-then-not-has c =
     let fits : SFits w64 z = search rules in
     let range = in_range z (simp to_z-of_z at c.if-times-lt1.false) (simp to_z-of_z at c.if-times.false) in
     let more = repeats z (simp to_z-of_z at c.if-times-gt1.true) in
-    rw (c.fault-then-not-has.ensures, ← c.has_only_header_keys.ensures, c.if-not-has_only_header_keys.false, ← c.is_typed_header.ensures, c.if-not-is_typed_header.false, ← c.text_or.ensures, ← c.unit_of_word.ensures, c.in-Some.is, ← c.integer_or-times.ensures, range, more, ← c.has.ensures, c.if-not-has.true) refl
+    rw (c.fault-then-not-has.ensures, ← c.has_only.ensures, c.if-not-has_only.false, ← c.are_typed.ensures, c.if-not-are_typed.false, ← c.text_or.ensures, ← c.unit_of_word.ensures, c.in-Some.is, ← c.integer_or-times.ensures, range, more, ← c.has.ensures, c.if-not-has.true) refl
 
 pub returns-then-at-lt0 : goal.returns-then-at-lt0
 unfolding header_checks header_of
@@ -50,7 +50,7 @@ returns-then-at-lt0 c =
     let at_fits : SFits w64 c.integer_or-at.result = search rules in
     let every_fits : SFits w64 c.integer_or-every.result = search rules in
     let range = in_range z (simp to_z-of_z at c.if-times-lt1.false) (simp to_z-of_z at c.if-times.false) in
-    let given : (nat_le (delay_units z) 1 || is_some (get_member (codes "every") (table_view c.args.table.now))) ≡ true =
+    let given : (nat_le (delay_units z) 1 || is_some (get_member (codes "every") (table_view c.args.row.now.table.now))) ≡ true =
     elim c.else-times-gt1.branch [
       | else-times-gt1-via-then-times-gt1+else-not-has w ↦ rw (← w.has.ensures, w.if-not-has.false) (second_holds (nat_le (delay_units z) 1))
       | else-times-gt1-via-else-times-gt1 w ↦ made_once z _ (simp to_z-of_z at w.if-times-gt1.false)
@@ -58,11 +58,11 @@ returns-then-at-lt0 c =
     elim c.then-at-lt0.branch [
       | then-at-lt0-via-then-at-lt0 w ↦ (
           let below = simp to_z-of_z at w.if-at-lt0.true in
-          rw (c.fault-then-at-lt0.ensures, ← c.has_only_header_keys.ensures, c.if-not-has_only_header_keys.false, ← c.is_typed_header.ensures, c.if-not-is_typed_header.false, ← c.text_or.ensures, ← c.unit_of_word.ensures, c.in-Some.is, ← c.integer_or-times.ensures, range, given, ← c.integer_or-at.ensures, below) refl)
+          rw (c.fault-then-at-lt0.ensures, ← c.has_only.ensures, c.if-not-has_only.false, ← c.are_typed.ensures, c.if-not-are_typed.false, ← c.text_or.ensures, ← c.unit_of_word.ensures, c.in-Some.is, ← c.integer_or-times.ensures, range, given, ← c.integer_or-at.ensures, below) refl)
       | then-at-lt0-via-else-at-lt0+then-every-lt0 w ↦ (
           let above = simp to_z-of_z at w.if-at-lt0.false in
           let below = simp to_z-of_z at w.if-every-lt0.true in
-          rw (c.fault-then-at-lt0.ensures, ← c.has_only_header_keys.ensures, c.if-not-has_only_header_keys.false, ← c.is_typed_header.ensures, c.if-not-is_typed_header.false, ← c.text_or.ensures, ← c.unit_of_word.ensures, c.in-Some.is, ← c.integer_or-times.ensures, range, given, ← c.integer_or-at.ensures, above, ← c.integer_or-every.ensures, below) refl)
+          rw (c.fault-then-at-lt0.ensures, ← c.has_only.ensures, c.if-not-has_only.false, ← c.are_typed.ensures, c.if-not-are_typed.false, ← c.text_or.ensures, ← c.unit_of_word.ensures, c.in-Some.is, ← c.integer_or-times.ensures, range, given, ← c.integer_or-at.ensures, above, ← c.integer_or-every.ensures, below) refl)
     ]
 
 pub returns-then-from-end : goal.returns-then-from-end
@@ -74,7 +74,7 @@ returns-then-from-end c =
     let every_fits : SFits w64 c.integer_or-every.result = search rules in
     let least = simp to_z-of_z at c.if-times-lt1.false in
     let range = in_range z least (simp to_z-of_z at c.if-times.false) in
-    let given : (nat_le (delay_units z) 1 || is_some (get_member (codes "every") (table_view c.args.table.now))) ≡ true =
+    let given : (nat_le (delay_units z) 1 || is_some (get_member (codes "every") (table_view c.args.row.now.table.now))) ≡ true =
     elim c.else-times-gt1.branch [
       | else-times-gt1-via-then-times-gt1+else-not-has w ↦ rw (← w.has.ensures, w.if-not-has.false) (second_holds (nat_le (delay_units z) 1))
       | else-times-gt1-via-else-times-gt1 w ↦ made_once z _ (simp to_z-of_z at w.if-times-gt1.false)
@@ -87,7 +87,7 @@ returns-then-from-end c =
     let every_short = passes _ _ every_read.0 in
     let at : c.nanos-at.result ≡ span_of c.integer_or-at.result c.in-Some.unit = c.nanos-at.ensures.value ∙ at_read.1 in
     let before : c.nanos-at.result < c.args.end = omega (arith, c.from.ensures, c.if-from-end.true) in
-    rw (c.fault-then-from-end.ensures, ← c.has_only_header_keys.ensures, c.if-not-has_only_header_keys.false, ← c.is_typed_header.ensures, c.if-not-is_typed_header.false, ← c.text_or.ensures, ← c.unit_of_word.ensures, c.in-Some.is, ← c.integer_or-times.ensures, range, given, ← c.integer_or-at.ensures, at_least, ← c.integer_or-every.ensures, every_least, at_short, every_short, ← at, past c.args.end c.nanos-at.result before) refl
+    rw (c.fault-then-from-end.ensures, ← c.has_only.ensures, c.if-not-has_only.false, ← c.are_typed.ensures, c.if-not-are_typed.false, ← c.text_or.ensures, ← c.unit_of_word.ensures, c.in-Some.is, ← c.integer_or-times.ensures, range, given, ← c.integer_or-at.ensures, at_least, ← c.integer_or-every.ensures, every_least, at_short, every_short, ← at, past c.args.end c.nanos-at.result before) refl
 
 pub returns-then-calls-gt-MOST_BLOCK_CALLS : goal.returns-then-calls-gt-MOST_BLOCK_CALLS
 unfolding header_checks header_of
@@ -98,7 +98,7 @@ returns-then-calls-gt-MOST_BLOCK_CALLS c =
     let every_fits : SFits w64 c.integer_or-every.result = search rules in
     let least = simp to_z-of_z at c.if-times-lt1.false in
     let range = in_range z least (simp to_z-of_z at c.if-times.false) in
-    let given : (nat_le (delay_units z) 1 || is_some (get_member (codes "every") (table_view c.args.table.now))) ≡ true =
+    let given : (nat_le (delay_units z) 1 || is_some (get_member (codes "every") (table_view c.args.row.now.table.now))) ≡ true =
     elim c.else-times-gt1.branch [
       | else-times-gt1-via-then-times-gt1+else-not-has w ↦ rw (← w.has.ensures, w.if-not-has.false) (second_holds (nat_le (delay_units z) 1))
       | else-times-gt1-via-else-times-gt1 w ↦ made_once z _ (simp to_z-of_z at w.if-times-gt1.false)
@@ -121,7 +121,7 @@ returns-then-calls-gt-MOST_BLOCK_CALLS c =
           let more = rw units at (simp to_z-of_z at w.if-made-times-gt-MOST_CALLS.true) in
           rw (within calls 256 w.if-calls-gt-MOST_BLOCK_CALLS.false, past (c.args.made + delay_units z * calls) 65536 more) refl)
     ] in
-    rw (c.fault-then-calls-gt-MOST_BLOCK_CALLS.ensures, ← c.has_only_header_keys.ensures, c.if-not-has_only_header_keys.false, ← c.is_typed_header.ensures, c.if-not-is_typed_header.false, ← c.text_or.ensures, ← c.unit_of_word.ensures, c.in-Some.is, ← c.integer_or-times.ensures, range, given, ← c.integer_or-at.ensures, at_least, ← c.integer_or-every.ensures, every_least, at_short, every_short, ← at, within c.args.end c.nanos-at.result after, ← count, many) refl
+    rw (c.fault-then-calls-gt-MOST_BLOCK_CALLS.ensures, ← c.has_only.ensures, c.if-not-has_only.false, ← c.are_typed.ensures, c.if-not-are_typed.false, ← c.text_or.ensures, ← c.unit_of_word.ensures, c.in-Some.is, ← c.integer_or-times.ensures, range, given, ← c.integer_or-at.ensures, at_least, ← c.integer_or-every.ensures, every_least, at_short, every_short, ← at, within c.args.end c.nanos-at.result after, ← count, many) refl
 
 pub returns : goal.returns
 unfolding header_checks header_of
@@ -132,7 +132,7 @@ returns c =
     let every_fits : SFits w64 c.integer_or-every.result = search rules in
     let least = simp to_z-of_z at c.if-times-lt1.false in
     let range = in_range z least (simp to_z-of_z at c.if-times.false) in
-    let given : (nat_le (delay_units z) 1 || is_some (get_member (codes "every") (table_view c.args.table.now))) ≡ true =
+    let given : (nat_le (delay_units z) 1 || is_some (get_member (codes "every") (table_view c.args.row.now.table.now))) ≡ true =
     elim c.else-times-gt1.branch [
       | else-times-gt1-via-then-times-gt1+else-not-has w ↦ rw (← w.has.ensures, w.if-not-has.false) (second_holds (nat_le (delay_units z) 1))
       | else-times-gt1-via-else-times-gt1 w ↦ made_once z _ (simp to_z-of_z at w.if-times-gt1.false)
@@ -151,6 +151,6 @@ returns c =
     let every : c.nanos-every.result ≡ span_of c.integer_or-every.result c.in-Some.unit = c.nanos-every.ensures.value ∙ every_read.1 in
     let fewer = rw units at (simp to_z-of_z at c.if-made-times-gt-MOST_CALLS.false) in
     let few : (nat_le calls 256 && nat_le (c.args.made + delay_units z * calls) 65536) ≡ true = rw (within calls 256 c.if-calls-gt-MOST_BLOCK_CALLS.false, within (c.args.made + delay_units z * calls) 65536 fewer) refl in (
-      rw (← c.has_only_header_keys.ensures, c.if-not-has_only_header_keys.false, ← c.is_typed_header.ensures, c.if-not-is_typed_header.false, ← c.text_or.ensures, ← c.unit_of_word.ensures, c.in-Some.is, ← c.integer_or-times.ensures, range, given, ← c.integer_or-at.ensures, at_least, ← c.integer_or-every.ensures, every_least, at_short, every_short, ← at, within c.args.end c.nanos-at.result after, ← count, few) refl,
+      rw (← c.has_only.ensures, c.if-not-has_only.false, ← c.are_typed.ensures, c.if-not-are_typed.false, ← c.text_or.ensures, ← c.unit_of_word.ensures, c.in-Some.is, ← c.integer_or-times.ensures, range, given, ← c.integer_or-at.ensures, at_least, ← c.integer_or-every.ensures, every_least, at_short, every_short, ← at, within c.args.end c.nanos-at.result after, ← count, few) refl,
       simp to_z-of_z (rw (units, ← c.text_or.ensures, ← c.unit_of_word.ensures, c.in-Some.is, ← c.integer_or-times.ensures, ← c.integer_or-at.ensures, ← c.integer_or-every.ensures, ← at, ← every) refl),
     )

@@ -1,0 +1,56 @@
+//! The names of the keys of a plan's tables, by their words.
+
+ghost use Rattle.std.specs.Prelude.{◌≡◌, ◌<◌};
+ghost use Rattle.plan_read.specs.own.Rows.{key_of_word, place};
+
+/// The name of a key. Those of a call stand first, in the order that a word is compared with them.
+#[derive(Clone, Copy)]
+pub enum KeyName {
+    Op,
+    At,
+    Name,
+    Delay,
+    First,
+    Period,
+    Which,
+    Value,
+    Version,
+    Block,
+    Unit,
+    Times,
+    Every,
+    Call,
+}
+
+impl KeyName {
+    /// The name that a word is, if it is one.
+    pub fn of_word(word: &str) -> Option<KeyName>
+        ensures { result ≡ key_of_word word.now }
+    {
+        match word {
+            "op" => Some(KeyName::Op),
+            "at" => Some(KeyName::At),
+            "name" => Some(KeyName::Name),
+            "delay" => Some(KeyName::Delay),
+            "first" => Some(KeyName::First),
+            "period" => Some(KeyName::Period),
+            "which" => Some(KeyName::Which),
+            "value" => Some(KeyName::Value),
+            "version" => Some(KeyName::Version),
+            "block" => Some(KeyName::Block),
+            "unit" => Some(KeyName::Unit),
+            "times" => Some(KeyName::Times),
+            "every" => Some(KeyName::Every),
+            "call" => Some(KeyName::Call),
+            _ => None,
+        }
+    }
+
+    /// The place of the name among all, from 0 to 13.
+    pub fn place(self) -> usize
+        ensures value { result ≡ place self }
+        ensures within { result < 14 }
+    {
+        self as usize
+    }
+}
