@@ -5,11 +5,11 @@ use Rattle.std.proofs.lemmas.Bool.Decides.{nat_tests}
 use Rattle.std.specs.List.{AllByRecursion, list_all}
 use Rattle.toml.specs.Data.{Members, get_member}
 use Rattle.plan_read.specs.declared.faults.Place.{Place}
-use Rattle.plan_read.specs.Checks.{place_fault, header_checks, top_checks}
-use Rattle.plan_read.specs.Keys.{fits, header_keys, top_keys}
+use Rattle.plan_read.specs.own.Walk.{place_fault, header_tests, top_tests}
+use Rattle.plan_read.specs.Keys.{fits, header_keys, top_keys, are_typed}
 use Rattle.plan_read.specs.declared.keys.Shape.TheVariants.{Tables}
 use Rattle.plan_read.specs.Plans.{BlockTree, PlanTree, end_from, end_of_block, made_from}
-use Rattle.plan_read.specs.Values.{tables_at, header_of}
+use Rattle.plan_read.specs.own.Values.{tables_at, header_of}
 use Rattle.plan_read.proofs.Failing.{all_pass}
 
 -- where a test holds of a whole list it holds of each item
@@ -29,10 +29,10 @@ pub record Passed (made : ℕ) (ms : Members) : Type 0 where
   pub fits_plan : made + (header_of ms).times * length (tables_at (codes "call") ms) ≤ 65536
 
 -- a header none of whose checks fails says so
-pub passed : (p : Place) (end made : ℕ) (ms : Members) → place_fault p (header_checks end made ms) ≡ None → Passed made ms
-unfolding header_checks
+pub passed : (p : Place) (end made : ℕ) (ms : Members) → place_fault p (header_tests end made ms) ≡ None → Passed made ms
+unfolding header_tests
 passed p end made ms none =
-    let a = all_pass p (header_checks end made ms) none in
+    let a = all_pass p (header_tests end made ms) none in
     let typed = list_all_true (λ k. fits k.shape (get_member k.name ms)) header_keys a.1.0 in
     let times : (nat_le 1 (header_of ms).times && nat_le (header_of ms).times 65536) ≡ true = a.1.1.1.0 in
     let many : (nat_le (length (tables_at (codes "call") ms)) 256 && nat_le (made + (header_of ms).times * length (tables_at (codes "call") ms)) 65536) ≡ true = a.1.1.1.1.1.1.1.1.0 in
@@ -53,15 +53,19 @@ pub made_from_one_more : (n : ℕ) (bs : PlanTree) (b : BlockTree) → made_from
 made_from_one_more n [] b = refl
 made_from_one_more n (d ∷ bs) b = made_from_one_more (n + d.header.times * length d.calls) bs b
 
+-- the value at each key of a top is of its shape
+pub typed_top : (ms : Members) → are_typed top_keys ms ≡ true → AllByRecursion (λ k. fits k.shape (get_member k.name ms) ≡ true) top_keys
+typed_top ms t = list_all_true (λ k. fits k.shape (get_member k.name ms)) top_keys t
+
 -- what an accepted top says: its blocks are an array of tables, at most 256
 pub record TopPassed (ms : Members) : Type 0 where
   pub tables : fits Tables (get_member (codes "block") ms) ≡ true
   pub few : length (tables_at (codes "block") ms) ≤ 256
 
 -- a top none of whose checks fails says so
-pub top_passed : (p : Place) (ms : Members) → place_fault p (top_checks ms) ≡ None → TopPassed ms
-unfolding top_checks
+pub top_passed : (p : Place) (ms : Members) → place_fault p (top_tests ms) ≡ None → TopPassed ms
+unfolding top_tests
 top_passed p ms none =
-    let a = all_pass p (top_checks ms) none in
+    let a = all_pass p (top_tests ms) none in
     let typed = list_all_true (λ k. fits k.shape (get_member k.name ms)) top_keys a.1.1.0 in
     record { tables = typed.1.0; few = le_from_test (length (tables_at (codes "block") ms)) 256 a.1.1.1.0 }

@@ -1,5 +1,5 @@
--- A call is written exactly when none of its checks fails.
-use Rattle.std.proofs.Common.{subst, ◌≡◌, ◌⊎◌, ◌≤◌, ℕ, ℤ, pos, Bool, true, false, not, ◌&&◌, ◌||◌, ◌==◌, nat_le, List, [], ◌++◌, length, Option, None, Some, is_some, codes, refl, sym, ◌∙◌, inl, inr, arith}
+-- The tests of a call agree with its checks.
+use Rattle.std.proofs.Common.{◌≡◌, ◌⊎◌, ◌≤◌, ℕ, ℤ, pos, Bool, true, false, not, ◌&&◌, ◌||◌, ◌==◌, nat_le, List, [], ◌∷◌, ◌++◌, length, Option, None, Some, is_some, codes, refl, sym, inl, inr, arith}
 use Rattle.std.specs.Prelude.{unwrap_or, option_and_then, is_none}
 use Rattle.std.specs.List.{AllByRecursion}
 use Rattle.std.proofs.lemmas.Bool.{and_parts, cases_Bool}
@@ -9,6 +9,7 @@ use Rattle.sched_time.specs.Times.{longest, span_of}
 use Rattle.sched_time.specs.declared.policies.Which.TheVariants.{Continue}
 use Rattle.sched_time.specs.declared.unit.Unit.{Unit as TimeUnit}
 use Rattle.plan_read.specs.declared.faults.Place.{Place}
+use Rattle.plan_read.specs.declared.faults.PlanFaultKind.TheVariants.{BadName, DuplicateName, UnknownName, Ambiguous}
 use Rattle.plan_read.specs.declared.plans.Call.{Call}
 use Rattle.plan_read.specs.declared.plans.Header.{Header}
 use Rattle.plan_read.specs.declared.plans.Op.{Op}
@@ -17,15 +18,17 @@ use Rattle.plan_read.specs.declared.sites.Site.{Site}
 use Rattle.plan_read.specs.declared.keys.Shape.TheVariants.{Text, Integer, Truth, Policy}
 use Rattle.plan_read.specs.declared.verbs.Verb.{Verb}
 use Rattle.plan_read.specs.declared.verbs.Verb.TheVariants as verbs
-use Rattle.plan_read.specs.Checks.{place_fault, call_checks, verb_checks, key_checks, new_name_checks, known_name_checks, name_checks, time_checks, is_clear, are_spans_short, is_verb}
+use Rattle.plan_read.specs.Checks.{Passes}
 use Rattle.plan_read.specs.Keys.{fits, Key, call_keys, own_keys, has_required, are_typed, verb_of_word, which_of_word}
+use Rattle.plan_read.specs.Names.{is_name}
 use Rattle.plan_read.specs.Plans.{PlanTree, find, submissions_before, moment_in_last, last_offset}
-use Rattle.plan_read.specs.Values.{text_or, integer_or, verb_at, name_at, op_of, written_call, target_of, span_at, period_at}
-use Rattle.plan_read.specs.Writes.{HasOnly, IsCallOf, HasNewName, DelayAt, PeriodAt, WritesOp, WritesCall}
+use Rattle.plan_read.specs.Writes.{call_checks, verb_of, NamesVerb, HasPolicy, NameAt, HasName, IsNew, HasTarget, IsClear, HasSpans, DelayAt, PeriodAt}
+use Rattle.plan_read.specs.own.Values.{text_or, integer_or, verb_at, name_at, op_of, written_call, target_of, span_at, period_at, submits, found_at}
+use Rattle.plan_read.specs.own.Walk.{Test, ◌barring◌, place_fault, call_tests, verb_tests, key_tests, name_tests, time_tests, is_clear, are_spans_short, is_verb}
 use Rattle.plan_read.proofs.Accepted.{list_all_true, le_from_test}
-use Rattle.plan_read.proofs.Failing.{all_pass, none_fails, parts, last}
+use Rattle.plan_read.proofs.Agreeing.{Agree}
 use Rattle.plan_read.proofs.HeaderLaw.{test_from_le}
-use Rattle.plan_read.proofs.Holding.{integer_fits, text_fits, span_fits, span_is}
+use Rattle.plan_read.proofs.Holding.{integer_fits, text_fits, whole_fits, whole_is, span_fits, span_is}
 
 -- ---- values that are there
 
@@ -73,139 +76,15 @@ policy_word (Some (datetime t)) there typed = absurd (cc)
 policy_word (Some (array ds)) there typed = absurd (cc)
 policy_word (Some (table ms)) there typed = absurd (cc)
 
-own : (a b : ℕ) → ((a == b) || false) ≡ true → a ≡ b
-own a b h = grind (arith, nat_tests)
+same_block : (a b : ℕ) → ((a == b) || false) ≡ true → a ≡ b
+same_block a b h = grind (arith, nat_tests)
 
 -- what a cancel means
-clear : (block : ℕ) (o : Option Site) → is_clear block o ≡ true → (s : Site) × (o ≡ Some s) × (target_of o ≡ s.target) × ((s.target.block ≡ block) ⊎ (s.repeated ≡ false))
-clear block None h = absurd (cc)
-clear block (Some s) h = (
-  s,
-  refl,
-  refl,
-  elim (cases_Bool s.repeated) [
-    | inl t ↦ inl (own s.target.block block (rw t at h))
-    | inr f ↦ inr f
-  ],
-)
-
--- ---- the operation
-
--- what the checks on the keys say
-record KeysPass (verb : Verb) (ms : Members) : Type 0 where
-  keys : HasOnly (call_keys verb) ms
-  there : has_required (own_keys verb) ms ≡ true
-  typed : are_typed (own_keys verb) ms ≡ true
-  offset : fits Integer (get_member (codes "at") ms) ≡ true
-  word : fits Text (get_member (codes "op") ms) ≡ true
-
-keys_pass : (p : Place) (verb : Verb) (ms : Members) → place_fault p (key_checks verb ms) ≡ None → KeysPass verb ms
-unfolding key_checks
-keys_pass p verb ms none =
-    let k = all_pass p (key_checks verb ms) none in
-    let r = and_parts (is_some (get_member (codes "op") ms)) (has_required (own_keys verb) ms) k.1.0 in
-    let t = and_parts (fits Text (get_member (codes "op") ms)) (fits Integer (get_member (codes "at") ms) && are_typed (own_keys verb) ms) k.1.1.0 in
-    let u = and_parts (fits Integer (get_member (codes "at") ms)) (are_typed (own_keys verb) ms) t.1 in
-    record { keys = k.0; there = r.1; typed = u.1; offset = u.0; word = t.0 }
-
-new_name : (p : Place) (subs : List (List ℕ × Site)) (ms : Members) → is_some (get_member (codes "name") ms) ≡ true → fits Text (get_member (codes "name") ms) ≡ true
-    → place_fault p (new_name_checks (find (name_at ms) subs) ms) ≡ None → HasNewName subs ms (name_at ms)
-new_name p subs ms there typed none =
-    let n = all_pass p (new_name_checks (find (name_at ms) subs) ms) none in
-    (text_there (get_member (codes "name") ms) [] there typed, n.0, none_of (find (name_at ms) subs) n.1.0)
-
-delay_there : (unit : TimeUnit) (key : List ℕ) (ms : Members) → is_some (get_member key ms) ≡ true → fits Integer (get_member key ms) ≡ true → nat_le (span_at unit key ms) longest ≡ true
-    → DelayAt unit key ms (span_at unit key ms)
-delay_there unit key ms there typed short =
-    (integer_or (pos 0) key ms, integer_there (get_member key ms) (pos 0) there typed, refl, le_from_test (span_at unit key ms) longest short)
-
-period_there : (unit : TimeUnit) (key : List ℕ) (ms : Members) → is_some (get_member key ms) ≡ true → fits Integer (get_member key ms) ≡ true → nat_le (span_at unit key ms) longest ≡ true
-    → PeriodAt unit key ms (period_at unit key ms)
-period_there unit key ms there typed short =
-    (integer_or (pos 0) key ms, integer_there (get_member key ms) (pos 0) there typed, refl, le_from_test (span_at unit key ms) longest short)
-
-required_all : (keys : List Key) (ms : Members) → has_required keys ms ≡ true → AllByRecursion (λ k. (not k.required || is_some (get_member k.name ms)) ≡ true) keys
-required_all keys ms h = list_all_true (λ k. not k.required || is_some (get_member k.name ms)) keys h
-
-typed_all : (keys : List Key) (ms : Members) → are_typed keys ms ≡ true → AllByRecursion (λ k. fits k.shape (get_member k.name ms) ≡ true) keys
-typed_all keys ms h = list_all_true (λ k. fits k.shape (get_member k.name ms)) keys h
-
-op_written : (p : Place) (verb : Verb) (block : ℕ) (unit : TimeUnit) (subs : List (List ℕ × Site)) (ms : Members) → IsCallOf verb ms → KeysPass verb ms
-    → place_fault p (name_checks verb (find (name_at ms) subs) block ms) ≡ None → are_spans_short verb unit ms ≡ true
-    → WritesOp block unit subs ms (op_of verb (find (name_at ms) subs) unit ms)
-unfolding name_checks op_of
-op_written p verbs.Schedule block unit subs ms is k names short =
-    let there = required_all (own_keys verbs.Schedule) ms k.there in
-    let typed = typed_all (own_keys verbs.Schedule) ms k.typed in
-    (is, new_name p subs ms there.0 typed.0 names, delay_there unit (codes "delay") ms there.1.0 typed.1.0 short)
-op_written p verbs.Execute block unit subs ms is k names short =
-    let there = required_all (own_keys verbs.Execute) ms k.there in
-    let typed = typed_all (own_keys verbs.Execute) ms k.typed in
-    (is, new_name p subs ms there.0 typed.0 names)
-op_written p verbs.Rate block unit subs ms is k names short =
-    let there = required_all (own_keys verbs.Rate) ms k.there in
-    let typed = typed_all (own_keys verbs.Rate) ms k.typed in
-    let both = and_parts (nat_le (span_at unit (codes "first") ms) longest) (nat_le (span_at unit (codes "period") ms) longest) short in
-    (is, new_name p subs ms there.0 typed.0 names, delay_there unit (codes "first") ms there.1.0 typed.1.0 both.0, period_there unit (codes "period") ms there.1.1.0 typed.1.1.0 both.1)
-op_written p verbs.Fixed block unit subs ms is k names short =
-    let there = required_all (own_keys verbs.Fixed) ms k.there in
-    let typed = typed_all (own_keys verbs.Fixed) ms k.typed in
-    let both = and_parts (nat_le (span_at unit (codes "first") ms) longest) (nat_le (span_at unit (codes "delay") ms) longest) short in
-    (is, new_name p subs ms there.0 typed.0 names, delay_there unit (codes "first") ms there.1.0 typed.1.0 both.0, period_there unit (codes "delay") ms there.1.1.0 typed.1.1.0 both.1)
-op_written p verbs.Cancel block unit subs ms is k names short =
-    let there = required_all (own_keys verbs.Cancel) ms k.there in
-    let typed = typed_all (own_keys verbs.Cancel) ms k.typed in
-    let n = all_pass p (known_name_checks (find (name_at ms) subs) block ms) names in
-    let s = clear block (find (name_at ms) subs) n.1.1.0 in
-    (is, (name_at ms, text_there (get_member (codes "name") ms) [] there.0 typed.0, n.0, s.0, s.1, s.2, s.3))
-op_written p verbs.Policy block unit subs ms is k names short =
-    let there = required_all (own_keys verbs.Policy) ms k.there in
-    let typed = typed_all (own_keys verbs.Policy) ms k.typed in
-    let which = get_member (codes "which") ms in
-    let word = text_or [] (codes "which") ms in
-    (is, word, text_there which [] there.0 (policy_is_text which typed.0), some_of (which_of_word word) Continue (policy_word which there.0 typed.0), truth_there (get_member (codes "value") ms) there.1.0 typed.1.0)
-op_written p verb block unit subs ms is k names short = is
-
-or_le : (a b c d : ℕ) → (nat_le a b || nat_le c d) ≡ true → (a ≤ b) ⊎ (c ≤ d)
-or_le a b c d h = elim (cases_Bool (nat_le a b)) [ inl t ↦ inl (le_from_test a b t) | inr f ↦ inr (le_from_test c d (rw f at h)) ]
-
-and_assoc : (a b c : Bool) → ((a && b) && c) ≡ true → (a && (b && c)) ≡ true
-and_assoc true b c h = h
-and_assoc false b c h = h
-
-call_is_of : (ms : Members) → is_some (get_member (codes "op") ms) ≡ true → is_verb ms ≡ true → KeysPass (verb_at ms) ms → IsCallOf (verb_at ms) ms
-unfolding verb_at
-call_is_of ms there known k =
-    let word = text_or [] (codes "op") ms in
-    (word, text_there (get_member (codes "op") ms) [] there k.word, some_of (verb_of_word word) verbs.Ask known, k.keys)
-
--- the call that no check refuses
-pub call_written : (p : Place) (earlier : PlanTree) (h : Header) (before : List Call) (ms : Members)
-    → place_fault p (call_checks (find (name_at ms) (submissions_before earlier h before)) (length earlier) h (last_offset before) ms) ≡ None
-    → WritesCall earlier h before ms (written_call (find (name_at ms) (submissions_before earlier h before)) h ms)
-unfolding verb_checks time_checks
-call_written p earlier h before ms none =
-    let verb = verb_at ms in
-    let found = find (name_at ms) (submissions_before earlier h before) in
-    let a = parts p (verb_checks ms ++ key_checks verb ms ++ name_checks verb found (length earlier) ms) (time_checks verb h (last_offset before) ms) none in
-    let b = parts p (verb_checks ms ++ key_checks verb ms) (name_checks verb found (length earlier) ms) a.0 in
-    let d = parts p (verb_checks ms) (key_checks verb ms) b.0 in
-    let v = all_pass p (verb_checks ms) d.0 in
-    let k = keys_pass p verb ms d.1 in
-    let t = all_pass p (time_checks verb h (last_offset before) ms) a.1 in
-    let at = span_at h.unit (codes "at") ms in
-    let first = and_parts (nat_le at longest) (are_spans_short verb h.unit ms && nat_le (moment_in_last h at) longest) (and_assoc (nat_le at longest) (are_spans_short verb h.unit ms) (nat_le (moment_in_last h at) longest) t.1.0) in
-    let short = and_parts (are_spans_short verb h.unit ms) (nat_le (moment_in_last h at) longest) first.1 in
-    let ordered = and_parts (nat_le (last_offset before) at) (nat_le h.times 1 || nat_le at h.every) t.1.1.0 in
-    record {
-      at = span_fits h.unit (codes "at") ms k.offset t.0 (le_from_test at longest first.0);
-      last = le_from_test (moment_in_last h at) longest short.1;
-      order = le_from_test (last_offset before) at ordered.0;
-      within = or_le h.times 1 at h.every ordered.1;
-      op = op_written p verb (length earlier) h.unit (submissions_before earlier h before) ms (call_is_of ms v.0 v.1.0 k) k b.1 short.0;
-    }
-
--- ---- the other way
+clear : (block : ℕ) (s : Site) → is_clear block (Some s) ≡ true → (s.target.block ≡ block) ⊎ (s.repeated ≡ false)
+clear block s h = elim (cases_Bool s.repeated) [
+  | inl t ↦ inl (same_block s.target.block block (rw t at h))
+  | inr f ↦ inr f
+]
 
 or_yes : (a : Bool) → (a || true) ≡ true
 or_yes true = refl
@@ -218,116 +97,416 @@ clear_back : (block : ℕ) (s : Site) → (s.target.block ≡ block) ⊎ (s.repe
 clear_back block s (inl h) = same s.target.block block s.repeated h
 clear_back block s (inr h) = rw h (or_yes (s.target.block == block))
 
--- what a written operation says of the checks
-record Stands (p : Place) (block : ℕ) (unit : TimeUnit) (subs : List (List ℕ × Site)) (ms : Members) (op : Op) : Type 0 where
-  verb : Verb
-  word : IsCallOf verb ms
-  keys : place_fault p (key_checks verb ms) ≡ None
-  names : place_fault p (name_checks verb (find (name_at ms) subs) block ms) ≡ None
-  short : are_spans_short verb unit ms ≡ true
-  is : op ≡ op_of verb (find (name_at ms) subs) unit ms
+-- ---- the operation that is read
 
-keys_stand : (p : Place) (verb : Verb) (ms : Members) → fits Integer (get_member (codes "at") ms) ≡ true → IsCallOf verb ms
-    → has_required (own_keys verb) ms ≡ true → are_typed (own_keys verb) ms ≡ true → place_fault p (key_checks verb ms) ≡ None
-unfolding key_checks
-keys_stand p verb ms at is there typed = none_fails p (key_checks verb ms) (is.3, (rw (is.1, there) refl, (rw (is.1, at, typed) refl, tt)))
+-- a value that is read as the word of an operation is a text
+op_is_text : (o : Option Data) → is_some (verb_of_word (unwrap_or (option_and_then as_str o) [])) ≡ true → o ≡ Some (string (unwrap_or (option_and_then as_str o) []))
+op_is_text None h = absurd (cc)
+op_is_text (Some (string s)) h = refl
+op_is_text (Some (boolean b)) h = absurd (cc)
+op_is_text (Some (integer n)) h = absurd (cc)
+op_is_text (Some (float x)) h = absurd (cc)
+op_is_text (Some (datetime t)) h = absurd (cc)
+op_is_text (Some (array ds)) h = absurd (cc)
+op_is_text (Some (table ms)) h = absurd (cc)
 
-name_is : (subs : List (List ℕ × Site)) (ms : Members) (name : List ℕ) → HasNewName subs ms name → name_at ms ≡ name
-name_is subs ms name w = rw w.0 refl
+-- the operation that is read is of the word that is read
+verb_of_read : (verb : Verb) (found : Option Site) (unit : TimeUnit) (ms : Members) → verb_of (op_of verb found unit ms) ≡ verb
+unfolding op_of
+verb_of_read verbs.Schedule found unit ms = refl
+verb_of_read verbs.Execute found unit ms = refl
+verb_of_read verbs.Rate found unit ms = refl
+verb_of_read verbs.Fixed found unit ms = refl
+verb_of_read verbs.Cancel found unit ms = refl
+verb_of_read verbs.Policy found unit ms = refl
+verb_of_read verbs.Shutdown found unit ms = refl
+verb_of_read verbs.ShutdownNow found unit ms = refl
+verb_of_read verbs.Ask found unit ms = refl
 
-new_stands : (p : Place) (subs : List (List ℕ × Site)) (ms : Members) (name : List ℕ) → HasNewName subs ms name → place_fault p (new_name_checks (find (name_at ms) subs) ms) ≡ None
-new_stands p subs ms name w =
-    let is = name_is subs ms name w in
-    none_fails p (new_name_checks (find (name_at ms) subs) ms) (rw is w.1, (rw (is, w.2) refl, tt))
+verb_named : (ms : Members) → is_verb ms ≡ true → NamesVerb ms (verb_at ms)
+unfolding verb_at
+verb_named ms known =
+    let word = text_or [] (codes "op") ms in
+    (word, op_is_text (get_member (codes "op") ms) known, some_of (verb_of_word word) verbs.Ask known)
 
-op_stands : (p : Place) (block : ℕ) (unit : TimeUnit) (subs : List (List ℕ × Site)) (ms : Members) (op : Op) → fits Integer (get_member (codes "at") ms) ≡ true → WritesOp block unit subs ms op
-    → Stands p block unit subs ms op
-unfolding name_checks op_of
-op_stands p block unit subs ms (ops.Schedule name delay) at w =
-    record {
-      verb = verbs.Schedule;
-      word = w.0;
-      keys = keys_stand p verbs.Schedule ms at w.0 (rw (w.1.0, w.2.1) refl) (rw (w.1.0, w.2.1) refl);
-      names = new_stands p subs ms name w.1;
-      short = rw (w.2.1, ← w.2.2) (test_from_le delay longest w.2.3);
-      is = rw (name_is subs ms name w.1, w.2.1, ← w.2.2) refl;
-    }
-op_stands p block unit subs ms (ops.Execute name) at w =
-    record {
-      verb = verbs.Execute;
-      word = w.0;
-      keys = keys_stand p verbs.Execute ms at w.0 (rw w.1.0 refl) (rw w.1.0 refl);
-      names = new_stands p subs ms name w.1;
-      short = refl;
-      is = rw (name_is subs ms name w.1) refl;
-    }
-op_stands p block unit subs ms (ops.Rate name first period) at w =
-    record {
-      verb = verbs.Rate;
-      word = w.0;
-      keys = keys_stand p verbs.Rate ms at w.0 (rw (w.1.0, w.2.1, w.3.1) refl) (rw (w.1.0, w.2.1, w.3.1) refl);
-      names = new_stands p subs ms name w.1;
-      short = rw (w.2.1, ← w.2.2, test_from_le first longest w.2.3, w.3.1) (test_from_le (span_of w.3.0 unit) longest w.3.3);
-      is = rw (name_is subs ms name w.1, w.2.1, ← w.2.2, w.3.1, ← w.3.2) refl;
-    }
-op_stands p block unit subs ms (ops.Fixed name first delay) at w =
-    record {
-      verb = verbs.Fixed;
-      word = w.0;
-      keys = keys_stand p verbs.Fixed ms at w.0 (rw (w.1.0, w.2.1, w.3.1) refl) (rw (w.1.0, w.2.1, w.3.1) refl);
-      names = new_stands p subs ms name w.1;
-      short = rw (w.2.1, ← w.2.2, test_from_le first longest w.2.3, w.3.1) (test_from_le (span_of w.3.0 unit) longest w.3.3);
-      is = rw (name_is subs ms name w.1, w.2.1, ← w.2.2, w.3.1, ← w.3.2) refl;
-    }
-op_stands p block unit subs ms (ops.Cancel target) at w =
-    let e : name_at ms ≡ w.1.0 = rw w.1.1 refl in
-    record {
-      verb = verbs.Cancel;
-      word = w.0;
-      keys = keys_stand p verbs.Cancel ms at w.0 (rw w.1.1 refl) (rw w.1.1 refl);
-      names = none_fails p (known_name_checks (find (name_at ms) subs) block ms) (rw e w.1.2, (rw (e, w.1.4) refl, (rw (e, w.1.4) (clear_back block w.1.3 w.1.6), tt)));
-      short = refl;
-      is = rw (e, w.1.4, w.1.5) refl;
-    }
-op_stands p block unit subs ms (ops.Policy which value) at w =
-    record {
-      verb = verbs.Policy;
-      word = w.0;
-      keys = keys_stand p verbs.Policy ms at w.0 (rw (w.2, w.4) refl) (rw (w.2, w.3, w.4) refl);
-      names = refl;
-      short = refl;
-      is = rw (w.2, w.3, w.4) refl;
-    }
-op_stands p block unit subs ms op at is = record { verb = _; word = is; keys = keys_stand p _ ms at is refl refl; names = refl; short = refl; is = refl }
+-- a word that the table names is the one that is read
+verb_is : (ms : Members) (verb : Verb) → NamesVerb ms verb → (verb_at ms ≡ verb) × (is_verb ms ≡ true)
+unfolding verb_at
+verb_is ms verb w = (rw (w.1, w.2) refl, rw (w.1, w.2) refl)
+
+-- ---- the keys that are read
+
+required_all : (keys : List Key) (ms : Members) → has_required keys ms ≡ true → AllByRecursion (λ k. (not k.required || is_some (get_member k.name ms)) ≡ true) keys
+required_all keys ms h = list_all_true (λ k. not k.required || is_some (get_member k.name ms)) keys h
+
+typed_all : (keys : List Key) (ms : Members) → are_typed keys ms ≡ true → AllByRecursion (λ k. fits k.shape (get_member k.name ms) ≡ true) keys
+typed_all keys ms h = list_all_true (λ k. fits k.shape (get_member k.name ms)) keys h
+
+-- what the tests on the keys say
+record KeysPass (verb : Verb) (ms : Members) : Type 0 where
+  there : has_required (call_keys verb) ms ≡ true
+  typed : are_typed (call_keys verb) ms ≡ true
+
+-- the offset is an integer
+offset_typed : (verb : Verb) (ms : Members) → are_typed (call_keys verb) ms ≡ true → fits Integer (get_member (codes "at") ms) ≡ true
+offset_typed verb ms h =
+    let t = and_parts (fits Text (get_member (codes "op") ms)) (fits Integer (get_member (codes "at") ms) && are_typed (own_keys verb) ms) h in
+    (and_parts (fits Integer (get_member (codes "at") ms)) (are_typed (own_keys verb) ms) t.1).0
+
+policy_read : (verb : Verb) (found : Option Site) (unit : TimeUnit) (ms : Members) → KeysPass verb ms → HasPolicy ms (op_of verb found unit ms)
+unfolding op_of
+policy_read verbs.Policy found unit ms k =
+    let there = required_all (call_keys verbs.Policy) ms k.there in
+    let typed = typed_all (call_keys verbs.Policy) ms k.typed in
+    let which = get_member (codes "which") ms in
+    let word = text_or [] (codes "which") ms in (
+      (word, text_there which [] there.1.1.0 (policy_is_text which typed.1.1.0), some_of (which_of_word word) Continue (policy_word which there.1.1.0 typed.1.1.0)),
+      truth_there (get_member (codes "value") ms) there.1.1.1.0 typed.1.1.1.0,
+    )
+policy_read verbs.Schedule found unit ms k = tt
+policy_read verbs.Execute found unit ms k = tt
+policy_read verbs.Rate found unit ms k = tt
+policy_read verbs.Fixed found unit ms k = tt
+policy_read verbs.Cancel found unit ms k = tt
+policy_read verbs.Shutdown found unit ms k = tt
+policy_read verbs.ShutdownNow found unit ms k = tt
+policy_read verbs.Ask found unit ms k = tt
+
+-- ---- names: the tests on them, with one of each kind for every operation
+
+-- an operation cancels a task
+abbrev pub cancels : Verb → Bool
+cancels verbs.Cancel = true
+cancels _ = false
+
+abbrev pub name_barring : Verb → Option Site → ℕ → Members → List Test
+name_barring verb found block ms =
+    (BadName barring not (submits verb || cancels verb) || is_name (name_at ms))
+    ∷ (DuplicateName barring not (submits verb) || is_none found)
+    ∷ (UnknownName barring not (cancels verb) || is_some found)
+    ∷ (Ambiguous barring not (cancels verb) || is_clear block found)
+    ∷ []
+
+-- they have the same fault
+names_alike : (p : Place) (verb : Verb) (found : Option Site) (block : ℕ) (ms : Members) (rest : List Test)
+    → place_fault p (name_tests verb found block ms ++ rest) ≡ place_fault p (name_barring verb found block ms ++ rest)
+unfolding name_tests
+names_alike p verbs.Schedule found block ms rest = refl
+names_alike p verbs.Execute found block ms rest = refl
+names_alike p verbs.Rate found block ms rest = refl
+names_alike p verbs.Fixed found block ms rest = refl
+names_alike p verbs.Cancel found block ms rest = refl
+names_alike p verbs.Policy found block ms rest = refl
+names_alike p verbs.Shutdown found block ms rest = refl
+names_alike p verbs.ShutdownNow found block ms rest = refl
+names_alike p verbs.Ask found block ms rest = refl
+
+-- the name that is read
+name_there : (verb : Verb) (ms : Members) → is_some (get_member (codes "name") ms) ≡ true → fits Text (get_member (codes "name") ms) ≡ true → is_name (name_at ms) ≡ true → NameAt ms (name_at ms)
+name_there verb ms there typed good = (text_there (get_member (codes "name") ms) [] there typed, good)
+
+name_read : (verb : Verb) (found : Option Site) (block : ℕ) (unit : TimeUnit) (ms : Members) → KeysPass verb ms → (not (submits verb || cancels verb) || is_name (name_at ms)) ≡ true
+    → HasName ms (op_of verb found unit ms)
+unfolding op_of
+name_read verbs.Schedule found block unit ms k good =
+    name_there verbs.Schedule ms (required_all (call_keys verbs.Schedule) ms k.there).1.1.0 (typed_all (call_keys verbs.Schedule) ms k.typed).1.1.0 good
+name_read verbs.Execute found block unit ms k good =
+    name_there verbs.Execute ms (required_all (call_keys verbs.Execute) ms k.there).1.1.0 (typed_all (call_keys verbs.Execute) ms k.typed).1.1.0 good
+name_read verbs.Rate found block unit ms k good =
+    name_there verbs.Rate ms (required_all (call_keys verbs.Rate) ms k.there).1.1.0 (typed_all (call_keys verbs.Rate) ms k.typed).1.1.0 good
+name_read verbs.Fixed found block unit ms k good =
+    name_there verbs.Fixed ms (required_all (call_keys verbs.Fixed) ms k.there).1.1.0 (typed_all (call_keys verbs.Fixed) ms k.typed).1.1.0 good
+name_read verbs.Cancel found block unit ms k good =
+    (name_at ms, name_there verbs.Cancel ms (required_all (call_keys verbs.Cancel) ms k.there).1.1.0 (typed_all (call_keys verbs.Cancel) ms k.typed).1.1.0 good)
+name_read verbs.Policy found block unit ms k good = tt
+name_read verbs.Shutdown found block unit ms k good = tt
+name_read verbs.ShutdownNow found block unit ms k good = tt
+name_read verbs.Ask found block unit ms k good = tt
+
+-- a name that stands there is the one that is read
+name_is : (ms : Members) (name : List ℕ) → NameAt ms name → (name_at ms ≡ name) × (is_name (name_at ms) ≡ true)
+name_is ms name w = let e : name_at ms ≡ name = rw w.0 refl in (e, rw e w.1)
+
+name_good : (ms : Members) (op : Op) → HasName ms op → (not (submits (verb_of op) || cancels (verb_of op)) || is_name (name_at ms)) ≡ true
+name_good ms (ops.Schedule name delay) w = (name_is ms name w).1
+name_good ms (ops.Execute name) w = (name_is ms name w).1
+name_good ms (ops.Rate name first period) w = (name_is ms name w).1
+name_good ms (ops.Fixed name first delay) w = (name_is ms name w).1
+name_good ms (ops.Cancel target) w = (name_is ms w.0 w.1).1
+name_good ms (ops.Policy which value) w = refl
+name_good ms ops.Shutdown w = refl
+name_good ms ops.ShutdownNow w = refl
+name_good ms ops.Ask w = refl
+
+-- ---- no submission of the name
+
+new_read : (verb : Verb) (subs : List (List ℕ × Site)) (unit : TimeUnit) (ms : Members) → (not (submits verb) || is_none (find (name_at ms) subs)) ≡ true
+    → IsNew subs (op_of verb (find (name_at ms) subs) unit ms)
+unfolding op_of
+new_read verbs.Schedule subs unit ms h name is = let e : name_at ms ≡ name = cc in rw (← e) (none_of (find (name_at ms) subs) h)
+new_read verbs.Execute subs unit ms h name is = let e : name_at ms ≡ name = cc in rw (← e) (none_of (find (name_at ms) subs) h)
+new_read verbs.Rate subs unit ms h name is = let e : name_at ms ≡ name = cc in rw (← e) (none_of (find (name_at ms) subs) h)
+new_read verbs.Fixed subs unit ms h name is = let e : name_at ms ≡ name = cc in rw (← e) (none_of (find (name_at ms) subs) h)
+new_read verbs.Cancel subs unit ms h name is = absurd (cc)
+new_read verbs.Policy subs unit ms h name is = absurd (cc)
+new_read verbs.Shutdown subs unit ms h name is = absurd (cc)
+new_read verbs.ShutdownNow subs unit ms h name is = absurd (cc)
+new_read verbs.Ask subs unit ms h name is = absurd (cc)
+
+new_good : (subs : List (List ℕ × Site)) (ms : Members) (op : Op) → HasName ms op → IsNew subs op → (not (submits (verb_of op)) || is_none (find (name_at ms) subs)) ≡ true
+new_good subs ms (ops.Schedule name delay) w n = rw ((name_is ms name w).0, n name refl) refl
+new_good subs ms (ops.Execute name) w n = rw ((name_is ms name w).0, n name refl) refl
+new_good subs ms (ops.Rate name first period) w n = rw ((name_is ms name w).0, n name refl) refl
+new_good subs ms (ops.Fixed name first delay) w n = rw ((name_is ms name w).0, n name refl) refl
+new_good subs ms (ops.Cancel target) w n = refl
+new_good subs ms (ops.Policy which value) w n = refl
+new_good subs ms ops.Shutdown w n = refl
+new_good subs ms ops.ShutdownNow w n = refl
+new_good subs ms ops.Ask w n = refl
+
+-- ---- the submission that a cancel means
+
+some_site : (o : Option Site) → is_some o ≡ true → (s : Site) × (o ≡ Some s) × (target_of o ≡ s.target)
+some_site None h = absurd (cc)
+some_site (Some s) h = (s, refl, refl)
+
+target_read : (verb : Verb) (subs : List (List ℕ × Site)) (unit : TimeUnit) (ms : Members) → HasName ms (op_of verb (find (name_at ms) subs) unit ms)
+    → (not (cancels verb) || is_some (find (name_at ms) subs)) ≡ true → HasTarget subs ms (op_of verb (find (name_at ms) subs) unit ms)
+unfolding op_of
+target_read verbs.Cancel subs unit ms w h =
+    let s = some_site (find (name_at ms) subs) h in
+    let n = name_is ms w.0 w.1 in
+    (s.0, (w.0, w.1, rw (← n.0) s.1), s.2)
+target_read verbs.Schedule subs unit ms w h = tt
+target_read verbs.Execute subs unit ms w h = tt
+target_read verbs.Rate subs unit ms w h = tt
+target_read verbs.Fixed subs unit ms w h = tt
+target_read verbs.Policy subs unit ms w h = tt
+target_read verbs.Shutdown subs unit ms w h = tt
+target_read verbs.ShutdownNow subs unit ms w h = tt
+target_read verbs.Ask subs unit ms w h = tt
+
+target_good : (subs : List (List ℕ × Site)) (ms : Members) (op : Op) → HasTarget subs ms op → (not (cancels (verb_of op)) || is_some (find (name_at ms) subs)) ≡ true
+target_good subs ms (ops.Cancel target) w = rw ((name_is ms w.1.0 w.1.1).0, w.1.2) refl
+target_good subs ms (ops.Schedule name delay) w = refl
+target_good subs ms (ops.Execute name) w = refl
+target_good subs ms (ops.Rate name first period) w = refl
+target_good subs ms (ops.Fixed name first delay) w = refl
+target_good subs ms (ops.Policy which value) w = refl
+target_good subs ms ops.Shutdown w = refl
+target_good subs ms ops.ShutdownNow w = refl
+target_good subs ms ops.Ask w = refl
+
+clear_read : (verb : Verb) (block : ℕ) (subs : List (List ℕ × Site)) (unit : TimeUnit) (ms : Members) → HasTarget subs ms (op_of verb (find (name_at ms) subs) unit ms)
+    → (not (cancels verb) || is_clear block (find (name_at ms) subs)) ≡ true → IsClear block subs ms (op_of verb (find (name_at ms) subs) unit ms)
+unfolding op_of
+clear_read verbs.Cancel block subs unit ms w h =
+    let found : find (name_at ms) subs ≡ Some w.0 = rw (name_is ms w.1.0 w.1.1).0 w.1.2 in
+    (w.0, w.1, clear block w.0 (rw found at h))
+clear_read verbs.Schedule block subs unit ms w h = tt
+clear_read verbs.Execute block subs unit ms w h = tt
+clear_read verbs.Rate block subs unit ms w h = tt
+clear_read verbs.Fixed block subs unit ms w h = tt
+clear_read verbs.Policy block subs unit ms w h = tt
+clear_read verbs.Shutdown block subs unit ms w h = tt
+clear_read verbs.ShutdownNow block subs unit ms w h = tt
+clear_read verbs.Ask block subs unit ms w h = tt
+
+clear_good : (block : ℕ) (subs : List (List ℕ × Site)) (ms : Members) (op : Op) → IsClear block subs ms op → (not (cancels (verb_of op)) || is_clear block (find (name_at ms) subs)) ≡ true
+clear_good block subs ms (ops.Cancel target) w = rw ((name_is ms w.1.0 w.1.1).0, w.1.2) (clear_back block w.0 w.2)
+clear_good block subs ms (ops.Schedule name delay) w = refl
+clear_good block subs ms (ops.Execute name) w = refl
+clear_good block subs ms (ops.Rate name first period) w = refl
+clear_good block subs ms (ops.Fixed name first delay) w = refl
+clear_good block subs ms (ops.Policy which value) w = refl
+clear_good block subs ms ops.Shutdown w = refl
+clear_good block subs ms ops.ShutdownNow w = refl
+clear_good block subs ms ops.Ask w = refl
+
+-- ---- the spans
+
+delay_there : (unit : TimeUnit) (key : List ℕ) (ms : Members) → is_some (get_member key ms) ≡ true → fits Integer (get_member key ms) ≡ true → nat_le (span_at unit key ms) longest ≡ true
+    → DelayAt unit key ms (span_at unit key ms)
+delay_there unit key ms there typed short =
+    (integer_or (pos 0) key ms, integer_there (get_member key ms) (pos 0) there typed, refl, le_from_test (span_at unit key ms) longest short)
+
+period_there : (unit : TimeUnit) (key : List ℕ) (ms : Members) → is_some (get_member key ms) ≡ true → fits Integer (get_member key ms) ≡ true → nat_le (span_at unit key ms) longest ≡ true
+    → PeriodAt unit key ms (period_at unit key ms)
+period_there unit key ms there typed short =
+    (integer_or (pos 0) key ms, integer_there (get_member key ms) (pos 0) there typed, refl, le_from_test (span_at unit key ms) longest short)
+
+spans_read : (verb : Verb) (found : Option Site) (unit : TimeUnit) (ms : Members) → KeysPass verb ms → are_spans_short verb unit ms ≡ true → HasSpans unit ms (op_of verb found unit ms)
+unfolding op_of
+spans_read verbs.Schedule found unit ms k short =
+    let there = required_all (call_keys verbs.Schedule) ms k.there in
+    let typed = typed_all (call_keys verbs.Schedule) ms k.typed in
+    delay_there unit (codes "delay") ms there.1.1.1.0 typed.1.1.1.0 short
+spans_read verbs.Rate found unit ms k short =
+    let there = required_all (call_keys verbs.Rate) ms k.there in
+    let typed = typed_all (call_keys verbs.Rate) ms k.typed in
+    let both = and_parts (nat_le (span_at unit (codes "first") ms) longest) (nat_le (span_at unit (codes "period") ms) longest) short in
+    (delay_there unit (codes "first") ms there.1.1.1.0 typed.1.1.1.0 both.0, period_there unit (codes "period") ms there.1.1.1.1.0 typed.1.1.1.1.0 both.1)
+spans_read verbs.Fixed found unit ms k short =
+    let there = required_all (call_keys verbs.Fixed) ms k.there in
+    let typed = typed_all (call_keys verbs.Fixed) ms k.typed in
+    let both = and_parts (nat_le (span_at unit (codes "first") ms) longest) (nat_le (span_at unit (codes "delay") ms) longest) short in
+    (delay_there unit (codes "first") ms there.1.1.1.0 typed.1.1.1.0 both.0, period_there unit (codes "delay") ms there.1.1.1.1.0 typed.1.1.1.1.0 both.1)
+spans_read verbs.Execute found unit ms k short = tt
+spans_read verbs.Cancel found unit ms k short = tt
+spans_read verbs.Policy found unit ms k short = tt
+spans_read verbs.Shutdown found unit ms k short = tt
+spans_read verbs.ShutdownNow found unit ms k short = tt
+spans_read verbs.Ask found unit ms k short = tt
+
+-- a span that stands there is the one that is read
+delay_is : (unit : TimeUnit) (key : List ℕ) (ms : Members) (n : ℕ) → DelayAt unit key ms n → (span_at unit key ms ≡ n) × (nat_le (span_at unit key ms) longest ≡ true)
+delay_is unit key ms n w = let e : span_at unit key ms ≡ n = rw w.1 (sym w.2) in (e, rw e (test_from_le n longest w.3))
+
+period_is : (unit : TimeUnit) (key : List ℕ) (ms : Members) (period : Option ℕ) → PeriodAt unit key ms period → (period_at unit key ms ≡ period) × (nat_le (span_at unit key ms) longest ≡ true)
+period_is unit key ms period w = (rw w.1 (sym w.2), rw w.1 (test_from_le (span_of w.0 unit) longest w.3))
+
+spans_good : (unit : TimeUnit) (ms : Members) (op : Op) → HasSpans unit ms op → are_spans_short (verb_of op) unit ms ≡ true
+spans_good unit ms (ops.Schedule name delay) w = (delay_is unit (codes "delay") ms delay w).1
+spans_good unit ms (ops.Rate name first period) w = rw ((delay_is unit (codes "first") ms first w.0).1, (period_is unit (codes "period") ms period w.1).1) refl
+spans_good unit ms (ops.Fixed name first delay) w = rw ((delay_is unit (codes "first") ms first w.0).1, (period_is unit (codes "delay") ms delay w.1).1) refl
+spans_good unit ms (ops.Execute name) w = refl
+spans_good unit ms (ops.Cancel target) w = refl
+spans_good unit ms (ops.Policy which value) w = refl
+spans_good unit ms ops.Shutdown w = refl
+spans_good unit ms ops.ShutdownNow w = refl
+spans_good unit ms ops.Ask w = refl
+
+-- ---- times
+
+or_le : (a b c d : ℕ) → (nat_le a b || nat_le c d) ≡ true → (a ≤ b) ⊎ (c ≤ d)
+or_le a b c d h = elim (cases_Bool (nat_le a b)) [ inl t ↦ inl (le_from_test a b t) | inr f ↦ inr (le_from_test c d (rw f at h)) ]
 
 or_back : (a b c d : ℕ) → (a ≤ b) ⊎ (c ≤ d) → (nat_le a b || nat_le c d) ≡ true
 or_back a b c d (inl h) = rw (test_from_le a b h) refl
 or_back a b c d (inr h) = rw (test_from_le c d h) (or_yes (nat_le a b))
 
-verb_is : (verb : Verb) (ms : Members) → IsCallOf verb ms → (verb_at ms ≡ verb) × (is_verb ms ≡ true) × (is_some (get_member (codes "op") ms) ≡ true)
-unfolding verb_at
-verb_is verb ms is = (rw (is.1, is.2) refl, rw (is.1, is.2) refl, rw is.1 refl)
+-- three tests one after the other
+three : (a b c : Bool) → ((a && b) && c) ≡ true → (a ≡ true) × (b ≡ true) × (c ≡ true)
+three a b c h = let p = and_parts (a && b) c h in let q = and_parts a b p.0 in (q.0, q.1, p.1)
 
--- a written call meets each check, and is the one that is read
-pub call_only : (p : Place) (earlier : PlanTree) (h : Header) (before : List Call) (ms : Members) (c : Call) → WritesCall earlier h before ms c
-    → (place_fault p (call_checks (find (name_at ms) (submissions_before earlier h before)) (length earlier) h (last_offset before) ms) ≡ None)
-    × (c ≡ written_call (find (name_at ms) (submissions_before earlier h before)) h ms)
-unfolding verb_checks time_checks
-call_only p earlier h before ms c w =
+-- ---- the tests and the checks
+
+-- the tests on a call, with one on names of each kind
+abbrev pub even_tests : Option Site → ℕ → Header → ℕ → Members → List Test
+even_tests found block h last ms =
+    verb_tests ms ++ key_tests (verb_at ms) ms ++ name_barring (verb_at ms) found block ms ++ time_tests (verb_at ms) h last ms
+
+pub tests_alike : (p : Place) (found : Option Site) (block : ℕ) (h : Header) (last : ℕ) (ms : Members) → place_fault p (call_tests found block h last ms) ≡ place_fault p (even_tests found block h last ms)
+unfolding verb_tests key_tests
+tests_alike p found block h last ms = rw (names_alike p (verb_at ms) found block ms (time_tests (verb_at ms) h last ms)) refl
+
+-- what the checks before the names say of what is read
+read_keys : (earlier : PlanTree) (h : Header) (before : List Call) (ms : Members) → has_required (call_keys (verb_of (op_of (verb_at ms) (found_at earlier h before ms) h.unit ms))) ms ≡ true
+    → are_typed (call_keys (verb_of (op_of (verb_at ms) (found_at earlier h before ms) h.unit ms))) ms ≡ true → KeysPass (verb_at ms) ms
+read_keys earlier h before ms there typed =
+    let e = verb_of_read (verb_at ms) (found_at earlier h before ms) h.unit ms in
+    record { there = rw e at there; typed = rw e at typed }
+
+pub call_agrees : (earlier : PlanTree) (h : Header) (before : List Call) (ms : Members)
+    → Agree (written_call (found_at earlier h before ms) h ms) [] (even_tests (found_at earlier h before ms) (length earlier) h (last_offset before) ms) (call_checks earlier h before ms)
+unfolding verb_tests key_tests time_tests call_checks
+call_agrees earlier h before ms =
     let subs = submissions_before earlier h before in
-    let at = span_is h.unit (codes "at") ms c.at w.at in
-    let o = op_stands p (length earlier) h.unit subs ms c.op at.0 w.op in
-    let is = verb_is o.verb ms o.word in
-    let verb : verb_at ms ≡ o.verb = is.0 in
-    let v = none_fails p (verb_checks ms) (is.2, (is.1, tt)) in
-    let t = none_fails p (time_checks (verb_at ms) h (last_offset before) ms) (
-      at.1,
+    let found = find (name_at ms) subs in
+    let verb = verb_at ms in
+    let is = verb_of_read verb found h.unit ms in
+    let at = span_at h.unit (codes "at") ms in (
+      refl,
+      λ b t. t,
+      λ x b w. w,
       (
-        rw (at.2, test_from_le c.at longest w.at.3, verb, o.short, test_from_le (moment_in_last h c.at) longest w.last) refl,
-        (rw (at.2, test_from_le (last_offset before) c.at w.order) (or_back h.times 1 c.at h.every w.within), tt),
+        refl,
+        λ b t. rw is (verb_named ms t),
+        λ x b w. (verb_is ms (verb_of x.op) w).1,
+        (
+          refl,
+          λ b t. rw is t,
+          λ x b w. rw (verb_is ms (verb_of x.op) b.1.0).0 w,
+          (
+            refl,
+            λ b t. rw is t,
+            λ x b w. rw (verb_is ms (verb_of x.op) b.1.0).0 w,
+            (
+              refl,
+              λ b t. (rw is t, policy_read verb found h.unit ms (record { there = rw is at b.1.1.1.0; typed = t })),
+              λ x b w. rw (verb_is ms (verb_of x.op) b.1.0).0 w.0,
+              (
+                refl,
+                λ b t. name_read verb found (length earlier) h.unit ms (read_keys earlier h before ms b.1.1.1.0 b.1.1.1.1.0.0) t,
+                λ x b w. rw (verb_is ms (verb_of x.op) b.1.0).0 (name_good ms x.op w),
+                (
+                  refl,
+                  λ b t. new_read verb subs h.unit ms t,
+                  λ x b w. rw (verb_is ms (verb_of x.op) b.1.0).0 (new_good subs ms x.op b.1.1.1.1.1.0 w),
+                  (
+                    refl,
+                    λ b t. target_read verb subs h.unit ms b.1.1.1.1.1.0 t,
+                    λ x b w. rw (verb_is ms (verb_of x.op) b.1.0).0 (target_good subs ms x.op w),
+                    (
+                      refl,
+                      λ b t. clear_read verb (length earlier) subs h.unit ms b.1.1.1.1.1.1.1.0 t,
+                      λ x b w. rw (verb_is ms (verb_of x.op) b.1.0).0 (clear_good (length earlier) subs ms x.op w),
+                      (
+                        refl,
+                        λ b t. (_, whole_fits (codes "at") ms (offset_typed verb ms (read_keys earlier h before ms b.1.1.1.0 b.1.1.1.1.0.0).typed) t),
+                        λ x b w. (whole_is (codes "at") ms w.0 w.1).0,
+                        (
+                          refl,
+                          λ b t. (let n = three (nat_le at longest) (are_spans_short verb h.unit ms) (nat_le (moment_in_last h at) longest) t in
+                              let whole = b.1.1.1.1.1.1.1.1.1.0 in (
+                                span_fits h.unit (codes "at") ms whole.0 whole.1 (le_from_test at longest n.0),
+                                spans_read verb found h.unit ms (read_keys earlier h before ms b.1.1.1.0 b.1.1.1.1.0.0) n.1,
+                                le_from_test (moment_in_last h at) longest n.2,
+                              )),
+                          λ x b w. (let a = span_is h.unit (codes "at") ms x.at w.0 in
+                              rw ((verb_is ms (verb_of x.op) b.1.0).0, a.1, test_from_le x.at longest a.0, spans_good h.unit ms x.op w.1, test_from_le (moment_in_last h x.at) longest w.2) refl),
+                          (
+                            refl,
+                            λ b t. (let n = and_parts (nat_le (last_offset before) at) (nat_le h.times 1 || nat_le at h.every) t in
+                                (le_from_test (last_offset before) at n.0, or_le h.times 1 at h.every n.1)),
+                            λ x b w. (let a = span_is h.unit (codes "at") ms x.at b.1.1.1.1.1.1.1.1.1.1.0.0 in
+                                rw (a.1, test_from_le (last_offset before) x.at w.0) (or_back h.times 1 x.at h.every w.1)),
+                            tt,
+                          ),
+                        ),
+                      ),
+                    ),
+                  ),
+                ),
+              ),
+            ),
+          ),
+        ),
       ),
-    ) in (
-      last p (verb_checks ms) (key_checks (verb_at ms) ms) (name_checks (verb_at ms) (find (name_at ms) subs) (length earlier) ms) (time_checks (verb_at ms) h (last_offset before) ms)
-          v (subst (λ (k : Verb). place_fault p (key_checks k ms) ≡ None) (sym verb) o.keys) (subst (λ (k : Verb). place_fault p (name_checks k (find (name_at ms) subs) (length earlier) ms) ≡ None) (sym verb) o.names) ∙ t,
-      rw (at.2, verb, ← o.is) refl,
     )
+
+-- ---- what passes is what is read
+
+op_is : (ms : Members) (found : Option Site) (unit : TimeUnit) (op : Op) (subs : List (List ℕ × Site)) → HasPolicy ms op → HasName ms op → found ≡ find (name_at ms) subs → HasTarget subs ms op → HasSpans unit ms op
+    → op ≡ op_of (verb_of op) found unit ms
+unfolding op_of
+op_is ms found unit (ops.Schedule name delay) subs p n f t s = rw ((name_is ms name n).0, (delay_is unit (codes "delay") ms delay s).0) refl
+op_is ms found unit (ops.Execute name) subs p n f t s = rw (name_is ms name n).0 refl
+op_is ms found unit (ops.Rate name first period) subs p n f t s =
+    rw ((name_is ms name n).0, (delay_is unit (codes "first") ms first s.0).0, (period_is unit (codes "period") ms period s.1).0) refl
+op_is ms found unit (ops.Fixed name first delay) subs p n f t s =
+    rw ((name_is ms name n).0, (delay_is unit (codes "first") ms first s.0).0, (period_is unit (codes "delay") ms delay s.1).0) refl
+op_is ms found unit (ops.Cancel target) subs p n f t s = rw (f, (name_is ms t.1.0 t.1.1).0, t.1.2, t.2) refl
+op_is ms found unit (ops.Policy which value) subs p n f t s = rw (p.0.1, p.0.2, p.1) refl
+op_is ms found unit ops.Shutdown subs p n f t s = refl
+op_is ms found unit ops.ShutdownNow subs p n f t s = refl
+op_is ms found unit ops.Ask subs p n f t s = refl
+
+pub call_is : (earlier : PlanTree) (h : Header) (before : List Call) (ms : Members) (c : Call) → Passes (call_checks earlier h before ms) c → c ≡ written_call (found_at earlier h before ms) h ms
+unfolding call_checks
+call_is earlier h before ms c b =
+    let subs = submissions_before earlier h before in
+    let verb = (verb_is ms (verb_of c.op) b.1.0).0 in
+    let a = span_is h.unit (codes "at") ms c.at b.1.1.1.1.1.1.1.1.1.1.0.0 in
+    let op = op_is ms (found_at earlier h before ms) h.unit c.op subs b.1.1.1.1.0.1 b.1.1.1.1.1.0 refl b.1.1.1.1.1.1.1.0 b.1.1.1.1.1.1.1.1.1.1.0.1 in
+    rw (a.1, verb, ← op) refl

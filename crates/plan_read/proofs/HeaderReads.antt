@@ -15,37 +15,16 @@ past a b h = grind (arith, nat_tests)
 pub within : (a b : ℕ) → a ≤ b → nat_le a b ≡ true
 within a b h = grind (arith, nat_tests)
 
-below_one : (n : ℕ) → lt_z (pos n) (pos 1) ≡ true → n < 1
-below_one n h = grind (arith, ints)
-
 not_below_one : (n : ℕ) → lt_z (pos n) (pos 1) ≡ false → 1 ≤ n
 not_below_one n h = grind (arith, ints)
 
-above : (k n : ℕ) → lt_z (pos k) (pos n) ≡ true → k < n
-above k n h = grind (arith, ints)
-
 not_above : (k n : ℕ) → lt_z (pos k) (pos n) ≡ false → n ≤ k
 not_above k n h = grind (arith, ints)
-
--- a number below 1 is no number of iterations
-pub too_few : (z : ℤ) → lt_z z (pos 1) ≡ true → (nat_le 1 (delay_units z) && nat_le (delay_units z) 65536) ≡ false
-too_few (pos n) h = rw (past 1 n (below_one n h)) refl
-too_few (negsuc n) h = refl
-
--- a number above the limit is none either
-pub too_often : (z : ℤ) → lt_z (pos 65536) z ≡ true → (nat_le 1 (delay_units z) && nat_le (delay_units z) 65536) ≡ false
-too_often (pos n) h = let m = above 65536 n h in rw (past n 65536 m, within 1 n (omega arith)) refl
-too_often (negsuc n) h = refl
 
 -- a number between them is one
 pub in_range : (z : ℤ) → lt_z z (pos 1) ≡ false → lt_z (pos 65536) z ≡ false → (nat_le 1 (delay_units z) && nat_le (delay_units z) 65536) ≡ true
 in_range (pos n) least most = rw (within 1 n (not_below_one n least), within n 65536 (not_above 65536 n most)) refl
 in_range (negsuc n) least most = absurd (cc)
-
--- more than one iteration
-pub repeats : (z : ℤ) → lt_z (pos 1) z ≡ true → nat_le (delay_units z) 1 ≡ false
-repeats (pos n) h = past n 1 (above 1 n h)
-repeats (negsuc n) h = absurd (cc)
 
 -- one iteration at most
 pub made_once : (z : ℤ) (given : Bool) → lt_z (pos 1) z ≡ false → (nat_le (delay_units z) 1 || given) ≡ true

@@ -7,8 +7,8 @@ use Rattle.sched_time.specs.Times.{longest, delay_units}
 use Rattle.sched_time.specs.declared.unit.Unit.{Unit as TimeUnit}
 use Rattle.plan_read.specs.declared.keys.Shape.TheVariants.{Text, Integer, Tables}
 use Rattle.plan_read.specs.Keys.{fits, are_tables}
-use Rattle.plan_read.specs.Values.{integer_or, text_or, tables_in, tables_at, span_at, is_negative}
-use Rattle.plan_read.specs.Writes.{IntegerAt, TextAt, HoldTables, TablesAt, SpanAt}
+use Rattle.plan_read.specs.own.Values.{integer_or, text_or, tables_in, tables_at, span_at, is_negative}
+use Rattle.plan_read.specs.Writes.{IntegerAt, TextAt, HoldTables, TablesAt, WholeAt, SpanAt}
 
 -- ---- integers and texts
 
@@ -50,21 +50,26 @@ units_of : (z : ℤ) → not (int_lt z (pos 0)) ≡ true → z ≡ pos (delay_un
 units_of (pos n) h = refl
 units_of (negsuc n) h = absurd (cc)
 
--- an integer that is not negative and within the limit is a span
-pub span_fits : (unit : TimeUnit) (key : List ℕ) (ms : Members) → fits Integer (get_member key ms) ≡ true → not (is_negative key ms) ≡ true → span_at unit key ms ≤ longest → SpanAt unit key ms (span_at unit key ms)
-span_fits unit key ms typed forward short =
-    let z = integer_or (pos 0) key ms in
-    let e : z ≡ pos (delay_units z) = units_of z forward in
-    (delay_units z, rw (← e) (integer_fits (get_member key ms) (pos 0) typed), refl, short)
+-- an integer that is not negative is a whole number
+pub whole_fits : (key : List ℕ) (ms : Members) → fits Integer (get_member key ms) ≡ true → not (is_negative key ms) ≡ true → WholeAt key ms (delay_units (integer_or (pos 0) key ms))
+whole_fits key ms typed forward =
+    let e : integer_or (pos 0) key ms ≡ pos (delay_units (integer_or (pos 0) key ms)) = units_of (integer_or (pos 0) key ms) forward in
+    rw (← e) (integer_fits (get_member key ms) (pos 0) typed)
 
 not_negative : (n : ℕ) → not (int_lt (pos n) (pos 0)) ≡ true
 not_negative n = grind (arith, nat_tests)
 
--- a span that stands at a key passes the tests, and is what is read there
-pub span_is : (unit : TimeUnit) (key : List ℕ) (ms : Members) (n : ℕ) → SpanAt unit key ms n → (fits Integer (get_member key ms) ≡ true) × (not (is_negative key ms) ≡ true) × (span_at unit key ms ≡ n)
-span_is unit key ms n s =
-    let i = integer_is (pos 0) key ms (pos s.0) s.1 in
-    (i.0, rw i.1 (not_negative s.0), rw i.1 (sym s.2))
+-- a whole number that stands at a key is not negative, and is what is read there
+pub whole_is : (key : List ℕ) (ms : Members) (n : ℕ) → WholeAt key ms n → (not (is_negative key ms) ≡ true) × (integer_or (pos 0) key ms ≡ pos n)
+whole_is key ms n w = let i = integer_is (pos 0) key ms (pos n) w in (rw i.1 (not_negative n), i.1)
+
+-- a whole number within the limit is a span
+pub span_fits : (unit : TimeUnit) (key : List ℕ) (ms : Members) (n : ℕ) → WholeAt key ms n → span_at unit key ms ≤ longest → SpanAt unit key ms (span_at unit key ms)
+span_fits unit key ms n w short = (n, w, rw (whole_is key ms n w).1 refl, short)
+
+-- a span that stands at a key is within the limit, and is what is read there
+pub span_is : (unit : TimeUnit) (key : List ℕ) (ms : Members) (n : ℕ) → SpanAt unit key ms n → (n ≤ longest) × (span_at unit key ms ≡ n)
+span_is unit key ms n s = (s.3, rw (whole_is key ms s.0 s.1).1 (sym s.2))
 
 -- ---- tables
 

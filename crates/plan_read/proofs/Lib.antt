@@ -1,5 +1,6 @@
 pub mod TableTests
 pub mod Failing
+pub mod Agreeing
 pub mod Offsets
 pub mod Naming
 pub mod Turns
@@ -16,3 +17,7 @@ pub mod Found
 pub mod OrderLaw
 pub mod Words
 pub mod RowLaw
+pub mod KeyCounts
+pub mod GivenKeys
+pub mod SubjectLaw
+pub mod HeadParts

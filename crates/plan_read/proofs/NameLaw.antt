@@ -1,16 +1,13 @@
 -- The names of a written plan are distinct.
-use Rattle.std.proofs.Common.{◌≡◌, ℕ, ◌+◌, List, [], ◌∷◌, ◌++◌, length, None, bytes_eq, append_assoc, refl, inl, inr, arith}
+use Rattle.std.proofs.Common.{◌≡◌, ℕ, ◌+◌, List, [], ◌∷◌, ◌++◌, length, None, Option, Some, bytes_eq, append_assoc, refl, inl, inr, arith}
 use Rattle.std.proofs.lemmas.Bool.{cases_Bool}
 use Rattle.std.proofs.lemmas.List.{append-nil}
 use Rattle.toml.specs.Data.{Members}
-use Rattle.sched_time.specs.declared.unit.Unit.{Unit as TimeUnit}
 use Rattle.plan_read.specs.declared.plans.Call.{Call}
 use Rattle.plan_read.specs.declared.plans.Header.{Header}
-use Rattle.plan_read.specs.declared.plans.Op.{Op}
-use Rattle.plan_read.specs.declared.plans.Op.TheVariants as ops
 use Rattle.plan_read.specs.declared.sites.Site.{Site}
 use Rattle.plan_read.specs.Plans.{PlanTree, name_of, named, submissions_from, submissions_before, find, AreDistinct}
-use Rattle.plan_read.specs.Writes.{TreeWrites, WritesOp, WritesCalls, WritesBlocks}
+use Rattle.plan_read.specs.Writes.{IsNew, call_checks, TreeWrites, WritesCall, WritesCalls, WritesBlocks}
 use Rattle.plan_read.proofs.Naming.{find-append, bytes_eq-symmetric, before-one_more, submissions_from-one_more}
 
 distinct-added : (subs : List (List ℕ × Site)) (name : List ℕ) (s : Site) → AreDistinct subs → find name subs ≡ None → AreDistinct (subs ++ (name, s) ∷ [])
@@ -21,12 +18,13 @@ distinct-added (x ∷ subs) name s d none =
       | inr f ↦ (rw (find-append x.0 subs ((name, s) ∷ []) d.0, bytes_eq-symmetric x.0 name, f) refl, distinct-added subs name s d.1 (rw f at none))
     ]
 
-distinct-named : (subs : List (List ℕ × Site)) (block : ℕ) (unit : TimeUnit) (ms : Members) (op : Op) (s : Site) → WritesOp block unit subs ms op → AreDistinct subs → AreDistinct (subs ++ named s (name_of op))
-distinct-named subs block unit ms (ops.Schedule name delay) s w d = distinct-added subs name s d w.1.2
-distinct-named subs block unit ms (ops.Execute name) s w d = distinct-added subs name s d w.1.2
-distinct-named subs block unit ms (ops.Rate name first period) s w d = distinct-added subs name s d w.1.2
-distinct-named subs block unit ms (ops.Fixed name first delay) s w d = distinct-added subs name s d w.1.2
-distinct-named subs block unit ms op s w d = rw (append-nil subs) d
+distinct-named : (subs : List (List ℕ × Site)) (name : Option (List ℕ)) (s : Site) → ((n : List ℕ) → name ≡ Some n → find n subs ≡ None) → AreDistinct subs → AreDistinct (subs ++ named s name)
+distinct-named subs None s new d = rw (append-nil subs) d
+distinct-named subs (Some name) s new d = distinct-added subs name s d (new name refl)
+
+is_new : (earlier : PlanTree) (h : Header) (before : List Call) (ms : Members) (c : Call) → WritesCall earlier h before ms c → IsNew (submissions_before earlier h before) c.op
+unfolding call_checks
+is_new earlier h before ms c w = w.1.1.1.1.1.1.0
 
 distinct-calls : (earlier : PlanTree) (h : Header) (before : List Call) (tables : List Members) (cs : List Call) → WritesCalls earlier h before tables cs
     → AreDistinct (submissions_before earlier h before) → AreDistinct (submissions_before earlier h (before ++ cs))
@@ -34,7 +32,7 @@ distinct-calls earlier h before [] [] w d = rw (append-nil before) d
 distinct-calls earlier h before [] (c ∷ cs) w d = absurd w
 distinct-calls earlier h before (ms ∷ tables) [] w d = absurd w
 distinct-calls earlier h before (ms ∷ tables) (c ∷ cs) w d =
-    let one = distinct-named (submissions_before earlier h before) (length earlier) h.unit ms c.op _ w.0.op d in
+    let one = distinct-named (submissions_before earlier h before) (name_of c.op) _ (is_new earlier h before ms c w.0) d in
     rw (← append_assoc before (c ∷ []) cs) (distinct-calls earlier h (before ++ c ∷ []) tables cs w.1 (rw (before-one_more earlier h before c) one))
 
 distinct-blocks : (earlier : PlanTree) (tables : List Members) (bs : PlanTree) → WritesBlocks earlier tables bs → AreDistinct (submissions_from 0 earlier) → AreDistinct (submissions_from 0 (earlier ++ bs))

@@ -1,5 +1,5 @@
 -- The submissions before a call, and one more.
-use Rattle.std.proofs.Common.{subst, ◌≡◌, ℕ, ◌+◌, true, false, List, [], ◌∷◌, ◌++◌, length, Option, Some, None, is_some, Result, Ok, Err, IfOk, ◌&&◌, bytes_eq, if◌then◌else◌, append_assoc, refl, sym, ◌∙◌, ap, inl, inr, arith}
+use Rattle.std.proofs.Common.{subst, ◌≡◌, ℕ, ◌+◌, true, false, List, [], ◌∷◌, ◌++◌, length, Option, Some, None, is_some, Result, Ok, Err, IfOk, OnOk, ◌&&◌, bytes_eq, if◌then◌else◌, append_assoc, refl, sym, ◌∙◌, ap, inl, inr, arith}
 use Rattle.std.proofs.lemmas.Bool.{cases_Bool}
 use Rattle.std.proofs.lemmas.List.{append-nil}
 use Rattle.std.proofs.lemmas.Slice.Eq.{bytes_eq-Decides}
@@ -14,10 +14,10 @@ use Rattle.plan_read.specs.declared.plans.Header.{Header}
 use Rattle.plan_read.specs.declared.sites.Site.{Site}
 use Rattle.plan_read.specs.declared.verbs.Verb.{Verb}
 use Rattle.plan_read.specs.declared.verbs.Verb.TheVariants as verbs
-use Rattle.plan_read.specs.Checks.{place_fault, call_checks, verb_checks, key_checks, new_name_checks, name_checks, time_checks}
+use Rattle.plan_read.specs.own.Walk.{place_fault, call_tests, verb_tests, key_tests, new_name_tests, name_tests, time_tests}
 use Rattle.plan_read.specs.Plans.{BlockTree, PlanTree, name_of, is_submission, tasks_after, tasks_after_calls, named, site, submissions_of, submissions_from, submissions_before, find}
 use Rattle.plan_read.specs.own.Reads.{found_in, Knows, Reads}
-use Rattle.plan_read.specs.Values.{verb_at, op_of, written_call, name_at}
+use Rattle.plan_read.specs.own.Values.{verb_at, op_of, written_call, name_at}
 use Rattle.plan_read.specs.own.Values.{submits}
 use Rattle.plan_read.proofs.Failing.{all_pass, parts}
 
@@ -86,13 +86,13 @@ unnamed-one_more earlier h cs c q e = rw (before-one_more earlier h cs c, is_non
 
 -- ---- an accepted call that submits has a new name
 
-fresh_name : (p : Place) (found : Option Site) (ms : Members) → place_fault p (new_name_checks found ms) ≡ None → found ≡ None
+fresh_name : (p : Place) (found : Option Site) (ms : Members) → place_fault p (new_name_tests found ms) ≡ None → found ≡ None
 fresh_name p None ms h = refl
-fresh_name p (Some x) ms h = absurd (let e = (all_pass p (new_name_checks (Some x) ms) h).1.0 in cc)
+fresh_name p (Some x) ms h = absurd (let e = (all_pass p (new_name_tests (Some x) ms) h).1.0 in cc)
 
-fresh_by_verb : (p : Place) (verb : Verb) (found : Option Site) (block : ℕ) (unit : TimeUnit) (ms : Members) → place_fault p (name_checks verb found block ms) ≡ None
+fresh_by_verb : (p : Place) (verb : Verb) (found : Option Site) (block : ℕ) (unit : TimeUnit) (ms : Members) → place_fault p (name_tests verb found block ms) ≡ None
     → is_some (name_of (op_of verb found unit ms)) ≡ true → (name_of (op_of verb found unit ms) ≡ Some (name_at ms)) × (found ≡ None)
-unfolding name_checks op_of
+unfolding name_tests op_of
 fresh_by_verb p verbs.Schedule found block unit ms h s = (refl, fresh_name p found ms h)
 fresh_by_verb p verbs.Execute found block unit ms h s = (refl, fresh_name p found ms h)
 fresh_by_verb p verbs.Rate found block unit ms h s = (refl, fresh_name p found ms h)
@@ -100,11 +100,11 @@ fresh_by_verb p verbs.Fixed found block unit ms h s = (refl, fresh_name p found 
 fresh_by_verb p verb found block unit ms h s = absurd (cc)
 
 -- an accepted call that submits has a new name
-pub fresh : (p : Place) (found : Option Site) (block : ℕ) (h : Header) (last : ℕ) (ms : Members) (c : Call) → place_fault p (call_checks found block h last ms) ≡ None
+pub fresh : (p : Place) (found : Option Site) (block : ℕ) (h : Header) (last : ℕ) (ms : Members) (c : Call) → place_fault p (call_tests found block h last ms) ≡ None
     → c ≡ written_call found h ms → is_submission c.op ≡ true → (name_of c.op ≡ Some (name_at ms)) × (found ≡ None)
 fresh p found block h last ms c passed is s =
-    let a = parts p (verb_checks ms ++ key_checks (verb_at ms) ms ++ name_checks (verb_at ms) found block ms) (time_checks (verb_at ms) h last ms) passed in
-    let b = parts p (verb_checks ms ++ key_checks (verb_at ms) ms) (name_checks (verb_at ms) found block ms) a.0 in
+    let a = parts p (verb_tests ms ++ key_tests (verb_at ms) ms ++ name_tests (verb_at ms) found block ms) (time_tests (verb_at ms) h last ms) passed in
+    let b = parts p (verb_tests ms ++ key_tests (verb_at ms) ms) (name_tests (verb_at ms) found block ms) a.0 in
     let r = fresh_by_verb p (verb_at ms) found block h.unit ms b.1 (subst (λ (k : Call). is_some (name_of k.op) ≡ true) is s) in
     (subst (λ (k : Call). name_of k.op ≡ Some (name_at ms)) (sym is) r.0, r.1)
 
@@ -131,8 +131,8 @@ submits-op verb found unit ms = refl
 -- after a call that was read, whose name was added where it submits
 pub knows-read : (names new : BTreeMap (Bor (List ℕ)) Site) (earlier : PlanTree) (h : Header) (cs : List Call) (s : Site) (found : Option Site) (p : Place) (last : ℕ) (ms : Members) (r : Result Call ReadError)
     → Knows names (submissions_before earlier h cs) → found ≡ find (name_at ms) (submissions_before earlier h cs) → s ≡ site (length earlier) h (tasks_after_calls 0 cs)
-    → ((q : List ℕ) → found_in new q ≡ (if submits (verb_at ms) && bytes_eq (name_at ms) q then Some s else found_in names q))
-    → Reads (λ (c : Call). c) r (place_fault p (call_checks found (length earlier) h last ms)) (written_call found h ms)
+    → OnOk r ((q : List ℕ) → found_in new q ≡ (if submits (verb_at ms) && bytes_eq (name_at ms) q then Some s else found_in names q))
+    → Reads (λ (c : Call). c) r (place_fault p (call_tests found (length earlier) h last ms)) (written_call found h ms)
     → IfOk r (λ c. Knows new (submissions_before earlier h (cs ++ c ∷ [])))
 knows-read names new earlier h cs s found p last ms (Err e) known is place added reads = tt
 knows-read names new earlier h cs s found p last ms (Ok c) known is place added reads =

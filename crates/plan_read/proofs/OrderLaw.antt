@@ -1,5 +1,5 @@
 -- The calls of a written plan are in order and within the limits.
-use Rattle.std.proofs.Common.{◌≡◌, ◌≤◌, ℕ, zero, suc, ◌*◌, ℤ, pos, negsuc, List, [], ◌∷◌, ◌++◌, length, Option, codes, refl, arith, subst, sym}
+use Rattle.std.proofs.Common.{◌≡◌, ◌≤◌, ℕ, zero, suc, ◌*◌, ℤ, pos, negsuc, List, [], ◌∷◌, ◌++◌, length, Option, codes, refl, arith, subst, sym, ◌∙◌}
 use Rattle.toml.specs.Data.{Members, string}
 use Rattle.sched_time.specs.Times.{longest, nanos_of, span_of, period_of}
 use Rattle.sched_time.specs.declared.unit.Unit.{Unit as TimeUnit}
@@ -9,9 +9,8 @@ use Rattle.plan_read.specs.declared.plans.Header.{Header}
 use Rattle.plan_read.specs.declared.plans.Op.{Op}
 use Rattle.plan_read.specs.declared.plans.Op.TheVariants as ops
 use Rattle.plan_read.specs.declared.plans.Target.{Target}
-use Rattle.plan_read.specs.declared.sites.Site.{Site}
-use Rattle.plan_read.specs.Plans.{PlanTree, submissions_before, IsPeriodInRange, IsWithinLimits, StandsBefore, IsAimed, IsCallAfter, AreCallsAfter, IsBlockAfter, AreBlocksAfter, IsOrdered}
-use Rattle.plan_read.specs.Writes.{Has, PeriodAt, HasNameOf, WritesOp, WritesCall, WritesCalls, WritesBlocks, TreeWrites}
+use Rattle.plan_read.specs.Plans.{BlockTree, PlanTree, submissions_before, IsPeriodInRange, IsWithinLimits, StandsBefore, IsAimed, IsCallAfter, AreCallsAfter, IsBlockAfter, AreBlocksAfter, IsOrdered}
+use Rattle.plan_read.specs.Writes.{Has, PeriodAt, HasTarget, IsClear, HasSpans, top_checks, header_checks, call_checks, WritesCall, WritesCalls, WritesBlock, WritesBlocks, TreeWrites}
 use Rattle.plan_read.proofs.Found.{stands_before}
 
 -- ---- one call
@@ -30,36 +29,47 @@ period_in_range (negsuc n) unit h = tt
 written_in_range : (unit : TimeUnit) (key : List ℕ) (ms : Members) (period : Option ℕ) → PeriodAt unit key ms period → IsPeriodInRange period
 written_in_range unit key ms period w = rw w.2 (period_in_range w.0 unit w.3)
 
-op_within : (block : ℕ) (unit : TimeUnit) (subs : List (List ℕ × Site)) (ms : Members) (op : Op) → WritesOp block unit subs ms op → IsWithinLimits op
-op_within block unit subs ms (ops.Schedule name delay) w = w.2.3
-op_within block unit subs ms (ops.Rate name first period) w = (w.2.3, written_in_range unit (codes "period") ms period w.3)
-op_within block unit subs ms (ops.Fixed name first delay) w = (w.2.3, written_in_range unit (codes "delay") ms delay w.3)
-op_within block unit subs ms op w = tt
+op_within : (unit : TimeUnit) (ms : Members) (op : Op) → HasSpans unit ms op → IsWithinLimits op
+op_within unit ms (ops.Schedule name delay) w = w.3
+op_within unit ms (ops.Rate name first period) w = (w.0.3, written_in_range unit (codes "period") ms period w.1)
+op_within unit ms (ops.Fixed name first delay) w = (w.0.3, written_in_range unit (codes "delay") ms delay w.1)
+op_within unit ms op w = tt
 
 -- the target of a written cancel
-target_stands : (earlier : PlanTree) (h : Header) (before : List Call) (ms : Members) (target : Target) → HasNameOf (length earlier) (submissions_before earlier h before) ms target
-    → (name : List ℕ) × Has ms (codes "name") (string name) × StandsBefore earlier before name target
-target_stands earlier h before ms target w = (w.0, w.1, subst (λ (t : Target). StandsBefore earlier before w.0 t) (sym w.5) (stands_before earlier h before w.0 w.3 w.4 w.6))
+target_stands : (earlier : PlanTree) (h : Header) (before : List Call) (ms : Members) (target : Target) → HasTarget (submissions_before earlier h before) ms (ops.Cancel target)
+    → IsClear (length earlier) (submissions_before earlier h before) ms (ops.Cancel target) → (name : List ℕ) × Has ms (codes "name") (string name) × StandsBefore earlier before name target
+target_stands earlier h before ms target w v =
+    let name : w.1.0 ≡ v.1.0 = (let e = sym w.1.1.0 ∙ v.1.1.0 in cc) in
+    let same : w.0 ≡ v.0 = (let e = sym w.1.2 ∙ rw (← name) at v.1.2 in cc) in
+    (w.1.0, w.1.1.0, subst (λ (t : Target). StandsBefore earlier before w.1.0 t) (sym w.2) (stands_before earlier h before w.1.0 w.0 w.1.2 (rw same v.2)))
 
-op_aimed : (earlier : PlanTree) (h : Header) (before : List Call) (ms : Members) (op : Op) → WritesOp (length earlier) h.unit (submissions_before earlier h before) ms op → IsAimed earlier before op
-op_aimed earlier h before ms (ops.Cancel target) w = let r = target_stands earlier h before ms target w.1 in (r.0, r.2)
-op_aimed earlier h before ms op w = tt
+op_aimed : (earlier : PlanTree) (h : Header) (before : List Call) (ms : Members) (op : Op) → HasTarget (submissions_before earlier h before) ms op → IsClear (length earlier) (submissions_before earlier h before) ms op
+    → IsAimed earlier before op
+op_aimed earlier h before ms (ops.Cancel target) w v = let r = target_stands earlier h before ms target w v in (r.0, r.2)
+op_aimed earlier h before ms op w v = tt
 
 -- the law on targets
 pub cancels_aimed : (earlier : PlanTree) (h : Header) (before : List Call) (ms : Members) (c : Call) (target : Target) → WritesCall earlier h before ms c → c.op ≡ ops.Cancel target
     → (name : List ℕ) × Has ms (codes "name") (string name) × StandsBefore earlier before name target
+unfolding call_checks
 cancels_aimed earlier h before ms c target w is =
-    let op : WritesOp (length earlier) h.unit (submissions_before earlier h before) ms (ops.Cancel target) = rw is at w.op in
-    target_stands earlier h before ms target op.1
+    let subs = submissions_before earlier h before in
+    let aimed : HasTarget subs ms (ops.Cancel target) = rw is at w.1.1.1.1.1.1.1.0 in
+    let clear : IsClear (length earlier) subs ms (ops.Cancel target) = rw is at w.1.1.1.1.1.1.1.1.0 in
+    target_stands earlier h before ms target aimed clear
 
 call_ordered : (earlier : PlanTree) (h : Header) (before : List Call) (ms : Members) (c : Call) → WritesCall earlier h before ms c → IsCallAfter earlier h before c
-call_ordered earlier h before ms c w = record {
-  order = w.order;
-  within = w.within;
-  last = w.last;
-  limits = op_within (length earlier) h.unit (submissions_before earlier h before) ms c.op w.op;
-  aimed = op_aimed earlier h before ms c.op w.op;
-}
+unfolding call_checks
+call_ordered earlier h before ms c w =
+    let times = w.1.1.1.1.1.1.1.1.1.1.0 in
+    let order = w.1.1.1.1.1.1.1.1.1.1.1.0 in
+    record {
+      order = order.0;
+      within = order.1;
+      last = times.2;
+      limits = op_within h.unit ms c.op times.1;
+      aimed = op_aimed earlier h before ms c.op w.1.1.1.1.1.1.1.0 w.1.1.1.1.1.1.1.1.0;
+    }
 
 -- ---- all of them
 
@@ -72,6 +82,23 @@ calls_ordered earlier h before (ms ∷ tables) (c ∷ cs) w =
     let r = calls_ordered earlier h (before ++ c ∷ []) tables cs w.1 in
     ((call_ordered earlier h before ms c w.0, r.0), omega (arith, r.1))
 
+block_ordered : (earlier : PlanTree) (ms : Members) (b : BlockTree) (w : WritesBlock earlier ms b) → AreCallsAfter earlier b.header [] b.calls → length b.calls ≡ length w.tables → IsBlockAfter earlier b
+unfolding header_checks
+block_ordered earlier ms b w calls count =
+    let times = w.head.1.1.1.0 in
+    let spans = w.head.1.1.1.1.1.1.0 in
+    let few = w.head.1.1.1.1.1.1.1.1.0 in
+    record {
+      order = w.head.1.1.1.1.1.1.1.0;
+      at = spans.0.3;
+      every = spans.1.3;
+      least = times.1;
+      most = times.2;
+      few = rw count few.0;
+      total = rw count few.1;
+      calls = calls;
+    }
+
 blocks_ordered : (earlier : PlanTree) (tables : List Members) (bs : PlanTree) → WritesBlocks earlier tables bs → AreBlocksAfter earlier bs × (length bs ≡ length tables)
 blocks_ordered earlier [] [] w = (tt, refl)
 blocks_ordered earlier [] (b ∷ bs) w = absurd w
@@ -79,18 +106,9 @@ blocks_ordered earlier (ms ∷ tables) [] w = absurd w
 blocks_ordered earlier (ms ∷ tables) (b ∷ bs) w =
     let calls = calls_ordered earlier b.header [] w.0.tables b.calls w.0.calls in
     let rest = blocks_ordered (earlier ++ b ∷ []) tables bs w.1 in
-    let block : IsBlockAfter earlier b = record {
-      order = w.0.header.order;
-      at = w.0.header.at.3;
-      every = w.0.header.every.3;
-      least = w.0.header.least;
-      most = w.0.header.most;
-      few = rw calls.1 w.0.header.few;
-      total = rw calls.1 w.0.header.total;
-      calls = calls.0;
-    } in
-    ((block, rest.0), omega (arith, rest.1))
+    ((block_ordered earlier ms b w.0 calls.0 calls.1, rest.0), omega (arith, rest.1))
 
 -- the law on order
 pub plan_ordered : (ms : Members) (plan : PlanTree) → TreeWrites ms plan → IsOrdered plan
-plan_ordered ms plan w = let r = blocks_ordered [] w.tables plan w.blocks in (rw r.1 w.few, r.0)
+unfolding top_checks
+plan_ordered ms plan w = let r = blocks_ordered [] w.tables plan w.blocks in (rw r.1 w.top.1.1.1.0, r.0)

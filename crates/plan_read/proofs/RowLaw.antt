@@ -1,7 +1,7 @@
 -- The pass over the keys of a table.
 use Rattle.std.proofs.Common.{◌≡◌, ◌≢◌, ◌<◌, length, get_or, set, arith, ℕ, Bool, false, if◌then◌else◌, List, [], ◌∷◌, ◌++◌, String, Global, Option, Some, None, Less, Greater, nat_cmp, string_bytes, bytes_eq, refl, sym, ap, ◌∙◌, inl, inr}
 use Rattle.std.proofs.lemmas.Bool.{cases_Bool}
-use Rattle.std.proofs.lemmas.Bool.Decides.{same_from_decides, not_from_Decides, Decides-like, Decides-eqb}
+use Rattle.std.proofs.lemmas.Bool.Decides.{not_from_Decides}
 use Rattle.std.proofs.lemmas.List.{get_or-replicate, get_or-set_same, get_or-set_other}
 use Rattle.std.proofs.lemmas.Cmp.{nat_list_cmp_total}
 use Rattle.std.proofs.lemmas.Map.Text.{is_eq-slice_cmp}
@@ -9,8 +9,8 @@ use Rattle.std.proofs.lemmas.Slice.Eq.{bytes_eq-Decides}
 use Rattle.std.specs.Borrow.{Bor}
 use Rattle.std.specs.Cmp.Lexicographic.{slice_cmp}
 use Rattle.std.specs.Cmp.{tied_itself}
-use Rattle.std.specs.Prelude.{option_map, ◌==◌, ◌&&◌, replicate}
-use Rattle.std.specs.List.{AllByRecursion, list_all, list_any}
+use Rattle.std.specs.Prelude.{option_map, ◌&&◌, replicate}
+use Rattle.std.specs.List.{AllByRecursion, list_all}
 use Rattle.std.specs.List.Sorted.{IsStrictlySortedBy}
 use Rattle.std.specs.Map.{keys_of, lookup}
 use Rattle.std.specs.Ordering.{is_eq, ordering_reverse}
@@ -20,7 +20,7 @@ use Rattle.plan_read.specs.declared.key_names.KeyName.{KeyName}
 use Rattle.plan_read.specs.declared.key_names.KeyName.TheVariants as names
 use Rattle.plan_read.proofs.Words.{differs}
 use Rattle.plan_read.specs.declared.keys.Key.{Key as CodeKey}
-use Rattle.plan_read.specs.Keys.{Key, is_key}
+use Rattle.plan_read.specs.Keys.{Key}
 use Rattle.plan_read.specs.own.Rows.{word_of, key_of_word, place, slot, key_as_defined, as_defined}
 
 abbrev pub Entry : Type 0
@@ -197,26 +197,7 @@ pub held : (all : List Entry) (o : Option (Bor Value)) (w : List ℕ) → Sees a
 held all None w h = sym h
 held all (Some v) w h = sym h
 
--- ---- the names of keys
-
--- a key has the name that a word is exactly where it has the word
-named_alike : (w : List ℕ) (n k : KeyName) → w ≡ word_of n → (place k == place n) ≡ bytes_eq w (word_of k)
-named_alike w n k is =
-    same_from_decides (place k == place n) (bytes_eq w (word_of k))
-    (Decides-like (place k == place n) (λ e. is ∙ ap word_of (sym (one_place k n e))) (λ h. ap place (one_name k n (sym h ∙ is))) (Decides-eqb (place k) (place n)))
-    (bytes_eq-Decides w (word_of k))
-
--- a word that is a name's is a key where some key has the name
-pub known_key : (keys : List CodeKey) (w : List ℕ) (n : KeyName) → key_of_word w ≡ Some n → list_any (λ k. place k.name == place n) keys ≡ is_key (as_defined keys) w
-known_key [] w n is = refl
-known_key (k ∷ keys) w n is = rw (named_alike w n k.name (word_is w n is), known_key keys w n is) refl
-
--- a word that is no name's is no key
-pub unknown_key : (keys : List CodeKey) (w : List ℕ) → key_of_word w ≡ None → is_key (as_defined keys) w ≡ false
-unknown_key [] w none = refl
-unknown_key (k ∷ keys) w none =
-    let apart : bytes_eq w (word_of k.name) ≡ false = differs w (word_of k.name) (λ h. (let s = names_key w k.name h ∙ none in absurd (cc))) in
-    rw (apart, unknown_key keys w none) refl
+-- ---- keys
 
 -- to test keys one by one is to test them as the definitions have them
 pub all_as_defined : (test : Key → Bool) (keys : List CodeKey) → list_all (λ k. test (key_as_defined k)) keys ≡ list_all test (as_defined keys)

@@ -1,18 +1,12 @@
 -- Tests on the keys of a table and on the items of an array.
-use Rattle.std.proofs.Common.{◌≡◌, ◌&&◌, List, [], ◌∷◌, length, String, Global, string_bytes, refl, ap, arith}
+use Rattle.std.proofs.Common.{◌≡◌, ◌&&◌, List, [], ◌∷◌, length, refl, ap, arith}
 use Rattle.std.specs.List.{list_all}
-use Rattle.std.specs.Map.{keys_of}
 use Rattle.std.specs.Prelude.{is_some}
 use Rattle.toml.specs.Data.{as_table}
-use Rattle.toml.specs.View.{view, items_view, members_view}
+use Rattle.toml.specs.View.{view, items_view}
 use Rattle.toml.specs.declared.value.Value.{Value}
-use Rattle.plan_read.specs.Keys.{Key, is_key, has_only, are_tables}
-use Rattle.plan_read.specs.Values.{tables_in}
-
--- to test the keys of a table one by one is to test the table
-pub has_only_keys : (known : List Key) (es : List (String Global × Value)) → list_all (λ k. is_key known (string_bytes k)) (keys_of es) ≡ has_only known (members_view es)
-has_only_keys known [] = refl
-has_only_keys known (e ∷ es) = ap (λ b. is_key known (string_bytes e.0) && b) (has_only_keys known es)
+use Rattle.plan_read.specs.Keys.{are_tables}
+use Rattle.plan_read.specs.own.Values.{tables_in}
 
 -- to test the items of an array one by one is to test the array
 pub are_tables_items : (vs : List Value) → list_all (λ v. is_some (as_table (view v))) vs ≡ are_tables (items_view vs)

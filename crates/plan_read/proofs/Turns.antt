@@ -8,11 +8,11 @@ use Rattle.toml.specs.declared.value.Value.{Value}
 use Rattle.plan_read.specs.declared.faults.ReadError.{ReadError}
 use Rattle.plan_read.specs.declared.plans.Call.{Call}
 use Rattle.plan_read.specs.declared.plans.Header.{Header}
-use Rattle.plan_read.specs.Checks.{calls_fault, call_fault, blocks_fault, block_fault}
+use Rattle.plan_read.specs.own.Walk.{calls_fault, call_fault, blocks_fault, block_fault}
 use Rattle.plan_read.specs.Keys.{are_tables}
 use Rattle.plan_read.specs.Plans.{BlockTree, PlanTree}
 use Rattle.plan_read.specs.own.Reads.{FailsWith}
-use Rattle.plan_read.specs.Values.{tables_in, members_in, calls_through, next_call, blocks_through, block_of}
+use Rattle.plan_read.specs.own.Values.{tables_in, members_in, calls_through, next_call, blocks_through, block_of}
 use Rattle.plan_read.proofs.Failing.{next_decides, first_decides}
 
 members_in-table : (d : Data) (ms : Members) → as_table d ≡ Some ms → members_in d ≡ ms

@@ -1,190 +1,35 @@
--- The fault of a tree: for each place the list of its checks in order, and the first place whose list has one that fails. The lists
--- are the rows of the table of checks on the first page of this crate.
+-- Checks: sentences on what a place of a plan writes, in the order in which they are made. A value that passes all of them is what the
+-- place writes. Where none does, the fault is that of the first check that no value passes.
 -- All of it is this project's rule.
-use Rattle.std.specs.Prelude.{ℕ, ◌+◌, ◌*◌, ℤ, pos, negsuc, Bool, true, false, not, ◌&&◌, ◌||◌, nat_le, ◌==◌, if◌then◌else◌, List, [], ◌∷◌, ◌++◌, length, Option, Some, None, is_some, is_none, option_and_then, codes}
-use Rattle.toml.specs.Data.{Members, get_member, as_integer}
-use Rattle.sched_time.specs.Times.{longest}
-use Rattle.sched_time.specs.declared.unit.Unit.{Unit as TimeUnit}
-use Rattle.plan_read.specs.declared.faults.Place.{Place}
+use Rattle.std.specs.Prelude.{◌≡◌, ◌⊎◌, ℕ, List, [], ◌∷◌, ◌++◌}
 use Rattle.plan_read.specs.declared.faults.PlanFault.{PlanFault}
 use Rattle.plan_read.specs.declared.faults.PlanFaultKind.{PlanFaultKind}
-use Rattle.plan_read.specs.declared.faults.PlanFaultKind.TheVariants.{Version, UnknownKey, Missing, WrongType, BadUnit, BadTimes, Negative, BadName, DuplicateName, UnknownName, Ambiguous, OutOfOrder, TooLarge, TooMany}
-use Rattle.plan_read.specs.declared.plans.Call.{Call}
-use Rattle.plan_read.specs.declared.plans.Header.{Header}
-use Rattle.plan_read.specs.declared.sites.Site.{Site}
-use Rattle.plan_read.specs.declared.verbs.Verb.{Verb}
-use Rattle.plan_read.specs.declared.verbs.Verb.TheVariants as verbs
-use Rattle.plan_read.specs.Keys.{top_keys, header_keys, call_keys, verb_of_word, unit_of_word, has_only, has_required, are_typed}
-use Rattle.plan_read.specs.Names.{is_name}
-use Rattle.plan_read.specs.Plans.{PlanTree, most_blocks, most_block_calls, most_calls, moment_in_last, last_offset, end_of, made_by}
-use Rattle.plan_read.specs.Values.{text_or, tables_at, is_negative, span_at, header_of, verb_at, name_at, found_at, next_call, block_of}
 
--- ---- lists of checks
-
--- a check: what is wrong where it fails
-pub record Check : Type 0 where
+-- a check on a value: what is wrong where it does not hold
+pub record Check (X : Type 0) : Type 1 where
   pub kind : PlanFaultKind
-  pub passes : Bool
+  pub Holds : X → Type 0
 
 infixr 8 ◌unless◌
--- this is wrong unless a test holds
-abbrev pub ◌unless◌ : PlanFaultKind → Bool → Check
-kind unless passes = record { kind = kind; passes = passes }
+-- this is wrong unless a sentence holds of the value
+abbrev pub ◌unless◌ : {X : Type 0} → PlanFaultKind → (X → Type 0) → Check X
+kind unless Holds = record { kind = kind; Holds = Holds }
 
--- the first of a place's checks that fails
-abbrev pub place_fault : Place → List Check → Option PlanFault
-place_fault place [] = None
-place_fault place (c ∷ cs) = if c.passes then place_fault place cs else Some (record { kind = c.kind; block = place.block; call = place.call })
+-- a value passes each of these checks
+abbrev pub Passes : {X : Type 0} → List (Check X) → X → Type 0
+Passes [] x = Unit {0}
+Passes (c ∷ cs) x = c.Holds x × Passes cs x
 
-infixr 7 ◌or_else◌
--- the fault of one place, and where it has none, that of those after it
-abbrev pub ◌or_else◌ : Option PlanFault → Option PlanFault → Option PlanFault
-None or_else next = next
-(Some fault) or_else next = Some fault
+-- a check fails behind those before it: some value passes those, and no value that passes them passes this one too
+pub record FailsAt {X : Type 0} (before : List (Check X)) (c : Check X) : Type 0 where
+  pub passed : (x : X) × Passes before x
+  pub stopped : (x : X) → Passes before x → c.Holds x → ⊥
 
--- ---- the top
+-- one of these checks fails behind those before it, and this is what is wrong then
+abbrev pub FailsBehind : {X : Type 0} → List (Check X) → List (Check X) → PlanFaultKind → Type 0
+FailsBehind before [] kind = ⊥
+FailsBehind before (c ∷ cs) kind = ((kind ≡ c.kind) × FailsAt before c) ⊎ FailsBehind (before ++ c ∷ []) cs kind
 
--- the text as a whole and its top are in no block and no call
-abbrev pub top : Place
-top = record { block = 0; call = 0 }
-
--- the value is the integer 1
-abbrev pub is_one : Option ℤ → Bool
-is_one None = false
-is_one (Some (pos n)) = n == 1
-is_one (Some (negsuc n)) = false
-
--- the checks on the top
-unfoldable pub top_checks : Members → List Check
-top_checks ms =
-    (Version unless is_one (option_and_then as_integer (get_member (codes "version") ms)))
-    ∷ (UnknownKey unless has_only top_keys ms)
-    ∷ (WrongType unless are_typed top_keys ms)
-    ∷ (TooMany unless nat_le (length (tables_at (codes "block") ms)) most_blocks)
-    ∷ []
-
--- ---- the header of a block
-
--- blocks and calls are numbered from 1, so `block` others stand before this block
-abbrev pub header_place : ℕ → Place
-header_place block = record { block = block + 1; call = 0 }
-
--- the checks on a header, where the last call before it is at the moment `end`, and `made` calls are made before it
-unfoldable pub header_checks : ℕ → ℕ → Members → List Check
-header_checks end made ms =
-    let h = header_of ms in
-    let calls = length (tables_at (codes "call") ms) in
-    (UnknownKey unless has_only header_keys ms)
-    ∷ (WrongType unless are_typed header_keys ms)
-    ∷ (BadUnit unless is_some (unit_of_word (text_or (codes "ns") (codes "unit") ms)))
-    ∷ (BadTimes unless nat_le 1 h.times && nat_le h.times most_calls)
-    ∷ (Missing unless nat_le h.times 1 || is_some (get_member (codes "every") ms))
-    ∷ (Negative unless not (is_negative (codes "at") ms) && not (is_negative (codes "every") ms))
-    ∷ (TooLarge unless nat_le h.at longest && nat_le h.every longest)
-    ∷ (OutOfOrder unless nat_le end h.at)
-    ∷ (TooMany unless nat_le calls most_block_calls && nat_le (made + h.times * calls) most_calls)
-    ∷ []
-
--- ---- a call
-
--- `call` others stand before this call in its block
-abbrev pub call_place : ℕ → ℕ → Place
-call_place block call = record { block = block + 1; call = call + 1 }
-
--- the word of the operation is one
-abbrev pub is_verb : Members → Bool
-is_verb ms = is_some (verb_of_word (text_or [] (codes "op") ms))
-
--- a cancel means a submission of its own block, or one of a block with one iteration
-abbrev pub is_clear : ℕ → Option Site → Bool
-is_clear block None = false
-is_clear block (Some s) = (s.target.block == block) || not s.repeated
-
--- the spans of an operation are within the limit
-abbrev pub are_spans_short : Verb → TimeUnit → Members → Bool
-are_spans_short verbs.Schedule unit ms = nat_le (span_at unit (codes "delay") ms) longest
-are_spans_short verbs.Rate unit ms = nat_le (span_at unit (codes "first") ms) longest && nat_le (span_at unit (codes "period") ms) longest
-are_spans_short verbs.Fixed unit ms = nat_le (span_at unit (codes "first") ms) longest && nat_le (span_at unit (codes "delay") ms) longest
-are_spans_short _ unit ms = true
-
--- on the operation
-unfoldable pub verb_checks : Members → List Check
-verb_checks ms =
-    (Missing unless is_some (get_member (codes "op") ms))
-    ∷ (WrongType unless is_verb ms)
-    ∷ []
-
--- on the other keys
-unfoldable pub key_checks : Verb → Members → List Check
-key_checks verb ms =
-    (UnknownKey unless has_only (call_keys verb) ms)
-    ∷ (Missing unless has_required (call_keys verb) ms)
-    ∷ (WrongType unless are_typed (call_keys verb) ms)
-    ∷ []
-
--- on the name of a submission
-abbrev pub new_name_checks : Option Site → Members → List Check
-new_name_checks found ms =
-    (BadName unless is_name (name_at ms))
-    ∷ (DuplicateName unless is_none found)
-    ∷ []
-
--- on the name of a cancel
-abbrev pub known_name_checks : Option Site → ℕ → Members → List Check
-known_name_checks found block ms =
-    (BadName unless is_name (name_at ms))
-    ∷ (UnknownName unless is_some found)
-    ∷ (Ambiguous unless is_clear block found)
-    ∷ []
-
--- on the name
-unfoldable pub name_checks : Verb → Option Site → ℕ → Members → List Check
-name_checks verbs.Schedule found block ms = new_name_checks found ms
-name_checks verbs.Execute found block ms = new_name_checks found ms
-name_checks verbs.Rate found block ms = new_name_checks found ms
-name_checks verbs.Fixed found block ms = new_name_checks found ms
-name_checks verbs.Cancel found block ms = known_name_checks found block ms
-name_checks _ found block ms = []
-
--- on the times
-unfoldable pub time_checks : Verb → Header → ℕ → Members → List Check
-time_checks verb h last ms =
-    (Negative unless not (is_negative (codes "at") ms))
-    ∷ (TooLarge unless nat_le (span_at h.unit (codes "at") ms) longest && are_spans_short verb h.unit ms && nat_le (moment_in_last h (span_at h.unit (codes "at") ms)) longest)
-    ∷ (OutOfOrder unless nat_le last (span_at h.unit (codes "at") ms) && (nat_le h.times 1 || nat_le (span_at h.unit (codes "at") ms) h.every))
-    ∷ []
-
--- the checks on a call of the block `block`, where `found` is the submission of its name that stands before it, and `last` the offset
--- of the call before it: on its operation, on its other keys, on its name, and on its times
-abbrev pub call_checks : Option Site → ℕ → Header → ℕ → Members → List Check
-call_checks found block h last ms =
-    verb_checks ms ++ key_checks (verb_at ms) ms ++ name_checks (verb_at ms) found block ms ++ time_checks (verb_at ms) h last ms
-
--- ---- the whole tree, block by block, and in each block its header and then its calls
-
--- the fault of a call's table that stands behind the calls `before`, in the block behind the blocks `earlier`
-abbrev pub call_fault : PlanTree → Header → List Call → Members → Option PlanFault
-call_fault earlier h before ms =
-    place_fault (call_place (length earlier) (length before)) (call_checks (found_at earlier h before ms) (length earlier) h (last_offset before) ms)
-
--- the first fault of some calls' tables, in the order of the text: the first table is checked as the call behind `before`; where it
--- passes it writes a call, and the tables behind it are checked with that call among those before them
-abbrev pub calls_fault : PlanTree → Header → List Call → List Members → Option PlanFault
-calls_fault earlier h before [] = None
-calls_fault earlier h before (ms ∷ tables) = call_fault earlier h before ms or_else calls_fault earlier h (before ++ next_call earlier h before ms ∷ []) tables
-
--- the first fault of a block's table: that of its header, and where that has none, the first of its calls
-abbrev pub block_fault : PlanTree → Members → Option PlanFault
-block_fault earlier ms =
-    place_fault (header_place (length earlier)) (header_checks (end_of earlier) (made_by earlier) ms)
-    or_else calls_fault earlier (header_of ms) [] (tables_at (codes "call") ms)
-
--- the first fault of some blocks' tables, in the order of the text: the first is checked as the block behind `earlier`; where it
--- passes it writes a block, and those behind it are checked with that block among those before them
-abbrev pub blocks_fault : PlanTree → List Members → Option PlanFault
-blocks_fault earlier [] = None
-blocks_fault earlier (ms ∷ tables) = block_fault earlier ms or_else blocks_fault (earlier ++ block_of earlier ms ∷ []) tables
-
--- the fault of a tree: that of its top, and where that has none, the first of its blocks
-abbrev pub tree_fault : Members → Option PlanFault
-tree_fault ms = place_fault top (top_checks ms) or_else blocks_fault [] (tables_at (codes "block") ms)
+-- the fault of a place with these checks: blocks and calls are numbered from 1, and 0 stands for none
+abbrev pub IsFaultOf : {X : Type 0} → List (Check X) → ℕ → ℕ → PlanFault → Type 0
+IsFaultOf checks block call fault = FailsBehind [] checks fault.kind × (fault.block ≡ block) × (fault.call ≡ call)

@@ -1,25 +1,29 @@
 -- What holds of every tree and every plan. The functions of `laws` promise it.
-use Rattle.std.specs.Prelude.{◌≡◌, ◌⊎◌, ℕ, List, None, IsSome, codes}
+use Rattle.std.specs.Prelude.{◌≡◌, ◌⊎◌, ℕ, List, codes}
 use Rattle.toml.specs.Data.{Members, string}
+use Rattle.plan_read.specs.declared.faults.PlanFault.{PlanFault}
 use Rattle.plan_read.specs.declared.plans.Call.{Call}
 use Rattle.plan_read.specs.declared.plans.Header.{Header}
 use Rattle.plan_read.specs.declared.plans.Op.TheVariants as ops
 use Rattle.plan_read.specs.declared.plans.Target.{Target}
-use Rattle.plan_read.specs.Checks.{tree_fault}
 use Rattle.plan_read.specs.Plans.{PlanTree, submissions_from, AreDistinct, StandsBefore, IsOrdered}
-use Rattle.plan_read.specs.Writes.{Has, TreeWrites, WritesCall}
+use Rattle.plan_read.specs.Writes.{Has, TreeWrites, TreeFails, WritesCall}
 
 -- a tree writes a plan or has a fault
 abbrev pub WritesOrFails : Type 0
-WritesOrFails = (ms : Members) → ((plan : PlanTree) × TreeWrites ms plan) ⊎ IsSome (tree_fault ms)
+WritesOrFails = (ms : Members) → ((plan : PlanTree) × TreeWrites ms plan) ⊎ ((fault : PlanFault) × TreeFails ms fault)
 
 -- a tree that writes a plan has no fault
 abbrev pub NeverBoth : Type 0
-NeverBoth = (ms : Members) (plan : PlanTree) → TreeWrites ms plan → tree_fault ms ≡ None
+NeverBoth = (ms : Members) (plan : PlanTree) (fault : PlanFault) → TreeWrites ms plan → TreeFails ms fault → ⊥
 
 -- a tree writes at most one plan
 abbrev pub WritesOne : Type 0
 WritesOne = (ms : Members) (plan other : PlanTree) → TreeWrites ms plan → TreeWrites ms other → plan ≡ other
+
+-- a tree has at most one fault
+abbrev pub FailsOnce : Type 0
+FailsOnce = (ms : Members) (fault other : PlanFault) → TreeFails ms fault → TreeFails ms other → fault ≡ other
 
 -- two submissions of a plan have different names
 abbrev pub NamesDiffer : Type 0

@@ -2,7 +2,6 @@ pub use Rattle.sched_time.specs.Times
 pub mod Names
 pub mod Keys
 pub mod Plans
-pub mod Values
 pub mod Checks
 pub mod Writes
 pub mod Texts

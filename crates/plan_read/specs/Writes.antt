@@ -1,21 +1,24 @@
--- Which plan a tree writes, as a relation by cases: what stands at the keys of its tables, and what stands before each. No case
--- speaks of a check or of a default that a check refuses.
+-- Which plan a tree writes, and which fault it has where it writes none: for each place the checks on what stands at the keys of its
+-- table and on what stands before it, in order. The lists are the rows of the table of checks on the first page of this crate. None
+-- speaks of a default that a check refuses.
 -- All of it is this project's rule.
 use Rattle.std.specs.Prelude.{◌≡◌, ◌⊎◌, ◌≤◌, ℕ, ℤ, pos, ◌+◌, ◌*◌, true, false, List, [], ◌∷◌, ◌++◌, length, Option, None, Some, IsSome, codes}
 use Rattle.toml.specs.Data.{Data, string, integer, boolean, array, table, Items, no_items, item, Members, get_member}
 use Rattle.sched_time.specs.Times.{longest, nanos_of, span_of, period_of}
 use Rattle.sched_time.specs.declared.unit.Unit.{Unit as TimeUnit}
+use Rattle.plan_read.specs.declared.faults.PlanFault.{PlanFault}
+use Rattle.plan_read.specs.declared.faults.PlanFaultKind.TheVariants.{Version, UnknownKey, Missing, WrongType, BadUnit, BadTimes, Negative, BadName, DuplicateName, UnknownName, Ambiguous, OutOfOrder, TooLarge, TooMany}
 use Rattle.plan_read.specs.declared.plans.Call.{Call}
 use Rattle.plan_read.specs.declared.plans.Header.{Header}
 use Rattle.plan_read.specs.declared.plans.Op.{Op}
 use Rattle.plan_read.specs.declared.plans.Op.TheVariants as ops
-use Rattle.plan_read.specs.declared.plans.Target.{Target}
 use Rattle.plan_read.specs.declared.sites.Site.{Site}
 use Rattle.plan_read.specs.declared.verbs.Verb.{Verb}
 use Rattle.plan_read.specs.declared.verbs.Verb.TheVariants as verbs
-use Rattle.plan_read.specs.Keys.{Key, top_keys, header_keys, call_keys, verb_of_word, unit_of_word, which_of_word, has_only}
+use Rattle.plan_read.specs.Checks.{Check, ◌unless◌, Passes, IsFaultOf}
+use Rattle.plan_read.specs.Keys.{Key, top_keys, header_keys, call_keys, verb_of_word, unit_of_word, which_of_word, has_only, has_required, are_typed}
 use Rattle.plan_read.specs.Names.{is_name}
-use Rattle.plan_read.specs.Plans.{BlockTree, PlanTree, most_blocks, most_block_calls, most_calls, submissions_before, find, moment_in_last, last_offset, end_of, made_by}
+use Rattle.plan_read.specs.Plans.{BlockTree, PlanTree, most_blocks, most_block_calls, most_calls, name_of, submissions_before, find, moment_in_last, last_offset, end_of, made_by}
 
 -- ---- what stands at a key
 
@@ -26,6 +29,14 @@ Has ms key d = get_member key ms ≡ Some d
 -- each key of the table is one of these
 abbrev pub HasOnly : List Key → Members → Type 0
 HasOnly keys ms = has_only keys ms ≡ true
+
+-- each of these keys that has to be there is there
+abbrev pub HasRequired : List Key → Members → Type 0
+HasRequired keys ms = has_required keys ms ≡ true
+
+-- the value at each of these keys is of its shape
+abbrev pub AreTyped : List Key → Members → Type 0
+AreTyped keys ms = are_typed keys ms ≡ true
 
 -- an integer, and the default where the key is left out
 abbrev pub IntegerAt : ℤ → List ℕ → Members → ℤ → Type 0
@@ -45,9 +56,17 @@ HoldTables _ _ = ⊥
 abbrev pub TablesAt : List ℕ → Members → List Members → Type 0
 TablesAt key ms tables = ((items : Items) × Has ms key (array items) × HoldTables items tables) ⊎ ((get_member key ms ≡ None) × (tables ≡ []))
 
+-- an integer that is not negative, 0 where the key is left out
+abbrev pub WholeAt : List ℕ → Members → ℕ → Type 0
+WholeAt key ms n = IntegerAt (pos 0) key ms (pos n)
+
+-- a unit, nanoseconds where the key is left out
+abbrev pub UnitAt : List ℕ → Members → TimeUnit → Type 0
+UnitAt key ms unit = (word : List ℕ) × TextAt (codes "ns") key ms word × (unit_of_word word ≡ Some unit)
+
 -- a moment, an offset or a distance: not negative, at most 2^62 nanoseconds, 0 where the key is left out
 abbrev pub SpanAt : TimeUnit → List ℕ → Members → ℕ → Type 0
-SpanAt unit key ms n = (units : ℕ) × IntegerAt (pos 0) key ms (pos units) × (n ≡ units * nanos_of unit) × (n ≤ longest)
+SpanAt unit key ms n = (units : ℕ) × WholeAt key ms units × (n ≡ units * nanos_of unit) × (n ≤ longest)
 
 -- a delay, at most 2^62 nanoseconds: a negative one counts as 0
 abbrev pub DelayAt : TimeUnit → List ℕ → Members → ℕ → Type 0
@@ -57,95 +76,184 @@ DelayAt unit key ms n = (z : ℤ) × Has ms key (integer z) × (n ≡ span_of z 
 abbrev pub PeriodAt : TimeUnit → List ℕ → Members → Option ℕ → Type 0
 PeriodAt unit key ms period = (z : ℤ) × Has ms key (integer z) × (period ≡ period_of z unit) × (span_of z unit ≤ longest)
 
+-- ---- the top
+
+-- what is checked at the top, which writes the tables of the blocks
+unfoldable pub top_checks : Members → List (Check (List Members))
+top_checks ms =
+    (Version unless λ tables. Has ms (codes "version") (integer (pos 1)))
+    ∷ (UnknownKey unless λ tables. HasOnly top_keys ms)
+    ∷ (WrongType unless λ tables. AreTyped top_keys ms × TablesAt (codes "block") ms tables)
+    ∷ (TooMany unless λ tables. length tables ≤ most_blocks)
+    ∷ []
+
 -- ---- the header of a block
 
--- the header of a block of `count` calls, where the last call before it is at the moment `end` and `made` calls are made before it
-pub record WritesHeader (end made count : ℕ) (ms : Members) (h : Header) : Type 0 where
-  pub keys : HasOnly header_keys ms
-  pub unit : (word : List ℕ) × TextAt (codes "ns") (codes "unit") ms word × (unit_of_word word ≡ Some h.unit)
-  pub times : IntegerAt (pos 1) (codes "times") ms (pos h.times)
-  pub least : 1 ≤ h.times
-  pub most : h.times ≤ most_calls
-  pub at : SpanAt h.unit (codes "at") ms h.at
-  pub every : SpanAt h.unit (codes "every") ms h.every
-  pub given : (h.times ≤ 1) ⊎ IsSome (get_member (codes "every") ms)
-  pub order : end ≤ h.at
-  pub few : count ≤ most_block_calls
-  pub total : made + h.times * count ≤ most_calls
+-- what the table of a block writes: its header, and the tables of its calls
+pub record Head : Type 0 where
+  pub header : Header
+  pub tables : List Members
+
+-- a number of iterations, 1 where the key is left out
+abbrev pub TimesAt : Members → ℕ → Type 0
+TimesAt ms n = IntegerAt (pos 1) (codes "times") ms (pos n) × (1 ≤ n) × (n ≤ most_calls)
+
+-- what is checked at a header, where the last call before the block is at the moment `end` and `made` calls are made before it
+unfoldable pub header_checks : ℕ → ℕ → Members → List (Check Head)
+header_checks end made ms =
+    (UnknownKey unless λ b. HasOnly header_keys ms)
+    ∷ (WrongType unless λ b. AreTyped header_keys ms × TablesAt (codes "call") ms b.tables)
+    ∷ (BadUnit unless λ b. UnitAt (codes "unit") ms b.header.unit)
+    ∷ (BadTimes unless λ b. TimesAt ms b.header.times)
+    ∷ (Missing unless λ b. (b.header.times ≤ 1) ⊎ IsSome (get_member (codes "every") ms))
+    ∷ (Negative unless λ b. ((n : ℕ) × WholeAt (codes "at") ms n) × ((n : ℕ) × WholeAt (codes "every") ms n))
+    ∷ (TooLarge unless λ b. SpanAt b.header.unit (codes "at") ms b.header.at × SpanAt b.header.unit (codes "every") ms b.header.every)
+    ∷ (OutOfOrder unless λ b. end ≤ b.header.at)
+    ∷ (TooMany unless λ b. (length b.tables ≤ most_block_calls) × (made + b.header.times * length b.tables ≤ most_calls))
+    ∷ []
 
 -- ---- a call
 
--- the table names this operation, and has no keys but its own
-abbrev pub IsCallOf : Verb → Members → Type 0
-IsCallOf verb ms = (word : List ℕ) × Has ms (codes "op") (string word) × (verb_of_word word ≡ Some verb) × HasOnly (call_keys verb) ms
+-- the word of an operation
+abbrev pub verb_of : Op → Verb
+verb_of (ops.Schedule name delay) = verbs.Schedule
+verb_of (ops.Execute name) = verbs.Execute
+verb_of (ops.Rate name first period) = verbs.Rate
+verb_of (ops.Fixed name first delay) = verbs.Fixed
+verb_of (ops.Cancel target) = verbs.Cancel
+verb_of (ops.Policy which value) = verbs.Policy
+verb_of ops.Shutdown = verbs.Shutdown
+verb_of ops.ShutdownNow = verbs.ShutdownNow
+verb_of ops.Ask = verbs.Ask
 
--- the name of a submission: none before it has it
-abbrev pub HasNewName : List (List ℕ × Site) → Members → List ℕ → Type 0
-HasNewName subs ms name = Has ms (codes "name") (string name) × (is_name name ≡ true) × (find name subs ≡ None)
+-- the table names the operation
+abbrev pub NamesVerb : Members → Verb → Type 0
+NamesVerb ms verb = (word : List ℕ) × Has ms (codes "op") (string word) × (verb_of_word word ≡ Some verb)
 
--- the name of a submission that stands before, in the same block or in one that is not repeated
-abbrev pub HasNameOf : ℕ → List (List ℕ × Site) → Members → Target → Type 0
-HasNameOf block subs ms target =
-    (name : List ℕ) × Has ms (codes "name") (string name) × (is_name name ≡ true)
-    × (s : Site) × (find name subs ≡ Some s) × (target ≡ s.target) × ((s.target.block ≡ block) ⊎ (s.repeated ≡ false))
+-- the policy that is set, and its value
+abbrev pub HasPolicy : Members → Op → Type 0
+HasPolicy ms (ops.Policy which value) =
+    ((word : List ℕ) × Has ms (codes "which") (string word) × (which_of_word word ≡ Some which)) × Has ms (codes "value") (boolean value)
+HasPolicy ms op = Unit {0}
 
--- the operation and its own keys, in a block of this number and unit, where these submissions stand before it
-abbrev pub WritesOp : ℕ → TimeUnit → List (List ℕ × Site) → Members → Op → Type 0
-WritesOp block unit subs ms (ops.Schedule name delay) =
-    IsCallOf verbs.Schedule ms × HasNewName subs ms name × DelayAt unit (codes "delay") ms delay
-WritesOp block unit subs ms (ops.Execute name) = IsCallOf verbs.Execute ms × HasNewName subs ms name
-WritesOp block unit subs ms (ops.Rate name first period) =
-    IsCallOf verbs.Rate ms × HasNewName subs ms name × DelayAt unit (codes "first") ms first × PeriodAt unit (codes "period") ms period
-WritesOp block unit subs ms (ops.Fixed name first delay) =
-    IsCallOf verbs.Fixed ms × HasNewName subs ms name × DelayAt unit (codes "first") ms first × PeriodAt unit (codes "delay") ms delay
-WritesOp block unit subs ms (ops.Cancel target) = IsCallOf verbs.Cancel ms × HasNameOf block subs ms target
-WritesOp block unit subs ms (ops.Policy which value) =
-    IsCallOf verbs.Policy ms
-    × (word : List ℕ) × Has ms (codes "which") (string word) × (which_of_word word ≡ Some which)
-    × Has ms (codes "value") (boolean value)
-WritesOp block unit subs ms ops.Shutdown = IsCallOf verbs.Shutdown ms
-WritesOp block unit subs ms ops.ShutdownNow = IsCallOf verbs.ShutdownNow ms
-WritesOp block unit subs ms ops.Ask = IsCallOf verbs.Ask ms
+-- a name
+abbrev pub NameAt : Members → List ℕ → Type 0
+NameAt ms name = Has ms (codes "name") (string name) × (is_name name ≡ true)
 
--- a call: its offset is not below that of the call before it, no more than `every` in a repeated block, and its moment in the last
--- iteration is at most 2^62
-pub record WritesCall (earlier : PlanTree) (h : Header) (before : List Call) (ms : Members) (c : Call) : Type 0 where
-  pub at : SpanAt h.unit (codes "at") ms c.at
-  pub last : moment_in_last h c.at ≤ longest
-  pub order : last_offset before ≤ c.at
-  pub within : (h.times ≤ 1) ⊎ (c.at ≤ h.every)
-  pub op : WritesOp (length earlier) h.unit (submissions_before earlier h before) ms c.op
+-- that of the submission, or that of the submission which a cancel means
+abbrev pub HasName : Members → Op → Type 0
+HasName ms (ops.Schedule name delay) = NameAt ms name
+HasName ms (ops.Execute name) = NameAt ms name
+HasName ms (ops.Rate name first period) = NameAt ms name
+HasName ms (ops.Fixed name first delay) = NameAt ms name
+HasName ms (ops.Cancel target) = (name : List ℕ) × NameAt ms name
+HasName ms op = Unit {0}
 
--- ---- all calls of a block, and all blocks of a plan
+-- no submission among those before has the name of this one
+abbrev pub IsNew : List (List ℕ × Site) → Op → Type 0
+IsNew subs op = (name : List ℕ) → name_of op ≡ Some name → find name subs ≡ None
 
--- the calls of a block after those before them, a table each
+-- the submission of the name that stands before
+abbrev pub Finds : List (List ℕ × Site) → Members → Site → Type 0
+Finds subs ms s = (name : List ℕ) × NameAt ms name × (find name subs ≡ Some s)
+
+-- a cancel means the submission of its name
+abbrev pub HasTarget : List (List ℕ × Site) → Members → Op → Type 0
+HasTarget subs ms (ops.Cancel target) = (s : Site) × Finds subs ms s × (target ≡ s.target)
+HasTarget subs ms op = Unit {0}
+
+-- that submission is of the same block, or of one that is not repeated
+abbrev pub IsClear : ℕ → List (List ℕ × Site) → Members → Op → Type 0
+IsClear block subs ms (ops.Cancel target) = (s : Site) × Finds subs ms s × ((s.target.block ≡ block) ⊎ (s.repeated ≡ false))
+IsClear block subs ms op = Unit {0}
+
+-- the spans of an operation
+abbrev pub HasSpans : TimeUnit → Members → Op → Type 0
+HasSpans unit ms (ops.Schedule name delay) = DelayAt unit (codes "delay") ms delay
+HasSpans unit ms (ops.Rate name first period) = DelayAt unit (codes "first") ms first × PeriodAt unit (codes "period") ms period
+HasSpans unit ms (ops.Fixed name first delay) = DelayAt unit (codes "first") ms first × PeriodAt unit (codes "delay") ms delay
+HasSpans unit ms op = Unit {0}
+
+-- what is checked at a call of a block with this header, behind the blocks `earlier` and the calls `before` of its block
+unfoldable pub call_checks : PlanTree → Header → List Call → Members → List (Check Call)
+call_checks earlier h before ms =
+    let subs = submissions_before earlier h before in
+    (Missing unless λ c. IsSome (get_member (codes "op") ms))
+    ∷ (WrongType unless λ c. NamesVerb ms (verb_of c.op))
+    ∷ (UnknownKey unless λ c. HasOnly (call_keys (verb_of c.op)) ms)
+    ∷ (Missing unless λ c. HasRequired (call_keys (verb_of c.op)) ms)
+    ∷ (WrongType unless λ c. AreTyped (call_keys (verb_of c.op)) ms × HasPolicy ms c.op)
+    ∷ (BadName unless λ c. HasName ms c.op)
+    ∷ (DuplicateName unless λ c. IsNew subs c.op)
+    ∷ (UnknownName unless λ c. HasTarget subs ms c.op)
+    ∷ (Ambiguous unless λ c. IsClear (length earlier) subs ms c.op)
+    ∷ (Negative unless λ c. (n : ℕ) × WholeAt (codes "at") ms n)
+    ∷ (TooLarge unless λ c. SpanAt h.unit (codes "at") ms c.at × HasSpans h.unit ms c.op × (moment_in_last h c.at ≤ longest))
+    ∷ (OutOfOrder unless λ c. (last_offset before ≤ c.at) × ((h.times ≤ 1) ⊎ (c.at ≤ h.every)))
+    ∷ []
+
+-- ---- what a tree writes
+
+-- a call, behind those before it
+abbrev pub WritesCall : PlanTree → Header → List Call → Members → Call → Type 0
+WritesCall earlier h before ms c = Passes (call_checks earlier h before ms) c
+
+-- the calls of a block behind those before them, a table each
 abbrev pub WritesCalls : PlanTree → Header → List Call → List Members → List Call → Type 0
 WritesCalls earlier h before [] [] = Unit {0}
 WritesCalls earlier h before (ms ∷ tables) (c ∷ cs) = WritesCall earlier h before ms c × WritesCalls earlier h (before ++ c ∷ []) tables cs
 WritesCalls earlier h before _ _ = ⊥
 
+-- the header of a block and the tables of its calls, behind the blocks before it
+abbrev pub WritesHead : PlanTree → Members → Head → Type 0
+WritesHead earlier ms head = Passes (header_checks (end_of earlier) (made_by earlier) ms) head
+
 -- a block: its header, and its calls
 pub record WritesBlock (earlier : PlanTree) (ms : Members) (b : BlockTree) : Type 0 where
   pub tables : List Members
-  pub array : TablesAt (codes "call") ms tables
-  pub header : WritesHeader (end_of earlier) (made_by earlier) (length tables) ms b.header
+  pub head : WritesHead earlier ms (record { header = b.header; tables = tables })
   pub calls : WritesCalls earlier b.header [] tables b.calls
 
--- the blocks after those before them, a table each
+-- the blocks behind those before them, a table each
 abbrev pub WritesBlocks : PlanTree → List Members → PlanTree → Type 0
 WritesBlocks earlier [] [] = Unit {0}
 WritesBlocks earlier (ms ∷ tables) (b ∷ bs) = WritesBlock earlier ms b × WritesBlocks (earlier ++ b ∷ []) tables bs
 WritesBlocks earlier _ _ = ⊥
 
--- a plan: its version, and its blocks
+-- a plan
 pub record TreeWrites (ms : Members) (plan : PlanTree) : Type 0 where
-  pub version : Has ms (codes "version") (integer (pos 1))
-  pub keys : HasOnly top_keys ms
   pub tables : List Members
-  pub array : TablesAt (codes "block") ms tables
-  pub few : length tables ≤ most_blocks
+  pub top : Passes (top_checks ms) tables
   pub blocks : WritesBlocks [] tables plan
 
 -- some tree writes the plan
 abbrev pub IsPlan : PlanTree → Type 0
 IsPlan plan = (ms : Members) × TreeWrites ms plan
+
+-- ---- the fault of a tree: that of the first place that writes nothing. What stands before it writes a part of a plan
+
+-- the fault of the calls of a block, behind those before them
+abbrev pub CallsFail : PlanTree → Header → List Call → List Members → PlanFault → Type 0
+CallsFail earlier h before [] fault = ⊥
+CallsFail earlier h before (ms ∷ tables) fault =
+    IsFaultOf (call_checks earlier h before ms) (length earlier + 1) (length before + 1) fault
+    ⊎ ((c : Call) × WritesCall earlier h before ms c × CallsFail earlier h (before ++ c ∷ []) tables fault)
+
+-- the fault of a block: that of its header, or that of its calls
+abbrev pub BlockFails : PlanTree → Members → PlanFault → Type 0
+BlockFails earlier ms fault =
+    IsFaultOf (header_checks (end_of earlier) (made_by earlier) ms) (length earlier + 1) 0 fault
+    ⊎ ((head : Head) × WritesHead earlier ms head × CallsFail earlier head.header [] head.tables fault)
+
+-- the fault of the blocks behind those before them
+abbrev pub BlocksFail : PlanTree → List Members → PlanFault → Type 0
+BlocksFail earlier [] fault = ⊥
+BlocksFail earlier (ms ∷ tables) fault =
+    BlockFails earlier ms fault
+    ⊎ ((b : BlockTree) × WritesBlock earlier ms b × BlocksFail (earlier ++ b ∷ []) tables fault)
+
+-- the fault of a tree: that of its top, or that of its blocks
+abbrev pub TreeFails : Members → PlanFault → Type 0
+TreeFails ms fault =
+    IsFaultOf (top_checks ms) 0 0 fault
+    ⊎ ((tables : List Members) × Passes (top_checks ms) tables × BlocksFail [] tables fault)

@@ -2,3 +2,6 @@
 pub mod Reads
 pub mod Rows
 pub mod Values
+pub mod Walk
+pub mod Texts
+pub mod Subjects

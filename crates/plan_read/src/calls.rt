@@ -1,74 +1,74 @@
 //! The calls of a block.
 
-ghost use Rattle.std.specs.Prelude.{◌≡◌, ◌≤◌, nat_le, None, [], ◌∷◌};
+ghost use Rattle.std.specs.Prelude.{◌≡◌, ◌≤◌, ℕ, List, nat_le, None, [], ◌∷◌, OnOk, Some, true, ◌&&◌, if◌then◌else◌, bytes_eq, codes, option_and_then, is_some};
 ghost use Rattle.sched_time.specs.Times.{longest, span_of, period_of};
 ghost use Rattle.toml.specs.View.{table_view};
-ghost use Rattle.plan_read.specs.Checks.{◌unless◌, place_fault, verb_checks, key_checks, new_name_checks, known_name_checks, name_checks, time_checks, call_checks, are_spans_short};
-ghost use Rattle.plan_read.specs.own.Reads.{Reads};
-ghost use Rattle.plan_read.specs.Values.{verb_at, op_of, timed_call, written_call, which_at};
-ghost use Rattle.plan_read.specs.own.Values.{submits};
+ghost use Rattle.plan_read.specs.Keys.{which_of_word};
+ghost use Rattle.plan_read.specs.own.Walk.{◌barring◌, place_fault, verb_tests, key_tests, time_tests, call_tests, are_spans_short};
+ghost use Rattle.plan_read.specs.own.Reads.{Reads, found_in};
+ghost use Rattle.plan_read.specs.own.Values.{verb_at, name_at, given_text, given_truth, submits, which_at, truth_at, written_call};
+ghost use Rattle.plan_read.specs.own.Subjects.{verb_with, op_with, call_with};
+ghost use Rattle.plan_read.specs.declared.plans.Op.TheVariants as ops;
 ghost use Rattle.plan_read.specs.declared.faults.PlanFaultKind.TheVariants as kinds;
 
 use crate::faults::{Place, PlanFaultKind, ReadError};
 use crate::headers::{moment_in_last, read_span};
 use crate::key_names::KeyName;
 use crate::keys::{are_typed, call_keys, has_only, has_required};
-use crate::names::{Name, is_name};
 use crate::plans::{Call, Header, Op};
-use crate::rows::Row;
+use crate::rows::{EMPTY_SLOTS, Row};
 use crate::sites::Site;
+use crate::subjects::{Subject, read_subject};
 use crate::units::which_of_word;
 use crate::verbs::Verb;
-use sched_time::{LONGEST, Span, Unit, Which, period};
+use sched_time::{LONGEST, Span, Unit, period};
+use std::alloc::Allocator;
+use std::collections::BTreeMap;
+use toml::Table;
 
-/// Whether a table asks for a submission.
-#[tactic(auto, unfolding(crate::specs::Values::verb_at))]
-pub fn submits(row: &Row) -> bool
-    ensures { result ≡ submits (verb_at (table_view row.now.table.now)) }
-{
-    matches!(
-        Verb::of_word(row.text_or("", KeyName::Op)),
-        Some(Verb::Schedule | Verb::Execute | Verb::Rate | Verb::Fixed)
-    )
-}
-
-/// The call that a table writes, where `found` is the submission of its name that stands before it, and
-/// the call before it in its block has the offset `last`.
-pub fn read_call(
+/// The call that a table writes, where the call before it in its block has the offset `last`. Where it
+/// submits, its name is then that of `site`.
+pub fn read_call<'a, A: Allocator + Copy>(
     place: Place,
-    found: Option<Site>,
-    block: usize,
+    site: Site,
+    names: &mut BTreeMap<&'a str, Site, A>,
     header: Header,
     last: u64,
-    row: &Row,
+    table: &'a Table,
 ) -> Result<Call, ReadError>
     requires { 1 ≤ header.times }
-    ensures { Reads (λ c. c) result (place_fault place (call_checks found block header last (table_view row.now.table.now))) (written_call found header (table_view row.now.table.now)) }
+    ensures call { Reads (λ c. c) result (place_fault place (call_tests (found_in names.old (name_at (table_view table.now))) site.target.block header last (table_view table.now))) (written_call (found_in names.old (name_at (table_view table.now))) header (table_view table.now)) }
+    ensures names { OnOk result ((q : List ℕ) → found_in names.new q ≡ if submits (verb_at (table_view table.now)) && bytes_eq (name_at (table_view table.now)) q then Some site else found_in names.old q) }
 {
-    let verb = read_verb(place, row)?;
-    check_keys(place, verb, row)?;
-    check_name(place, verb, found, block, row)?;
-    read_timed(place, verb, found, block, header, last, row)
+    let mut slots = EMPTY_SLOTS;
+    let row = Row::new(table, &mut slots);
+    let verb = read_verb(place, &row)?;
+    check_keys(place, verb, &row)?;
+    let subject = read_subject(place, verb, site, names, &row)?;
+    read_timed(place, subject, header, last, &row)
 }
 
 /// The operation of a call.
-#[tactic(auto, unfolding(crate::specs::Checks::verb_checks, crate::specs::Values::verb_at))]
+#[tactic(auto, unfolding(crate::specs::own::Walk::verb_tests, crate::specs::own::Values::verb_at))]
 fn read_verb(place: Place, row: &Row) -> Result<Verb, ReadError>
-    ensures { Reads (λ v. v) result (place_fault place (verb_checks (table_view row.now.table.now))) (verb_at (table_view row.now.table.now)) }
+    ensures { Reads (λ v. v) result (place_fault place (verb_tests (table_view row.now.table.now))) (verb_at (table_view row.now.table.now)) }
 {
     if !row.has(KeyName::Op) {
         return Err(place.fault(PlanFaultKind::Missing));
     }
-    match Verb::of_word(row.text_or("", KeyName::Op)) {
+    let Some(word) = row.text(KeyName::Op) else {
+        return Err(place.fault(PlanFaultKind::WrongType));
+    };
+    match Verb::of_word(word) {
         Some(verb) => Ok(verb),
         None => Err(place.fault(PlanFaultKind::WrongType)),
     }
 }
 
 /// That the keys of a call are those of its operation.
-#[tactic(auto, unfolding(crate::specs::Checks::key_checks))]
+#[tactic(auto, unfolding(crate::specs::own::Walk::key_tests))]
 fn check_keys(place: Place, verb: Verb, row: &Row) -> Result<(), ReadError>
-    ensures { Reads (λ u. u) result (place_fault place (key_checks verb (table_view row.now.table.now))) tt }
+    ensures { Reads (λ u. u) result (place_fault place (key_tests verb (table_view row.now.table.now))) tt }
 {
     let keys = call_keys(verb);
     if !has_only(keys, row) {
@@ -83,82 +83,25 @@ fn check_keys(place: Place, verb: Verb, row: &Row) -> Result<(), ReadError>
     Ok(())
 }
 
-/// That the name of a call is one that its operation can have, where `found` is the submission of
-/// this name that stands before it.
-#[tactic(auto, unfolding(crate::specs::Checks::name_checks))]
-fn check_name(
-    place: Place,
-    verb: Verb,
-    found: Option<Site>,
-    block: usize,
-    row: &Row,
-) -> Result<(), ReadError>
-    ensures { Reads (λ u. u) result (place_fault place (name_checks verb found block (table_view row.now.table.now))) tt }
-{
-    match verb {
-        Verb::Schedule | Verb::Execute | Verb::Rate | Verb::Fixed => {
-            check_new_name(place, found, row)
-        }
-        Verb::Cancel => check_known_name(place, found, block, row),
-        _ => Ok(()),
-    }
-}
-
-/// That the name is one that a submission can have.
-fn check_new_name(place: Place, found: Option<Site>, row: &Row) -> Result<(), ReadError>
-    ensures { Reads (λ u. u) result (place_fault place (new_name_checks found (table_view row.now.table.now))) tt }
-{
-    if !is_name(row.text_or("", KeyName::Name)) {
-        return Err(place.fault(PlanFaultKind::BadName));
-    }
-    match found {
-        Some(_) => Err(place.fault(PlanFaultKind::DuplicateName)),
-        None => Ok(()),
-    }
-}
-
-/// That the name is one that a cancel can have.
-fn check_known_name(
-    place: Place,
-    found: Option<Site>,
-    block: usize,
-    row: &Row,
-) -> Result<(), ReadError>
-    ensures { Reads (λ u. u) result (place_fault place (known_name_checks found block (table_view row.now.table.now))) tt }
-{
-    if !is_name(row.text_or("", KeyName::Name)) {
-        return Err(place.fault(PlanFaultKind::BadName));
-    }
-    match found {
-        None => Err(place.fault(PlanFaultKind::UnknownName)),
-        Some(site) if site.repeated && site.target.block != block => {
-            Err(place.fault(PlanFaultKind::Ambiguous))
-        }
-        Some(_) => Ok(()),
-    }
-}
-
-/// The call of a table whose keys and name are checked, where the call before it has the offset `last`.
-#[tactic(auto, unfolding(crate::specs::Checks::time_checks))]
+/// The call on a subject, of a table whose keys are checked, where the call before it has the offset `last`.
+#[tactic(auto, unfolding(crate::specs::own::Walk::time_tests))]
 fn read_timed(
     place: Place,
-    verb: Verb,
-    found: Option<Site>,
-    block: usize,
+    subject: Subject,
     header: Header,
     last: u64,
     row: &Row,
 ) -> Result<Call, ReadError>
     requires times { 1 ≤ header.times }
-    requires name { place_fault place (name_checks verb found block (table_view row.now.table.now)) ≡ None }
-    ensures { Reads (λ c. c) result (place_fault place (time_checks verb header last (table_view row.now.table.now))) (timed_call verb found header (table_view row.now.table.now)) }
+    requires keys { place_fault place (key_tests (verb_with subject) (table_view row.now.table.now)) ≡ None }
+    ensures { Reads (λ c. c) result (place_fault place (time_tests (verb_with subject) header last (table_view row.now.table.now))) (call_with subject header (table_view row.now.table.now)) }
 {
-    let at = row.integer_or(0, KeyName::At);
+    let at = row.integer(KeyName::At).unwrap_or(0);
     if at < 0 {
         return Err(place.fault(PlanFaultKind::Negative));
     }
     let at = read_span(place, at, header.unit)?.nanos();
-    let op = read_op(place, verb, found, block, header.unit, row)?;
+    let op = read_op(place, subject, header.unit, row)?;
     if moment_in_last(header, at) > u128::from(LONGEST) {
         return Err(place.fault(PlanFaultKind::TooLarge));
     }
@@ -168,61 +111,42 @@ fn read_timed(
     Ok(Call { at, op })
 }
 
-/// The operation of a call whose name is checked.
-#[tactic(auto, unfolding(crate::specs::Checks::name_checks, crate::specs::Values::op_of))]
-fn read_op(
-    place: Place,
-    verb: Verb,
-    found: Option<Site>,
-    block: usize,
-    unit: Unit,
-    row: &Row,
-) -> Result<Op, ReadError>
-    requires { place_fault place (name_checks verb found block (table_view row.now.table.now)) ≡ None }
-    ensures { Reads (λ o. o) result (place_fault place ((kinds.TooLarge unless are_spans_short verb unit (table_view row.now.table.now)) ∷ [])) (op_of verb found unit (table_view row.now.table.now)) }
+/// The operation of a call on a subject.
+fn read_op(place: Place, subject: Subject, unit: Unit, row: &Row) -> Result<Op, ReadError>
+    requires { place_fault place (key_tests (verb_with subject) (table_view row.now.table.now)) ≡ None }
+    ensures { Reads (λ o. o) result (place_fault place ((kinds.TooLarge barring are_spans_short (verb_with subject) unit (table_view row.now.table.now)) ∷ [])) (op_with subject unit (table_view row.now.table.now)) }
 {
-    match verb {
-        Verb::Schedule => {
-            let name = Name::new(row.text_or("", KeyName::Name));
-            let delay = read_span(place, row.integer_or(0, KeyName::Delay), unit)?;
+    match subject {
+        Subject::Schedule(name) => {
+            let delay = read_span(place, row.required_integer(KeyName::Delay), unit)?;
             Ok(Op::Schedule { name, delay })
         }
-        Verb::Execute => Ok(Op::Execute {
-            name: Name::new(row.text_or("", KeyName::Name)),
-        }),
-        Verb::Rate => {
-            let name = Name::new(row.text_or("", KeyName::Name));
-            let first = read_span(place, row.integer_or(0, KeyName::First), unit)?;
-            let period = read_period(place, row.integer_or(0, KeyName::Period), unit)?;
+        Subject::Execute(name) => Ok(Op::Execute { name }),
+        Subject::Rate(name) => {
+            let first = read_span(place, row.required_integer(KeyName::First), unit)?;
+            let period = read_period(place, row.required_integer(KeyName::Period), unit)?;
             Ok(Op::Rate {
                 name,
                 first,
                 period,
             })
         }
-        Verb::Fixed => {
-            let name = Name::new(row.text_or("", KeyName::Name));
-            let first = read_span(place, row.integer_or(0, KeyName::First), unit)?;
-            let delay = read_period(place, row.integer_or(0, KeyName::Delay), unit)?;
+        Subject::Fixed(name) => {
+            let first = read_span(place, row.required_integer(KeyName::First), unit)?;
+            let delay = read_period(place, row.required_integer(KeyName::Delay), unit)?;
             Ok(Op::Fixed { name, first, delay })
         }
-        Verb::Cancel => match found {
-            Some(site) => Ok(Op::Cancel(site.target)),
-            None => unreachable!(),
-        },
-        Verb::Policy => Ok(Op::Policy {
-            which: which_at(row),
-            value: row.truth_at(KeyName::Value),
-        }),
-        Verb::Shutdown => Ok(Op::Shutdown),
-        Verb::ShutdownNow => Ok(Op::ShutdownNow),
-        Verb::Ask => Ok(Op::Ask),
+        Subject::Cancel(target) => Ok(Op::Cancel(target)),
+        Subject::Policy => Ok(read_policy(row)),
+        Subject::Shutdown => Ok(Op::Shutdown),
+        Subject::ShutdownNow => Ok(Op::ShutdownNow),
+        Subject::Ask => Ok(Op::Ask),
     }
 }
 
 /// The nanoseconds of a period or a fixed delay, and none where it is zero or negative.
 fn read_period(place: Place, value: i64, unit: Unit) -> Result<Option<Span>, ReadError>
-    ensures { Reads (λ p. p) result (place_fault place ((kinds.TooLarge unless nat_le (span_of value unit) longest) ∷ [])) (period_of value unit) }
+    ensures { Reads (λ p. p) result (place_fault place ((kinds.TooLarge barring nat_le (span_of value unit) longest) ∷ [])) (period_of value unit) }
 {
     match period(value, unit) {
         Ok(period) => Ok(period),
@@ -230,9 +154,17 @@ fn read_period(place: Place, value: i64, unit: Unit) -> Result<Option<Span>, Rea
     }
 }
 
-/// The policy that a table names, `continue` where it names none.
-fn which_at(row: &Row) -> Which
-    ensures { result ≡ which_at (table_view row.now.table.now) }
+/// The policy that a table sets, and its value.
+fn read_policy(row: &Row) -> Op
+    requires which { is_some (option_and_then which_of_word (given_text (codes "which") (table_view row.now.table.now))) ≡ true }
+    requires value { is_some (given_truth (codes "value") (table_view row.now.table.now)) ≡ true }
+    ensures { result ≡ ops.Policy (which_at (table_view row.now.table.now)) (truth_at (codes "value") (table_view row.now.table.now)) }
 {
-    which_of_word(row.text_or("", KeyName::Which)).unwrap_or(Which::Continue)
+    let Some(which) = which_of_word(row.required_text(KeyName::Which)) else {
+        unreachable!()
+    };
+    let Some(value) = row.truth(KeyName::Value) else {
+        unreachable!()
+    };
+    Op::Policy { which, value }
 }

@@ -1,10 +1,10 @@
 //! The keys of a plan's tables, and tests of a table against them.
 
-ghost use Rattle.std.specs.Prelude.{◌≡◌, ◌==◌, ◌||◌, not, is_some};
+ghost use Rattle.std.specs.Prelude.{◌≡◌, true, ◌||◌, not, is_some};
 ghost use Rattle.toml.specs.Data.{get_member};
 ghost use Rattle.toml.specs.View.{view, table_view, items_view};
-ghost use Rattle.plan_read.specs.Keys.{call_keys, are_tables, has_shape, fits, is_key, has_only, has_required, are_typed};
-ghost use Rattle.plan_read.specs.own.Rows.{word_of, place, as_defined};
+ghost use Rattle.plan_read.specs.Keys.{call_keys, are_tables, has_shape, fits, has_only, has_required, are_typed};
+ghost use Rattle.plan_read.specs.own.Rows.{word_of, as_defined, are_apart};
 
 use crate::key_names::KeyName;
 use crate::rows::Row;
@@ -114,13 +114,6 @@ pub fn call_keys(verb: Verb) -> &'static [Key]
 }
 
 impl Key {
-    /// Whether a name is that of this key.
-    fn is_named(&self, name: KeyName) -> bool
-        ensures { result ≡ (place self.now.name == place name) }
-    {
-        self.name.place() == name.place()
-    }
-
     /// Whether this key is there, or may be left out.
     fn is_met(&self, row: &Row) -> bool
         ensures { result ≡ (not self.now.required || is_some (get_member (word_of self.now.name) (table_view row.now.table.now))) }
@@ -139,21 +132,12 @@ impl Key {
     }
 }
 
-/// Whether each key of a table is one of these.
+/// Whether each key of a table is one of these: the table has no more keys than there are of these.
 pub fn has_only(keys: &[Key], row: &Row) -> bool
+    requires { are_apart (as_defined keys.now) ≡ true }
     ensures { result ≡ has_only (as_defined keys.now) (table_view row.now.table.now) }
 {
-    row.table.keys().all(|word| is_key(keys, word.as_str()))
-}
-
-/// Whether one of these keys has the name that a word is.
-fn is_key(keys: &[Key], word: &str) -> bool
-    ensures { result ≡ is_key (as_defined keys.now) word.now }
-{
-    match KeyName::of_word(word) {
-        Some(name) => keys.iter().any(|key| key.is_named(name)),
-        None => false,
-    }
+    keys.iter().filter(|key| row.has(key.name)).count() == row.table.len()
 }
 
 /// Whether each of these keys that has to be there is there.

@@ -1,16 +1,18 @@
 //! Laws on the definitions, and on what compares, in functions that do nothing.
 
 ghost use Rattle.std.specs.Prelude.{◌≡◌, ◌↔◌, true};
-ghost use Rattle.plan_read.specs.Laws.{WritesOrFails, NeverBoth, WritesOne, NamesDiffer, TargetsStandBefore, PlansAreOrdered};
+ghost use Rattle.plan_read.specs.Laws.{WritesOrFails, NeverBoth, WritesOne, FailsOnce, NamesDiffer, TargetsStandBefore, PlansAreOrdered};
 
 use crate::faults::{PlanFault, PlanFaultKind};
 use crate::plans::Target;
 
-/// A tree writes a plan or has a fault, and never both; and it writes at most one plan.
+/// A tree writes a plan or has a fault, and never both; it writes at most one plan, and has at most one
+/// fault.
 pub fn trees_write_or_fail()
     ensures either { WritesOrFails }
     ensures never_both { NeverBoth }
     ensures one { WritesOne }
+    ensures once { FailsOnce }
 {}
 
 /// Two submissions of a plan have different names.

@@ -108,6 +108,7 @@ mod plans;
 mod reading;
 mod rows;
 mod sites;
+mod subjects;
 mod units;
 mod verbs;
 

@@ -2,22 +2,21 @@
 
 ghost use Rattle.std.specs.Prelude.{◌≡◌, ◌≢◌, ◌⊎◌, ℕ, ◌+◌, ◌*◌, ◌≤◌, ◌<◌, true, length, [], ◌∷◌, ◌++◌, IfOk, IfErr, MatchResult, Some};
 ghost use Rattle.toml.specs.View.{table_view, items_view};
-ghost use Rattle.plan_read.specs.Checks.{place_fault, top, call_fault, calls_fault, block_fault, blocks_fault, tree_fault};
+ghost use Rattle.plan_read.specs.own.Walk.{place_fault, top, call_fault, calls_fault, block_fault, blocks_fault, tree_fault};
 ghost use Rattle.plan_read.specs.Keys.{are_tables};
 ghost use Rattle.plan_read.specs.Plans.{PlanTree, most_blocks, most_block_calls, most_calls, tasks_after, tasks_after_calls, submissions_from, submissions_before, last_offset, end_of_block, end_of, made_by};
 ghost use Rattle.plan_read.specs.Reads.{out_of_memory};
 ghost use Rattle.plan_read.specs.own.Reads.{Reads, Knows};
-ghost use Rattle.plan_read.specs.Texts.{toml_checks, tree_at, fault_of_text, plan_of_text, TextWrites};
-ghost use Rattle.plan_read.specs.Values.{tables_in, next_call, calls_through, block_of, blocks_through, plan_of};
+ghost use Rattle.plan_read.specs.Texts.{TextWrites, TextFails};
+ghost use Rattle.plan_read.specs.own.Texts.{toml_tests, tree_at, fault_of_text, plan_of_text};
+ghost use Rattle.plan_read.specs.own.Values.{tables_in, next_call, calls_through, block_of, blocks_through, plan_of};
 
-use crate::calls::{read_call, submits};
+use crate::calls::read_call;
 use crate::faults::{Place, PlanFault, PlanFaultKind, ReadError};
-use crate::headers::{moment_in_last, read_header, read_top};
-use crate::key_names::KeyName;
+use crate::headers::{moment_in_last, read_head, read_top};
 use crate::limits::LONGEST_TEXT;
 use crate::plans::{Block, Call, Header, Op, Plan, Target};
-use crate::rows::Row;
-use crate::sites::{Site, find_or_add};
+use crate::sites::Site;
 use heap_allocator::HeapAllocator;
 use std::alloc::{Allocator, Global};
 use std::collections::BTreeMap;
@@ -31,7 +30,7 @@ use toml::{Table, Value};
 pub fn read_plan<A: HeapAllocator>(alloc: A, text: &[u8]) -> Result<Plan<A>, PlanFault>
     ensures plan { IfOk result (λ p. TextWrites text.now p) }
     ensures only { (plan : PlanTree) → TextWrites text.now plan → MatchResult result (λ p. p ≡ plan) (λ e. e ≡ out_of_memory) }
-    ensures fault { IfErr result (λ e. (fault_of_text text.now ≡ Some e) ⊎ (e ≡ out_of_memory)) }
+    ensures fault { IfErr result (λ e. TextFails text.now e ⊎ (e ≡ out_of_memory)) }
 {
     match read_text(alloc, text) {
         Ok(plan) => Ok(plan),
@@ -57,7 +56,7 @@ fn read_text<A: HeapAllocator>(alloc: A, text: &[u8]) -> Result<Plan<A>, ReadErr
 
 /// The tree of a text.
 fn parse(heap: Global, text: &[u8]) -> Result<Table, ReadError>
-    ensures { Reads (λ t. table_view t) result (place_fault top (toml_checks text.now)) (tree_at text.now) }
+    ensures { Reads (λ t. table_view t) result (place_fault top (toml_tests text.now)) (tree_at text.now) }
 {
     match toml::table_from_slice(heap, text) {
         Ok(table) => Ok(table),
@@ -74,8 +73,7 @@ fn parse(heap: Global, text: &[u8]) -> Result<Table, ReadError>
 fn read_tree<A: Allocator + Copy>(alloc: A, table: &Table) -> Result<Plan<A>, ReadError>
     ensures { Reads (λ p. p) result (tree_fault (table_view table.now)) (plan_of (table_view table.now)) }
 {
-    let row = Row::new(table);
-    let tables = read_top(&row)?;
+    let tables = read_top(table)?;
     let blocks = read_blocks(alloc, tables)?;
     Ok(Plan::new(blocks))
 }
@@ -130,11 +128,9 @@ fn read_block<'a, A: Allocator + Copy>(
         block: earlier.len() as u32 + 1,
         call: 0,
     };
-    let row = Row::new(table);
-    let header = read_header(place, end, made, &row)?;
-    let tables = row.tables_at(KeyName::Call);
-    let calls = read_calls(alloc, earlier, header, tables, names)?;
-    Ok(Block::new(header, calls))
+    let head = read_head(place, end, made, table)?;
+    let calls = read_calls(alloc, earlier, head.header, head.tables, names)?;
+    Ok(Block::new(head.header, calls))
 }
 
 /// The moment of the last call of a block, and `end` where it has none.
@@ -203,15 +199,11 @@ fn read_next<'a, A: Allocator + Copy>(
         block: block as u32 + 1,
         call: before.len() as u32 + 1,
     };
-    let row = Row::new(table);
     let site = Site {
         target: Target { block, sub },
         repeated: header.times > 1,
     };
-    let name = row.text_or("", KeyName::Name);
-    let found = find_or_add(names, name, submits(&row), site)?;
-    let last = last_offset(before);
-    read_call(place, found, block, header, last, &row)
+    read_call(place, site, names, header, last_offset(before), table)
 }
 
 /// The offset of the last call, 0 where there is none.

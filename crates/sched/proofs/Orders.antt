@@ -1,17 +1,17 @@
 -- Orders: the first fault of a command, by what each step of it answers.
-use Rattle.std.proofs.Common.{◌≡◌, ◌≢◌, ℕ, ◌<◌, ◌≤◌, ◌⊎◌, inl, inr, true, false, List, length, Option, Some, None, Result, Ok, Err, refl, ap, sym, ◌∙◌, arith}
-use Rattle.std.specs.Prelude.{nat_le, nat_lt, option_map}
+use Rattle.std.proofs.Common.{◌≡◌, ◌≢◌, ℕ, zero, suc, MatchResult, ◌<◌, ◌≤◌, ◌⊎◌, inl, inr, Bool, true, false, List, length, Option, Some, None, Result, Ok, Err, refl, ap, sym, ◌∙◌, arith}
+use Rattle.std.specs.Prelude.{nat_le, nat_lt}
 use Rattle.std.proofs.lemmas.Bool.{cases_Bool, and_parts}
 use Rattle.std.proofs.lemmas.Bool.Decides.{nat_tests}
 use Rattle.std.specs.Io.KnownBytes.{Keeps}
 use Rattle.executor_core.specs.Counts.{IsWorkerCount, most_workers}
 use Rattle.plan_read.specs.Plans.{PlanTree}
 use Rattle.plan_read.specs.Reads.{out_of_memory}
-use Rattle.plan_read.specs.Texts.{TextWrites, fault_of_text, plan_of_text}
+use Rattle.plan_read.specs.Texts.{TextWrites, TextFails}
 use Rattle.plan_read.specs.declared.faults.PlanFault.{PlanFault}
 use Rattle.plan_read.specs.declared.faults.PlanFaultKind.{PlanFaultKind}
 use Rattle.plan_read.specs.declared.faults.PlanFaultKind.TheVariants as k
-use Rattle.plan_read.proofs.TextLaw.{text_only}
+use Rattle.plan_read.proofs.TextLaw.{text_never_both}
 use Rattle.pool_engine.specs.PoolRuns.{PoolRan}
 use Rattle.sched_engine.specs.Running.{IsAccepted, IsUntouched, Ran, RefusesToRun}
 use Rattle.sched_engine.specs.CodeTexts.{Listed}
@@ -19,13 +19,14 @@ use Rattle.sched_engine.specs.declared.report.Report.{Report}
 use Rattle.sched_engine.specs.declared.report.RunError.{RunError}
 use Rattle.sched_engine.specs.declared.report.RunError.TheVariants as x
 use Rattle.sched.specs.declared.error.ProgramError.{ProgramError}
-use Rattle.sched.specs.declared.error.ProgramError.TheVariants.{TraceFile, TraceTooLong, Run}
+use Rattle.sched.specs.declared.error.ProgramError.TheVariants.{PlanFile, TraceFile, TraceTooLong, Run}
 use Rattle.sched.specs.declared.arguments.RunArguments.{RunArguments}
 use Rattle.sched.specs.Answers.{ListedAsAsked, PooledAsAsked, RanAsAsked, TellsEnd}
-use Rattle.sched.specs.Errors.{IsToldAs}
+use Rattle.sched.specs.Commands.{IsEndOf, NamesCheck}
+use Rattle.sched.specs.Errors.{IsToldAs, status_of}
 use Rattle.sched.specs.Findings.{IsCheckedAsAsked}
 use Rattle.trace_check.specs.Standing.{most_bytes}
-use Rattle.sched.specs.Order.{AnswersCheck, AnswersCode, AnswersPool, AnswersRun, AnswersToPlan, code_faults, first_present, is_worker_count, plan_fault, run_faults}
+use Rattle.sched.specs.Order.{◌barring◌, AnswersCheck, AnswersCode, AnswersPool, AnswersRun, AnswersToPlan, NoneTold, PlanFails, code_faults, is_worker_count, run_faults}
 
 -- what stays is kept
 pub kept : (contents : Option (List ℕ)) → Keeps contents contents
@@ -52,20 +53,28 @@ memory_or_not k.TooLarge = inr (λ q. cc)
 memory_or_not k.TooMany = inr (λ q. cc)
 memory_or_not k.Memory = inl refl
 
+-- a step whose test holds tells no fault
+pub silent : (fault : ProgramError) (holds : Bool) → holds ≡ true → (told : ProgramError) → (fault barring holds) told → ⊥
+silent fault holds held told h = absurd (let e = sym held ∙ h.0 in cc)
+
 -- a fault of a plan's text is told as want of memory, or as itself
-pub told_plan : (text : List ℕ) (fault : PlanFault) (told : ProgramError) → (fault_of_text text ≡ Some fault) ⊎ (fault ≡ out_of_memory) → IsToldAs (x.Plan fault) told
-    → (told ≡ Run x.Memory) ⊎ (plan_fault text ≡ Some told)
+pub told_plan : (text : List ℕ) (fault : PlanFault) (told : ProgramError) → TextFails text fault ⊎ (fault ≡ out_of_memory) → IsToldAs (x.Plan fault) told
+    → (told ≡ Run x.Memory) ⊎ PlanFails text told
 told_plan text fault told why is = elim (memory_or_not fault.kind) [
   | inl memory ↦ inl (is.0 memory)
   | inr other ↦ elim why [
-    | inl of_text ↦ inr (rw of_text (ap Some (sym (is.1 other))))
+    | inl of_text ↦ inr (fault, of_text, is.1 other)
     | inr memory ↦ absurd (other (ap (λ (f : PlanFault). f.kind) memory))
   ]
 ]
 
--- the plan that a text writes is that of the text, which has no fault
-pub no_plan_fault : (text : List ℕ) (plan : PlanTree) → TextWrites text plan → plan_fault text ≡ None
-no_plan_fault text plan writes = ap (option_map (λ fault. Run (x.Plan fault))) (text_only text plan writes).0
+-- a text that writes a plan has no fault
+pub no_plan_fault : (text : List ℕ) (plan : PlanTree) → TextWrites text plan → (told : ProgramError) → PlanFails text told → ⊥
+no_plan_fault text plan writes told h = text_never_both text plan h.0 writes h.1
+
+-- the file of a plan was read
+plan_there : (text : List ℕ) (told : ProgramError) → (PlanFile barring true) told → ⊥
+plan_there text = silent PlanFile true refl
 
 -- a number of workers passes the test
 pub counted : (workers : ℕ) → IsWorkerCount workers → is_worker_count workers ≡ true
@@ -90,7 +99,7 @@ too_long n long = grind (arith, nat_tests)
 
 -- the plan has a fault
 pub check_wrong_plan : (text : List ℕ) (fault : PlanFault) (told : ProgramError) (IsPlan IsTrace : Option (List ℕ) → Type 0) (workers : ℕ) (contents : Option (List ℕ))
-    → (fault_of_text text ≡ Some fault) ⊎ (fault ≡ out_of_memory) → IsToldAs (x.Plan fault) told → IsPlan (Some text)
+    → TextFails text fault ⊎ (fault ≡ out_of_memory) → IsToldAs (x.Plan fault) told → IsPlan (Some text)
     → AnswersCheck (Err told) IsPlan IsTrace workers contents contents
 check_wrong_plan text fault told IsPlan IsTrace workers contents why is read = elim (told_plan text fault told why is) [
   | inl memory ↦ inl (ap Err memory, kept contents)
@@ -98,8 +107,8 @@ check_wrong_plan text fault told IsPlan IsTrace workers contents why is read = e
     plan = Some text;
     trace = None;
     plan_read = read;
-    trace_read = λ q. absurd (let e = rw first at q in cc);
-    told = rw first (refl, kept contents);
+    trace_read = λ q. absurd (q.1.0 told first);
+    told = inl (told, inr (plan_there text, inl first), refl, kept contents);
   })
 ]
 
@@ -112,13 +121,12 @@ pub check_no_trace : (text : List ℕ) (plan : PlanTree) (fault : ProgramError) 
 check_no_trace text plan fault IsPlan IsFront IsTrace workers contents writes read gives (inl long) is_long =
     let found = is_long long in
     let none = no_plan_fault text plan writes in
-    let more : nat_le (length found.0) most_bytes ≡ false = too_long (length found.0) found.2 in
     inr (record {
       plan = Some text;
       trace = Some found.0;
       plan_read = read;
       trace_read = λ q. gives (Some found.0) found.1;
-      told = rw (none, more) (ap Err long, kept contents);
+      told = inl (fault, inr (plan_there text, inr (none, inr (silent TraceFile true refl, inl (too_long (length found.0) found.2, long)))), refl, kept contents);
     })
 check_no_trace text plan fault IsPlan IsFront IsTrace workers contents writes read gives (inr (inl memory)) is_long = inl (ap Err memory, kept contents)
 check_no_trace text plan fault IsPlan IsFront IsTrace workers contents writes read gives (inr (inr file)) is_long =
@@ -127,7 +135,7 @@ check_no_trace text plan fault IsPlan IsFront IsTrace workers contents writes re
       trace = None;
       plan_read = read;
       trace_read = λ q. gives None file.1;
-      told = rw (no_plan_fault text plan writes) (ap Err file.0, kept contents);
+      told = inl (fault, inr (plan_there text, inr (no_plan_fault text plan writes, inl (refl, file.0))), refl, kept contents);
     })
 
 -- where the number of workers is out of range that is told
@@ -147,24 +155,25 @@ pub check_both : (text : List ℕ) (plan : PlanTree) (trace : List ℕ) (answer 
     → AnswersCheck answer IsPlan IsTrace workers old new
 check_both text plan trace answer IsPlan IsTrace workers old new writes read trace_read short wrong checked =
     let none = no_plan_fault text plan writes in
-    let is : plan_of_text text ≡ plan = (text_only text plan writes).1 in
-    let fits : nat_le (length trace) most_bytes ≡ true = not_too_long (length trace) short in
+    let fits = silent TraceTooLong (nat_le (length trace) most_bytes) (not_too_long (length trace) short) in
     inr (record {
       plan = Some text;
       trace = Some trace;
       plan_read = read;
       trace_read = λ q. trace_read;
       told = elim (cases_Bool (is_worker_count workers)) [
-        | inl all ↦ rw (none, fits, all, is) checked
-        | inr few ↦ rw (none, fits, few) (told_workers answer plan workers trace old new few wrong checked)
+        | inl all ↦ inr ((plan_there text, (none, (silent TraceFile true refl, (fits, (silent (Run x.Workers) (is_worker_count workers) all, tt))))), (plan, writes, checked))
+        | inr few ↦ (
+            let told = told_workers answer plan workers trace old new few wrong checked in
+            inl (Run x.Workers, inr (plan_there text, inr (none, inr (silent TraceFile true refl, inr (fits, inl (few, refl))))), told.0, told.1))
       ];
     })
 
 -- ---- a listing
 
 -- a text that writes a plan has none of the faults of a listing
-no_code_fault : (text : List ℕ) (plan : PlanTree) → TextWrites text plan → first_present (code_faults (Some text)) ≡ None
-no_code_fault text plan writes = rw (no_plan_fault text plan writes) refl
+no_code_fault : (text : List ℕ) (plan : PlanTree) → TextWrites text plan → NoneTold (code_faults (Some text))
+no_code_fault text plan writes = (plan_there text, (no_plan_fault text plan writes, tt))
 
 -- the plan's file was read
 pub code_read : (text : List ℕ) (answer : Result ℕ ProgramError) (IsPlan : Option (List ℕ) → Type 0) (old new : Option (List ℕ))
@@ -172,11 +181,11 @@ pub code_read : (text : List ℕ) (answer : Result ℕ ProgramError) (IsPlan : O
 code_read text answer IsPlan old new read all = go all.ended all.listed all.told
   where
     go : (ended : Result (Unit {0}) RunError) → Listed ended text old new → TellsEnd ended answer → AnswersCode answer IsPlan old new
-    go (Ok done) listed told = inr (Some text, read, rw (no_code_fault text listed.1.plan listed.1.reads) all)
-    go (Err x.Write) listed told = inr (Some text, read, rw (no_code_fault text listed.1.plan listed.1.reads) all)
+    go (Ok done) listed told = inr (Some text, read, inr (no_code_fault text listed.1.plan listed.1.reads, all))
+    go (Err x.Write) listed told = inr (Some text, read, inr (no_code_fault text listed.1.plan listed.1.reads, all))
     go (Err (x.Plan fault)) listed told = elim (told_plan text fault told.0 listed.0 told.1) [
       | inl memory ↦ inl (told.2 ∙ ap Err memory, listed.1)
-      | inr first ↦ inr (Some text, read, rw first (told.2, listed.1))
+      | inr first ↦ inr (Some text, read, inl (told.0, inr (plan_there text, inl first), told.2, listed.1))
     ]
     go (Err x.Memory) listed told = inl (told.2 ∙ ap Err told.1, listed.1)
     go (Err x.Workers) listed told = absurd listed.0
@@ -194,23 +203,28 @@ some_events limit more = grind (arith, nat_tests)
 
 -- what a run may go over has none of the faults of a run
 no_run_fault : (text : List ℕ) (plan : PlanTree) (workers limit : ℕ) → TextWrites text plan → IsWorkerCount workers → 0 < limit
-    → first_present (run_faults (Some text) workers limit) ≡ None
-no_run_fault text plan workers limit writes all more = rw (no_plan_fault text plan writes, counted workers all, some_events limit more) refl
+    → NoneTold (run_faults (Some text) workers limit)
+no_run_fault text plan workers limit writes all more =
+    (plan_there text, (no_plan_fault text plan writes, (silent (Run x.Workers) (is_worker_count workers) (counted workers all), (silent (Run x.Limit) (nat_lt 0 limit) (some_events limit more), tt))))
 
 -- the plan's file was read, and the plan and the numbers were accepted
 accepted : (text : List ℕ) (answer : Result ℕ ProgramError) (IsPlan : Option (List ℕ) → Type 0) (asked : RunArguments) (untouched : Type 0) (Done : List ℕ → Type 0) (calls : _)
     → IsPlan (Some text) → IsAccepted text calls asked.workers asked.limit → Done text → AnswersToPlan answer IsPlan asked untouched Done
-accepted text answer IsPlan asked untouched Done calls read a done = inr (Some text, read, rw (no_run_fault text a.plan asked.workers asked.limit a.reads a.counted a.positive) done)
+accepted text answer IsPlan asked untouched Done calls read a done = inr (Some text, read, inr (no_run_fault text a.plan asked.workers asked.limit a.reads a.counted a.positive, done))
 
 -- the plan's file was read, and a run was refused
 refused : (text : List ℕ) (answer : Result ℕ ProgramError) (IsPlan : Option (List ℕ) → Type 0) (asked : RunArguments) (untouched : Type 0) (Done : List ℕ → Type 0) (e : RunError)
     → IsPlan (Some text) → RefusesToRun e text asked.workers asked.limit → untouched → TellsEnd {T = Report} (Err e) answer → AnswersToPlan answer IsPlan asked untouched Done
 refused text answer IsPlan asked untouched Done (x.Plan fault) read why same told = elim (told_plan text fault told.0 why told.1) [
   | inl memory ↦ inl (told.2 ∙ ap Err memory, same)
-  | inr first ↦ inr (Some text, read, rw first (told.2, same))
+  | inr first ↦ inr (Some text, read, inl (told.0, inr (plan_there text, inl first), told.2, same))
 ]
-refused text answer IsPlan asked untouched Done x.Workers read why same told = inr (Some text, read, rw (no_plan_fault text why.0 why.1, not_counted asked.workers why.2) (told.2 ∙ ap Err told.1, same))
-refused text answer IsPlan asked untouched Done x.Limit read why same told = inr (Some text, read, rw (no_plan_fault text why.0 why.1, counted asked.workers why.2, why.3) (told.2 ∙ ap Err told.1, same))
+refused text answer IsPlan asked untouched Done x.Workers read why same told =
+    inr (Some text, read, inl (Run x.Workers, inr (plan_there text, inr (no_plan_fault text why.0 why.1, inl (not_counted asked.workers why.2, refl))), told.2 ∙ ap Err told.1, same))
+refused text answer IsPlan asked untouched Done x.Limit read why same told =
+    let all = silent (Run x.Workers) (is_worker_count asked.workers) (counted asked.workers why.2) in
+    let none : nat_lt 0 asked.limit ≡ false = rw why.3 refl in
+    inr (Some text, read, inl (Run x.Limit, inr (plan_there text, inr (no_plan_fault text why.0 why.1, inr (all, inl (none, refl)))), told.2 ∙ ap Err told.1, same))
 refused text answer IsPlan asked untouched Done x.Memory read why same told = inl (told.2 ∙ ap Err told.1, same)
 refused text answer IsPlan asked untouched Done (x.EventLine n) read why same told = absurd why
 refused text answer IsPlan asked untouched Done x.Full read why same told = absurd why
@@ -273,3 +287,15 @@ pool_read text answer IsPlan asked input left old new read all = go all.ended al
     go (Err x.Read) ran told = over ran.0 ran.1
     go (Err x.Write) ran told = over ran.0 ran.1
     go (Err x.Lost) ran told = over ran.0 ran.1
+
+-- ---- the end of a check
+
+one_or_none : (s : ℕ) → s ≤ 1 → (s ≡ 0) ⊎ (s ≡ 1)
+one_or_none zero h = inl refl
+one_or_none (suc zero) h = inr refl
+one_or_none (suc (suc s)) h = absurd (omega arith)
+
+-- a check ends as a command may end
+pub end_of_check : (arguments : List (List ℕ)) (result : Result ℕ ProgramError) → MatchResult result (λ s. s ≤ 1) (λ e. status_of e ≡ 1) → NamesCheck arguments → IsEndOf arguments result
+end_of_check arguments (Ok s) h names = elim (one_or_none s h) [ inl none ↦ inl none | inr one ↦ inr (one, names) ]
+end_of_check arguments (Err e) h names = h

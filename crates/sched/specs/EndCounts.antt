@@ -1,6 +1,6 @@
 -- EndCounts: what the calls of the reader and of the writer count while the program answers.
 -- All of it is this project's rule.
-use Rattle.std.specs.Prelude.{ℕ, Result, Ok, Err}
+use Rattle.std.specs.Prelude.{ℕ, Result, Err}
 use Rattle.sched.specs.declared.error.ProgramError.{ProgramError}
 use Rattle.sched.specs.declared.error.ProgramError.TheVariants.{Run}
 use Rattle.sched_engine.specs.declared.report.RunError.TheVariants as x

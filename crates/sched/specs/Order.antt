@@ -1,9 +1,11 @@
 -- Order: which fault each command tells: the first one of a list.
 -- All of it is this project's rule.
-use Rattle.std.specs.Prelude.{◌≡◌, ℕ, ◌⊎◌, Bool, ◌&&◌, nat_le, nat_lt, if◌then◌else◌, List, [], ◌∷◌, length, Option, Some, None, is_some, option_map, unwrap_or, Result, Err}
+use Rattle.std.specs.Prelude.{◌≡◌, ℕ, ◌⊎◌, Bool, false, ◌&&◌, nat_le, nat_lt, List, [], ◌∷◌, length, Option, is_some, unwrap_or, Result, Err}
 use Rattle.std.specs.Io.KnownBytes.{Keeps}
 use Rattle.executor_core.specs.Counts.{most_workers}
-use Rattle.plan_read.specs.Texts.{fault_of_text, plan_of_text}
+use Rattle.plan_read.specs.Plans.{PlanTree}
+use Rattle.plan_read.specs.Texts.{TextWrites, TextFails}
+use Rattle.plan_read.specs.declared.faults.PlanFault.{PlanFault}
 use Rattle.sched_engine.specs.Running.{IsUntouched}
 use Rattle.sched_engine.specs.declared.report.RunError.TheVariants as x
 use Rattle.sched.specs.declared.arguments.RunArguments.{RunArguments}
@@ -13,46 +15,51 @@ use Rattle.sched.specs.Answers.{ListedAsAsked, PooledAsAsked, RanAsAsked}
 use Rattle.sched.specs.Findings.{IsCheckedAsAsked}
 use Rattle.trace_check.specs.Standing.{most_bytes}
 
--- ---- the lists. What was read of a file is its bytes, or nothing where it can't be read
+-- ---- the steps of a command, each as the faults that it may tell. What was read of a file is its bytes, or nothing where it can't be
+-- read
+
+-- a step of a command: which faults it tells
+abbrev pub Step : Type 1
+Step = ProgramError → Type 0
 
 infixr 8 ◌barring◌
 -- this fault, barring a test holds
-abbrev pub ◌barring◌ : ProgramError → Bool → Option ProgramError
-fault barring holds = if holds then None else Some fault
+abbrev pub ◌barring◌ : ProgramError → Bool → Step
+(fault barring holds) told = (holds ≡ false) × (told ≡ fault)
 
 -- the bytes that were read of a file
 abbrev pub bytes_of : Option (List ℕ) → List ℕ
 bytes_of read = unwrap_or read []
 
 -- the fault of a plan's text
-abbrev pub plan_fault : List ℕ → Option ProgramError
-plan_fault text = option_map (λ fault. Run (x.Plan fault)) (fault_of_text text)
+abbrev pub PlanFails : List ℕ → Step
+PlanFails text told = (fault : PlanFault) × TextFails text fault × (told ≡ Run (x.Plan fault))
 
 -- there may be this many workers
 abbrev pub is_worker_count : ℕ → Bool
 is_worker_count workers = nat_le 1 workers && nat_le workers most_workers
 
 -- the faults of `sched code`
-abbrev pub code_faults : Option (List ℕ) → List (Option ProgramError)
+abbrev pub code_faults : Option (List ℕ) → List Step
 code_faults plan =
     (PlanFile barring is_some plan)
-    ∷ plan_fault (bytes_of plan)
+    ∷ PlanFails (bytes_of plan)
     ∷ []
 
 -- the faults of `sched run` and of `sched pool`, before an event is read
-abbrev pub run_faults : Option (List ℕ) → ℕ → ℕ → List (Option ProgramError)
+abbrev pub run_faults : Option (List ℕ) → ℕ → ℕ → List Step
 run_faults plan workers limit =
     (PlanFile barring is_some plan)
-    ∷ plan_fault (bytes_of plan)
+    ∷ PlanFails (bytes_of plan)
     ∷ (Run x.Workers barring is_worker_count workers)
     ∷ (Run x.Limit barring nat_lt 0 limit)
     ∷ []
 
 -- the faults of `sched check`, before a line of the trace is looked at
-abbrev pub check_faults : Option (List ℕ) → Option (List ℕ) → ℕ → List (Option ProgramError)
+abbrev pub check_faults : Option (List ℕ) → Option (List ℕ) → ℕ → List Step
 check_faults plan trace workers =
     (PlanFile barring is_some plan)
-    ∷ plan_fault (bytes_of plan)
+    ∷ PlanFails (bytes_of plan)
     ∷ (TraceFile barring is_some trace)
     ∷ (TraceTooLong barring nat_le (length (bytes_of trace)) most_bytes)
     ∷ (Run x.Workers barring is_worker_count workers)
@@ -60,16 +67,20 @@ check_faults plan trace workers =
 
 -- ---- the answers
 
--- the first fault of a list
-abbrev pub first_present : List (Option ProgramError) → Option ProgramError
-first_present [] = None
-first_present (None ∷ rest) = first_present rest
-first_present (Some fault ∷ rest) = Some fault
+-- none of these steps tells a fault
+abbrev pub NoneTold : List Step → Type 0
+NoneTold [] = Unit {0}
+NoneTold (step ∷ steps) = ((told : ProgramError) → step told → ⊥) × NoneTold steps
+
+-- the first of these steps that tells a fault tells this one
+abbrev pub FirstTold : List Step → ProgramError → Type 0
+FirstTold [] fault = ⊥
+FirstTold (step ∷ steps) fault = step fault ⊎ (((told : ProgramError) → step told → ⊥) × FirstTold steps fault)
 
 -- where there is a fault it is told, and nothing was done; where there is none, this was done
-abbrev pub ToldOr : Option ProgramError → Result ℕ ProgramError → Type 0 → Type 0 → Type 0
-ToldOr (Some fault) answer untouched done = (answer ≡ Err fault) × untouched
-ToldOr None answer untouched done = done
+abbrev pub ToldOr : List Step → Result ℕ ProgramError → Type 0 → Type 0 → Type 0
+ToldOr steps answer untouched done =
+    ((fault : ProgramError) × FirstTold steps fault × (answer ≡ Err fault) × untouched) ⊎ (NoneTold steps × done)
 
 -- what `sched code` answers to what was read of the plan's file: its first fault, or a listing. Want of memory may come in
 -- place of each answer, with nothing written
@@ -77,14 +88,14 @@ abbrev pub AnswersCode : Result ℕ ProgramError → (Option (List ℕ) → Type
 AnswersCode answer IsPlan old new =
     ((answer ≡ Err (Run x.Memory)) × Keeps old new)
     ⊎ ((plan : Option (List ℕ)) × IsPlan plan
-    × ToldOr (first_present (code_faults plan)) answer (Keeps old new) (ListedAsAsked answer (bytes_of plan) old new))
+    × ToldOr (code_faults plan) answer (Keeps old new) (ListedAsAsked answer (bytes_of plan) old new))
 
 -- what a run of a plan answers to what was read of the plan's file: its first fault, or what was done with the plan's text. Want of
 -- memory may come in place of each fault, with nothing touched
 abbrev pub AnswersToPlan : Result ℕ ProgramError → (Option (List ℕ) → Type 0) → RunArguments → Type 0 → (List ℕ → Type 0) → Type 0
 AnswersToPlan answer IsPlan asked untouched Done =
     ((answer ≡ Err (Run x.Memory)) × untouched)
-    ⊎ ((plan : Option (List ℕ)) × IsPlan plan × ToldOr (first_present (run_faults plan asked.workers asked.limit)) answer untouched (Done (bytes_of plan)))
+    ⊎ ((plan : Option (List ℕ)) × IsPlan plan × ToldOr (run_faults plan asked.workers asked.limit) answer untouched (Done (bytes_of plan)))
 
 -- what `sched run` answers to what was read of the plan's file
 abbrev pub AnswersRun : Result ℕ ProgramError → (Option (List ℕ) → Type 0) → RunArguments → Option (List ℕ) → Option (List ℕ) → Option (List ℕ) → Option (List ℕ) → Type 0
@@ -96,15 +107,18 @@ abbrev pub AnswersPool : Result ℕ ProgramError → (Option (List ℕ) → Type
 AnswersPool answer IsPlan asked input left old new =
     AnswersToPlan answer IsPlan asked (IsUntouched input left old new) (λ text. PooledAsAsked answer asked text input left old new)
 
+-- the trace was checked against the plan that the text writes
+abbrev pub ChecksBoth : Result ℕ ProgramError → List ℕ → ℕ → List ℕ → Option (List ℕ) → Option (List ℕ) → Type 0
+ChecksBoth answer text workers trace old new = (plan : PlanTree) × TextWrites text plan × IsCheckedAsAsked answer plan workers trace old new
+
 -- what was read of the plan's file and of the trace's, which is read only where the plan has no fault, and the first fault, or
 -- what is found
 pub record ChecksFiles (answer : Result ℕ ProgramError) (IsPlan IsTrace : Option (List ℕ) → Type 0) (workers : ℕ) (old new : Option (List ℕ)) : Type 0 where
   pub plan : Option (List ℕ)
   pub trace : Option (List ℕ)
   pub plan_read : IsPlan plan
-  pub trace_read : first_present (code_faults plan) ≡ None → IsTrace trace
-  pub told : ToldOr (first_present (check_faults plan trace workers)) answer (Keeps old new)
-      (IsCheckedAsAsked answer (plan_of_text (bytes_of plan)) workers (bytes_of trace) old new)
+  pub trace_read : NoneTold (code_faults plan) → IsTrace trace
+  pub told : ToldOr (check_faults plan trace workers) answer (Keeps old new) (ChecksBoth answer (bytes_of plan) workers (bytes_of trace) old new)
 
 -- what `sched check` answers to what was read of its two files. Want of memory may come in place of each answer, with nothing
 -- written

@@ -7,7 +7,7 @@ use Rattle.queue_code.specs.Codes.{calls_of as code_calls}
 use Rattle.queue_code.specs.Listings.{listing_of}
 use Rattle.plan_read.specs.Plans.{PlanTree}
 use Rattle.plan_read.specs.Reads.{out_of_memory}
-use Rattle.plan_read.specs.Texts.{TextWrites, fault_of_text}
+use Rattle.plan_read.specs.Texts.{TextWrites, TextFails}
 use Rattle.plan_compile.specs.PlanCalls.{calls_of_plan}
 use Rattle.plan_compile.specs.PlanCode.{instrs_of}
 use Rattle.sched_engine.specs.declared.report.RunError.{RunError}
@@ -29,7 +29,7 @@ pub record IsListingOfText (text listing : List ℕ) : Type 0 where
 
 -- why there is no code for a text
 abbrev pub RefusesText : List ℕ → RunError → Type 0
-RefusesText text (x.Plan fault) = (fault_of_text text ≡ Some fault) ⊎ (fault ≡ out_of_memory)
+RefusesText text (x.Plan fault) = TextFails text fault ⊎ (fault ≡ out_of_memory)
 RefusesText text x.Memory = (plan : PlanTree) × TextWrites text plan
 RefusesText text _ = ⊥
 

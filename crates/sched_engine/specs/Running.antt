@@ -17,7 +17,7 @@ use Rattle.trace_text.specs.declared.front.Front.TheVariants as front
 use Rattle.trace_text.specs.Reading.{IsFront, most_event_bytes}
 use Rattle.plan_read.specs.Plans.{PlanTree}
 use Rattle.plan_read.specs.Reads.{out_of_memory}
-use Rattle.plan_read.specs.Texts.{TextWrites, fault_of_text}
+use Rattle.plan_read.specs.Texts.{TextWrites, TextFails}
 use Rattle.plan_compile.specs.PlanCalls.{calls_of_plan}
 
 -- how many bytes are read at most behind the last event (this project's limit)
@@ -94,7 +94,7 @@ Runs (Err x.Lost) calls workers limit input left old new = ⊥
 
 -- why there is no core for a text and these numbers, the plan first, then the workers, then the limit
 abbrev pub RefusesToRun : RunError → List ℕ → ℕ → ℕ → Type 0
-RefusesToRun (x.Plan fault) text workers limit = (fault_of_text text ≡ Some fault) ⊎ (fault ≡ out_of_memory)
+RefusesToRun (x.Plan fault) text workers limit = TextFails text fault ⊎ (fault ≡ out_of_memory)
 RefusesToRun x.Workers text workers limit = (plan : PlanTree) × TextWrites text plan × (IsWorkerCount workers → ⊥)
 RefusesToRun x.Limit text workers limit = (plan : PlanTree) × TextWrites text plan × IsWorkerCount workers × (limit ≡ 0)
 RefusesToRun x.Memory text workers limit = (plan : PlanTree) × TextWrites text plan

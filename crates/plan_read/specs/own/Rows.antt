@@ -1,7 +1,7 @@
 -- How a table of a plan is gone over once: the words of its keys, and the slots of what stands at them.
 -- No promise to a caller names these; they say what the functions of `key_names`, `rows` and `keys` answer.
 -- All of it is this project's rule.
-use Rattle.std.specs.Prelude.{◌≡◌, ℕ, List, map, get_or, if◌then◌else◌, Option, Some, None, option_map, String, codes, bytes_eq}
+use Rattle.std.specs.Prelude.{◌≡◌, ℕ, Bool, true, not, ◌&&◌, List, [], ◌∷◌, map, get_or, if◌then◌else◌, Option, Some, None, option_map, String, codes, bytes_eq}
 use Rattle.std.specs.Borrow.{Bor}
 use Rattle.std.specs.BTreeMap.{BTreeMap, get_by_text}
 use Rattle.std.specs.declared.alloc.Global.{Global}
@@ -9,7 +9,7 @@ use Rattle.toml.specs.declared.value.Value.{Value}
 use Rattle.plan_read.specs.declared.key_names.KeyName.{KeyName}
 use Rattle.plan_read.specs.declared.key_names.KeyName.TheVariants as names
 use Rattle.plan_read.specs.declared.keys.Key.{Key as CodeKey}
-use Rattle.plan_read.specs.Keys.{Key}
+use Rattle.plan_read.specs.Keys.{Key, is_key}
 
 -- the word of a name
 abbrev pub word_of : KeyName → List ℕ
@@ -78,3 +78,8 @@ key_as_defined k = record { name = word_of k.name; shape = k.shape; required = k
 -- a list of keys as the definitions have it
 abbrev pub as_defined : List CodeKey → List Key
 as_defined keys = map key_as_defined keys
+
+-- no two of these keys have one name
+abbrev pub are_apart : List Key → Bool
+are_apart [] = true
+are_apart (k ∷ keys) = not (is_key keys k.name) && are_apart keys

@@ -1,29 +1,45 @@
+use Rattle.std.proofs.Common.{◌≡◌, subst}
 use Rattle.std.proofs.lemmas.Result.{err_from_is_err_and}
 use Rattle.toml.specs.View.{table_view}
-use Rattle.plan_read.specs.Checks.{verb_checks, key_checks, name_checks, time_checks}
-use Rattle.plan_read.specs.Values.{verb_at}
+use Rattle.plan_read.specs.declared.plans.Call.{Call}
+use Rattle.plan_read.specs.declared.subjects.Subject.{Subject}
+use Rattle.plan_read.specs.own.Reads.{Reads, found_in}
+use Rattle.plan_read.specs.own.Subjects.{subject_of, verb_with, call_with}
+use Rattle.plan_read.specs.own.Values.{verb_at, name_at}
+use Rattle.plan_read.specs.own.Walk.{place_fault, verb_tests, key_tests, name_tests, time_tests}
 use Rattle.plan_read.proofs.Failing.{first, second, third, last}
+use Rattle.plan_read.proofs.SubjectLaw.{subject_verb, subject_call}
 use Rattle.plan_read.proofs.calls.read_call.Goals as goal
 
-pub returns-in_err-verb : goal.returns-in_err-verb
-returns-in_err-verb c =
+pub returns-in_err-verb-clause-call : goal.returns-in_err-verb-clause-call
+returns-in_err-verb-clause-call g c =
     let q = err_from_is_err_and c.from_residual.result c.from_residual.ensures.1 in
-    let ms = table_view c.args.row.now.table.now in
-    rw (q.1, q.2) (first c.in_err-verb.field-0.0 c.args.place (verb_checks ms) _ _ _ c.in_err-verb.ensures)
+    let ms = table_view c.args.table.now in
+    rw (q.1, q.2) (first c.in_err-verb.field-0.0 c.args.place (verb_tests ms) _ _ _ (rw c.new-row.ensures at c.in_err-verb.ensures))
 
-pub returns-in_err-check_keys : goal.returns-in_err-check_keys
-returns-in_err-check_keys c =
+pub returns-in_err-check_keys-clause-call : goal.returns-in_err-check_keys-clause-call
+returns-in_err-check_keys-clause-call g c =
     let q = err_from_is_err_and c.from_residual-in_err-check_keys.result c.from_residual-in_err-check_keys.ensures.1 in
-    let ms = table_view c.args.row.now.table.now in
-    rw (q.1, q.2) (second c.in_err-check_keys.field-0.0 c.args.place (verb_checks ms) (key_checks (verb_at ms) ms) _ _ c.in_ok-verb.ensures.0 (rw c.in_ok-verb.ensures.1 at c.in_err-check_keys.ensures))
+    let ms = table_view c.args.table.now in
+    let verb : c.in_ok-verb.verb ≡ verb_at ms = rw c.new-row.ensures at c.in_ok-verb.ensures.1 in
+    rw (q.1, q.2) (second c.in_err-check_keys.field-0.0 c.args.place (verb_tests ms) (key_tests (verb_at ms) ms) _ _ (rw c.new-row.ensures at c.in_ok-verb.ensures.0) (rw (c.new-row.ensures, verb) at c.in_err-check_keys.ensures))
 
-pub returns-in_err-check_name : goal.returns-in_err-check_name
-returns-in_err-check_name c =
-    let q = err_from_is_err_and c.from_residual-in_err-check_name.result c.from_residual-in_err-check_name.ensures.1 in
-    let ms = table_view c.args.row.now.table.now in
-    rw (q.1, q.2) (third c.in_err-check_name.field-0.0 c.args.place (verb_checks ms) (key_checks (verb_at ms) ms) (name_checks (verb_at ms) c.args.found c.args.block ms) _ c.in_ok-verb.ensures.0 (rw c.in_ok-verb.ensures.1 at c.in_ok-check_keys.ensures.0) (rw c.in_ok-verb.ensures.1 at c.in_err-check_name.ensures))
+pub returns-in_err-subject-clause-call : goal.returns-in_err-subject-clause-call
+returns-in_err-subject-clause-call g c =
+    let q = err_from_is_err_and c.from_residual-in_err-subject.result c.from_residual-in_err-subject.ensures.1 in
+    let ms = table_view c.args.table.now in
+    let found = found_in c.args.names.now (name_at ms) in
+    let verb : c.in_ok-verb.verb ≡ verb_at ms = rw c.new-row.ensures at c.in_ok-verb.ensures.1 in
+    rw (q.1, q.2) (third c.in_err-subject.field-0.0 c.args.place (verb_tests ms) (key_tests (verb_at ms) ms) (name_tests (verb_at ms) found c.args.site.target.block ms) _ (rw c.new-row.ensures at c.in_ok-verb.ensures.0) (rw (c.new-row.ensures, verb) at c.in_ok-check_keys.ensures.0) (rw (c.new-row.ensures, verb) at c.in_err-subject.ensures.subject))
 
-pub returns : goal.returns
-returns c =
-    let ms = table_view c.args.row.now.table.now in
-    rw (last c.args.place (verb_checks ms) (key_checks (verb_at ms) ms) (name_checks (verb_at ms) c.args.found c.args.block ms) (time_checks (verb_at ms) c.args.header c.args.last ms) c.in_ok-verb.ensures.0 (rw c.in_ok-verb.ensures.1 at c.in_ok-check_keys.ensures.0) (rw c.in_ok-verb.ensures.1 at c.in_ok-check_name.ensures.0)) (rw c.in_ok-verb.ensures.1 at c.read_timed.ensures)
+pub returns-clause-call : goal.returns-clause-call
+returns-clause-call g c =
+    let p = c.args.place in
+    let h = c.args.header in
+    let ms = table_view c.args.table.now in
+    let found = found_in c.args.names.now (name_at ms) in
+    let verb : c.in_ok-verb.verb ≡ verb_at ms = rw c.new-row.ensures at c.in_ok-verb.ensures.1 in
+    let subject : c.in_ok-subject.subject ≡ subject_of (verb_at ms) found ms = rw (c.new-row.ensures, verb) at c.in_ok-subject.ensures.subject.1 in
+    let read = subst (λ (s : Subject). Reads (λ (k : Call). k) c.read_timed.result (place_fault p (time_tests (verb_with s) h c.args.last ms)) (call_with s h ms)) subject (rw c.new-row.ensures at c.read_timed.ensures) in
+    rw (last p (verb_tests ms) (key_tests (verb_at ms) ms) (name_tests (verb_at ms) found c.args.site.target.block ms) (time_tests (verb_at ms) h c.args.last ms) (rw c.new-row.ensures at c.in_ok-verb.ensures.0) (rw (c.new-row.ensures, verb) at c.in_ok-check_keys.ensures.0) (rw (c.new-row.ensures, verb) at c.in_ok-subject.ensures.subject.0))
+    (rw (subject_verb (verb_at ms) found ms, subject_call (verb_at ms) found h ms) at read)

@@ -1,5 +1,5 @@
-use Rattle.plan_read.proofs.TreeLaw.{tree_only, writes_or_fails, writes_one}
+use Rattle.plan_read.proofs.TreeLaw.{never_both, writes_or_fails, writes_one, fails_once}
 use Rattle.plan_read.proofs.laws.trees_write_or_fail.Goals as goal
 
 pub returns : goal.returns
-returns c = record { either = writes_or_fails; never_both = λ ms plan w. (tree_only ms plan w).0; one = writes_one }
+returns c = record { either = writes_or_fails; never_both = never_both; one = writes_one; once = fails_once }

@@ -1,9 +1,9 @@
 use Rattle.std.proofs.Common.{◌≡◌, ◌≤◌, [], drop, length}
 use Rattle.toml.specs.View.{items_view}
-use Rattle.plan_read.specs.Checks.{blocks_fault}
+use Rattle.plan_read.specs.own.Walk.{blocks_fault}
 use Rattle.plan_read.specs.Plans.{submissions_from, end_of, made_by}
 use Rattle.plan_read.specs.own.Reads.{Knows}
-use Rattle.plan_read.specs.Values.{tables_in, blocks_through}
+use Rattle.plan_read.specs.own.Values.{tables_in, blocks_through}
 use Rattle.plan_read.proofs.reading.read_blocks.Given as goal
 
 abbrev pub invariant-loop-value : goal.invariant-loop-value

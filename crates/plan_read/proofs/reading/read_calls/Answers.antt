@@ -1,10 +1,13 @@
-use Rattle.std.proofs.Common.{◌≡◌, ◌≤◌, ◌+◌, ◌∙◌, ◌∷◌, sym, Some, None, drop, arith, rules}
+use Rattle.std.proofs.Common.{◌≡◌, ◌≤◌, ◌+◌, ◌∙◌, ◌∷◌, sym, subst, Option, Some, None, drop, arith, rules}
+use Rattle.std.proofs.lemmas.Result.{err_from_is_err_and}
 use Rattle.toml.specs.Data.{as_table}
 use Rattle.toml.specs.View.{view, table_view, items_view}
 use Rattle.plan_read.specs.Plans.{tasks_after_calls}
-use Rattle.plan_read.specs.Values.{tables_in}
+use Rattle.plan_read.specs.declared.faults.PlanFault.{PlanFault}
+use Rattle.plan_read.specs.own.Reads.{FailsWith}
+use Rattle.plan_read.specs.own.Values.{tables_in}
 use Rattle.plan_read.proofs.Naming.{tasks_after-one_more}
-use Rattle.plan_read.proofs.Turns.{turn, is_table, call_turn}
+use Rattle.plan_read.proofs.Turns.{turn, is_table, call_turn, call_halts}
 use Rattle.plan_read.proofs.reading.read_calls.Goals as goal
 use Rattle.plan_read.proofs.reading.read_calls.Goals.{then-is_submission, else-is_submission}
 
@@ -39,3 +42,15 @@ loop-value-preserved g c =
       fault = rw c.in_ok-push.ensures.items (t.0 ∙ c.loop-value.invariant.fault);
       calls = rw c.in_ok-push.ensures.items (t.1 ∙ c.loop-value.invariant.calls);
     }
+
+pub returns-in_err-call-clause-calls : goal.returns-in_err-call-clause-calls
+returns-in_err-call-clause-calls g c =
+    let q = err_from_is_err_and c.from_residual-in_err-call.result c.from_residual-in_err-call.ensures.1 in
+    let e = c.in_err-call.field-0.0 in
+    let i = c.loop-value.value-index in
+    let vs = c.args.tables.now in
+    let ms = table_view c.in-Some.table.now in
+    let table : as_table (view c.value-item.result) ≡ Some ms = sym (rw c.in-Some.is at c.as_table.ensures) in
+    let next : tables_in (items_view (drop i vs)) ≡ ms ∷ tables_in (items_view (drop (i + 1) vs)) = turn vs i c.value-item.result ms c.loop-value-test.true c.value-item.is table in
+    let halts = call_halts e c.args.earlier.now c.args.header c.loop-value.calls.items _ _ ms next (rw c.as_slice.ensures.value at c.in_err-call.ensures.call) in
+    rw (q.1, q.2) (subst (λ (fault : Option PlanFault). FailsWith e fault) c.loop-value.invariant.fault halts)

@@ -1,9 +1,9 @@
 use Rattle.std.proofs.Common.{◌≡◌, ◌≤◌, [], drop, length}
 use Rattle.toml.specs.View.{items_view}
-use Rattle.plan_read.specs.Checks.{calls_fault}
+use Rattle.plan_read.specs.own.Walk.{calls_fault}
 use Rattle.plan_read.specs.Plans.{tasks_after_calls, submissions_before}
 use Rattle.plan_read.specs.own.Reads.{Knows}
-use Rattle.plan_read.specs.Values.{tables_in, calls_through}
+use Rattle.plan_read.specs.own.Values.{tables_in, calls_through}
 use Rattle.plan_read.proofs.reading.read_calls.Given as goal
 
 abbrev pub invariant-loop-value : goal.invariant-loop-value

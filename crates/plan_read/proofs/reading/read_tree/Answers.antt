@@ -1,22 +1,22 @@
 use Rattle.toml.specs.View.{table_view}
 use Rattle.std.proofs.Common.{◌≡◌, None, sym, subst}
-use Rattle.plan_read.specs.Checks.{top, tree_fault}
+use Rattle.plan_read.specs.own.Walk.{top, tree_fault}
 use Rattle.plan_read.specs.Plans.{PlanTree}
-use Rattle.plan_read.specs.Values.{plan_of}
+use Rattle.plan_read.specs.own.Values.{plan_of}
 use Rattle.plan_read.specs.Writes.{TreeWrites}
 use Rattle.plan_read.proofs.TreeLaw.{tree_written}
 use Rattle.plan_read.proofs.Accepted.{top_passed}
 use Rattle.plan_read.proofs.reading.read_tree.Goals as goal
 
 pub read_blocks-requires-clause-tables : goal.read_blocks-requires-clause-tables
-read_blocks-requires-clause-tables g c = c.in_ok-tables.ensures.each (top_passed top (table_view c.new-row.result.table.now) c.in_ok-tables.ensures.top.0).tables
+read_blocks-requires-clause-tables g c = c.in_ok-tables.ensures.each (top_passed top (table_view c.args.table.now) c.in_ok-tables.ensures.top.0).tables
 
 pub read_blocks-requires-clause-few : goal.read_blocks-requires-clause-few
-read_blocks-requires-clause-few g c = rw c.in_ok-tables.ensures.count (top_passed top (table_view c.new-row.result.table.now) c.in_ok-tables.ensures.top.0).few
+read_blocks-requires-clause-few g c = rw c.in_ok-tables.ensures.count (top_passed top (table_view c.args.table.now) c.in_ok-tables.ensures.top.0).few
 
 pub new-requires : goal.new-requires
 new-requires g c =
-    let ms = table_view c.new-row.result.table.now in
+    let ms = table_view c.args.table.now in
     let tables = c.in_ok-tables.ensures.top.1 in
     let none : tree_fault ms ≡ None = rw c.in_ok-tables.ensures.top.0 (rw tables at c.in_ok-blocks.ensures.0) in
     let is : plan_of ms ≡ c.in_ok-blocks.blocks.items = rw (← tables) (sym c.in_ok-blocks.ensures.1) in

@@ -2,7 +2,7 @@ use Rattle.std.proofs.Common.{◌≡◌, ◌∙◌, ◌∷◌, ◌++◌, [], ref
 use Rattle.std.proofs.lemmas.List.{length-set}
 use Rattle.plan_read.specs.own.Rows.{key_of_word}
 use Rattle.plan_read.proofs.RowLaw.{Entry, kept, passed_over}
-use Rattle.plan_read.proofs.rows.slots_of.Goals as goal
+use Rattle.plan_read.proofs.rows.Row.new.Goals as goal
 
 pub loop-word-preserved-in-Some-of_word : goal.loop-word-preserved-in-Some-of_word
 loop-word-preserved-in-Some-of_word c =

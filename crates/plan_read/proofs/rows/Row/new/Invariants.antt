@@ -2,7 +2,7 @@ use Rattle.std.proofs.Common.{◌≡◌, List, ◌++◌, length}
 use Rattle.plan_read.specs.declared.key_names.KeyName.{KeyName}
 use Rattle.plan_read.specs.own.Rows.{slot, word_of}
 use Rattle.plan_read.proofs.RowLaw.{Entry, Sees}
-use Rattle.plan_read.proofs.rows.slots_of.Given as goal
+use Rattle.plan_read.proofs.rows.Row.new.Given as goal
 
 abbrev pub invariant-loop-word : goal.invariant-loop-word
 invariant-loop-word l =

@@ -1,0 +1,56 @@
+-- What a call is about, as `subjects` reads it: its operation with the name or the target that it gives, and what such a subject
+-- stands for.
+-- All of it is this project's rule.
+use Rattle.std.specs.Prelude.{Option, codes}
+use Rattle.toml.specs.Data.{Members}
+use Rattle.sched_time.specs.declared.unit.Unit.{Unit as TimeUnit}
+use Rattle.plan_read.specs.declared.plans.Call.{Call}
+use Rattle.plan_read.specs.declared.plans.Header.{Header}
+use Rattle.plan_read.specs.declared.plans.Op.{Op}
+use Rattle.plan_read.specs.declared.plans.Op.TheVariants as ops
+use Rattle.plan_read.specs.declared.sites.Site.{Site}
+use Rattle.plan_read.specs.declared.subjects.Subject.{Subject}
+use Rattle.plan_read.specs.declared.subjects.Subject.TheVariants as subjects
+use Rattle.plan_read.specs.declared.verbs.Verb.{Verb}
+use Rattle.plan_read.specs.declared.verbs.Verb.TheVariants as verbs
+use Rattle.plan_read.specs.own.Values.{name_at, target_of, span_at, period_at, which_at, truth_at}
+
+-- that of a table with this operation, where `found` is the submission of its name that stands before it
+abbrev pub subject_of : Verb → Option Site → Members → Subject
+subject_of verbs.Schedule found ms = subjects.Schedule (name_at ms)
+subject_of verbs.Execute found ms = subjects.Execute (name_at ms)
+subject_of verbs.Rate found ms = subjects.Rate (name_at ms)
+subject_of verbs.Fixed found ms = subjects.Fixed (name_at ms)
+subject_of verbs.Cancel found ms = subjects.Cancel (target_of found)
+subject_of verbs.Policy found ms = subjects.Policy
+subject_of verbs.Shutdown found ms = subjects.Shutdown
+subject_of verbs.ShutdownNow found ms = subjects.ShutdownNow
+subject_of verbs.Ask found ms = subjects.Ask
+
+-- the operation of a subject
+abbrev pub verb_with : Subject → Verb
+verb_with (subjects.Schedule name) = verbs.Schedule
+verb_with (subjects.Execute name) = verbs.Execute
+verb_with (subjects.Rate name) = verbs.Rate
+verb_with (subjects.Fixed name) = verbs.Fixed
+verb_with (subjects.Cancel target) = verbs.Cancel
+verb_with subjects.Policy = verbs.Policy
+verb_with subjects.Shutdown = verbs.Shutdown
+verb_with subjects.ShutdownNow = verbs.ShutdownNow
+verb_with subjects.Ask = verbs.Ask
+
+-- what a call on a subject asks for
+abbrev pub op_with : Subject → TimeUnit → Members → Op
+op_with (subjects.Schedule name) unit ms = ops.Schedule name (span_at unit (codes "delay") ms)
+op_with (subjects.Execute name) unit ms = ops.Execute name
+op_with (subjects.Rate name) unit ms = ops.Rate name (span_at unit (codes "first") ms) (period_at unit (codes "period") ms)
+op_with (subjects.Fixed name) unit ms = ops.Fixed name (span_at unit (codes "first") ms) (period_at unit (codes "delay") ms)
+op_with (subjects.Cancel target) unit ms = ops.Cancel target
+op_with subjects.Policy unit ms = ops.Policy (which_at ms) (truth_at (codes "value") ms)
+op_with subjects.Shutdown unit ms = ops.Shutdown
+op_with subjects.ShutdownNow unit ms = ops.ShutdownNow
+op_with subjects.Ask unit ms = ops.Ask
+
+-- the call on a subject
+abbrev pub call_with : Subject → Header → Members → Call
+call_with subject h ms = record { at = span_at h.unit (codes "at") ms; op = op_with subject h.unit ms }
