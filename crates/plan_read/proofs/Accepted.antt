@@ -5,9 +5,11 @@ use Rattle.std.proofs.lemmas.Bool.Decides.{nat_tests}
 use Rattle.std.specs.List.{AllByRecursion, list_all}
 use Rattle.toml.specs.Data.{Members, get_member}
 use Rattle.plan_read.specs.declared.faults.Place.{Place}
-use Rattle.plan_read.specs.own.Walk.{place_fault, header_tests, top_tests}
+use Rattle.plan_read.specs.declared.versions.Version.{Version}
+use Rattle.plan_read.specs.declared.versions.Version.TheVariants.{One, Two}
+use Rattle.plan_read.specs.own.Walk.{place_fault, header_key_tests, times_tests, header_tests, top_tests}
 use Rattle.plan_read.specs.Keys.{fits, header_keys, top_keys, are_typed}
-use Rattle.plan_read.specs.declared.keys.Shape.TheVariants.{Tables}
+use Rattle.plan_read.specs.declared.keys.Shape.TheVariants.{Integer, Tables}
 use Rattle.plan_read.specs.Plans.{BlockTree, PlanTree, end_from, end_of_block, made_from}
 use Rattle.plan_read.specs.own.Values.{tables_at, header_of}
 use Rattle.plan_read.proofs.Failing.{all_pass}
@@ -21,26 +23,40 @@ list_all_true test (x ∷ xs) h = let p = and_parts (test x) (list_all test xs) 
 pub le_from_test : (a b : ℕ) → nat_le a b ≡ true → a ≤ b
 le_from_test a b h = grind (arith, nat_tests)
 
+-- the value at each key of a header is of its shape, units left out
+pub record HeaderTyped (ms : Members) : Type 0 where
+  pub at : fits Integer (get_member (codes "at") ms) ≡ true
+  pub times : fits Integer (get_member (codes "times") ms) ≡ true
+  pub every : fits Integer (get_member (codes "every") ms) ≡ true
+  pub tables : fits Tables (get_member (codes "call") ms) ≡ true
+
+pub typed_header : (version : Version) (ms : Members) → are_typed (header_keys version) ms ≡ true → HeaderTyped ms
+typed_header One ms t =
+    let all = list_all_true (λ k. fits k.shape (get_member k.name ms)) (header_keys One) t in
+    record { at = all.0; times = all.1.1.0; every = all.1.1.1.0; tables = all.1.1.1.1.0 }
+typed_header Two ms t =
+    let all = list_all_true (λ k. fits k.shape (get_member k.name ms)) (header_keys Two) t in
+    record { at = all.0; times = all.1.1.0; every = all.1.1.1.0; tables = all.1.1.1.1.1.0 }
+
 -- what an accepted header says: its number of iterations, and its array of calls, which fits the plan
-pub record Passed (made : ℕ) (ms : Members) : Type 0 where
-  pub times : 1 ≤ (header_of ms).times
+pub record Passed (version : Version) (made : ℕ) (ms : Members) : Type 0 where
+  pub times : 1 ≤ (header_of version ms).times
   pub tables : fits Tables (get_member (codes "call") ms) ≡ true
   pub few : length (tables_at (codes "call") ms) ≤ 256
-  pub fits_plan : made + (header_of ms).times * length (tables_at (codes "call") ms) ≤ 65536
+  pub fits_plan : made + (header_of version ms).times * length (tables_at (codes "call") ms) ≤ 65536
 
 -- a header none of whose checks fails says so
-pub passed : (p : Place) (end made : ℕ) (ms : Members) → place_fault p (header_tests end made ms) ≡ None → Passed made ms
-unfolding header_tests
-passed p end made ms none =
-    let a = all_pass p (header_tests end made ms) none in
-    let typed = list_all_true (λ k. fits k.shape (get_member k.name ms)) header_keys a.1.0 in
-    let times : (nat_le 1 (header_of ms).times && nat_le (header_of ms).times 65536) ≡ true = a.1.1.1.0 in
-    let many : (nat_le (length (tables_at (codes "call") ms)) 256 && nat_le (made + (header_of ms).times * length (tables_at (codes "call") ms)) 65536) ≡ true = a.1.1.1.1.1.1.1.1.0 in
+pub passed : (p : Place) (version : Version) (end made : ℕ) (ms : Members) → place_fault p (header_tests version end made ms) ≡ None → Passed version made ms
+unfolding header_tests header_key_tests times_tests header_of
+passed p version end made ms none =
+    let a = all_pass p (header_tests version end made ms) none in
+    let times : (nat_le 1 (header_of version ms).times && nat_le (header_of version ms).times 65536) ≡ true = a.1.1.1.0 in
+    let many : (nat_le (length (tables_at (codes "call") ms)) 256 && nat_le (made + (header_of version ms).times * length (tables_at (codes "call") ms)) 65536) ≡ true = a.1.1.1.1.1.1.1.1.0 in
     record {
-      times = le_from_test 1 (header_of ms).times (and_parts (nat_le 1 (header_of ms).times) (nat_le (header_of ms).times 65536) times).0;
-      tables = typed.1.1.1.1.0;
-      few = le_from_test (length (tables_at (codes "call") ms)) 256 (and_parts (nat_le (length (tables_at (codes "call") ms)) 256) (nat_le (made + (header_of ms).times * length (tables_at (codes "call") ms)) 65536) many).0;
-      fits_plan = le_from_test (made + (header_of ms).times * length (tables_at (codes "call") ms)) 65536 (and_parts (nat_le (length (tables_at (codes "call") ms)) 256) (nat_le (made + (header_of ms).times * length (tables_at (codes "call") ms)) 65536) many).1;
+      times = le_from_test 1 (header_of version ms).times (and_parts (nat_le 1 (header_of version ms).times) (nat_le (header_of version ms).times 65536) times).0;
+      tables = (typed_header version ms a.1.0).tables;
+      few = le_from_test (length (tables_at (codes "call") ms)) 256 (and_parts (nat_le (length (tables_at (codes "call") ms)) 256) (nat_le (made + (header_of version ms).times * length (tables_at (codes "call") ms)) 65536) many).0;
+      fits_plan = le_from_test (made + (header_of version ms).times * length (tables_at (codes "call") ms)) 65536 (and_parts (nat_le (length (tables_at (codes "call") ms)) 256) (nat_le (made + (header_of version ms).times * length (tables_at (codes "call") ms)) 65536) many).1;
     }
 
 -- the moment of the last call, with one block more

@@ -16,19 +16,24 @@ use Rattle.plan_read.specs.declared.plans.Op.{Op}
 use Rattle.plan_read.specs.declared.plans.Op.TheVariants as ops
 use Rattle.plan_read.specs.declared.sites.Site.{Site}
 use Rattle.plan_read.specs.declared.keys.Shape.TheVariants.{Text, Integer, Truth, Policy}
+use Rattle.plan_read.specs.declared.units.Units.{Units}
 use Rattle.plan_read.specs.declared.verbs.Verb.{Verb}
 use Rattle.plan_read.specs.declared.verbs.Verb.TheVariants as verbs
+use Rattle.plan_read.specs.declared.versions.Version.{Version}
+use Rattle.plan_read.specs.declared.versions.Version.TheVariants.{One, Two}
 use Rattle.plan_read.specs.Checks.{Passes}
-use Rattle.plan_read.specs.Keys.{fits, Key, call_keys, own_keys, has_required, are_typed, verb_of_word, which_of_word}
+use Rattle.plan_read.specs.Keys.{fits, Key, call_keys, own_keys, has_only, has_required, are_typed, verb_of_word, which_of_word}
 use Rattle.plan_read.specs.Names.{is_name}
 use Rattle.plan_read.specs.Plans.{PlanTree, find, submissions_before, moment_in_last, last_offset}
-use Rattle.plan_read.specs.Writes.{call_checks, verb_of, NamesVerb, HasPolicy, NameAt, HasName, IsNew, HasTarget, IsClear, HasSpans, DelayAt, PeriodAt}
-use Rattle.plan_read.specs.own.Values.{text_or, integer_or, verb_at, name_at, op_of, written_call, target_of, span_at, period_at, submits, found_at}
-use Rattle.plan_read.specs.own.Walk.{Test, ◌barring◌, place_fault, call_tests, verb_tests, key_tests, name_tests, time_tests, is_clear, are_spans_short, is_verb}
+use Rattle.plan_read.specs.Writes.{call_checks, verb_of, NamesVerb, HasPolicy, NameAt, HasName, IsNew, HasTarget, IsClear, UnitOf, HaveUnits, HasSpans, SpanAt, DelayAt, PeriodAt}
+use Rattle.plan_read.specs.own.Values.{text_or, integer_or, verb_at, name_at, op_of, written_call, target_of, span_at, period_at, unit_for, units_in, submits, found_at}
+use Rattle.plan_read.specs.own.Walk.{Test, ◌barring◌, place_fault, call_tests, verb_tests, key_tests, name_tests, time_tests, is_clear, are_spans_short, is_verb, are_units}
 use Rattle.plan_read.proofs.Accepted.{list_all_true, le_from_test}
 use Rattle.plan_read.proofs.Agreeing.{Agree}
 use Rattle.plan_read.proofs.HeaderLaw.{test_from_le}
 use Rattle.plan_read.proofs.Holding.{integer_fits, text_fits, whole_fits, whole_is, span_fits, span_is}
+use Rattle.plan_read.proofs.UnitLaw.{units_fit, units_are, unit_of_is, at_unit, delay_unit, first_unit, period_unit}
+use Rattle.plan_read.proofs.VersionKeys.{call_texts, required_in_one, typed_in_one}
 
 -- ---- values that are there
 
@@ -111,7 +116,7 @@ op_is_text (Some (array ds)) h = absurd (cc)
 op_is_text (Some (table ms)) h = absurd (cc)
 
 -- the operation that is read is of the word that is read
-verb_of_read : (verb : Verb) (found : Option Site) (unit : TimeUnit) (ms : Members) → verb_of (op_of verb found unit ms) ≡ verb
+verb_of_read : (verb : Verb) (found : Option Site) (units : Units) (ms : Members) → verb_of (op_of verb found units ms) ≡ verb
 unfolding op_of
 verb_of_read verbs.Schedule found unit ms = refl
 verb_of_read verbs.Execute found unit ms = refl
@@ -144,20 +149,20 @@ typed_all keys ms h = list_all_true (λ k. fits k.shape (get_member k.name ms)) 
 
 -- what the tests on the keys say
 record KeysPass (verb : Verb) (ms : Members) : Type 0 where
-  there : has_required (call_keys verb) ms ≡ true
-  typed : are_typed (call_keys verb) ms ≡ true
+  there : has_required (call_keys One verb) ms ≡ true
+  typed : are_typed (call_keys One verb) ms ≡ true
 
 -- the offset is an integer
-offset_typed : (verb : Verb) (ms : Members) → are_typed (call_keys verb) ms ≡ true → fits Integer (get_member (codes "at") ms) ≡ true
+offset_typed : (verb : Verb) (ms : Members) → are_typed (call_keys One verb) ms ≡ true → fits Integer (get_member (codes "at") ms) ≡ true
 offset_typed verb ms h =
     let t = and_parts (fits Text (get_member (codes "op") ms)) (fits Integer (get_member (codes "at") ms) && are_typed (own_keys verb) ms) h in
     (and_parts (fits Integer (get_member (codes "at") ms)) (are_typed (own_keys verb) ms) t.1).0
 
-policy_read : (verb : Verb) (found : Option Site) (unit : TimeUnit) (ms : Members) → KeysPass verb ms → HasPolicy ms (op_of verb found unit ms)
+policy_read : (verb : Verb) (found : Option Site) (units : Units) (ms : Members) → KeysPass verb ms → HasPolicy ms (op_of verb found units ms)
 unfolding op_of
 policy_read verbs.Policy found unit ms k =
-    let there = required_all (call_keys verbs.Policy) ms k.there in
-    let typed = typed_all (call_keys verbs.Policy) ms k.typed in
+    let there = required_all (call_keys One verbs.Policy) ms k.there in
+    let typed = typed_all (call_keys One verbs.Policy) ms k.typed in
     let which = get_member (codes "which") ms in
     let word = text_or [] (codes "which") ms in (
       (word, text_there which [] there.1.1.0 (policy_is_text which typed.1.1.0), some_of (which_of_word word) Continue (policy_word which there.1.1.0 typed.1.1.0)),
@@ -205,19 +210,19 @@ names_alike p verbs.Ask found block ms rest = refl
 name_there : (verb : Verb) (ms : Members) → is_some (get_member (codes "name") ms) ≡ true → fits Text (get_member (codes "name") ms) ≡ true → is_name (name_at ms) ≡ true → NameAt ms (name_at ms)
 name_there verb ms there typed good = (text_there (get_member (codes "name") ms) [] there typed, good)
 
-name_read : (verb : Verb) (found : Option Site) (block : ℕ) (unit : TimeUnit) (ms : Members) → KeysPass verb ms → (not (submits verb || cancels verb) || is_name (name_at ms)) ≡ true
-    → HasName ms (op_of verb found unit ms)
+name_read : (verb : Verb) (found : Option Site) (block : ℕ) (units : Units) (ms : Members) → KeysPass verb ms → (not (submits verb || cancels verb) || is_name (name_at ms)) ≡ true
+    → HasName ms (op_of verb found units ms)
 unfolding op_of
 name_read verbs.Schedule found block unit ms k good =
-    name_there verbs.Schedule ms (required_all (call_keys verbs.Schedule) ms k.there).1.1.0 (typed_all (call_keys verbs.Schedule) ms k.typed).1.1.0 good
+    name_there verbs.Schedule ms (required_all (call_keys One verbs.Schedule) ms k.there).1.1.0 (typed_all (call_keys One verbs.Schedule) ms k.typed).1.1.0 good
 name_read verbs.Execute found block unit ms k good =
-    name_there verbs.Execute ms (required_all (call_keys verbs.Execute) ms k.there).1.1.0 (typed_all (call_keys verbs.Execute) ms k.typed).1.1.0 good
+    name_there verbs.Execute ms (required_all (call_keys One verbs.Execute) ms k.there).1.1.0 (typed_all (call_keys One verbs.Execute) ms k.typed).1.1.0 good
 name_read verbs.Rate found block unit ms k good =
-    name_there verbs.Rate ms (required_all (call_keys verbs.Rate) ms k.there).1.1.0 (typed_all (call_keys verbs.Rate) ms k.typed).1.1.0 good
+    name_there verbs.Rate ms (required_all (call_keys One verbs.Rate) ms k.there).1.1.0 (typed_all (call_keys One verbs.Rate) ms k.typed).1.1.0 good
 name_read verbs.Fixed found block unit ms k good =
-    name_there verbs.Fixed ms (required_all (call_keys verbs.Fixed) ms k.there).1.1.0 (typed_all (call_keys verbs.Fixed) ms k.typed).1.1.0 good
+    name_there verbs.Fixed ms (required_all (call_keys One verbs.Fixed) ms k.there).1.1.0 (typed_all (call_keys One verbs.Fixed) ms k.typed).1.1.0 good
 name_read verbs.Cancel found block unit ms k good =
-    (name_at ms, name_there verbs.Cancel ms (required_all (call_keys verbs.Cancel) ms k.there).1.1.0 (typed_all (call_keys verbs.Cancel) ms k.typed).1.1.0 good)
+    (name_at ms, name_there verbs.Cancel ms (required_all (call_keys One verbs.Cancel) ms k.there).1.1.0 (typed_all (call_keys One verbs.Cancel) ms k.typed).1.1.0 good)
 name_read verbs.Policy found block unit ms k good = tt
 name_read verbs.Shutdown found block unit ms k good = tt
 name_read verbs.ShutdownNow found block unit ms k good = tt
@@ -240,8 +245,8 @@ name_good ms ops.Ask w = refl
 
 -- ---- no submission of the name
 
-new_read : (verb : Verb) (subs : List (List ℕ × Site)) (unit : TimeUnit) (ms : Members) → (not (submits verb) || is_none (find (name_at ms) subs)) ≡ true
-    → IsNew subs (op_of verb (find (name_at ms) subs) unit ms)
+new_read : (verb : Verb) (subs : List (List ℕ × Site)) (units : Units) (ms : Members) → (not (submits verb) || is_none (find (name_at ms) subs)) ≡ true
+    → IsNew subs (op_of verb (find (name_at ms) subs) units ms)
 unfolding op_of
 new_read verbs.Schedule subs unit ms h name is = let e : name_at ms ≡ name = cc in rw (← e) (none_of (find (name_at ms) subs) h)
 new_read verbs.Execute subs unit ms h name is = let e : name_at ms ≡ name = cc in rw (← e) (none_of (find (name_at ms) subs) h)
@@ -270,8 +275,8 @@ some_site : (o : Option Site) → is_some o ≡ true → (s : Site) × (o ≡ So
 some_site None h = absurd (cc)
 some_site (Some s) h = (s, refl, refl)
 
-target_read : (verb : Verb) (subs : List (List ℕ × Site)) (unit : TimeUnit) (ms : Members) → HasName ms (op_of verb (find (name_at ms) subs) unit ms)
-    → (not (cancels verb) || is_some (find (name_at ms) subs)) ≡ true → HasTarget subs ms (op_of verb (find (name_at ms) subs) unit ms)
+target_read : (verb : Verb) (subs : List (List ℕ × Site)) (units : Units) (ms : Members) → HasName ms (op_of verb (find (name_at ms) subs) units ms)
+    → (not (cancels verb) || is_some (find (name_at ms) subs)) ≡ true → HasTarget subs ms (op_of verb (find (name_at ms) subs) units ms)
 unfolding op_of
 target_read verbs.Cancel subs unit ms w h =
     let s = some_site (find (name_at ms) subs) h in
@@ -297,8 +302,8 @@ target_good subs ms ops.Shutdown w = refl
 target_good subs ms ops.ShutdownNow w = refl
 target_good subs ms ops.Ask w = refl
 
-clear_read : (verb : Verb) (block : ℕ) (subs : List (List ℕ × Site)) (unit : TimeUnit) (ms : Members) → HasTarget subs ms (op_of verb (find (name_at ms) subs) unit ms)
-    → (not (cancels verb) || is_clear block (find (name_at ms) subs)) ≡ true → IsClear block subs ms (op_of verb (find (name_at ms) subs) unit ms)
+clear_read : (verb : Verb) (block : ℕ) (subs : List (List ℕ × Site)) (units : Units) (ms : Members) → HasTarget subs ms (op_of verb (find (name_at ms) subs) units ms)
+    → (not (cancels verb) || is_clear block (find (name_at ms) subs)) ≡ true → IsClear block subs ms (op_of verb (find (name_at ms) subs) units ms)
 unfolding op_of
 clear_read verbs.Cancel block subs unit ms w h =
     let found : find (name_at ms) subs ≡ Some w.0 = rw (name_is ms w.1.0 w.1.1).0 w.1.2 in
@@ -325,56 +330,77 @@ clear_good block subs ms ops.Ask w = refl
 
 -- ---- the spans
 
-delay_there : (unit : TimeUnit) (key : List ℕ) (ms : Members) → is_some (get_member key ms) ≡ true → fits Integer (get_member key ms) ≡ true → nat_le (span_at unit key ms) longest ≡ true
-    → DelayAt unit key ms (span_at unit key ms)
-delay_there unit key ms there typed short =
-    (integer_or (pos 0) key ms, integer_there (get_member key ms) (pos 0) there typed, refl, le_from_test (span_at unit key ms) longest short)
+delay_there : (version : Version) (block unit : TimeUnit) (key : List ℕ) (ms : Members) → UnitOf version block key ms unit → is_some (get_member key ms) ≡ true → fits Integer (get_member key ms) ≡ true
+    → nat_le (span_at unit key ms) longest ≡ true → DelayAt version block key ms (span_at unit key ms)
+delay_there version block unit key ms u there typed short =
+    (unit, u, integer_or (pos 0) key ms, integer_there (get_member key ms) (pos 0) there typed, refl, le_from_test (span_at unit key ms) longest short)
 
-period_there : (unit : TimeUnit) (key : List ℕ) (ms : Members) → is_some (get_member key ms) ≡ true → fits Integer (get_member key ms) ≡ true → nat_le (span_at unit key ms) longest ≡ true
-    → PeriodAt unit key ms (period_at unit key ms)
-period_there unit key ms there typed short =
-    (integer_or (pos 0) key ms, integer_there (get_member key ms) (pos 0) there typed, refl, le_from_test (span_at unit key ms) longest short)
+period_there : (version : Version) (block unit : TimeUnit) (key : List ℕ) (ms : Members) → UnitOf version block key ms unit → is_some (get_member key ms) ≡ true → fits Integer (get_member key ms) ≡ true
+    → nat_le (span_at unit key ms) longest ≡ true → PeriodAt version block key ms (period_at unit key ms)
+period_there version block unit key ms u there typed short =
+    (unit, u, integer_or (pos 0) key ms, integer_there (get_member key ms) (pos 0) there typed, refl, le_from_test (span_at unit key ms) longest short)
 
-spans_read : (verb : Verb) (found : Option Site) (unit : TimeUnit) (ms : Members) → KeysPass verb ms → are_spans_short verb unit ms ≡ true → HasSpans unit ms (op_of verb found unit ms)
+spans_read : (version : Version) (verb : Verb) (found : Option Site) (block : TimeUnit) (ms : Members) → KeysPass verb ms → HaveUnits version ms → are_spans_short verb (units_in version block ms) ms ≡ true
+    → HasSpans version block ms (op_of verb found (units_in version block ms) ms)
 unfolding op_of
-spans_read verbs.Schedule found unit ms k short =
-    let there = required_all (call_keys verbs.Schedule) ms k.there in
-    let typed = typed_all (call_keys verbs.Schedule) ms k.typed in
-    delay_there unit (codes "delay") ms there.1.1.1.0 typed.1.1.1.0 short
-spans_read verbs.Rate found unit ms k short =
-    let there = required_all (call_keys verbs.Rate) ms k.there in
-    let typed = typed_all (call_keys verbs.Rate) ms k.typed in
-    let both = and_parts (nat_le (span_at unit (codes "first") ms) longest) (nat_le (span_at unit (codes "period") ms) longest) short in
-    (delay_there unit (codes "first") ms there.1.1.1.0 typed.1.1.1.0 both.0, period_there unit (codes "period") ms there.1.1.1.1.0 typed.1.1.1.1.0 both.1)
-spans_read verbs.Fixed found unit ms k short =
-    let there = required_all (call_keys verbs.Fixed) ms k.there in
-    let typed = typed_all (call_keys verbs.Fixed) ms k.typed in
-    let both = and_parts (nat_le (span_at unit (codes "first") ms) longest) (nat_le (span_at unit (codes "delay") ms) longest) short in
-    (delay_there unit (codes "first") ms there.1.1.1.0 typed.1.1.1.0 both.0, period_there unit (codes "delay") ms there.1.1.1.1.0 typed.1.1.1.1.0 both.1)
-spans_read verbs.Execute found unit ms k short = tt
-spans_read verbs.Cancel found unit ms k short = tt
-spans_read verbs.Policy found unit ms k short = tt
-spans_read verbs.Shutdown found unit ms k short = tt
-spans_read verbs.ShutdownNow found unit ms k short = tt
-spans_read verbs.Ask found unit ms k short = tt
+spans_read version verbs.Schedule found block ms k u short =
+    let there = required_all (call_keys One verbs.Schedule) ms k.there in
+    let typed = typed_all (call_keys One verbs.Schedule) ms k.typed in
+    delay_there version block (unit_for version block (codes "delay") ms) (codes "delay") ms (delay_unit version block ms u) there.1.1.1.0 typed.1.1.1.0 short
+spans_read version verbs.Rate found block ms k u short =
+    let there = required_all (call_keys One verbs.Rate) ms k.there in
+    let typed = typed_all (call_keys One verbs.Rate) ms k.typed in
+    let first = unit_for version block (codes "first") ms in
+    let period = unit_for version block (codes "period") ms in
+    let both = and_parts (nat_le (span_at first (codes "first") ms) longest) (nat_le (span_at period (codes "period") ms) longest) short in (
+      delay_there version block first (codes "first") ms (first_unit version block ms u) there.1.1.1.0 typed.1.1.1.0 both.0,
+      period_there version block period (codes "period") ms (period_unit version block ms u) there.1.1.1.1.0 typed.1.1.1.1.0 both.1,
+    )
+spans_read version verbs.Fixed found block ms k u short =
+    let there = required_all (call_keys One verbs.Fixed) ms k.there in
+    let typed = typed_all (call_keys One verbs.Fixed) ms k.typed in
+    let first = unit_for version block (codes "first") ms in
+    let delay = unit_for version block (codes "delay") ms in
+    let both = and_parts (nat_le (span_at first (codes "first") ms) longest) (nat_le (span_at delay (codes "delay") ms) longest) short in (
+      delay_there version block first (codes "first") ms (first_unit version block ms u) there.1.1.1.0 typed.1.1.1.0 both.0,
+      period_there version block delay (codes "delay") ms (delay_unit version block ms u) there.1.1.1.1.0 typed.1.1.1.1.0 both.1,
+    )
+spans_read version verbs.Execute found block ms k u short = tt
+spans_read version verbs.Cancel found block ms k u short = tt
+spans_read version verbs.Policy found block ms k u short = tt
+spans_read version verbs.Shutdown found block ms k u short = tt
+spans_read version verbs.ShutdownNow found block ms k u short = tt
+spans_read version verbs.Ask found block ms k u short = tt
 
 -- a span that stands there is the one that is read
-delay_is : (unit : TimeUnit) (key : List ℕ) (ms : Members) (n : ℕ) → DelayAt unit key ms n → (span_at unit key ms ≡ n) × (nat_le (span_at unit key ms) longest ≡ true)
-delay_is unit key ms n w = let e : span_at unit key ms ≡ n = rw w.1 (sym w.2) in (e, rw e (test_from_le n longest w.3))
+delay_is : (version : Version) (block : TimeUnit) (key : List ℕ) (ms : Members) (n : ℕ) → DelayAt version block key ms n
+    → (span_at (unit_for version block key ms) key ms ≡ n) × (nat_le (span_at (unit_for version block key ms) key ms) longest ≡ true)
+delay_is version block key ms n w =
+    let e : span_at (unit_for version block key ms) key ms ≡ n = rw (unit_of_is version block key ms w.0 w.1, w.3) (sym w.4) in
+    (e, rw e (test_from_le n longest w.5))
 
-period_is : (unit : TimeUnit) (key : List ℕ) (ms : Members) (period : Option ℕ) → PeriodAt unit key ms period → (period_at unit key ms ≡ period) × (nat_le (span_at unit key ms) longest ≡ true)
-period_is unit key ms period w = (rw w.1 (sym w.2), rw w.1 (test_from_le (span_of w.0 unit) longest w.3))
+period_is : (version : Version) (block : TimeUnit) (key : List ℕ) (ms : Members) (period : Option ℕ) → PeriodAt version block key ms period
+    → (period_at (unit_for version block key ms) key ms ≡ period) × (nat_le (span_at (unit_for version block key ms) key ms) longest ≡ true)
+period_is version block key ms period w =
+    let unit = unit_of_is version block key ms w.0 w.1 in
+    (rw (unit, w.3) (sym w.4), rw (unit, w.3) (test_from_le (span_of w.2 w.0) longest w.5))
 
-spans_good : (unit : TimeUnit) (ms : Members) (op : Op) → HasSpans unit ms op → are_spans_short (verb_of op) unit ms ≡ true
-spans_good unit ms (ops.Schedule name delay) w = (delay_is unit (codes "delay") ms delay w).1
-spans_good unit ms (ops.Rate name first period) w = rw ((delay_is unit (codes "first") ms first w.0).1, (period_is unit (codes "period") ms period w.1).1) refl
-spans_good unit ms (ops.Fixed name first delay) w = rw ((delay_is unit (codes "first") ms first w.0).1, (period_is unit (codes "delay") ms delay w.1).1) refl
-spans_good unit ms (ops.Execute name) w = refl
-spans_good unit ms (ops.Cancel target) w = refl
-spans_good unit ms (ops.Policy which value) w = refl
-spans_good unit ms ops.Shutdown w = refl
-spans_good unit ms ops.ShutdownNow w = refl
-spans_good unit ms ops.Ask w = refl
+spans_good : (version : Version) (block : TimeUnit) (ms : Members) (op : Op) → HasSpans version block ms op → are_spans_short (verb_of op) (units_in version block ms) ms ≡ true
+spans_good version block ms (ops.Schedule name delay) w = (delay_is version block (codes "delay") ms delay w).1
+spans_good version block ms (ops.Rate name first period) w = rw ((delay_is version block (codes "first") ms first w.0).1, (period_is version block (codes "period") ms period w.1).1) refl
+spans_good version block ms (ops.Fixed name first delay) w = rw ((delay_is version block (codes "first") ms first w.0).1, (period_is version block (codes "delay") ms delay w.1).1) refl
+spans_good version block ms (ops.Execute name) w = refl
+spans_good version block ms (ops.Cancel target) w = refl
+spans_good version block ms (ops.Policy which value) w = refl
+spans_good version block ms ops.Shutdown w = refl
+spans_good version block ms ops.ShutdownNow w = refl
+spans_good version block ms ops.Ask w = refl
+
+-- the offset that stands there is the one that is read
+offset_is : (version : Version) (block : TimeUnit) (ms : Members) (n : ℕ) → SpanAt version block (codes "at") ms n → (n ≤ longest) × (span_at (unit_for version block (codes "at") ms) (codes "at") ms ≡ n)
+offset_is version block ms n w =
+    let s = span_is version block (codes "at") ms n w in
+    (s.0, rw (unit_of_is version block (codes "at") ms w.0 w.1) s.1)
 
 -- ---- times
 
@@ -389,33 +415,45 @@ or_back a b c d (inr h) = rw (test_from_le c d h) (or_yes (nat_le a b))
 three : (a b c : Bool) → ((a && b) && c) ≡ true → (a ≡ true) × (b ≡ true) × (c ≡ true)
 three a b c h = let p = and_parts (a && b) c h in let q = and_parts a b p.0 in (q.0, q.1, p.1)
 
+-- ---- units
+
+units_read : (version : Version) (verb : Verb) (ms : Members) → has_only (call_keys version verb) ms ≡ true → are_typed (call_keys version verb) ms ≡ true → are_units version ms ≡ true → HaveUnits version ms
+units_read One verb ms only typed known = tt
+units_read Two verb ms only typed known = units_fit ms (call_texts verb ms only typed) known
+
 -- ---- the tests and the checks
 
 -- the tests on a call, with one on names of each kind
-abbrev pub even_tests : Option Site → ℕ → Header → ℕ → Members → List Test
-even_tests found block h last ms =
-    verb_tests ms ++ key_tests (verb_at ms) ms ++ name_barring (verb_at ms) found block ms ++ time_tests (verb_at ms) h last ms
+abbrev pub even_tests : Version → Option Site → ℕ → Header → ℕ → Members → List Test
+even_tests version found block h last ms =
+    verb_tests ms ++ key_tests version (verb_at ms) ms ++ name_barring (verb_at ms) found block ms ++ time_tests (verb_at ms) (units_in version h.unit ms) h last ms
 
-pub tests_alike : (p : Place) (found : Option Site) (block : ℕ) (h : Header) (last : ℕ) (ms : Members) → place_fault p (call_tests found block h last ms) ≡ place_fault p (even_tests found block h last ms)
+pub tests_alike : (p : Place) (version : Version) (found : Option Site) (block : ℕ) (h : Header) (last : ℕ) (ms : Members)
+    → place_fault p (call_tests version found block h last ms) ≡ place_fault p (even_tests version found block h last ms)
 unfolding verb_tests key_tests
-tests_alike p found block h last ms = rw (names_alike p (verb_at ms) found block ms (time_tests (verb_at ms) h last ms)) refl
+tests_alike p version found block h last ms = rw (names_alike p (verb_at ms) found block ms (time_tests (verb_at ms) (units_in version h.unit ms) h last ms)) refl
+
+-- the operation that is read
+abbrev pub op_read : Version → PlanTree → Header → List Call → Members → Op
+op_read version earlier h before ms = op_of (verb_at ms) (found_at earlier h before ms) (units_in version h.unit ms) ms
 
 -- what the checks before the names say of what is read
-read_keys : (earlier : PlanTree) (h : Header) (before : List Call) (ms : Members) → has_required (call_keys (verb_of (op_of (verb_at ms) (found_at earlier h before ms) h.unit ms))) ms ≡ true
-    → are_typed (call_keys (verb_of (op_of (verb_at ms) (found_at earlier h before ms) h.unit ms))) ms ≡ true → KeysPass (verb_at ms) ms
-read_keys earlier h before ms there typed =
-    let e = verb_of_read (verb_at ms) (found_at earlier h before ms) h.unit ms in
-    record { there = rw e at there; typed = rw e at typed }
+read_keys : (version : Version) (earlier : PlanTree) (h : Header) (before : List Call) (ms : Members) → has_required (call_keys version (verb_of (op_read version earlier h before ms))) ms ≡ true
+    → are_typed (call_keys version (verb_of (op_read version earlier h before ms))) ms ≡ true → KeysPass (verb_at ms) ms
+read_keys version earlier h before ms there typed =
+    let e = verb_of_read (verb_at ms) (found_at earlier h before ms) (units_in version h.unit ms) ms in
+    record { there = required_in_one version (verb_at ms) ms (rw e at there); typed = typed_in_one version (verb_at ms) ms (rw e at typed) }
 
-pub call_agrees : (earlier : PlanTree) (h : Header) (before : List Call) (ms : Members)
-    → Agree (written_call (found_at earlier h before ms) h ms) [] (even_tests (found_at earlier h before ms) (length earlier) h (last_offset before) ms) (call_checks earlier h before ms)
+pub call_agrees : (version : Version) (earlier : PlanTree) (h : Header) (before : List Call) (ms : Members)
+    → Agree (written_call version (found_at earlier h before ms) h ms) [] (even_tests version (found_at earlier h before ms) (length earlier) h (last_offset before) ms) (call_checks version earlier h before ms)
 unfolding verb_tests key_tests time_tests call_checks
-call_agrees earlier h before ms =
+call_agrees version earlier h before ms =
     let subs = submissions_before earlier h before in
     let found = find (name_at ms) subs in
     let verb = verb_at ms in
-    let is = verb_of_read verb found h.unit ms in
-    let at = span_at h.unit (codes "at") ms in (
+    let units = units_in version h.unit ms in
+    let is = verb_of_read verb found units ms in
+    let at = span_at units.at (codes "at") ms in (
       refl,
       λ b t. t,
       λ x b w. w,
@@ -433,45 +471,51 @@ call_agrees earlier h before ms =
             λ x b w. rw (verb_is ms (verb_of x.op) b.1.0).0 w,
             (
               refl,
-              λ b t. (rw is t, policy_read verb found h.unit ms (record { there = rw is at b.1.1.1.0; typed = t })),
+              λ b t. (rw is t, policy_read verb found units ms (record { there = required_in_one version verb ms (rw is at b.1.1.1.0); typed = typed_in_one version verb ms t })),
               λ x b w. rw (verb_is ms (verb_of x.op) b.1.0).0 w.0,
               (
                 refl,
-                λ b t. name_read verb found (length earlier) h.unit ms (read_keys earlier h before ms b.1.1.1.0 b.1.1.1.1.0.0) t,
-                λ x b w. rw (verb_is ms (verb_of x.op) b.1.0).0 (name_good ms x.op w),
+                λ b t. units_read version verb ms (rw is at b.1.1.0) (rw is at b.1.1.1.1.0.0) t,
+                λ x b w. units_are version ms w,
                 (
                   refl,
-                  λ b t. new_read verb subs h.unit ms t,
-                  λ x b w. rw (verb_is ms (verb_of x.op) b.1.0).0 (new_good subs ms x.op b.1.1.1.1.1.0 w),
+                  λ b t. name_read verb found (length earlier) units ms (read_keys version earlier h before ms b.1.1.1.0 b.1.1.1.1.0.0) t,
+                  λ x b w. rw (verb_is ms (verb_of x.op) b.1.0).0 (name_good ms x.op w),
                   (
                     refl,
-                    λ b t. target_read verb subs h.unit ms b.1.1.1.1.1.0 t,
-                    λ x b w. rw (verb_is ms (verb_of x.op) b.1.0).0 (target_good subs ms x.op w),
+                    λ b t. new_read verb subs units ms t,
+                    λ x b w. rw (verb_is ms (verb_of x.op) b.1.0).0 (new_good subs ms x.op b.1.1.1.1.1.1.0 w),
                     (
                       refl,
-                      λ b t. clear_read verb (length earlier) subs h.unit ms b.1.1.1.1.1.1.1.0 t,
-                      λ x b w. rw (verb_is ms (verb_of x.op) b.1.0).0 (clear_good (length earlier) subs ms x.op w),
+                      λ b t. target_read verb subs units ms b.1.1.1.1.1.1.0 t,
+                      λ x b w. rw (verb_is ms (verb_of x.op) b.1.0).0 (target_good subs ms x.op w),
                       (
                         refl,
-                        λ b t. (_, whole_fits (codes "at") ms (offset_typed verb ms (read_keys earlier h before ms b.1.1.1.0 b.1.1.1.1.0.0).typed) t),
-                        λ x b w. (whole_is (codes "at") ms w.0 w.1).0,
+                        λ b t. clear_read verb (length earlier) subs units ms b.1.1.1.1.1.1.1.1.0 t,
+                        λ x b w. rw (verb_is ms (verb_of x.op) b.1.0).0 (clear_good (length earlier) subs ms x.op w),
                         (
                           refl,
-                          λ b t. (let n = three (nat_le at longest) (are_spans_short verb h.unit ms) (nat_le (moment_in_last h at) longest) t in
-                              let whole = b.1.1.1.1.1.1.1.1.1.0 in (
-                                span_fits h.unit (codes "at") ms whole.0 whole.1 (le_from_test at longest n.0),
-                                spans_read verb found h.unit ms (read_keys earlier h before ms b.1.1.1.0 b.1.1.1.1.0.0) n.1,
-                                le_from_test (moment_in_last h at) longest n.2,
-                              )),
-                          λ x b w. (let a = span_is h.unit (codes "at") ms x.at w.0 in
-                              rw ((verb_is ms (verb_of x.op) b.1.0).0, a.1, test_from_le x.at longest a.0, spans_good h.unit ms x.op w.1, test_from_le (moment_in_last h x.at) longest w.2) refl),
+                          λ b t. (_, whole_fits (codes "at") ms (offset_typed verb ms (read_keys version earlier h before ms b.1.1.1.0 b.1.1.1.1.0.0).typed) t),
+                          λ x b w. (whole_is (codes "at") ms w.0 w.1).0,
                           (
                             refl,
-                            λ b t. (let n = and_parts (nat_le (last_offset before) at) (nat_le h.times 1 || nat_le at h.every) t in
-                                (le_from_test (last_offset before) at n.0, or_le h.times 1 at h.every n.1)),
-                            λ x b w. (let a = span_is h.unit (codes "at") ms x.at b.1.1.1.1.1.1.1.1.1.1.0.0 in
-                                rw (a.1, test_from_le (last_offset before) x.at w.0) (or_back h.times 1 x.at h.every w.1)),
-                            tt,
+                            λ b t. (let n = three (nat_le at longest) (are_spans_short verb units ms) (nat_le (moment_in_last h at) longest) t in
+                                let whole = b.1.1.1.1.1.1.1.1.1.1.0 in
+                                let beside = b.1.1.1.1.1.0 in (
+                                  span_fits version h.unit units.at (codes "at") ms whole.0 (at_unit version h.unit ms beside) whole.1 (le_from_test at longest n.0),
+                                  spans_read version verb found h.unit ms (read_keys version earlier h before ms b.1.1.1.0 b.1.1.1.1.0.0) beside n.1,
+                                  le_from_test (moment_in_last h at) longest n.2,
+                                )),
+                            λ x b w. (let a = offset_is version h.unit ms x.at w.0 in
+                                rw ((verb_is ms (verb_of x.op) b.1.0).0, a.1, test_from_le x.at longest a.0, spans_good version h.unit ms x.op w.1, test_from_le (moment_in_last h x.at) longest w.2) refl),
+                            (
+                              refl,
+                              λ b t. (let n = and_parts (nat_le (last_offset before) at) (nat_le h.times 1 || nat_le at h.every) t in
+                                  (le_from_test (last_offset before) at n.0, or_le h.times 1 at h.every n.1)),
+                              λ x b w. (let a = offset_is version h.unit ms x.at b.1.1.1.1.1.1.1.1.1.1.1.0.0 in
+                                  rw (a.1, test_from_le (last_offset before) x.at w.0) (or_back h.times 1 x.at h.every w.1)),
+                              tt,
+                            ),
                           ),
                         ),
                       ),
@@ -487,26 +531,27 @@ call_agrees earlier h before ms =
 
 -- ---- what passes is what is read
 
-op_is : (ms : Members) (found : Option Site) (unit : TimeUnit) (op : Op) (subs : List (List ℕ × Site)) → HasPolicy ms op → HasName ms op → found ≡ find (name_at ms) subs → HasTarget subs ms op → HasSpans unit ms op
-    → op ≡ op_of (verb_of op) found unit ms
+op_is : (version : Version) (ms : Members) (found : Option Site) (block : TimeUnit) (op : Op) (subs : List (List ℕ × Site)) → HasPolicy ms op → HasName ms op → found ≡ find (name_at ms) subs → HasTarget subs ms op
+    → HasSpans version block ms op → op ≡ op_of (verb_of op) found (units_in version block ms) ms
 unfolding op_of
-op_is ms found unit (ops.Schedule name delay) subs p n f t s = rw ((name_is ms name n).0, (delay_is unit (codes "delay") ms delay s).0) refl
-op_is ms found unit (ops.Execute name) subs p n f t s = rw (name_is ms name n).0 refl
-op_is ms found unit (ops.Rate name first period) subs p n f t s =
-    rw ((name_is ms name n).0, (delay_is unit (codes "first") ms first s.0).0, (period_is unit (codes "period") ms period s.1).0) refl
-op_is ms found unit (ops.Fixed name first delay) subs p n f t s =
-    rw ((name_is ms name n).0, (delay_is unit (codes "first") ms first s.0).0, (period_is unit (codes "delay") ms delay s.1).0) refl
-op_is ms found unit (ops.Cancel target) subs p n f t s = rw (f, (name_is ms t.1.0 t.1.1).0, t.1.2, t.2) refl
-op_is ms found unit (ops.Policy which value) subs p n f t s = rw (p.0.1, p.0.2, p.1) refl
-op_is ms found unit ops.Shutdown subs p n f t s = refl
-op_is ms found unit ops.ShutdownNow subs p n f t s = refl
-op_is ms found unit ops.Ask subs p n f t s = refl
+op_is version ms found block (ops.Schedule name delay) subs p n f t s = rw ((name_is ms name n).0, (delay_is version block (codes "delay") ms delay s).0) refl
+op_is version ms found block (ops.Execute name) subs p n f t s = rw (name_is ms name n).0 refl
+op_is version ms found block (ops.Rate name first period) subs p n f t s =
+    rw ((name_is ms name n).0, (delay_is version block (codes "first") ms first s.0).0, (period_is version block (codes "period") ms period s.1).0) refl
+op_is version ms found block (ops.Fixed name first delay) subs p n f t s =
+    rw ((name_is ms name n).0, (delay_is version block (codes "first") ms first s.0).0, (period_is version block (codes "delay") ms delay s.1).0) refl
+op_is version ms found block (ops.Cancel target) subs p n f t s = rw (f, (name_is ms t.1.0 t.1.1).0, t.1.2, t.2) refl
+op_is version ms found block (ops.Policy which value) subs p n f t s = rw (p.0.1, p.0.2, p.1) refl
+op_is version ms found block ops.Shutdown subs p n f t s = refl
+op_is version ms found block ops.ShutdownNow subs p n f t s = refl
+op_is version ms found block ops.Ask subs p n f t s = refl
 
-pub call_is : (earlier : PlanTree) (h : Header) (before : List Call) (ms : Members) (c : Call) → Passes (call_checks earlier h before ms) c → c ≡ written_call (found_at earlier h before ms) h ms
+pub call_is : (version : Version) (earlier : PlanTree) (h : Header) (before : List Call) (ms : Members) (c : Call) → Passes (call_checks version earlier h before ms) c
+    → c ≡ written_call version (found_at earlier h before ms) h ms
 unfolding call_checks
-call_is earlier h before ms c b =
+call_is version earlier h before ms c b =
     let subs = submissions_before earlier h before in
     let verb = (verb_is ms (verb_of c.op) b.1.0).0 in
-    let a = span_is h.unit (codes "at") ms c.at b.1.1.1.1.1.1.1.1.1.1.0.0 in
-    let op = op_is ms (found_at earlier h before ms) h.unit c.op subs b.1.1.1.1.0.1 b.1.1.1.1.1.0 refl b.1.1.1.1.1.1.1.0 b.1.1.1.1.1.1.1.1.1.1.0.1 in
+    let a = offset_is version h.unit ms c.at b.1.1.1.1.1.1.1.1.1.1.1.0.0 in
+    let op = op_is version ms (found_at earlier h before ms) h.unit c.op subs b.1.1.1.1.0.1 b.1.1.1.1.1.1.0 refl b.1.1.1.1.1.1.1.1.0 b.1.1.1.1.1.1.1.1.1.1.1.0.1 in
     rw (a.1, verb, ← op) refl

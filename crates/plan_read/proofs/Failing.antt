@@ -54,6 +54,11 @@ third e p a b c d x y h = stops_here e p (a ++ b ++ c) d (rw (goes_on p (a ++ b)
 pub last : (p : Place) (a b c d : List Test) → place_fault p a ≡ None → place_fault p b ≡ None → place_fault p c ≡ None → place_fault p (a ++ b ++ c ++ d) ≡ place_fault p d
 last p a b c d x y z = goes_on p (a ++ b ++ c) d (goes_on p (a ++ b) c (goes_on p a b x ∙ y) ∙ z)
 
+-- it decides of what stops a function too
+pub fourth : (e : ReadError) (p : Place) (a b c d : List Test) → place_fault p a ≡ None → place_fault p b ≡ None → place_fault p c ≡ None → FailsWith e (place_fault p d)
+    → FailsWith e (place_fault p (a ++ b ++ c ++ d))
+fourth e p a b c d x y z h = rw (last p a b c d x y z) h
+
 -- each of two lists passes
 pub parts : (p : Place) (a b : List Test) → place_fault p (a ++ b) ≡ None → (place_fault p a ≡ None) × (place_fault p b ≡ None)
 parts p [] b h = (refl, h)

@@ -8,7 +8,8 @@ use Rattle.sched_time.specs.declared.unit.Unit.{Unit as TimeUnit}
 use Rattle.plan_read.specs.declared.keys.Shape.TheVariants.{Text, Integer, Tables}
 use Rattle.plan_read.specs.Keys.{fits, are_tables}
 use Rattle.plan_read.specs.own.Values.{integer_or, text_or, tables_in, tables_at, span_at, is_negative}
-use Rattle.plan_read.specs.Writes.{IntegerAt, TextAt, HoldTables, TablesAt, WholeAt, SpanAt}
+use Rattle.plan_read.specs.declared.versions.Version.{Version}
+use Rattle.plan_read.specs.Writes.{IntegerAt, TextAt, HoldTables, TablesAt, WholeAt, UnitOf, SpanAt}
 
 -- ---- integers and texts
 
@@ -64,12 +65,13 @@ pub whole_is : (key : List ℕ) (ms : Members) (n : ℕ) → WholeAt key ms n �
 whole_is key ms n w = let i = integer_is (pos 0) key ms (pos n) w in (rw i.1 (not_negative n), i.1)
 
 -- a whole number within the limit is a span
-pub span_fits : (unit : TimeUnit) (key : List ℕ) (ms : Members) (n : ℕ) → WholeAt key ms n → span_at unit key ms ≤ longest → SpanAt unit key ms (span_at unit key ms)
-span_fits unit key ms n w short = (n, w, rw (whole_is key ms n w).1 refl, short)
+pub span_fits : (version : Version) (block unit : TimeUnit) (key : List ℕ) (ms : Members) (n : ℕ) → UnitOf version block key ms unit → WholeAt key ms n → span_at unit key ms ≤ longest
+    → SpanAt version block key ms (span_at unit key ms)
+span_fits version block unit key ms n u w short = (unit, u, n, w, rw (whole_is key ms n w).1 refl, short)
 
--- a span that stands at a key is within the limit, and is what is read there
-pub span_is : (unit : TimeUnit) (key : List ℕ) (ms : Members) (n : ℕ) → SpanAt unit key ms n → (n ≤ longest) × (span_at unit key ms ≡ n)
-span_is unit key ms n s = (s.3, rw (whole_is key ms s.0 s.1).1 (sym s.2))
+-- a span that stands at a key is within the limit, and is what is read there in its unit
+pub span_is : (version : Version) (block : TimeUnit) (key : List ℕ) (ms : Members) (n : ℕ) (s : SpanAt version block key ms n) → (n ≤ longest) × (span_at s.0 key ms ≡ n)
+span_is version block key ms n s = (s.5, rw (whole_is key ms s.2 s.3).1 (sym s.4))
 
 -- ---- tables
 

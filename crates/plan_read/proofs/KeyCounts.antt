@@ -18,6 +18,8 @@ use Rattle.toml.specs.View.{view, members_view}
 use Rattle.plan_read.specs.declared.keys.Key.{Key as CodeKey}
 use Rattle.plan_read.specs.declared.verbs.Verb.{Verb}
 use Rattle.plan_read.specs.declared.verbs.Verb.TheVariants as verbs
+use Rattle.plan_read.specs.declared.versions.Version.{Version}
+use Rattle.plan_read.specs.declared.versions.Version.TheVariants.{One, Two}
 use Rattle.plan_read.specs.Keys.{Key, is_key, has_only, top_keys, header_keys, call_keys}
 use Rattle.plan_read.specs.own.Rows.{are_apart, key_as_defined, as_defined}
 use Rattle.plan_read.proofs.RowLaw.{Entry}
@@ -30,11 +32,11 @@ unequal Equal d rest h = absurd (cc)
 unequal Greater d rest h = refl
 
 -- another word is looked for behind a member
-other_word : (v w : List ℕ) (d : Data) (ms : Members) → bytes_eq v w ≡ false → get_member v (member w d ms) ≡ get_member v ms
+pub other_word : (v w : List ℕ) (d : Data) (ms : Members) → bytes_eq v w ≡ false → get_member v (member w d ms) ≡ get_member v ms
 other_word v w d ms apart = unequal (slice_cmp nat_cmp v w) d (get_member v ms) (is_eq-slice_cmp v w ∙ apart)
 
 -- a member is found at its word
-own_word : (w : List ℕ) (d : Data) (ms : Members) → get_member w (member w d ms) ≡ Some d
+pub own_word : (w : List ℕ) (d : Data) (ms : Members) → get_member w (member w d ms) ≡ Some d
 own_word w d ms = rw (tied_itself nat_list_cmp_total w) refl
 
 -- how many of these keys are there
@@ -140,16 +142,32 @@ count_as_defined test (k ∷ keys) =
 pub top_apart : are_apart top_keys ≡ true
 top_apart = refl
 
-pub header_apart : are_apart header_keys ≡ true
-header_apart = refl
+pub header_apart : (version : Version) → are_apart (header_keys version) ≡ true
+header_apart One = refl
+header_apart Two = refl
 
-pub call_apart : (verb : Verb) → are_apart (call_keys verb) ≡ true
-call_apart verbs.Schedule = refl
-call_apart verbs.Execute = refl
-call_apart verbs.Rate = refl
-call_apart verbs.Fixed = refl
-call_apart verbs.Cancel = refl
-call_apart verbs.Policy = refl
-call_apart verbs.Shutdown = refl
-call_apart verbs.ShutdownNow = refl
-call_apart verbs.Ask = refl
+call_apart_one : (verb : Verb) → are_apart (call_keys One verb) ≡ true
+call_apart_one verbs.Schedule = refl
+call_apart_one verbs.Execute = refl
+call_apart_one verbs.Rate = refl
+call_apart_one verbs.Fixed = refl
+call_apart_one verbs.Cancel = refl
+call_apart_one verbs.Policy = refl
+call_apart_one verbs.Shutdown = refl
+call_apart_one verbs.ShutdownNow = refl
+call_apart_one verbs.Ask = refl
+
+call_apart_two : (verb : Verb) → are_apart (call_keys Two verb) ≡ true
+call_apart_two verbs.Schedule = refl
+call_apart_two verbs.Execute = refl
+call_apart_two verbs.Rate = refl
+call_apart_two verbs.Fixed = refl
+call_apart_two verbs.Cancel = refl
+call_apart_two verbs.Policy = refl
+call_apart_two verbs.Shutdown = refl
+call_apart_two verbs.ShutdownNow = refl
+call_apart_two verbs.Ask = refl
+
+pub call_apart : (version : Version) (verb : Verb) → are_apart (call_keys version verb) ≡ true
+call_apart One verb = call_apart_one verb
+call_apart Two verb = call_apart_two verb

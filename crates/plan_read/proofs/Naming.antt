@@ -6,7 +6,8 @@ use Rattle.std.proofs.lemmas.Slice.Eq.{bytes_eq-Decides}
 use Rattle.std.specs.Borrow.{Bor}
 use Rattle.std.specs.BTreeMap.{BTreeMap}
 use Rattle.toml.specs.Data.{Members}
-use Rattle.sched_time.specs.declared.unit.Unit.{Unit as TimeUnit}
+use Rattle.plan_read.specs.declared.units.Units.{Units}
+use Rattle.plan_read.specs.declared.versions.Version.{Version}
 use Rattle.plan_read.specs.declared.faults.Place.{Place}
 use Rattle.plan_read.specs.declared.faults.ReadError.{ReadError}
 use Rattle.plan_read.specs.declared.plans.Call.{Call}
@@ -17,7 +18,7 @@ use Rattle.plan_read.specs.declared.verbs.Verb.TheVariants as verbs
 use Rattle.plan_read.specs.own.Walk.{place_fault, call_tests, verb_tests, key_tests, new_name_tests, name_tests, time_tests}
 use Rattle.plan_read.specs.Plans.{BlockTree, PlanTree, name_of, is_submission, tasks_after, tasks_after_calls, named, site, submissions_of, submissions_from, submissions_before, find}
 use Rattle.plan_read.specs.own.Reads.{found_in, Knows, Reads}
-use Rattle.plan_read.specs.own.Values.{verb_at, op_of, written_call, name_at}
+use Rattle.plan_read.specs.own.Values.{verb_at, op_of, written_call, name_at, units_in}
 use Rattle.plan_read.specs.own.Values.{submits}
 use Rattle.plan_read.proofs.Failing.{all_pass, parts}
 
@@ -90,8 +91,8 @@ fresh_name : (p : Place) (found : Option Site) (ms : Members) → place_fault p 
 fresh_name p None ms h = refl
 fresh_name p (Some x) ms h = absurd (let e = (all_pass p (new_name_tests (Some x) ms) h).1.0 in cc)
 
-fresh_by_verb : (p : Place) (verb : Verb) (found : Option Site) (block : ℕ) (unit : TimeUnit) (ms : Members) → place_fault p (name_tests verb found block ms) ≡ None
-    → is_some (name_of (op_of verb found unit ms)) ≡ true → (name_of (op_of verb found unit ms) ≡ Some (name_at ms)) × (found ≡ None)
+fresh_by_verb : (p : Place) (verb : Verb) (found : Option Site) (block : ℕ) (units : Units) (ms : Members) → place_fault p (name_tests verb found block ms) ≡ None
+    → is_some (name_of (op_of verb found units ms)) ≡ true → (name_of (op_of verb found units ms) ≡ Some (name_at ms)) × (found ≡ None)
 unfolding name_tests op_of
 fresh_by_verb p verbs.Schedule found block unit ms h s = (refl, fresh_name p found ms h)
 fresh_by_verb p verbs.Execute found block unit ms h s = (refl, fresh_name p found ms h)
@@ -100,12 +101,12 @@ fresh_by_verb p verbs.Fixed found block unit ms h s = (refl, fresh_name p found 
 fresh_by_verb p verb found block unit ms h s = absurd (cc)
 
 -- an accepted call that submits has a new name
-pub fresh : (p : Place) (found : Option Site) (block : ℕ) (h : Header) (last : ℕ) (ms : Members) (c : Call) → place_fault p (call_tests found block h last ms) ≡ None
-    → c ≡ written_call found h ms → is_submission c.op ≡ true → (name_of c.op ≡ Some (name_at ms)) × (found ≡ None)
-fresh p found block h last ms c passed is s =
-    let a = parts p (verb_tests ms ++ key_tests (verb_at ms) ms ++ name_tests (verb_at ms) found block ms) (time_tests (verb_at ms) h last ms) passed in
-    let b = parts p (verb_tests ms ++ key_tests (verb_at ms) ms) (name_tests (verb_at ms) found block ms) a.0 in
-    let r = fresh_by_verb p (verb_at ms) found block h.unit ms b.1 (subst (λ (k : Call). is_some (name_of k.op) ≡ true) is s) in
+pub fresh : (p : Place) (version : Version) (found : Option Site) (block : ℕ) (h : Header) (last : ℕ) (ms : Members) (c : Call) → place_fault p (call_tests version found block h last ms) ≡ None
+    → c ≡ written_call version found h ms → is_submission c.op ≡ true → (name_of c.op ≡ Some (name_at ms)) × (found ≡ None)
+fresh p version found block h last ms c passed is s =
+    let a = parts p (verb_tests ms ++ key_tests version (verb_at ms) ms ++ name_tests (verb_at ms) found block ms) (time_tests (verb_at ms) (units_in version h.unit ms) h last ms) passed in
+    let b = parts p (verb_tests ms ++ key_tests version (verb_at ms) ms) (name_tests (verb_at ms) found block ms) a.0 in
+    let r = fresh_by_verb p (verb_at ms) found block (units_in version h.unit ms) ms b.1 (subst (λ (k : Call). is_some (name_of k.op) ≡ true) is s) in
     (subst (λ (k : Call). name_of k.op ≡ Some (name_at ms)) (sym is) r.0, r.1)
 
 -- ---- the map of names
@@ -123,23 +124,23 @@ pub knows-unnamed : (names : BTreeMap (Bor (List ℕ)) Site) (earlier : PlanTree
     → Knows names (submissions_before earlier h cs) → is_submission c.op ≡ false → Knows names (submissions_before earlier h (cs ++ c ∷ []))
 knows-unnamed names earlier h cs c known e q = known q ∙ sym (unnamed-one_more earlier h cs c q e)
 
-submits-op : (verb : Verb) (found : Option Site) (unit : TimeUnit) (ms : Members) → is_submission (op_of verb found unit ms) ≡ submits verb
+submits-op : (verb : Verb) (found : Option Site) (units : Units) (ms : Members) → is_submission (op_of verb found units ms) ≡ submits verb
 unfolding op_of
 submits-op verbs.Schedule found unit ms = refl
 submits-op verb found unit ms = refl
 
 -- after a call that was read, whose name was added where it submits
-pub knows-read : (names new : BTreeMap (Bor (List ℕ)) Site) (earlier : PlanTree) (h : Header) (cs : List Call) (s : Site) (found : Option Site) (p : Place) (last : ℕ) (ms : Members) (r : Result Call ReadError)
+pub knows-read : (names new : BTreeMap (Bor (List ℕ)) Site) (earlier : PlanTree) (h : Header) (cs : List Call) (s : Site) (found : Option Site) (p : Place) (version : Version) (last : ℕ) (ms : Members) (r : Result Call ReadError)
     → Knows names (submissions_before earlier h cs) → found ≡ find (name_at ms) (submissions_before earlier h cs) → s ≡ site (length earlier) h (tasks_after_calls 0 cs)
     → OnOk r ((q : List ℕ) → found_in new q ≡ (if submits (verb_at ms) && bytes_eq (name_at ms) q then Some s else found_in names q))
-    → Reads (λ (c : Call). c) r (place_fault p (call_tests found (length earlier) h last ms)) (written_call found h ms)
+    → Reads (λ (c : Call). c) r (place_fault p (call_tests version found (length earlier) h last ms)) (written_call version found h ms)
     → IfOk r (λ c. Knows new (submissions_before earlier h (cs ++ c ∷ [])))
-knows-read names new earlier h cs s found p last ms (Err e) known is place added reads = tt
-knows-read names new earlier h cs s found p last ms (Ok c) known is place added reads =
-    let op : is_submission c.op ≡ submits (verb_at ms) = subst (λ (k : Call). is_submission k.op ≡ submits (verb_at ms)) (sym reads.1) (submits-op (verb_at ms) found h.unit ms) in
+knows-read names new earlier h cs s found p version last ms (Err e) known is place added reads = tt
+knows-read names new earlier h cs s found p version last ms (Ok c) known is place added reads =
+    let op : is_submission c.op ≡ submits (verb_at ms) = subst (λ (k : Call). is_submission k.op ≡ submits (verb_at ms)) (sym reads.1) (submits-op (verb_at ms) found (units_in version h.unit ms) ms) in
     elim (cases_Bool (submits (verb_at ms))) [
       | inl t ↦ (
-          let n = fresh p found (length earlier) h last ms c reads.0 reads.1 (op ∙ t) in
+          let n = fresh p version found (length earlier) h last ms c reads.0 reads.1 (op ∙ t) in
           knows-named names new earlier h cs c (name_at ms) s known n.0 (sym is ∙ n.1) place (λ q. rw t at (added q)))
       | inr f ↦ (
           let same : Knows names (submissions_before earlier h (cs ++ c ∷ [])) = knows-unnamed names earlier h cs c known (op ∙ f) in

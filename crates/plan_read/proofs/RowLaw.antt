@@ -44,6 +44,11 @@ named_by_word names.Unit = refl
 named_by_word names.Times = refl
 named_by_word names.Every = refl
 named_by_word names.Call = refl
+named_by_word names.AtUnit = refl
+named_by_word names.EveryUnit = refl
+named_by_word names.DelayUnit = refl
+named_by_word names.FirstUnit = refl
+named_by_word names.PeriodUnit = refl
 
 -- a word that is a name's names it
 pub names_key : (w : List ℕ) (k : KeyName) → w ≡ word_of k → Some k ≡ key_of_word w
@@ -53,7 +58,7 @@ names_key w k is = sym (ap key_of_word is ∙ named_by_word k)
 pub names_none : (w : List ℕ) → ((k : KeyName) → w ≢ word_of k) → None ≡ key_of_word w
 names_none w other =
     let apart = λ (k : KeyName). differs w (word_of k) (other k) in
-    rw (apart names.Op, apart names.At, apart names.Name, apart names.Delay, apart names.First, apart names.Period, apart names.Which, apart names.Value, apart names.Version, apart names.Block, apart names.Unit, apart names.Times, apart names.Every, apart names.Call) refl
+    rw (apart names.Op, apart names.At, apart names.Name, apart names.Delay, apart names.First, apart names.Period, apart names.Which, apart names.Value, apart names.Version, apart names.Block, apart names.Unit, apart names.Times, apart names.Every, apart names.Call, apart names.AtUnit, apart names.EveryUnit, apart names.DelayUnit, apart names.FirstUnit, apart names.PeriodUnit) refl
 
 one_word : (w : List ℕ) (j k : KeyName) (rest : Option KeyName) → (rest ≡ Some k → w ≡ word_of k) → (if bytes_eq w (word_of j) then Some j else rest) ≡ Some k → w ≡ word_of k
 one_word w j k rest more h =
@@ -65,7 +70,7 @@ one_word w j k rest more h =
 -- the word that names a key is its word
 pub word_is : (w : List ℕ) (k : KeyName) → key_of_word w ≡ Some k → w ≡ word_of k
 word_is w k h =
-    one_word w names.Op k _ (one_word w names.At k _ (one_word w names.Name k _ (one_word w names.Delay k _ (one_word w names.First k _ (one_word w names.Period k _ (one_word w names.Which k _ (one_word w names.Value k _ (one_word w names.Version k _ (one_word w names.Block k _ (one_word w names.Unit k _ (one_word w names.Times k _ (one_word w names.Every k _ (one_word w names.Call k None (λ e. absurd (cc))))))))))))))) h
+    one_word w names.Op k _ (one_word w names.At k _ (one_word w names.Name k _ (one_word w names.Delay k _ (one_word w names.First k _ (one_word w names.Period k _ (one_word w names.Which k _ (one_word w names.Value k _ (one_word w names.Version k _ (one_word w names.Block k _ (one_word w names.Unit k _ (one_word w names.Times k _ (one_word w names.Every k _ (one_word w names.Call k _ (one_word w names.AtUnit k _ (one_word w names.EveryUnit k _ (one_word w names.DelayUnit k _ (one_word w names.FirstUnit k _ (one_word w names.PeriodUnit k None (λ e. absurd (cc)))))))))))))))))))) h
 
 -- names of one word are one
 pub one_name : (j k : KeyName) → word_of j ≡ word_of k → j ≡ k
@@ -75,7 +80,7 @@ one_name j k is = let e : Some j ≡ Some k = sym (named_by_word j) ∙ (ap key_
 
 -- all names, each at its place
 all_names : List KeyName
-all_names = names.Op ∷ names.At ∷ names.Name ∷ names.Delay ∷ names.First ∷ names.Period ∷ names.Which ∷ names.Value ∷ names.Version ∷ names.Block ∷ names.Unit ∷ names.Times ∷ names.Every ∷ names.Call ∷ []
+all_names = names.Op ∷ names.At ∷ names.Name ∷ names.Delay ∷ names.First ∷ names.Period ∷ names.Which ∷ names.Value ∷ names.Version ∷ names.Block ∷ names.Unit ∷ names.Times ∷ names.Every ∷ names.Call ∷ names.AtUnit ∷ names.EveryUnit ∷ names.DelayUnit ∷ names.FirstUnit ∷ names.PeriodUnit ∷ []
 
 -- each name is at its place
 stands_at : (k : KeyName) → get_or all_names (place k) names.Op ≡ k
@@ -94,9 +99,14 @@ stands_at names.Unit = refl
 stands_at names.Times = refl
 stands_at names.Every = refl
 stands_at names.Call = refl
+stands_at names.AtUnit = refl
+stands_at names.EveryUnit = refl
+stands_at names.DelayUnit = refl
+stands_at names.FirstUnit = refl
+stands_at names.PeriodUnit = refl
 
 -- there is a slot for each name
-pub within : (k : KeyName) → place k < 14
+pub within : (k : KeyName) → place k < 19
 within names.Op = omega arith
 within names.At = omega arith
 within names.Name = omega arith
@@ -111,6 +121,11 @@ within names.Unit = omega arith
 within names.Times = omega arith
 within names.Every = omega arith
 within names.Call = omega arith
+within names.AtUnit = omega arith
+within names.EveryUnit = omega arith
+within names.DelayUnit = omega arith
+within names.FirstUnit = omega arith
+within names.PeriodUnit = omega arith
 
 -- names at one place are one
 one_place : (j k : KeyName) → place j ≡ place k → j ≡ k
@@ -149,11 +164,11 @@ found_there (first ∷ done) e more h =
 -- ---- one entry more
 
 -- before any entry
-pub nothing_yet : (all : List Entry) (k : KeyName) → Sees all [] (slot k (replicate 14 None)) (word_of k)
-nothing_yet all k = rw (get_or-replicate {A = Option (Bor Value)} 14 (place k) None None (within k)) refl
+pub nothing_yet : (all : List Entry) (k : KeyName) → Sees all [] (slot k (replicate 19 None)) (word_of k)
+nothing_yet all k = rw (get_or-replicate {A = Option (Bor Value)} 19 (place k) None None (within k)) refl
 
 -- what the slots have at a name after a value was put at another
-pub slot_set : (j k : KeyName) (v : Bor Value) (slots : List (Option (Bor Value))) → length slots ≡ 14
+pub slot_set : (j k : KeyName) (v : Bor Value) (slots : List (Option (Bor Value))) → length slots ≡ 19
     → slot k (set slots (place j) (Some v)) ≡ (if bytes_eq (word_of k) (word_of j) then Some v else slot k slots)
 slot_set j k v slots size =
     elim (cases_Bool (bytes_eq (word_of k) (word_of j))) [
@@ -179,7 +194,7 @@ passed_over all done e r none h k =
     ]
 
 -- after an entry whose value was kept
-pub kept : (all done : List Entry) (e : Entry) (more : List Entry) (r : List (Option (Bor Value))) (j : KeyName) (v : Bor Value) → length r ≡ 14 → all ≡ done ++ e ∷ more → IsStrictlySortedBy string_cmp (keys_of all)
+pub kept : (all done : List Entry) (e : Entry) (more : List Entry) (r : List (Option (Bor Value))) (j : KeyName) (v : Bor Value) → length r ≡ 19 → all ≡ done ++ e ∷ more → IsStrictlySortedBy string_cmp (keys_of all)
     → key_of_word (string_bytes e.0) ≡ Some j → v.now ≡ e.1 → ((k : KeyName) → Sees all done (slot k r) (word_of k))
     → (k : KeyName) → Sees all (done ++ e ∷ []) (slot k (set r (place j) (Some v))) (word_of k)
 kept all done e more r j v size is sorted named same h k =

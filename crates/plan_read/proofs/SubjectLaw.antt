@@ -10,6 +10,7 @@ use Rattle.plan_read.specs.declared.faults.ReadError.{ReadError}
 use Rattle.plan_read.specs.declared.faults.ReadError.TheVariants as errors
 use Rattle.plan_read.specs.declared.plans.Header.{Header}
 use Rattle.plan_read.specs.declared.sites.Site.{Site}
+use Rattle.plan_read.specs.declared.units.Units.{Units}
 use Rattle.plan_read.specs.declared.verbs.Verb.{Verb}
 use Rattle.plan_read.specs.declared.verbs.Verb.TheVariants as verbs
 use Rattle.plan_read.specs.own.Reads.{FailsWith}
@@ -30,27 +31,27 @@ subject_verb verbs.ShutdownNow found ms = refl
 subject_verb verbs.Ask found ms = refl
 
 -- the call on a table's subject is the one that the table writes
-pub subject_call : (verb : Verb) (found : Option Site) (h : Header) (ms : Members) → call_with (subject_of verb found ms) h ms ≡ timed_call verb found h ms
+pub subject_call : (verb : Verb) (found : Option Site) (units : Units) (ms : Members) → call_with (subject_of verb found ms) units ms ≡ timed_call verb found units ms
 unfolding op_of
-subject_call verbs.Schedule found h ms = refl
-subject_call verbs.Execute found h ms = refl
-subject_call verbs.Rate found h ms = refl
-subject_call verbs.Fixed found h ms = refl
-subject_call verbs.Cancel found h ms = refl
-subject_call verbs.Policy found h ms = refl
-subject_call verbs.Shutdown found h ms = refl
-subject_call verbs.ShutdownNow found h ms = refl
-subject_call verbs.Ask found h ms = refl
+subject_call verbs.Schedule found units ms = refl
+subject_call verbs.Execute found units ms = refl
+subject_call verbs.Rate found units ms = refl
+subject_call verbs.Fixed found units ms = refl
+subject_call verbs.Cancel found units ms = refl
+subject_call verbs.Policy found units ms = refl
+subject_call verbs.Shutdown found units ms = refl
+subject_call verbs.ShutdownNow found units ms = refl
+subject_call verbs.Ask found units ms = refl
 
 -- where the offset is not negative and short, the spans of the operation decide
-pub spans_halt : (e : ReadError) (p : Place) (verb : Verb) (h : Header) (last : ℕ) (ms : Members)
-    → int_lt (integer_or (pos 0) (codes "at") ms) (pos 0) ≡ false → nat_le (span_at h.unit (codes "at") ms) longest ≡ true
-    → FailsWith e (if are_spans_short verb h.unit ms then None else Some (record { kind = TooLarge; block = p.block; call = p.call }))
-    → FailsWith e (place_fault p (time_tests verb h last ms))
+pub spans_halt : (e : ReadError) (p : Place) (verb : Verb) (units : Units) (h : Header) (last : ℕ) (ms : Members)
+    → int_lt (integer_or (pos 0) (codes "at") ms) (pos 0) ≡ false → nat_le (span_at units.at (codes "at") ms) longest ≡ true
+    → FailsWith e (if are_spans_short verb units ms then None else Some (record { kind = TooLarge; block = p.block; call = p.call }))
+    → FailsWith e (place_fault p (time_tests verb units h last ms))
 unfolding time_tests
-spans_halt errors.Memory p verb h last ms forward short halts = tt
-spans_halt (errors.Fault e) p verb h last ms forward short halts =
-    elim (cases_Bool (are_spans_short verb h.unit ms)) [
+spans_halt errors.Memory p verb units h last ms forward short halts = tt
+spans_halt (errors.Fault e) p verb units h last ms forward short halts =
+    elim (cases_Bool (are_spans_short verb units ms)) [
       | inl t ↦ absurd (let e = rw t at halts in cc)
       | inr f ↦ rw (forward, short, f) (rw f at halts)
     ]

@@ -54,12 +54,16 @@ text_agrees text = (
   ),
 )
 
-text_is : (text : List ℕ) (tree : Members) → Passes (text_checks text) tree → tree_at text ≡ tree
+pub text_is : (text : List ℕ) (tree : Members) → Passes (text_checks text) tree → tree_at text ≡ tree
 unfolding text_checks
 text_is text tree b = rw b.1.0 refl
 
+-- where a text as a whole has no fault, its tree passes the checks
+pub text_passes : (text : List ℕ) → (place_fault top (length_tests text) or_else place_fault top (toml_tests text)) ≡ None → Passes (text_checks text) (tree_at text)
+text_passes text none = agree_passes top (tree_at text) [] (length_tests text ++ toml_tests text) (text_checks text) (text_agrees text) tt (sym (both_tests top text) ∙ none)
+
 -- where two places have no fault, and then a third
-three_faults : (x y z : Option PlanFault) → (x or_else y or_else z) ≡ ((x or_else y) or_else z)
+pub three_faults : (x y z : Option PlanFault) → (x or_else y or_else z) ≡ ((x or_else y) or_else z)
 three_faults None y z = refl
 three_faults (Some f) y z = refl
 

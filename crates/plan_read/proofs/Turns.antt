@@ -8,6 +8,7 @@ use Rattle.toml.specs.declared.value.Value.{Value}
 use Rattle.plan_read.specs.declared.faults.ReadError.{ReadError}
 use Rattle.plan_read.specs.declared.plans.Call.{Call}
 use Rattle.plan_read.specs.declared.plans.Header.{Header}
+use Rattle.plan_read.specs.declared.versions.Version.{Version}
 use Rattle.plan_read.specs.own.Walk.{calls_fault, call_fault, blocks_fault, block_fault}
 use Rattle.plan_read.specs.Keys.{are_tables}
 use Rattle.plan_read.specs.Plans.{BlockTree, PlanTree}
@@ -38,25 +39,25 @@ is_table (v ∷ vs) (suc i) d h all = is_table vs i d (omega arith) (and_parts (
 -- ---- the calls of a block
 
 -- a call without a fault is added, and the fault and the calls of the whole block are those from the next table on
-pub call_turn : (earlier : PlanTree) (h : Header) (before : List Call) (tables rest : List Members) (ms : Members) (c : Call) → tables ≡ ms ∷ rest
-    → call_fault earlier h before ms ≡ None → c ≡ next_call earlier h before ms
-    → (calls_fault earlier h (before ++ c ∷ []) rest ≡ calls_fault earlier h before tables) × (calls_through earlier h (before ++ c ∷ []) rest ≡ calls_through earlier h before tables)
-call_turn earlier h before tables rest ms c e none is = rw (e, is) (sym (next_decides (call_fault earlier h before ms) _ none), refl)
+pub call_turn : (version : Version) (earlier : PlanTree) (h : Header) (before : List Call) (tables rest : List Members) (ms : Members) (c : Call) → tables ≡ ms ∷ rest
+    → call_fault version earlier h before ms ≡ None → c ≡ next_call version earlier h before ms
+    → (calls_fault version earlier h (before ++ c ∷ []) rest ≡ calls_fault version earlier h before tables) × (calls_through version earlier h (before ++ c ∷ []) rest ≡ calls_through version earlier h before tables)
+call_turn version earlier h before tables rest ms c e none is = rw (e, is) (sym (next_decides (call_fault version earlier h before ms) _ none), refl)
 
 -- the fault of a call is that of the calls from it on
-pub call_halts : (e : ReadError) (earlier : PlanTree) (h : Header) (before : List Call) (tables rest : List Members) (ms : Members) → tables ≡ ms ∷ rest
-    → FailsWith e (call_fault earlier h before ms) → FailsWith e (calls_fault earlier h before tables)
-call_halts e earlier h before tables rest ms is s = rw is (first_decides e (call_fault earlier h before ms) _ s)
+pub call_halts : (e : ReadError) (version : Version) (earlier : PlanTree) (h : Header) (before : List Call) (tables rest : List Members) (ms : Members) → tables ≡ ms ∷ rest
+    → FailsWith e (call_fault version earlier h before ms) → FailsWith e (calls_fault version earlier h before tables)
+call_halts e version earlier h before tables rest ms is s = rw is (first_decides e (call_fault version earlier h before ms) _ s)
 
 -- ---- the blocks of a plan
 
 -- a block without a fault is added, and the fault and the blocks of the whole plan are those from the next table on
-pub block_turn : (earlier : PlanTree) (tables rest : List Members) (ms : Members) (b : BlockTree) → tables ≡ ms ∷ rest
-    → block_fault earlier ms ≡ None → b ≡ block_of earlier ms
-    → (blocks_fault (earlier ++ b ∷ []) rest ≡ blocks_fault earlier tables) × (blocks_through (earlier ++ b ∷ []) rest ≡ blocks_through earlier tables)
-block_turn earlier tables rest ms b e none is = rw (e, is) (sym (next_decides (block_fault earlier ms) _ none), refl)
+pub block_turn : (version : Version) (earlier : PlanTree) (tables rest : List Members) (ms : Members) (b : BlockTree) → tables ≡ ms ∷ rest
+    → block_fault version earlier ms ≡ None → b ≡ block_of version earlier ms
+    → (blocks_fault version (earlier ++ b ∷ []) rest ≡ blocks_fault version earlier tables) × (blocks_through version (earlier ++ b ∷ []) rest ≡ blocks_through version earlier tables)
+block_turn version earlier tables rest ms b e none is = rw (e, is) (sym (next_decides (block_fault version earlier ms) _ none), refl)
 
 -- the fault of a block is that of the blocks from it on
-pub block_halts : (e : ReadError) (earlier : PlanTree) (tables rest : List Members) (ms : Members) → tables ≡ ms ∷ rest
-    → FailsWith e (block_fault earlier ms) → FailsWith e (blocks_fault earlier tables)
-block_halts e earlier tables rest ms is s = rw is (first_decides e (block_fault earlier ms) _ s)
+pub block_halts : (e : ReadError) (version : Version) (earlier : PlanTree) (tables rest : List Members) (ms : Members) → tables ≡ ms ∷ rest
+    → FailsWith e (block_fault version earlier ms) → FailsWith e (blocks_fault version earlier tables)
+block_halts e version earlier tables rest ms is s = rw is (first_decides e (block_fault version earlier ms) _ s)

@@ -6,8 +6,11 @@ use Rattle.plan_read.specs.declared.plans.Call.{Call}
 use Rattle.plan_read.specs.declared.plans.Header.{Header}
 use Rattle.plan_read.specs.declared.plans.Op.TheVariants as ops
 use Rattle.plan_read.specs.declared.plans.Target.{Target}
+use Rattle.plan_read.specs.declared.versions.Version.{Version as PlanVersion}
+use Rattle.plan_read.specs.declared.versions.Version.TheVariants.{One, Two}
+use Rattle.plan_read.specs.Migrating.{migrated, in_nanoseconds}
 use Rattle.plan_read.specs.Plans.{PlanTree, submissions_from, AreDistinct, StandsBefore, IsOrdered}
-use Rattle.plan_read.specs.Writes.{Has, TreeWrites, TreeFails, WritesCall}
+use Rattle.plan_read.specs.Writes.{Has, TreeWrites, TreeWritesIn, TreeFails, WritesCall}
 
 -- a tree writes a plan or has a fault
 abbrev pub WritesOrFails : Type 0
@@ -33,9 +36,13 @@ NamesDiffer = (ms : Members) (plan : PlanTree) → TreeWrites ms plan → AreDis
 -- a block that is not repeated
 abbrev pub TargetsStandBefore : Type 0
 TargetsStandBefore =
-    (earlier : PlanTree) (h : Header) (before : List Call) (ms : Members) (c : Call) (target : Target)
-    → WritesCall earlier h before ms c → c.op ≡ ops.Cancel target
+    (version : PlanVersion) (earlier : PlanTree) (h : Header) (before : List Call) (ms : Members) (c : Call) (target : Target)
+    → WritesCall version earlier h before ms c → c.op ≡ ops.Cancel target
     → (name : List ℕ) × Has ms (codes "name") (string name) × StandsBefore earlier before name target
+
+-- the migrated tree of a tree of version 1 writes the same plan in version 2, but for what its blocks keep of units
+abbrev pub MigratedTreesWrite : Type 0
+MigratedTreesWrite = (ms : Members) (plan : PlanTree) → TreeWritesIn One ms plan → TreeWritesIn Two (migrated ms) (in_nanoseconds plan)
 
 -- the calls of a plan are in order and within the limits
 abbrev pub PlansAreOrdered : Type 0

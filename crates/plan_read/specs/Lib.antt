@@ -5,6 +5,7 @@ pub mod Plans
 pub mod Checks
 pub mod Writes
 pub mod Texts
+pub mod Migrating
 pub mod Reads
 pub mod Laws
 pub mod own

@@ -5,3 +5,5 @@ pub mod Values
 pub mod Walk
 pub mod Texts
 pub mod Subjects
+pub mod Plain
+pub mod Migrating

@@ -1,13 +1,14 @@
 //! The calls of a block.
 
-ghost use Rattle.std.specs.Prelude.{◌≡◌, ◌≤◌, ℕ, List, nat_le, None, [], ◌∷◌, OnOk, Some, true, ◌&&◌, if◌then◌else◌, bytes_eq, codes, option_and_then, is_some};
+ghost use Rattle.std.specs.Prelude.{◌≡◌, ◌≤◌, ℕ, List, nat_le, None, [], ◌∷◌, IfOk, OnOk, Some, true, ◌&&◌, if◌then◌else◌, bytes_eq, codes, option_and_then, is_some};
 ghost use Rattle.sched_time.specs.Times.{longest, span_of, period_of};
 ghost use Rattle.toml.specs.View.{table_view};
 ghost use Rattle.plan_read.specs.Keys.{which_of_word};
 ghost use Rattle.plan_read.specs.own.Walk.{◌barring◌, place_fault, verb_tests, key_tests, time_tests, call_tests, are_spans_short};
+ghost use Rattle.plan_read.specs.own.Plain.{members_are_plain};
 ghost use Rattle.plan_read.specs.own.Reads.{Reads, found_in};
-ghost use Rattle.plan_read.specs.own.Values.{verb_at, name_at, given_text, given_truth, submits, which_at, truth_at, written_call};
-ghost use Rattle.plan_read.specs.own.Subjects.{verb_with, op_with, call_with};
+ghost use Rattle.plan_read.specs.own.Values.{verb_at, name_at, given_text, given_truth, submits, which_at, truth_at, units_in, written_call};
+ghost use Rattle.plan_read.specs.own.Subjects.{AreGiven, verb_with, op_with, call_with};
 ghost use Rattle.plan_read.specs.declared.plans.Op.TheVariants as ops;
 ghost use Rattle.plan_read.specs.declared.faults.PlanFaultKind.TheVariants as kinds;
 
@@ -19,8 +20,9 @@ use crate::plans::{Call, Header, Op};
 use crate::rows::{EMPTY_SLOTS, Row};
 use crate::sites::Site;
 use crate::subjects::{Subject, read_subject};
-use crate::units::which_of_word;
+use crate::units::{Units, which_of_word};
 use crate::verbs::Verb;
+use crate::versions::Version;
 use sched_time::{LONGEST, Span, Unit, period};
 use std::alloc::Allocator;
 use std::collections::BTreeMap;
@@ -30,6 +32,7 @@ use toml::Table;
 /// submits, its name is then that of `site`.
 pub fn read_call<'a, A: Allocator + Copy>(
     place: Place,
+    version: Version,
     site: Site,
     names: &mut BTreeMap<&'a str, Site, A>,
     header: Header,
@@ -37,15 +40,16 @@ pub fn read_call<'a, A: Allocator + Copy>(
     table: &'a Table,
 ) -> Result<Call, ReadError>
     requires { 1 ≤ header.times }
-    ensures call { Reads (λ c. c) result (place_fault place (call_tests (found_in names.old (name_at (table_view table.now))) site.target.block header last (table_view table.now))) (written_call (found_in names.old (name_at (table_view table.now))) header (table_view table.now)) }
+    ensures call { Reads (λ c. c) result (place_fault place (call_tests version (found_in names.old (name_at (table_view table.now))) site.target.block header last (table_view table.now))) (written_call version (found_in names.old (name_at (table_view table.now))) header (table_view table.now)) }
+    ensures plain { IfOk result (λ c. members_are_plain 0 (table_view table.now) ≡ true) }
     ensures names { OnOk result ((q : List ℕ) → found_in names.new q ≡ if submits (verb_at (table_view table.now)) && bytes_eq (name_at (table_view table.now)) q then Some site else found_in names.old q) }
 {
     let mut slots = EMPTY_SLOTS;
     let row = Row::new(table, &mut slots);
     let verb = read_verb(place, &row)?;
-    check_keys(place, verb, &row)?;
+    let units = check_keys(place, version, verb, header.unit, &row)?;
     let subject = read_subject(place, verb, site, names, &row)?;
-    read_timed(place, subject, header, last, &row)
+    read_timed(place, subject, units, header, last, &row)
 }
 
 /// The operation of a call.
@@ -65,12 +69,18 @@ fn read_verb(place: Place, row: &Row) -> Result<Verb, ReadError>
     }
 }
 
-/// That the keys of a call are those of its operation.
+/// The units of the times of a call in a block of this unit, where the call's keys are those of its operation.
 #[tactic(auto, unfolding(crate::specs::own::Walk::key_tests))]
-fn check_keys(place: Place, verb: Verb, row: &Row) -> Result<(), ReadError>
-    ensures { Reads (λ u. u) result (place_fault place (key_tests verb (table_view row.now.table.now))) tt }
+fn check_keys(
+    place: Place,
+    version: Version,
+    verb: Verb,
+    unit: Unit,
+    row: &Row,
+) -> Result<Units, ReadError>
+    ensures { Reads (λ u. u) result (place_fault place (key_tests version verb (table_view row.now.table.now))) (units_in version unit (table_view row.now.table.now)) }
 {
-    let keys = call_keys(verb);
+    let keys = call_keys(version, verb);
     if !has_only(keys, row) {
         return Err(place.fault(PlanFaultKind::UnknownKey));
     }
@@ -80,28 +90,33 @@ fn check_keys(place: Place, verb: Verb, row: &Row) -> Result<(), ReadError>
     if !are_typed(keys, row) {
         return Err(place.fault(PlanFaultKind::WrongType));
     }
-    Ok(())
+    match version {
+        Version::One => Ok(Units::same(unit)),
+        Version::Two => Units::read(place, row),
+    }
 }
 
-/// The call on a subject, of a table whose keys are checked, where the call before it has the offset `last`.
+/// The call on a subject, of a table whose keys are checked, with its times in `units`, where the call before it has
+/// the offset `last`.
 #[tactic(auto, unfolding(crate::specs::own::Walk::time_tests))]
 fn read_timed(
     place: Place,
     subject: Subject,
+    units: Units,
     header: Header,
     last: u64,
     row: &Row,
 ) -> Result<Call, ReadError>
     requires times { 1 ≤ header.times }
-    requires keys { place_fault place (key_tests (verb_with subject) (table_view row.now.table.now)) ≡ None }
-    ensures { Reads (λ c. c) result (place_fault place (time_tests (verb_with subject) header last (table_view row.now.table.now))) (call_with subject header (table_view row.now.table.now)) }
+    requires keys { AreGiven (verb_with subject) (table_view row.now.table.now) }
+    ensures { Reads (λ c. c) result (place_fault place (time_tests (verb_with subject) units header last (table_view row.now.table.now))) (call_with subject units (table_view row.now.table.now)) }
 {
     let at = row.integer(KeyName::At).unwrap_or(0);
     if at < 0 {
         return Err(place.fault(PlanFaultKind::Negative));
     }
-    let at = read_span(place, at, header.unit)?.nanos();
-    let op = read_op(place, subject, header.unit, row)?;
+    let at = read_span(place, at, units.at)?.nanos();
+    let op = read_op(place, subject, units, row)?;
     if moment_in_last(header, at) > u128::from(LONGEST) {
         return Err(place.fault(PlanFaultKind::TooLarge));
     }
@@ -112,19 +127,19 @@ fn read_timed(
 }
 
 /// The operation of a call on a subject.
-fn read_op(place: Place, subject: Subject, unit: Unit, row: &Row) -> Result<Op, ReadError>
-    requires { place_fault place (key_tests (verb_with subject) (table_view row.now.table.now)) ≡ None }
-    ensures { Reads (λ o. o) result (place_fault place ((kinds.TooLarge barring are_spans_short (verb_with subject) unit (table_view row.now.table.now)) ∷ [])) (op_with subject unit (table_view row.now.table.now)) }
+fn read_op(place: Place, subject: Subject, units: Units, row: &Row) -> Result<Op, ReadError>
+    requires { AreGiven (verb_with subject) (table_view row.now.table.now) }
+    ensures { Reads (λ o. o) result (place_fault place ((kinds.TooLarge barring are_spans_short (verb_with subject) units (table_view row.now.table.now)) ∷ [])) (op_with subject units (table_view row.now.table.now)) }
 {
     match subject {
         Subject::Schedule(name) => {
-            let delay = read_span(place, row.required_integer(KeyName::Delay), unit)?;
+            let delay = read_span(place, row.required_integer(KeyName::Delay), units.delay)?;
             Ok(Op::Schedule { name, delay })
         }
         Subject::Execute(name) => Ok(Op::Execute { name }),
         Subject::Rate(name) => {
-            let first = read_span(place, row.required_integer(KeyName::First), unit)?;
-            let period = read_period(place, row.required_integer(KeyName::Period), unit)?;
+            let first = read_span(place, row.required_integer(KeyName::First), units.first)?;
+            let period = read_period(place, row.required_integer(KeyName::Period), units.period)?;
             Ok(Op::Rate {
                 name,
                 first,
@@ -132,8 +147,8 @@ fn read_op(place: Place, subject: Subject, unit: Unit, row: &Row) -> Result<Op, 
             })
         }
         Subject::Fixed(name) => {
-            let first = read_span(place, row.required_integer(KeyName::First), unit)?;
-            let delay = read_period(place, row.required_integer(KeyName::Delay), unit)?;
+            let first = read_span(place, row.required_integer(KeyName::First), units.first)?;
+            let delay = read_period(place, row.required_integer(KeyName::Delay), units.delay)?;
             Ok(Op::Fixed { name, first, delay })
         }
         Subject::Cancel(target) => Ok(Op::Cancel(target)),

@@ -1,26 +1,35 @@
 //! The top of a plan, and the headers of its blocks.
 
-ghost use Rattle.std.specs.Prelude.{◌≡◌, ◌≤◌, nat_le, true, length, [], ◌∷◌, IfOk, codes};
+ghost use Rattle.std.specs.Prelude.{◌≡◌, ◌≤◌, nat_le, true, length, [], ◌∷◌, IfOk, codes, option_and_then};
 ghost use Rattle.toml.specs.View.{table_view, items_view};
 ghost use Rattle.toml.specs.Data.{get_member};
-ghost use Rattle.sched_time.specs.Times.{longest, span_of};
-ghost use Rattle.plan_read.specs.own.Walk.{◌barring◌, place_fault, top, top_tests, header_tests, moment_tests};
+ghost use Rattle.sched_time.specs.Times.{longest, span_of, delay_units};
+ghost use Rattle.plan_read.specs.own.Walk.{◌barring◌, place_fault, top, top_tests, header_key_tests, times_tests, moment_tests, count_tests, header_tests};
 ghost use Rattle.plan_read.specs.Keys.{are_tables, fits};
 ghost use Rattle.plan_read.specs.declared.keys.Shape.TheVariants.{Tables};
 ghost use Rattle.plan_read.specs.Plans.{moment_in_last, most_calls};
+ghost use Rattle.plan_read.specs.own.Plain.{items_are_plain, members_are_plain};
 ghost use Rattle.plan_read.specs.own.Reads.{Reads};
-ghost use Rattle.plan_read.specs.own.Values.{tables_in, tables_at, span_at, header_of};
+ghost use Rattle.plan_read.specs.own.Values.{given_integer, tables_in, tables_at, span_at, version_of, version_at, unit_at, header_units, times_at, header_of};
 ghost use Rattle.plan_read.specs.declared.faults.PlanFaultKind.TheVariants as kinds;
 
 use crate::faults::{Place, PlanFaultKind, ReadError};
 use crate::key_names::KeyName;
-use crate::keys::{HEADER_KEYS, TOP_KEYS, are_typed, has_only};
+use crate::keys::{TOP_KEYS, are_typed, has_only, header_keys};
 use crate::limits::{MOST_BLOCK_CALLS, MOST_BLOCKS, MOST_CALLS};
 use crate::plans::Header;
 use crate::rows::{EMPTY_SLOTS, Row};
-use crate::units::unit_of_word;
+use crate::units::{Units, read_unit};
+use crate::versions::Version;
 use sched_time::{Span, Unit, span};
 use toml::{Table, Value};
+
+/// What the top of a plan has: its version, and the tables of its blocks.
+#[derive(Clone, Copy)]
+pub struct Top<'a> {
+    pub version: Version,
+    pub tables: &'a [Value],
+}
 
 /// What the table of a block has: its header, and the tables of its calls.
 #[derive(Clone, Copy)]
@@ -29,53 +38,97 @@ pub struct Head<'a> {
     pub tables: &'a [Value],
 }
 
-/// The tables of the blocks.
+/// The top of a plan.
 #[tactic(auto, unfolding(crate::specs::own::Walk::top_tests))]
-pub fn read_top(table: &Table) -> Result<&[Value], ReadError>
-    ensures each { IfOk result (λ vs. fits Tables (get_member (codes "block") (table_view table.now)) ≡ true → are_tables (items_view vs.now) ≡ true) }
-    ensures count { IfOk result (λ vs. length vs.now ≡ length (tables_at (codes "block") (table_view table.now))) }
-    ensures top { Reads (λ vs. tables_in (items_view vs.now)) result (place_fault top (top_tests (table_view table.now))) (tables_at (codes "block") (table_view table.now)) }
+pub fn read_top(table: &Table) -> Result<Top<'_>, ReadError>
+    ensures each { IfOk result (λ t. fits Tables (get_member (codes "block") (table_view table.now)) ≡ true → are_tables (items_view t.tables.now) ≡ true) }
+    ensures count { IfOk result (λ t. length t.tables.now ≡ length (tables_at (codes "block") (table_view table.now))) }
+    ensures tables { IfOk result (λ t. tables_in (items_view t.tables.now) ≡ tables_at (codes "block") (table_view table.now)) }
+    ensures plain { IfOk result (λ t. items_are_plain 3 (items_view t.tables.now) ≡ true → members_are_plain 4 (table_view table.now) ≡ true) }
+    ensures top { Reads (λ t. t.version) result (place_fault top (top_tests (table_view table.now))) (version_at (table_view table.now)) }
 {
     let place = Place::top();
     let mut slots = EMPTY_SLOTS;
     let row = Row::new(table, &mut slots);
-    if !matches!(row.integer(KeyName::Version), Some(1)) {
+    let Some(version) = read_version(&row) else {
         return Err(place.fault(PlanFaultKind::Version));
-    }
+    };
     if !has_only(TOP_KEYS, &row) {
         return Err(place.fault(PlanFaultKind::UnknownKey));
     }
     if !are_typed(TOP_KEYS, &row) {
         return Err(place.fault(PlanFaultKind::WrongType));
     }
-    let blocks = row.tables(KeyName::Block);
-    if blocks.len() > MOST_BLOCKS {
+    let tables = row.tables(KeyName::Block);
+    if tables.len() > MOST_BLOCKS {
         return Err(place.fault(PlanFaultKind::TooMany));
     }
-    Ok(blocks)
+    Ok(Top { version, tables })
+}
+
+/// The version of a plan, if it is one.
+fn read_version(row: &Row) -> Option<Version>
+    ensures { result ≡ option_and_then version_of (given_integer (codes "version") (table_view row.now.table.now)) }
+{
+    match row.integer(KeyName::Version) {
+        Some(number) => Version::of_number(number),
+        None => None,
+    }
 }
 
 /// The header of a block and the tables of its calls, where the last call before the block is at the
 /// moment `end`, and `made` calls are made before it.
-#[tactic(auto, unfolding(crate::specs::own::Walk::header_tests, crate::specs::own::Values::header_of))]
-pub fn read_head(place: Place, end: u128, made: u64, table: &Table) -> Result<Head<'_>, ReadError>
+pub fn read_head(
+    place: Place,
+    version: Version,
+    end: u128,
+    made: u64,
+    table: &Table,
+) -> Result<Head<'_>, ReadError>
     requires { made ≤ most_calls }
     ensures each { IfOk result (λ h. fits Tables (get_member (codes "call") (table_view table.now)) ≡ true → are_tables (items_view h.tables.now) ≡ true) }
     ensures count { IfOk result (λ h. length h.tables.now ≡ length (tables_at (codes "call") (table_view table.now))) }
     ensures tables { IfOk result (λ h. tables_in (items_view h.tables.now) ≡ tables_at (codes "call") (table_view table.now)) }
-    ensures header { Reads (λ h. h.header) result (place_fault place (header_tests end made (table_view table.now))) (header_of (table_view table.now)) }
+    ensures plain { IfOk result (λ h. items_are_plain 1 (items_view h.tables.now) ≡ true → members_are_plain 2 (table_view table.now) ≡ true) }
+    ensures header { Reads (λ h. h.header) result (place_fault place (header_tests version end made (table_view table.now))) (header_of version (table_view table.now)) }
 {
     let mut slots = EMPTY_SLOTS;
     let row = Row::new(table, &mut slots);
-    if !has_only(HEADER_KEYS, &row) {
+    let (unit, units) = read_block_units(place, version, &row)?;
+    let times = read_times(place, &row)?;
+    let header = read_header(place, end, unit, units, times, &row)?;
+    let tables = row.tables(KeyName::Call);
+    check_count(place, made, times, tables.len())?;
+    Ok(Head { header, tables })
+}
+
+/// The unit of a block, and the units of its header's times, where the header's keys are those of a block.
+#[tactic(auto, unfolding(crate::specs::own::Walk::header_key_tests))]
+fn read_block_units(place: Place, version: Version, row: &Row) -> Result<(Unit, Units), ReadError>
+    ensures { Reads (λ u. u) result (place_fault place (header_key_tests version (table_view row.now.table.now))) (unit_at version (table_view row.now.table.now), header_units version (table_view row.now.table.now)) }
+{
+    let keys = header_keys(version);
+    if !has_only(keys, row) {
         return Err(place.fault(PlanFaultKind::UnknownKey));
     }
-    if !are_typed(HEADER_KEYS, &row) {
+    if !are_typed(keys, row) {
         return Err(place.fault(PlanFaultKind::WrongType));
     }
-    let Some(unit) = unit_of_word(row.text(KeyName::Unit).unwrap_or("ns")) else {
-        return Err(place.fault(PlanFaultKind::BadUnit));
-    };
+    match version {
+        Version::One => {
+            let unit = read_unit(place, version, KeyName::Unit, row)?;
+            Ok((unit, Units::same(unit)))
+        }
+        Version::Two => Ok((Unit::Ns, Units::read(place, row)?)),
+    }
+}
+
+/// How often the calls of a block are made.
+#[tactic(auto, unfolding(crate::specs::own::Walk::times_tests))]
+fn read_times(place: Place, row: &Row) -> Result<u32, ReadError>
+    ensures times { Reads (λ n. n) result (place_fault place (times_tests (table_view row.now.table.now))) (delay_units (times_at (table_view row.now.table.now))) }
+    ensures most { IfOk result (λ n. n ≤ most_calls) }
+{
     let times = row.integer(KeyName::Times).unwrap_or(1);
     if times < 1 || times > MOST_CALLS as i64 {
         return Err(place.fault(PlanFaultKind::BadTimes));
@@ -83,33 +136,28 @@ pub fn read_head(place: Place, end: u128, made: u64, table: &Table) -> Result<He
     if times > 1 && !row.has(KeyName::Every) {
         return Err(place.fault(PlanFaultKind::Missing));
     }
-    let header = read_header(place, end, unit, times as u32, &row)?;
-    let tables = row.tables(KeyName::Call);
-    let calls = tables.len();
-    if calls > MOST_BLOCK_CALLS || made + times as u64 * calls as u64 > MOST_CALLS {
-        return Err(place.fault(PlanFaultKind::TooMany));
-    }
-    Ok(Head { header, tables })
+    Ok(times as u32)
 }
 
-/// The header with this unit that is made this often, where the last call before the block is at the
-/// moment `end`.
+/// The header with this unit that is made this often, with its times in `units`, where the last call
+/// before the block is at the moment `end`.
 fn read_header(
     place: Place,
     end: u128,
     unit: Unit,
+    units: Units,
     times: u32,
     row: &Row,
 ) -> Result<Header, ReadError>
-    ensures { Reads (λ h. h) result (place_fault place (moment_tests end unit (table_view row.now.table.now))) (record { at = span_at unit (codes "at") (table_view row.now.table.now); unit = unit; times = times; every = span_at unit (codes "every") (table_view row.now.table.now) }) }
+    ensures { Reads (λ h. h) result (place_fault place (moment_tests end units (table_view row.now.table.now))) (record { at = span_at units.at (codes "at") (table_view row.now.table.now); unit = unit; times = times; every = span_at units.every (codes "every") (table_view row.now.table.now) }) }
 {
     let at = row.integer(KeyName::At).unwrap_or(0);
     let every = row.integer(KeyName::Every).unwrap_or(0);
     if at < 0 || every < 0 {
         return Err(place.fault(PlanFaultKind::Negative));
     }
-    let at = read_span(place, at, unit)?.nanos();
-    let every = read_span(place, every, unit)?.nanos();
+    let at = read_span(place, at, units.at)?.nanos();
+    let every = read_span(place, every, units.every)?.nanos();
     if u128::from(at) < end {
         return Err(place.fault(PlanFaultKind::OutOfOrder));
     }
@@ -119,6 +167,18 @@ fn read_header(
         times,
         every,
     })
+}
+
+/// That a block of `calls` calls, which are made this often, leaves no more calls than a plan may make.
+fn check_count(place: Place, made: u64, times: u32, calls: usize) -> Result<(), ReadError>
+    requires made { made ≤ most_calls }
+    requires times { times ≤ most_calls }
+    ensures { Reads (λ u. u) result (place_fault place (count_tests made times calls)) tt }
+{
+    if calls > MOST_BLOCK_CALLS || made + u64::from(times) * calls as u64 > MOST_CALLS {
+        return Err(place.fault(PlanFaultKind::TooMany));
+    }
+    Ok(())
 }
 
 /// The nanoseconds of a number of units; a negative number counts as 0.

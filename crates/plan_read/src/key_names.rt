@@ -20,6 +20,11 @@ pub enum KeyName {
     Times,
     Every,
     Call,
+    AtUnit,
+    EveryUnit,
+    DelayUnit,
+    FirstUnit,
+    PeriodUnit,
 }
 
 impl KeyName {
@@ -42,14 +47,19 @@ impl KeyName {
             "times" => Some(KeyName::Times),
             "every" => Some(KeyName::Every),
             "call" => Some(KeyName::Call),
+            "at_unit" => Some(KeyName::AtUnit),
+            "every_unit" => Some(KeyName::EveryUnit),
+            "delay_unit" => Some(KeyName::DelayUnit),
+            "first_unit" => Some(KeyName::FirstUnit),
+            "period_unit" => Some(KeyName::PeriodUnit),
             _ => None,
         }
     }
 
-    /// The place of the name among all, from 0 to 13.
+    /// The place of the name among all, from 0 to 18.
     pub fn place(self) -> usize
         ensures value { result ≡ place self }
-        ensures within { result < 14 }
+        ensures within { result < 19 }
     {
         self as usize
     }

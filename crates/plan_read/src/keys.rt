@@ -3,13 +3,15 @@
 ghost use Rattle.std.specs.Prelude.{◌≡◌, true, ◌||◌, not, is_some};
 ghost use Rattle.toml.specs.Data.{get_member};
 ghost use Rattle.toml.specs.View.{view, table_view, items_view};
-ghost use Rattle.plan_read.specs.Keys.{call_keys, are_tables, has_shape, fits, has_only, has_required, are_typed};
+ghost use Rattle.plan_read.specs.declared.versions.Version.TheVariants.{One, Two};
+ghost use Rattle.plan_read.specs.Keys.{header_keys, call_keys, are_tables, has_shape, fits, has_only, has_required, are_typed};
 ghost use Rattle.plan_read.specs.own.Rows.{word_of, as_defined, are_apart};
 
 use crate::key_names::KeyName;
 use crate::rows::Row;
 use crate::units::which_of_word;
 use crate::verbs::Verb;
+use crate::versions::Version;
 use toml::Value;
 
 /// What the value of a key has to be.
@@ -54,53 +56,116 @@ macro_rules! required {
     };
 }
 
+/// The key of a time's unit.
+macro_rules! unit {
+    ($name:ident) => {
+        optional!($name, Text)
+    };
+}
+
 const OP: Key = required!(Op, Text);
 
 const AT: Key = optional!(At, Integer);
 
+const AT_UNIT: Key = unit!(AtUnit);
+
 const NAME: Key = required!(Name, Text);
+
+const DELAY: Key = required!(Delay, Integer);
+
+const DELAY_UNIT: Key = unit!(DelayUnit);
+
+const FIRST: Key = required!(First, Integer);
+
+const FIRST_UNIT: Key = unit!(FirstUnit);
+
+const PERIOD: Key = required!(Period, Integer);
+
+const PERIOD_UNIT: Key = unit!(PeriodUnit);
+
+const TIMES: Key = optional!(Times, Integer);
+
+const EVERY: Key = optional!(Every, Integer);
+
+const EVERY_UNIT: Key = unit!(EveryUnit);
+
+const CALL: Key = optional!(Call, Tables);
+
+const WHICH: Key = required!(Which, Policy);
+
+const VALUE: Key = required!(Value, Truth);
 
 /// The keys of the top.
 pub const TOP_KEYS: &[Key] = &[required!(Version, Integer), optional!(Block, Tables)];
 
-/// The keys of a block.
-pub const HEADER_KEYS: &[Key] = &[
-    AT,
-    optional!(Unit, Text),
-    optional!(Times, Integer),
-    optional!(Every, Integer),
-    optional!(Call, Tables),
-];
+/// Those of a block of version 1.
+const HEADER_KEYS: &[Key] = &[AT, optional!(Unit, Text), TIMES, EVERY, CALL];
 
-const SCHEDULE_KEYS: &[Key] = &[OP, AT, NAME, required!(Delay, Integer)];
+/// Those of a block of version 2, and below the same of each operation.
+const HEADER_KEYS_WITH_UNITS: &[Key] = &[AT, AT_UNIT, TIMES, EVERY, EVERY_UNIT, CALL];
+
+const SCHEDULE_KEYS: &[Key] = &[OP, AT, NAME, DELAY];
+
+const SCHEDULE_KEYS_WITH_UNITS: &[Key] = &[OP, AT, AT_UNIT, NAME, DELAY, DELAY_UNIT];
 
 const EXECUTE_KEYS: &[Key] = &[OP, AT, NAME];
 
-const RATE_KEYS: &[Key] = &[
+const EXECUTE_KEYS_WITH_UNITS: &[Key] = &[OP, AT, AT_UNIT, NAME];
+
+const RATE_KEYS: &[Key] = &[OP, AT, NAME, FIRST, PERIOD];
+
+const RATE_KEYS_WITH_UNITS: &[Key] = &[
     OP,
     AT,
+    AT_UNIT,
     NAME,
-    required!(First, Integer),
-    required!(Period, Integer),
+    FIRST,
+    FIRST_UNIT,
+    PERIOD,
+    PERIOD_UNIT,
 ];
 
-const FIXED_KEYS: &[Key] = &[
-    OP,
-    AT,
-    NAME,
-    required!(First, Integer),
-    required!(Delay, Integer),
+const FIXED_KEYS: &[Key] = &[OP, AT, NAME, FIRST, DELAY];
+
+const FIXED_KEYS_WITH_UNITS: &[Key] = &[
+    OP, AT, AT_UNIT, NAME, FIRST, FIRST_UNIT, DELAY, DELAY_UNIT,
 ];
 
 const CANCEL_KEYS: &[Key] = &[OP, AT, NAME];
 
-const POLICY_KEYS: &[Key] = &[OP, AT, required!(Which, Policy), required!(Value, Truth)];
+const CANCEL_KEYS_WITH_UNITS: &[Key] = &[OP, AT, AT_UNIT, NAME];
+
+const POLICY_KEYS: &[Key] = &[OP, AT, WHICH, VALUE];
+
+const POLICY_KEYS_WITH_UNITS: &[Key] = &[OP, AT, AT_UNIT, WHICH, VALUE];
 
 const BARE_KEYS: &[Key] = &[OP, AT];
 
+const BARE_KEYS_WITH_UNITS: &[Key] = &[OP, AT, AT_UNIT];
+
+/// The keys of a block.
+pub fn header_keys(version: Version) -> &'static [Key]
+    ensures { as_defined result.now ≡ header_keys version }
+{
+    match version {
+        Version::One => HEADER_KEYS,
+        Version::Two => HEADER_KEYS_WITH_UNITS,
+    }
+}
+
 /// The keys of a call, by its operation: those of each call, and the operation's own.
-pub fn call_keys(verb: Verb) -> &'static [Key]
-    ensures { as_defined result.now ≡ call_keys verb }
+pub fn call_keys(version: Version, verb: Verb) -> &'static [Key]
+    ensures { as_defined result.now ≡ call_keys version verb }
+{
+    match version {
+        Version::One => call_keys_without_units(verb),
+        Version::Two => call_keys_with_units(verb),
+    }
+}
+
+/// Those of version 1.
+fn call_keys_without_units(verb: Verb) -> &'static [Key]
+    ensures { as_defined result.now ≡ call_keys One verb }
 {
     match verb {
         Verb::Schedule => SCHEDULE_KEYS,
@@ -110,6 +175,21 @@ pub fn call_keys(verb: Verb) -> &'static [Key]
         Verb::Cancel => CANCEL_KEYS,
         Verb::Policy => POLICY_KEYS,
         _ => BARE_KEYS,
+    }
+}
+
+/// Those of version 2.
+fn call_keys_with_units(verb: Verb) -> &'static [Key]
+    ensures { as_defined result.now ≡ call_keys Two verb }
+{
+    match verb {
+        Verb::Schedule => SCHEDULE_KEYS_WITH_UNITS,
+        Verb::Execute => EXECUTE_KEYS_WITH_UNITS,
+        Verb::Rate => RATE_KEYS_WITH_UNITS,
+        Verb::Fixed => FIXED_KEYS_WITH_UNITS,
+        Verb::Cancel => CANCEL_KEYS_WITH_UNITS,
+        Verb::Policy => POLICY_KEYS_WITH_UNITS,
+        _ => BARE_KEYS_WITH_UNITS,
     }
 }
 

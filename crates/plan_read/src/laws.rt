@@ -1,7 +1,7 @@
 //! Laws on the definitions, and on what compares, in functions that do nothing.
 
 ghost use Rattle.std.specs.Prelude.{◌≡◌, ◌↔◌, true};
-ghost use Rattle.plan_read.specs.Laws.{WritesOrFails, NeverBoth, WritesOne, FailsOnce, NamesDiffer, TargetsStandBefore, PlansAreOrdered};
+ghost use Rattle.plan_read.specs.Laws.{WritesOrFails, NeverBoth, WritesOne, FailsOnce, NamesDiffer, TargetsStandBefore, MigratedTreesWrite, PlansAreOrdered};
 
 use crate::faults::{PlanFault, PlanFaultKind};
 use crate::plans::Target;
@@ -24,6 +24,12 @@ pub fn names_differ()
 /// iteration or of a block that is not repeated.
 pub fn targets_stand_before()
     ensures { TargetsStandBefore }
+{}
+
+/// The migrated tree of a tree of version 1 writes the same plan in version 2, but for what its blocks keep of
+/// units.
+pub fn migrated_trees_write()
+    ensures { MigratedTreesWrite }
 {}
 
 /// The calls of a plan are in order and within the limits.

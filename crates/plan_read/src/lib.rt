@@ -103,6 +103,7 @@ mod key_names;
 mod keys;
 mod laws;
 mod limits;
+mod migrating;
 mod names;
 mod plans;
 mod reading;
@@ -111,14 +112,16 @@ mod sites;
 mod subjects;
 mod units;
 mod verbs;
+mod versions;
 
 pub use faults::{PlanFault, PlanFaultKind};
 pub use heap_allocator::HeapAllocator;
 pub use laws::{
-    names_differ, plan_fault_equality_tells, plan_fault_kind_equality_tells, plans_are_ordered,
-    target_equality_tells, targets_stand_before, trees_write_or_fail,
+    migrated_trees_write, names_differ, plan_fault_equality_tells, plan_fault_kind_equality_tells,
+    plans_are_ordered, target_equality_tells, targets_stand_before, trees_write_or_fail,
 };
 pub use limits::LONGEST_TEXT;
+pub use migrating::migrate;
 pub use names::Name;
 pub use plans::{Block, Call, Op, Plan, Target};
 pub use reading::read_plan;

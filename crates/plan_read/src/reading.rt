@@ -2,14 +2,15 @@
 
 ghost use Rattle.std.specs.Prelude.{◌≡◌, ◌≢◌, ◌⊎◌, ℕ, ◌+◌, ◌*◌, ◌≤◌, ◌<◌, true, length, [], ◌∷◌, ◌++◌, IfOk, IfErr, MatchResult, Some};
 ghost use Rattle.toml.specs.View.{table_view, items_view};
-ghost use Rattle.plan_read.specs.own.Walk.{place_fault, top, call_fault, calls_fault, block_fault, blocks_fault, tree_fault};
+ghost use Rattle.plan_read.specs.own.Walk.{◌or_else◌, place_fault, top, call_fault, calls_fault, block_fault, blocks_fault, tree_fault};
 ghost use Rattle.plan_read.specs.Keys.{are_tables};
 ghost use Rattle.plan_read.specs.Plans.{PlanTree, most_blocks, most_block_calls, most_calls, tasks_after, tasks_after_calls, submissions_from, submissions_before, last_offset, end_of_block, end_of, made_by};
 ghost use Rattle.plan_read.specs.Reads.{out_of_memory};
+ghost use Rattle.plan_read.specs.own.Plain.{items_are_plain, members_are_plain};
 ghost use Rattle.plan_read.specs.own.Reads.{Reads, Knows};
 ghost use Rattle.plan_read.specs.Texts.{TextWrites, TextFails};
-ghost use Rattle.plan_read.specs.own.Texts.{toml_tests, tree_at, fault_of_text, plan_of_text};
-ghost use Rattle.plan_read.specs.own.Values.{tables_in, next_call, calls_through, block_of, blocks_through, plan_of};
+ghost use Rattle.plan_read.specs.own.Texts.{length_tests, toml_tests, tree_at, fault_of_text, plan_of_text};
+ghost use Rattle.plan_read.specs.own.Values.{tables_in, next_call, calls_through, block_of, blocks_through, version_at, plan_of};
 
 use crate::calls::read_call;
 use crate::faults::{Place, PlanFault, PlanFaultKind, ReadError};
@@ -17,6 +18,7 @@ use crate::headers::{moment_in_last, read_head, read_top};
 use crate::limits::LONGEST_TEXT;
 use crate::plans::{Block, Call, Header, Op, Plan, Target};
 use crate::sites::Site;
+use crate::versions::Version;
 use heap_allocator::HeapAllocator;
 use std::alloc::{Allocator, Global};
 use std::collections::BTreeMap;
@@ -47,11 +49,18 @@ pub fn read_plan<A: HeapAllocator>(alloc: A, text: &[u8]) -> Result<Plan<A>, Pla
 fn read_text<A: HeapAllocator>(alloc: A, text: &[u8]) -> Result<Plan<A>, ReadError>
     ensures { Reads (λ p. p) result (fault_of_text text.now) (plan_of_text text.now) }
 {
+    let tree = read_document(alloc.heap(), text)?;
+    Ok(read_tree(alloc, &tree)?.plan)
+}
+
+/// The tree of a text, which is no longer than a plan's may be.
+pub fn read_document(heap: Global, text: &[u8]) -> Result<Table, ReadError>
+    ensures { Reads (λ t. table_view t) result (place_fault top (length_tests text.now) or_else place_fault top (toml_tests text.now)) (tree_at text.now) }
+{
     if text.len() > LONGEST_TEXT {
         return Err(Place::top().fault(PlanFaultKind::TooLong));
     }
-    let tree = parse(alloc.heap(), text)?;
-    read_tree(alloc, &tree)
+    parse(heap, text)
 }
 
 /// The tree of a text.
@@ -69,24 +78,38 @@ fn parse(heap: Global, text: &[u8]) -> Result<Table, ReadError>
     }
 }
 
-/// The plan that a tree writes, or its fault.
-fn read_tree<A: Allocator + Copy>(alloc: A, table: &Table) -> Result<Plan<A>, ReadError>
-    ensures { Reads (λ p. p) result (tree_fault (table_view table.now)) (plan_of (table_view table.now)) }
+/// A plan, with the version of its text.
+#[derive(Drop)]
+pub struct Written<A: Allocator> {
+    pub version: Version,
+    pub plan: Plan<A>,
+}
+
+/// The plan that a tree writes, with its version, or the fault of the tree.
+pub fn read_tree<A: Allocator + Copy>(alloc: A, table: &Table) -> Result<Written<A>, ReadError>
+    ensures plan { Reads (λ w. w.plan) result (tree_fault (table_view table.now)) (plan_of (table_view table.now)) }
+    ensures version { IfOk result (λ w. w.version ≡ version_at (table_view table.now)) }
+    ensures plain { IfOk result (λ w. members_are_plain 4 (table_view table.now) ≡ true) }
 {
-    let tables = read_top(table)?;
-    let blocks = read_blocks(alloc, tables)?;
-    Ok(Plan::new(blocks))
+    let top = read_top(table)?;
+    let blocks = read_blocks(alloc, top.version, top.tables)?;
+    Ok(Written {
+        version: top.version,
+        plan: Plan::new(blocks),
+    })
 }
 
 /// The blocks that the tables of a plan write.
 #[tactic(auto, using(crate::proofs::Accepted::end_from_one_more, crate::proofs::Accepted::made_from_one_more))]
 fn read_blocks<A: Allocator + Copy>(
     alloc: A,
+    version: Version,
     tables: &[Value],
 ) -> Result<Vec<Block<A>, A>, ReadError>
     requires tables { are_tables (items_view tables.now) ≡ true }
     requires few { length tables.now ≤ most_blocks }
-    ensures { Reads (λ v. v.items) result (blocks_fault [] (tables_in (items_view tables.now))) (blocks_through [] (tables_in (items_view tables.now))) }
+    ensures plain { IfOk result (λ v. items_are_plain 3 (items_view tables.now) ≡ true) }
+    ensures blocks { Reads (λ v. v.items) result (blocks_fault version [] (tables_in (items_view tables.now))) (blocks_through version [] (tables_in (items_view tables.now))) }
 {
     let mut blocks = Vec::with_capacity(alloc, tables.len())?;
     let mut names = BTreeMap::new(alloc);
@@ -96,7 +119,8 @@ fn read_blocks<A: Allocator + Copy>(
         let Some(table) = value.as_table() else {
             unreachable!()
         };
-        let block = read_block(alloc, blocks.as_slice(), end, made, &mut names, table)?;
+        let earlier = blocks.as_slice();
+        let block = read_block(alloc, version, earlier, end, made, &mut names, table)?;
         end = end_of_block(end, &block);
         made += u64::from(block.times()) * block.calls().len() as u64;
         blocks.push(block)?;
@@ -108,6 +132,7 @@ fn read_blocks<A: Allocator + Copy>(
 /// and `made` calls are made before it.
 fn read_block<'a, A: Allocator + Copy>(
     alloc: A,
+    version: Version,
     earlier: &[Block<A>],
     end: u128,
     made: u64,
@@ -119,8 +144,9 @@ fn read_block<'a, A: Allocator + Copy>(
     requires made { made ≡ made_by earlier.now }
     requires few { made ≤ most_calls }
     requires names { Knows names.old (submissions_from 0 earlier.now) }
-    ensures block { Reads (λ b. b) result (block_fault earlier.now (table_view table.now)) (block_of earlier.now (table_view table.now)) }
+    ensures block { Reads (λ b. b) result (block_fault version earlier.now (table_view table.now)) (block_of version earlier.now (table_view table.now)) }
     ensures names { IfOk result (λ b. Knows names.new (submissions_from 0 (earlier.now ++ b ∷ []))) }
+    ensures plain { IfOk result (λ b. members_are_plain 2 (table_view table.now) ≡ true) }
     ensures times { IfOk result (λ b. 1 ≤ b.header.times) }
     ensures few { IfOk result (λ b. made + b.header.times * length b.calls ≤ most_calls) }
 {
@@ -128,8 +154,8 @@ fn read_block<'a, A: Allocator + Copy>(
         block: earlier.len() as u32 + 1,
         call: 0,
     };
-    let head = read_head(place, end, made, table)?;
-    let calls = read_calls(alloc, earlier, head.header, head.tables, names)?;
+    let head = read_head(place, version, end, made, table)?;
+    let calls = read_calls(alloc, version, earlier, head.header, head.tables, names)?;
     Ok(Block::new(head.header, calls))
 }
 
@@ -147,6 +173,7 @@ fn end_of_block<A: Allocator>(end: u128, block: &Block<A>) -> u128
 /// The calls that the tables of a block write.
 fn read_calls<'a, A: Allocator + Copy>(
     alloc: A,
+    version: Version,
     earlier: &[Block<A>],
     header: Header,
     tables: &'a [Value],
@@ -157,9 +184,10 @@ fn read_calls<'a, A: Allocator + Copy>(
     requires tables { are_tables (items_view tables.now) ≡ true }
     requires few { length tables.now ≤ most_block_calls }
     requires names { Knows names.old (submissions_from 0 earlier.now) }
-    ensures calls { Reads (λ v. v.items) result (calls_fault earlier.now header [] (tables_in (items_view tables.now))) (calls_through earlier.now header [] (tables_in (items_view tables.now))) }
+    ensures calls { Reads (λ v. v.items) result (calls_fault version earlier.now header [] (tables_in (items_view tables.now))) (calls_through version earlier.now header [] (tables_in (items_view tables.now))) }
     ensures names { IfOk result (λ v. Knows names.new (submissions_before earlier.now header v.items)) }
     ensures count { IfOk result (λ v. length v.items ≡ length tables.now) }
+    ensures plain { IfOk result (λ v. items_are_plain 1 (items_view tables.now) ≡ true) }
 {
     let mut calls = Vec::with_capacity(alloc, tables.len())?;
     let mut sub = 0;
@@ -167,7 +195,15 @@ fn read_calls<'a, A: Allocator + Copy>(
         let Some(table) = value.as_table() else {
             unreachable!()
         };
-        let call = read_next(earlier, header, calls.as_slice(), sub, names, table)?;
+        let call = read_next(
+            version,
+            earlier,
+            header,
+            calls.as_slice(),
+            sub,
+            names,
+            table,
+        )?;
         if call.op.is_submission() {
             sub += 1;
         }
@@ -179,6 +215,7 @@ fn read_calls<'a, A: Allocator + Copy>(
 /// The call that the next table of a block writes, after the calls before it, `sub` of which are
 /// submissions.
 fn read_next<'a, A: Allocator + Copy>(
+    version: Version,
     earlier: &[Block<A>],
     header: Header,
     before: &[Call],
@@ -191,8 +228,9 @@ fn read_next<'a, A: Allocator + Copy>(
     requires few { length before.now < most_block_calls }
     requires sub { sub ≡ tasks_after_calls 0 before.now }
     requires names { Knows names.old (submissions_before earlier.now header before.now) }
-    ensures call { Reads (λ c. c) result (call_fault earlier.now header before.now (table_view table.now)) (next_call earlier.now header before.now (table_view table.now)) }
+    ensures call { Reads (λ c. c) result (call_fault version earlier.now header before.now (table_view table.now)) (next_call version earlier.now header before.now (table_view table.now)) }
     ensures names { IfOk result (λ c. Knows names.new (submissions_before earlier.now header (before.now ++ c ∷ []))) }
+    ensures plain { IfOk result (λ c. members_are_plain 0 (table_view table.now) ≡ true) }
 {
     let block = earlier.len();
     let place = Place {
@@ -203,7 +241,8 @@ fn read_next<'a, A: Allocator + Copy>(
         target: Target { block, sub },
         repeated: header.times > 1,
     };
-    read_call(place, site, names, header, last_offset(before), table)
+    let last = last_offset(before);
+    read_call(place, version, site, names, header, last, table)
 }
 
 /// The offset of the last call, 0 where there is none.

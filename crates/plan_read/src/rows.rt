@@ -1,21 +1,25 @@
 //! The tables of a plan, each gone over once, and what stands at their keys.
 
 ghost use Rattle.std.specs.Prelude.{◌≡◌, true, length, replicate, None, Some, option_map, option_copied, is_some};
+ghost use Rattle.std.specs.List.Sorted.{IsStrictlySortedBy};
+ghost use Rattle.std.specs.Map.{keys_of};
+ghost use Rattle.std.specs.String.{string_cmp};
 ghost use Rattle.toml.specs.Data.{get_member};
 ghost use Rattle.toml.specs.View.{view, table_view, items_view};
 ghost use Rattle.plan_read.specs.Keys.{fits, are_tables};
 ghost use Rattle.plan_read.specs.declared.keys.Shape.TheVariants.{Tables};
 ghost use Rattle.plan_read.specs.own.Values.{given_integer, given_text, given_truth, tables_in, tables_at};
+ghost use Rattle.plan_read.specs.own.Plain.{items_at};
 ghost use Rattle.plan_read.specs.own.Rows.{word_of, Holds};
 
 use crate::key_names::KeyName;
 use toml::{Table, Value};
 
 /// A slot for what stands at each name of a key, by the place of the name.
-pub type Slots<'a> = [Option<&'a Value>; 14];
+pub type Slots<'a> = [Option<&'a Value>; 19];
 
 /// Slots that nothing was put into.
-pub const EMPTY_SLOTS: Slots<'static> = [None; 14];
+pub const EMPTY_SLOTS: Slots<'static> = [None; 19];
 
 /// A table, and what stands at its keys. The slots are its caller's, so that they are not moved.
 #[derive(Clone, Copy)]
@@ -28,8 +32,9 @@ pub struct Row<'a, 's> {
 impl<'a, 's> Row<'a, 's> {
     /// The row of a table, which has these slots from then on.
     pub fn new(table: &'a Table, slots: &'s mut Slots<'a>) -> Row<'a, 's>
-        requires { slots.old ≡ replicate 14 None }
-        ensures { table_view result.table.now ≡ table_view table.now }
+        requires { slots.old ≡ replicate 19 None }
+        ensures table { table_view result.table.now ≡ table_view table.now }
+        ensures ordered { IsStrictlySortedBy string_cmp (keys_of table.now.entries) }
     {
         for (word, value) in table {
             if let Some(name) = KeyName::of_word(word.as_str()) {
@@ -109,6 +114,7 @@ impl<'a, 's> Row<'a, 's> {
     /// The tables of the array at a key, none where there is no array.
     #[tactic(auto, using(crate::proofs::TableTests::count_of_tables))]
     pub fn tables(&self, name: KeyName) -> &'a [Value]
+        ensures items { items_view result.now ≡ items_at (word_of name) (table_view self.now.table.now) }
         ensures tables { tables_in (items_view result.now) ≡ tables_at (word_of name) (table_view self.now.table.now) }
         ensures count { length result.now ≡ length (tables_at (word_of name) (table_view self.now.table.now)) }
         ensures each { fits Tables (get_member (word_of name) (table_view self.now.table.now)) ≡ true → are_tables (items_view result.now) ≡ true }

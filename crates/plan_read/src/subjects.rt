@@ -2,10 +2,10 @@
 
 ghost use Rattle.std.specs.Prelude.{◌≡◌, ℕ, List, None, Some, OnOk, true, ◌&&◌, if◌then◌else◌, bytes_eq, codes, is_some};
 ghost use Rattle.toml.specs.View.{table_view};
-ghost use Rattle.plan_read.specs.own.Walk.{place_fault, key_tests, new_name_tests, known_name_tests, name_tests};
+ghost use Rattle.plan_read.specs.own.Walk.{place_fault, new_name_tests, known_name_tests, name_tests};
 ghost use Rattle.plan_read.specs.own.Reads.{Reads, found_in};
 ghost use Rattle.plan_read.specs.own.Values.{name_at, given_text, target_of, submits};
-ghost use Rattle.plan_read.specs.own.Subjects.{subject_of};
+ghost use Rattle.plan_read.specs.own.Subjects.{AreGiven, subject_of};
 
 use crate::faults::{Place, PlanFaultKind, ReadError};
 use crate::key_names::KeyName;
@@ -41,7 +41,7 @@ pub fn read_subject<'a, A: Allocator + Copy>(
     names: &mut BTreeMap<&'a str, Site, A>,
     row: &Row<'a, '_>,
 ) -> Result<Subject, ReadError>
-    requires { place_fault place (key_tests verb (table_view row.now.table.now)) ≡ None }
+    requires { AreGiven verb (table_view row.now.table.now) }
     ensures subject { Reads (λ s. s) result (place_fault place (name_tests verb (found_in names.old (name_at (table_view row.now.table.now))) site.target.block (table_view row.now.table.now))) (subject_of verb (found_in names.old (name_at (table_view row.now.table.now))) (table_view row.now.table.now)) }
     ensures names { OnOk result ((q : List ℕ) → found_in names.new q ≡ if submits verb && bytes_eq (name_at (table_view row.now.table.now)) q then Some site else found_in names.old q) }
 {

@@ -10,6 +10,15 @@ fn converts_spans(rt: HostRuntime) -> Result<(), Fail> {
     assert_eq!(rt; span(5, Unit::Us).map(|s| s.nanos()), Ok(5_000));
     assert_eq!(rt; span(5, Unit::Ms).map(|s| s.nanos()), Ok(5_000_000));
     assert_eq!(rt; span(5, Unit::S).map(|s| s.nanos()), Ok(5_000_000_000));
+    assert_eq!(rt; span(5, Unit::Min).map(|s| s.nanos()), Ok(300_000_000_000));
+    assert_eq!(rt;
+        span(5, Unit::Hour).map(|s| s.nanos()),
+        Ok(18_000_000_000_000)
+    );
+    assert_eq!(rt;
+        span(5, Unit::Day).map(|s| s.nanos()),
+        Ok(432_000_000_000_000)
+    );
     assert_eq!(rt; span(-5, Unit::S).map(|s| s.nanos()), Ok(0));
     assert_eq!(rt; span(1 << 62, Unit::Ns).map(|s| s.nanos()), Ok(1 << 62));
     assert_eq!(rt; span((1 << 62) + 1, Unit::Ns), Err(TimeError::TooLarge));
@@ -63,6 +72,22 @@ fn the_longest_is_the_last_that_is_taken(rt: HostRuntime) -> Result<(), Fail> {
     assert_eq!(rt; span(4_611_686_019, Unit::S), Err(TimeError::TooLarge));
     assert_eq!(rt; period(4_611_686_019, Unit::S), Err(TimeError::TooLarge));
     assert_eq!(rt; span(i64::MIN, Unit::S).map(|s| s.nanos()), Ok(0));
+    for (most, unit) in [
+        (76_861_433, Unit::Min),
+        (1_281_023, Unit::Hour),
+        (53_375, Unit::Day),
+    ] {
+        let nanos = most as u64 * unit.nanos();
+        assert_eq!(rt; span(most, unit).map(|s| s.nanos()), Ok(nanos));
+        assert_eq!(rt;
+            period(most, unit).map(|p| p.map(|s| s.nanos())),
+            Ok(Some(nanos))
+        );
+        assert_eq!(rt; span(most + 1, unit), Err(TimeError::TooLarge));
+        assert_eq!(rt; period(most + 1, unit), Err(TimeError::TooLarge));
+        assert_eq!(rt; span(i64::MIN, unit).map(|s| s.nanos()), Ok(0));
+        assert_eq!(rt; period(i64::MIN, unit), Ok(None));
+    }
     let longest = span(4_611_686_018_427_387_904, Unit::Ns)?;
     assert_eq!(rt; next_due(Timing::Rate(longest), LONGEST, 0), Some(1 << 63));
     assert_eq!(rt; next_due(Timing::Fixed(longest), 0, LONGEST), Some(1 << 63));
@@ -84,6 +109,7 @@ fn values_are_told_apart(rt: HostRuntime) -> Result<(), Fail> {
     assert!(rt; Timing::Rate(ten) != Timing::Fixed(ten) && Timing::Rate(ten) != Timing::Rate(six));
     assert!(rt; Ending::Value(1) != Ending::Fault(1) && Ending::Fault(1) != Ending::Fault(2));
     assert!(rt; Unit::Us != Unit::Ms && Unit::Us == Unit::Us);
+    assert!(rt; Unit::Min != Unit::Hour && Unit::Hour != Unit::Day && Unit::Day == Unit::Day);
     Ok(())
 }
 

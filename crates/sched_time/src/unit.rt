@@ -12,10 +12,17 @@ pub enum Unit {
     Ms,
     /// Seconds.
     S,
+    /// Minutes of 60 seconds.
+    Min,
+    /// Hours of 60 minutes.
+    Hour,
+    /// Days of 24 hours.
+    Day,
 }
 
 impl Unit {
-    /// How many nanoseconds one of this unit has: 1; 1,000; 1,000,000 or 1,000,000,000.
+    /// How many nanoseconds one of this unit has: 1; 1,000; 1,000,000; 1,000,000,000; 60,000,000,000;
+    /// 3,600,000,000,000 or 86,400,000,000,000.
     pub fn nanos(self) -> u64
         ensures { result ≡ nanos_of self }
     {
@@ -24,6 +31,9 @@ impl Unit {
             Unit::Us => 1_000,
             Unit::Ms => 1_000_000,
             Unit::S => 1_000_000_000,
+            Unit::Min => 60_000_000_000,
+            Unit::Hour => 3_600_000_000_000,
+            Unit::Day => 86_400_000_000_000,
         }
     }
 }

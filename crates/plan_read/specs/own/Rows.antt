@@ -27,6 +27,11 @@ word_of names.Unit = codes "unit"
 word_of names.Times = codes "times"
 word_of names.Every = codes "every"
 word_of names.Call = codes "call"
+word_of names.AtUnit = codes "at_unit"
+word_of names.EveryUnit = codes "every_unit"
+word_of names.DelayUnit = codes "delay_unit"
+word_of names.FirstUnit = codes "first_unit"
+word_of names.PeriodUnit = codes "period_unit"
 
 -- the name that a word is
 abbrev pub key_of_word : List ℕ → Option KeyName
@@ -44,7 +49,12 @@ key_of_word word =
     (if bytes_eq word (codes "unit") then Some names.Unit else
     (if bytes_eq word (codes "times") then Some names.Times else
     (if bytes_eq word (codes "every") then Some names.Every else
-    (if bytes_eq word (codes "call") then Some names.Call else None)))))))))))))
+    (if bytes_eq word (codes "call") then Some names.Call else
+    (if bytes_eq word (codes "at_unit") then Some names.AtUnit else
+    (if bytes_eq word (codes "every_unit") then Some names.EveryUnit else
+    (if bytes_eq word (codes "delay_unit") then Some names.DelayUnit else
+    (if bytes_eq word (codes "first_unit") then Some names.FirstUnit else
+    (if bytes_eq word (codes "period_unit") then Some names.PeriodUnit else None))))))))))))))))))
 
 -- the place of a name among the slots
 abbrev pub place : KeyName → ℕ
@@ -62,6 +72,11 @@ place names.Unit = 10
 place names.Times = 11
 place names.Every = 12
 place names.Call = 13
+place names.AtUnit = 14
+place names.EveryUnit = 15
+place names.DelayUnit = 16
+place names.FirstUnit = 17
+place names.PeriodUnit = 18
 
 -- what stands at a name
 abbrev pub slot : KeyName → List (Option (Bor Value)) → Option (Bor Value)

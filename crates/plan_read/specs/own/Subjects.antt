@@ -1,19 +1,24 @@
--- What a call is about, as `subjects` reads it: its operation with the name or the target that it gives, and what such a subject
--- stands for.
+-- What a call is about, as `subjects` reads it: its operation with the name or the target that it gives, what has to be there for
+-- that, and what such a subject stands for.
 -- All of it is this project's rule.
-use Rattle.std.specs.Prelude.{Option, codes}
+use Rattle.std.specs.Prelude.{◌≡◌, true, Option, codes}
 use Rattle.toml.specs.Data.{Members}
-use Rattle.sched_time.specs.declared.unit.Unit.{Unit as TimeUnit}
 use Rattle.plan_read.specs.declared.plans.Call.{Call}
-use Rattle.plan_read.specs.declared.plans.Header.{Header}
 use Rattle.plan_read.specs.declared.plans.Op.{Op}
 use Rattle.plan_read.specs.declared.plans.Op.TheVariants as ops
 use Rattle.plan_read.specs.declared.sites.Site.{Site}
 use Rattle.plan_read.specs.declared.subjects.Subject.{Subject}
 use Rattle.plan_read.specs.declared.subjects.Subject.TheVariants as subjects
+use Rattle.plan_read.specs.declared.units.Units.{Units}
 use Rattle.plan_read.specs.declared.verbs.Verb.{Verb}
 use Rattle.plan_read.specs.declared.verbs.Verb.TheVariants as verbs
+use Rattle.plan_read.specs.declared.versions.Version.TheVariants.{One}
+use Rattle.plan_read.specs.Keys.{call_keys, has_required, are_typed}
 use Rattle.plan_read.specs.own.Values.{name_at, target_of, span_at, period_at, which_at, truth_at}
+
+-- what an operation asks for is there, and of its type
+abbrev pub AreGiven : Verb → Members → Type 0
+AreGiven verb ms = (has_required (call_keys One verb) ms ≡ true) × (are_typed (call_keys One verb) ms ≡ true)
 
 -- that of a table with this operation, where `found` is the submission of its name that stands before it
 abbrev pub subject_of : Verb → Option Site → Members → Subject
@@ -39,18 +44,18 @@ verb_with subjects.Shutdown = verbs.Shutdown
 verb_with subjects.ShutdownNow = verbs.ShutdownNow
 verb_with subjects.Ask = verbs.Ask
 
--- what a call on a subject asks for
-abbrev pub op_with : Subject → TimeUnit → Members → Op
-op_with (subjects.Schedule name) unit ms = ops.Schedule name (span_at unit (codes "delay") ms)
-op_with (subjects.Execute name) unit ms = ops.Execute name
-op_with (subjects.Rate name) unit ms = ops.Rate name (span_at unit (codes "first") ms) (period_at unit (codes "period") ms)
-op_with (subjects.Fixed name) unit ms = ops.Fixed name (span_at unit (codes "first") ms) (period_at unit (codes "delay") ms)
-op_with (subjects.Cancel target) unit ms = ops.Cancel target
-op_with subjects.Policy unit ms = ops.Policy (which_at ms) (truth_at (codes "value") ms)
-op_with subjects.Shutdown unit ms = ops.Shutdown
-op_with subjects.ShutdownNow unit ms = ops.ShutdownNow
-op_with subjects.Ask unit ms = ops.Ask
+-- what a call on a subject asks for, with its times in these units
+abbrev pub op_with : Subject → Units → Members → Op
+op_with (subjects.Schedule name) units ms = ops.Schedule name (span_at units.delay (codes "delay") ms)
+op_with (subjects.Execute name) units ms = ops.Execute name
+op_with (subjects.Rate name) units ms = ops.Rate name (span_at units.first (codes "first") ms) (period_at units.period (codes "period") ms)
+op_with (subjects.Fixed name) units ms = ops.Fixed name (span_at units.first (codes "first") ms) (period_at units.delay (codes "delay") ms)
+op_with (subjects.Cancel target) units ms = ops.Cancel target
+op_with subjects.Policy units ms = ops.Policy (which_at ms) (truth_at (codes "value") ms)
+op_with subjects.Shutdown units ms = ops.Shutdown
+op_with subjects.ShutdownNow units ms = ops.ShutdownNow
+op_with subjects.Ask units ms = ops.Ask
 
 -- the call on a subject
-abbrev pub call_with : Subject → Header → Members → Call
-call_with subject h ms = record { at = span_at h.unit (codes "at") ms; op = op_with subject h.unit ms }
+abbrev pub call_with : Subject → Units → Members → Call
+call_with subject units ms = record { at = span_at units.at (codes "at") ms; op = op_with subject units ms }

@@ -1,10 +1,10 @@
 -- The walk over a tree that finds its fault: for each place tests on what the walk has read there, in the order of the checks, and the
 -- first that fails. What it reads has a value at every table; none is seen behind a test that fails.
 -- All of it is this project's rule.
-use Rattle.std.specs.Prelude.{ℕ, ◌+◌, ◌*◌, ℤ, pos, negsuc, Bool, true, false, not, ◌&&◌, ◌||◌, nat_le, ◌==◌, if◌then◌else◌, List, [], ◌∷◌, ◌++◌, length, Option, Some, None, is_some, is_none, option_and_then, codes}
-use Rattle.toml.specs.Data.{Members, get_member, as_integer}
-use Rattle.sched_time.specs.Times.{longest}
-use Rattle.sched_time.specs.declared.unit.Unit.{Unit as TimeUnit}
+use Rattle.std.specs.Prelude.{ℕ, ◌+◌, ◌*◌, Bool, true, false, not, ◌&&◌, ◌||◌, nat_le, ◌==◌, if◌then◌else◌, List, [], ◌∷◌, ◌++◌, length, Option, Some, None, is_some, is_none, option_and_then, codes}
+use Rattle.toml.specs.Data.{Members, get_member}
+use Rattle.sched_time.specs.Times.{longest, delay_units}
+use Rattle.std.specs.List.{list_all}
 use Rattle.plan_read.specs.declared.faults.Place.{Place}
 use Rattle.plan_read.specs.declared.faults.PlanFault.{PlanFault}
 use Rattle.plan_read.specs.declared.faults.PlanFaultKind.{PlanFaultKind}
@@ -14,10 +14,13 @@ use Rattle.plan_read.specs.declared.plans.Header.{Header}
 use Rattle.plan_read.specs.declared.sites.Site.{Site}
 use Rattle.plan_read.specs.declared.verbs.Verb.{Verb}
 use Rattle.plan_read.specs.declared.verbs.Verb.TheVariants as verbs
-use Rattle.plan_read.specs.Keys.{top_keys, header_keys, call_keys, verb_of_word, unit_of_word, has_only, has_required, are_typed}
+use Rattle.plan_read.specs.declared.units.Units.{Units}
+use Rattle.plan_read.specs.declared.versions.Version.{Version as PlanVersion}
+use Rattle.plan_read.specs.declared.versions.Version.TheVariants.{One, Two}
+use Rattle.plan_read.specs.Keys.{time_keys, unit_key, top_keys, header_keys, call_keys, verb_of_word, unit_of_word, has_only, has_required, are_typed}
 use Rattle.plan_read.specs.Names.{is_name}
 use Rattle.plan_read.specs.Plans.{PlanTree, most_blocks, most_block_calls, most_calls, moment_in_last, last_offset, end_of, made_by}
-use Rattle.plan_read.specs.own.Values.{text_or, tables_at, is_negative, span_at, header_of, verb_at, name_at, found_at, next_call, block_of}
+use Rattle.plan_read.specs.own.Values.{given_integer, text_or, tables_at, is_negative, span_at, units_in, header_units, times_at, header_of, verb_at, name_at, found_at, next_call, block_of, version_of, version_at}
 
 -- ---- lists of tests
 
@@ -48,16 +51,10 @@ None or_else next = next
 abbrev pub top : Place
 top = record { block = 0; call = 0 }
 
--- the value is the integer 1
-abbrev pub is_one : Option ℤ → Bool
-is_one None = false
-is_one (Some (pos n)) = n == 1
-is_one (Some (negsuc n)) = false
-
 -- the checks on the top
 unfoldable pub top_tests : Members → List Test
 top_tests ms =
-    (Version barring is_one (option_and_then as_integer (get_member (codes "version") ms)))
+    (Version barring is_some (option_and_then version_of (given_integer (codes "version") ms)))
     ∷ (UnknownKey barring has_only top_keys ms)
     ∷ (WrongType barring are_typed top_keys ms)
     ∷ (TooMany barring nat_le (length (tables_at (codes "block") ms)) most_blocks)
@@ -69,29 +66,54 @@ top_tests ms =
 abbrev pub header_place : ℕ → Place
 header_place block = record { block = block + 1; call = 0 }
 
--- the checks on a header, where the last call before it is at the moment `end`, and `made` calls are made before it
-unfoldable pub header_tests : ℕ → ℕ → Members → List Test
-header_tests end made ms =
-    let h = header_of ms in
-    let calls = length (tables_at (codes "call") ms) in
-    (UnknownKey barring has_only header_keys ms)
-    ∷ (WrongType barring are_typed header_keys ms)
-    ∷ (BadUnit barring is_some (unit_of_word (text_or (codes "ns") (codes "unit") ms)))
-    ∷ (BadTimes barring nat_le 1 h.times && nat_le h.times most_calls)
-    ∷ (Missing barring nat_le h.times 1 || is_some (get_member (codes "every") ms))
-    ∷ (Negative barring not (is_negative (codes "at") ms) && not (is_negative (codes "every") ms))
-    ∷ (TooLarge barring nat_le h.at longest && nat_le h.every longest)
-    ∷ (OutOfOrder barring nat_le end h.at)
-    ∷ (TooMany barring nat_le calls most_block_calls && nat_le (made + h.times * calls) most_calls)
+-- what stands at a key is a unit
+abbrev pub is_unit : PlanVersion → List ℕ → Members → Bool
+is_unit version key ms = is_some (unit_of_word version (text_or (codes "ns") key ms))
+
+-- what stands beside the times of a table is units, in version 2
+abbrev pub are_units : PlanVersion → Members → Bool
+are_units One ms = true
+are_units Two ms = list_all (λ key. is_unit Two (unit_key key) ms) time_keys
+
+-- the units of a header are units
+abbrev pub are_header_units : PlanVersion → Members → Bool
+are_header_units One ms = is_unit One (codes "unit") ms
+are_header_units Two ms = are_units Two ms
+
+-- on the keys of a header, and on the units among them
+unfoldable pub header_key_tests : PlanVersion → Members → List Test
+header_key_tests version ms =
+    (UnknownKey barring has_only (header_keys version) ms)
+    ∷ (WrongType barring are_typed (header_keys version) ms)
+    ∷ (BadUnit barring are_header_units version ms)
     ∷ []
 
--- those of them on its moments, in this unit
-abbrev pub moment_tests : ℕ → TimeUnit → Members → List Test
-moment_tests end unit ms =
-    (Negative barring not (is_negative (codes "at") ms) && not (is_negative (codes "every") ms))
-    ∷ (TooLarge barring nat_le (span_at unit (codes "at") ms) longest && nat_le (span_at unit (codes "every") ms) longest)
-    ∷ (OutOfOrder barring nat_le end (span_at unit (codes "at") ms))
+-- on the number of iterations
+unfoldable pub times_tests : Members → List Test
+times_tests ms =
+    let times = delay_units (times_at ms) in
+    (BadTimes barring nat_le 1 times && nat_le times most_calls)
+    ∷ (Missing barring nat_le times 1 || is_some (get_member (codes "every") ms))
     ∷ []
+
+-- on its moments, in these units
+abbrev pub moment_tests : ℕ → Units → Members → List Test
+moment_tests end units ms =
+    (Negative barring not (is_negative (codes "at") ms) && not (is_negative (codes "every") ms))
+    ∷ (TooLarge barring nat_le (span_at units.at (codes "at") ms) longest && nat_le (span_at units.every (codes "every") ms) longest)
+    ∷ (OutOfOrder barring nat_le end (span_at units.at (codes "at") ms))
+    ∷ []
+
+-- on the number of calls, where each is made so often
+abbrev pub count_tests : ℕ → ℕ → ℕ → List Test
+count_tests made times calls = (TooMany barring nat_le calls most_block_calls && nat_le (made + times * calls) most_calls) ∷ []
+
+-- the checks on a header, where the last call before it is at the moment `end`, and `made` calls are made before it: on its keys, on the
+-- number of iterations, on its moments, and on the number of its calls
+unfoldable pub header_tests : PlanVersion → ℕ → ℕ → Members → List Test
+header_tests version end made ms =
+    header_key_tests version ms ++ times_tests ms ++ moment_tests end (header_units version ms) ms
+    ++ count_tests made (delay_units (times_at ms)) (length (tables_at (codes "call") ms))
 
 -- ---- a call
 
@@ -109,11 +131,11 @@ is_clear block None = false
 is_clear block (Some s) = (s.target.block == block) || not s.repeated
 
 -- the spans of an operation are within the limit
-abbrev pub are_spans_short : Verb → TimeUnit → Members → Bool
-are_spans_short verbs.Schedule unit ms = nat_le (span_at unit (codes "delay") ms) longest
-are_spans_short verbs.Rate unit ms = nat_le (span_at unit (codes "first") ms) longest && nat_le (span_at unit (codes "period") ms) longest
-are_spans_short verbs.Fixed unit ms = nat_le (span_at unit (codes "first") ms) longest && nat_le (span_at unit (codes "delay") ms) longest
-are_spans_short _ unit ms = true
+abbrev pub are_spans_short : Verb → Units → Members → Bool
+are_spans_short verbs.Schedule units ms = nat_le (span_at units.delay (codes "delay") ms) longest
+are_spans_short verbs.Rate units ms = nat_le (span_at units.first (codes "first") ms) longest && nat_le (span_at units.period (codes "period") ms) longest
+are_spans_short verbs.Fixed units ms = nat_le (span_at units.first (codes "first") ms) longest && nat_le (span_at units.delay (codes "delay") ms) longest
+are_spans_short _ units ms = true
 
 -- on the operation
 unfoldable pub verb_tests : Members → List Test
@@ -122,12 +144,13 @@ verb_tests ms =
     ∷ (WrongType barring is_verb ms)
     ∷ []
 
--- on the other keys
-unfoldable pub key_tests : Verb → Members → List Test
-key_tests verb ms =
-    (UnknownKey barring has_only (call_keys verb) ms)
-    ∷ (Missing barring has_required (call_keys verb) ms)
-    ∷ (WrongType barring are_typed (call_keys verb) ms)
+-- on the other keys, and on the units among them
+unfoldable pub key_tests : PlanVersion → Verb → Members → List Test
+key_tests version verb ms =
+    (UnknownKey barring has_only (call_keys version verb) ms)
+    ∷ (Missing barring has_required (call_keys version verb) ms)
+    ∷ (WrongType barring are_typed (call_keys version verb) ms)
+    ∷ (BadUnit barring are_units version ms)
     ∷ []
 
 -- on the name of a submission
@@ -154,45 +177,45 @@ name_tests verbs.Fixed found block ms = new_name_tests found ms
 name_tests verbs.Cancel found block ms = known_name_tests found block ms
 name_tests _ found block ms = []
 
--- on the times
-unfoldable pub time_tests : Verb → Header → ℕ → Members → List Test
-time_tests verb h last ms =
+-- on the times, in these units
+unfoldable pub time_tests : Verb → Units → Header → ℕ → Members → List Test
+time_tests verb units h last ms =
     (Negative barring not (is_negative (codes "at") ms))
-    ∷ (TooLarge barring nat_le (span_at h.unit (codes "at") ms) longest && are_spans_short verb h.unit ms && nat_le (moment_in_last h (span_at h.unit (codes "at") ms)) longest)
-    ∷ (OutOfOrder barring nat_le last (span_at h.unit (codes "at") ms) && (nat_le h.times 1 || nat_le (span_at h.unit (codes "at") ms) h.every))
+    ∷ (TooLarge barring nat_le (span_at units.at (codes "at") ms) longest && are_spans_short verb units ms && nat_le (moment_in_last h (span_at units.at (codes "at") ms)) longest)
+    ∷ (OutOfOrder barring nat_le last (span_at units.at (codes "at") ms) && (nat_le h.times 1 || nat_le (span_at units.at (codes "at") ms) h.every))
     ∷ []
 
 -- the checks on a call of the block `block`, where `found` is the submission of its name that stands before it, and `last` the offset
 -- of the call before it: on its operation, on its other keys, on its name, and on its times
-abbrev pub call_tests : Option Site → ℕ → Header → ℕ → Members → List Test
-call_tests found block h last ms =
-    verb_tests ms ++ key_tests (verb_at ms) ms ++ name_tests (verb_at ms) found block ms ++ time_tests (verb_at ms) h last ms
+abbrev pub call_tests : PlanVersion → Option Site → ℕ → Header → ℕ → Members → List Test
+call_tests version found block h last ms =
+    verb_tests ms ++ key_tests version (verb_at ms) ms ++ name_tests (verb_at ms) found block ms ++ time_tests (verb_at ms) (units_in version h.unit ms) h last ms
 
 -- ---- the whole tree, block by block, and in each block its header and then its calls
 
 -- the fault of a call's table that stands behind the calls `before`, in the block behind the blocks `earlier`
-abbrev pub call_fault : PlanTree → Header → List Call → Members → Option PlanFault
-call_fault earlier h before ms =
-    place_fault (call_place (length earlier) (length before)) (call_tests (found_at earlier h before ms) (length earlier) h (last_offset before) ms)
+abbrev pub call_fault : PlanVersion → PlanTree → Header → List Call → Members → Option PlanFault
+call_fault version earlier h before ms =
+    place_fault (call_place (length earlier) (length before)) (call_tests version (found_at earlier h before ms) (length earlier) h (last_offset before) ms)
 
 -- the first fault of some calls' tables, in the order of the text: the first table is checked as the call behind `before`; where it
 -- passes it writes a call, and the tables behind it are checked with that call among those before them
-abbrev pub calls_fault : PlanTree → Header → List Call → List Members → Option PlanFault
-calls_fault earlier h before [] = None
-calls_fault earlier h before (ms ∷ tables) = call_fault earlier h before ms or_else calls_fault earlier h (before ++ next_call earlier h before ms ∷ []) tables
+abbrev pub calls_fault : PlanVersion → PlanTree → Header → List Call → List Members → Option PlanFault
+calls_fault version earlier h before [] = None
+calls_fault version earlier h before (ms ∷ tables) = call_fault version earlier h before ms or_else calls_fault version earlier h (before ++ next_call version earlier h before ms ∷ []) tables
 
 -- the first fault of a block's table: that of its header, and where that has none, the first of its calls
-abbrev pub block_fault : PlanTree → Members → Option PlanFault
-block_fault earlier ms =
-    place_fault (header_place (length earlier)) (header_tests (end_of earlier) (made_by earlier) ms)
-    or_else calls_fault earlier (header_of ms) [] (tables_at (codes "call") ms)
+abbrev pub block_fault : PlanVersion → PlanTree → Members → Option PlanFault
+block_fault version earlier ms =
+    place_fault (header_place (length earlier)) (header_tests version (end_of earlier) (made_by earlier) ms)
+    or_else calls_fault version earlier (header_of version ms) [] (tables_at (codes "call") ms)
 
 -- the first fault of some blocks' tables, in the order of the text: the first is checked as the block behind `earlier`; where it
 -- passes it writes a block, and those behind it are checked with that block among those before them
-abbrev pub blocks_fault : PlanTree → List Members → Option PlanFault
-blocks_fault earlier [] = None
-blocks_fault earlier (ms ∷ tables) = block_fault earlier ms or_else blocks_fault (earlier ++ block_of earlier ms ∷ []) tables
+abbrev pub blocks_fault : PlanVersion → PlanTree → List Members → Option PlanFault
+blocks_fault version earlier [] = None
+blocks_fault version earlier (ms ∷ tables) = block_fault version earlier ms or_else blocks_fault version (earlier ++ block_of version earlier ms ∷ []) tables
 
 -- the fault of a tree: that of its top, and where that has none, the first of its blocks
 abbrev pub tree_fault : Members → Option PlanFault
-tree_fault ms = place_fault top (top_tests ms) or_else blocks_fault [] (tables_at (codes "block") ms)
+tree_fault ms = place_fault top (top_tests ms) or_else blocks_fault (version_at ms) [] (tables_at (codes "block") ms)

@@ -21,4 +21,4 @@ returns-in_err-op c =
     let read = simp to_z-of_z at c.in_ok-read_span.ensures in
     let forward = simp to_z-of_z at c.if-at-lt0.false in
     let short = passes _ _ read.0 in
-    rw (q.1, q.2) (spans_halt c.in_err-op.field-0.0 c.args.place (verb_with c.args.subject) c.args.header c.args.last ms (rw at at forward) (rw at at short) c.in_err-op.ensures)
+    rw (q.1, q.2) (spans_halt c.in_err-op.field-0.0 c.args.place (verb_with c.args.subject) c.args.units c.args.header c.args.last ms (rw at at forward) (rw at at short) c.in_err-op.ensures)

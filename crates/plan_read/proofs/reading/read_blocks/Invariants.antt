@@ -1,7 +1,8 @@
-use Rattle.std.proofs.Common.{◌≡◌, ◌≤◌, [], drop, length}
+use Rattle.std.proofs.Common.{◌≡◌, ◌≤◌, true, [], take, drop, length}
 use Rattle.toml.specs.View.{items_view}
 use Rattle.plan_read.specs.own.Walk.{blocks_fault}
 use Rattle.plan_read.specs.Plans.{submissions_from, end_of, made_by}
+use Rattle.plan_read.specs.own.Plain.{items_are_plain}
 use Rattle.plan_read.specs.own.Reads.{Knows}
 use Rattle.plan_read.specs.own.Values.{tables_in, blocks_through}
 use Rattle.plan_read.proofs.reading.read_blocks.Given as goal
@@ -13,6 +14,7 @@ invariant-loop-value g l = record {
   made : l.made ≡ made_by l.blocks.items;
   few : l.made ≤ 65536;
   names : Knows l.names (submissions_from 0 l.blocks.items);
-  fault : blocks_fault l.blocks.items (tables_in (items_view (drop l.value-index l.tables))) ≡ blocks_fault [] (tables_in (items_view l.tables));
-  blocks : blocks_through l.blocks.items (tables_in (items_view (drop l.value-index l.tables))) ≡ blocks_through [] (tables_in (items_view l.tables));
+  plain : items_are_plain 3 (items_view (take l.value-index l.tables)) ≡ true;
+  fault : blocks_fault l.version l.blocks.items (tables_in (items_view (drop l.value-index l.tables))) ≡ blocks_fault l.version [] (tables_in (items_view l.tables));
+  blocks : blocks_through l.version l.blocks.items (tables_in (items_view (drop l.value-index l.tables))) ≡ blocks_through l.version [] (tables_in (items_view l.tables));
 }

@@ -7,6 +7,7 @@ use Rattle.plan_read.specs.declared.faults.PlanFault.{PlanFault}
 use Rattle.plan_read.specs.own.Reads.{FailsWith}
 use Rattle.plan_read.specs.own.Values.{tables_in}
 use Rattle.plan_read.proofs.Naming.{tasks_after-one_more}
+use Rattle.plan_read.proofs.PlainReads.{plain_turn}
 use Rattle.plan_read.proofs.Turns.{turn, is_table, call_turn, call_halts}
 use Rattle.plan_read.proofs.reading.read_calls.Goals as goal
 use Rattle.plan_read.proofs.reading.read_calls.Goals.{then-is_submission, else-is_submission}
@@ -27,7 +28,7 @@ loop-value-preserved g c =
     let ms = table_view c.in-Some.table.now in
     let table : as_table (view c.value-item.result) ≡ Some ms = sym (rw c.in-Some.is at c.as_table.ensures) in
     let next : tables_in (items_view (drop i vs)) ≡ ms ∷ tables_in (items_view (drop (i + 1) vs)) = turn vs i c.value-item.result ms c.loop-value-test.true c.value-item.is table in
-    let t = call_turn earlier c.args.header before _ _ ms c.in_ok-call.call next (rw c.as_slice.ensures.value at c.in_ok-call.ensures.call.0) (rw c.as_slice.ensures.value at c.in_ok-call.ensures.call.1) in
+    let t = call_turn c.args.version earlier c.args.header before _ _ ms c.in_ok-call.call next (rw c.as_slice.ensures.value at c.in_ok-call.ensures.call.0) (rw c.as_slice.ensures.value at c.in_ok-call.ensures.call.1) in
     let more = tasks_after-one_more 0 before c.in_ok-call.call in
     let sub : (c.if-is_submission.sub ≡ tasks_after_calls 0 c.push.new.self.items) × (c.if-is_submission.sub ≤ i + 1) =
     elim c.if-is_submission.branch [
@@ -39,6 +40,7 @@ loop-value-preserved g c =
       small = sub.1;
       sub = sub.0;
       names = rw c.in_ok-push.ensures.items (rw c.as_slice.ensures.value at c.in_ok-call.ensures.names);
+      plain = plain_turn 0 vs i c.value-item.result ms c.loop-value-test.true c.value-item.is table c.in_ok-call.ensures.plain c.loop-value.invariant.plain;
       fault = rw c.in_ok-push.ensures.items (t.0 ∙ c.loop-value.invariant.fault);
       calls = rw c.in_ok-push.ensures.items (t.1 ∙ c.loop-value.invariant.calls);
     }
@@ -52,5 +54,5 @@ returns-in_err-call-clause-calls g c =
     let ms = table_view c.in-Some.table.now in
     let table : as_table (view c.value-item.result) ≡ Some ms = sym (rw c.in-Some.is at c.as_table.ensures) in
     let next : tables_in (items_view (drop i vs)) ≡ ms ∷ tables_in (items_view (drop (i + 1) vs)) = turn vs i c.value-item.result ms c.loop-value-test.true c.value-item.is table in
-    let halts = call_halts e c.args.earlier.now c.args.header c.loop-value.calls.items _ _ ms next (rw c.as_slice.ensures.value at c.in_err-call.ensures.call) in
+    let halts = call_halts e c.args.version c.args.earlier.now c.args.header c.loop-value.calls.items _ _ ms next (rw c.as_slice.ensures.value at c.in_err-call.ensures.call) in
     rw (q.1, q.2) (subst (λ (fault : Option PlanFault). FailsWith e fault) c.loop-value.invariant.fault halts)

@@ -5,16 +5,16 @@ use Rattle.plan_read.proofs.GivenKeys.{name_given}
 use Rattle.plan_read.proofs.subjects.read_subject.Goals as goal
 
 pub read_new_name-requires : goal.read_new_name-requires
-read_new_name-requires g c = name_given c.args.place verbs.Schedule (table_view c.args.row.now.table.now) refl (rw c.in-Schedule.is at c.requires)
+read_new_name-requires g c = name_given verbs.Schedule (table_view c.args.row.now.table.now) refl (rw c.in-Schedule.is at c.requires)
 
 pub read_new_name-requires-in-Execute : goal.read_new_name-requires-in-Execute
-read_new_name-requires-in-Execute g c = name_given c.args.place verbs.Execute (table_view c.args.row.now.table.now) refl (rw c.in-Execute.is at c.requires)
+read_new_name-requires-in-Execute g c = name_given verbs.Execute (table_view c.args.row.now.table.now) refl (rw c.in-Execute.is at c.requires)
 
 pub read_new_name-requires-in-Rate : goal.read_new_name-requires-in-Rate
-read_new_name-requires-in-Rate g c = name_given c.args.place verbs.Rate (table_view c.args.row.now.table.now) refl (rw c.in-Rate.is at c.requires)
+read_new_name-requires-in-Rate g c = name_given verbs.Rate (table_view c.args.row.now.table.now) refl (rw c.in-Rate.is at c.requires)
 
 pub read_new_name-requires-in-Fixed : goal.read_new_name-requires-in-Fixed
-read_new_name-requires-in-Fixed g c = name_given c.args.place verbs.Fixed (table_view c.args.row.now.table.now) refl (rw c.in-Fixed.is at c.requires)
+read_new_name-requires-in-Fixed g c = name_given verbs.Fixed (table_view c.args.row.now.table.now) refl (rw c.in-Fixed.is at c.requires)
 
 pub read_target-requires : goal.read_target-requires
-read_target-requires g c = name_given c.args.place verbs.Cancel (table_view c.args.row.now.table.now) refl (rw c.in-Cancel.is at c.requires)
+read_target-requires g c = name_given verbs.Cancel (table_view c.args.row.now.table.now) refl (rw c.in-Cancel.is at c.requires)

@@ -18,4 +18,4 @@ pub returns-in_default : goal.returns-in_default
 returns-in_default c =
     let w = c.args.word.now in
     let not = c.in_default in
-    rw (differs w _ not.not-ns, differs w _ not.not-us, differs w _ not.not-ms, differs w _ not.not-s) refl
+    rw (differs w _ not.not-ns, differs w _ not.not-us, differs w _ not.not-ms, differs w _ not.not-s) c.longer_unit_of_word.ensures

@@ -46,7 +46,22 @@ returns-in-every c = names_key c.args.word.now names.Every c.in-every.is
 pub returns-in-call : goal.returns-in-call
 returns-in-call c = names_key c.args.word.now names.Call c.in-call.is
 
+pub returns-in-at_unit : goal.returns-in-at_unit
+returns-in-at_unit c = names_key c.args.word.now names.AtUnit c.in-at_unit.is
+
+pub returns-in-every_unit : goal.returns-in-every_unit
+returns-in-every_unit c = names_key c.args.word.now names.EveryUnit c.in-every_unit.is
+
+pub returns-in-delay_unit : goal.returns-in-delay_unit
+returns-in-delay_unit c = names_key c.args.word.now names.DelayUnit c.in-delay_unit.is
+
+pub returns-in-first_unit : goal.returns-in-first_unit
+returns-in-first_unit c = names_key c.args.word.now names.FirstUnit c.in-first_unit.is
+
+pub returns-in-period_unit : goal.returns-in-period_unit
+returns-in-period_unit c = names_key c.args.word.now names.PeriodUnit c.in-period_unit.is
+
 pub returns-in_default : goal.returns-in_default
 returns-in_default c =
     let w = c.args.word.now in
-    names_none w (λ k. elim k as (λ k. w ≢ word_of k) [ names.Op ↦ c.in_default.not-op | names.At ↦ c.in_default.not-at | names.Name ↦ c.in_default.not-name | names.Delay ↦ c.in_default.not-delay | names.First ↦ c.in_default.not-first | names.Period ↦ c.in_default.not-period | names.Which ↦ c.in_default.not-which | names.Value ↦ c.in_default.not-value | names.Version ↦ c.in_default.not-version | names.Block ↦ c.in_default.not-block | names.Unit ↦ c.in_default.not-unit | names.Times ↦ c.in_default.not-times | names.Every ↦ c.in_default.not-every | names.Call ↦ c.in_default.not-call ])
+    names_none w (λ k. elim k as (λ k. w ≢ word_of k) [ names.Op ↦ c.in_default.not-op | names.At ↦ c.in_default.not-at | names.Name ↦ c.in_default.not-name | names.Delay ↦ c.in_default.not-delay | names.First ↦ c.in_default.not-first | names.Period ↦ c.in_default.not-period | names.Which ↦ c.in_default.not-which | names.Value ↦ c.in_default.not-value | names.Version ↦ c.in_default.not-version | names.Block ↦ c.in_default.not-block | names.Unit ↦ c.in_default.not-unit | names.Times ↦ c.in_default.not-times | names.Every ↦ c.in_default.not-every | names.Call ↦ c.in_default.not-call | names.AtUnit ↦ c.in_default.not-at_unit | names.EveryUnit ↦ c.in_default.not-every_unit | names.DelayUnit ↦ c.in_default.not-delay_unit | names.FirstUnit ↦ c.in_default.not-first_unit | names.PeriodUnit ↦ c.in_default.not-period_unit ])

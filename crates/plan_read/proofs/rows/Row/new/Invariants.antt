@@ -6,4 +6,4 @@ use Rattle.plan_read.proofs.rows.Row.new.Given as goal
 
 abbrev pub invariant-loop-word : goal.invariant-loop-word
 invariant-loop-word l =
-    (done : List Entry) × (l.table.entries ≡ done ++ l.word-iterator) × ((k : KeyName) → Sees l.table.entries done (slot k l.slots) (word_of k)) × (length l.slots ≡ 14)
+    (done : List Entry) × (l.table.entries ≡ done ++ l.word-iterator) × ((k : KeyName) → Sees l.table.entries done (slot k l.slots) (word_of k)) × (length l.slots ≡ 19)
