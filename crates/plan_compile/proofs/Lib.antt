@@ -5,3 +5,4 @@ pub mod CodeCalls
 pub mod NoFault
 pub mod Emission
 pub mod Periods
+pub mod Units

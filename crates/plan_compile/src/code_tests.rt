@@ -185,6 +185,35 @@ call = [
 }
 
 #[test]
+fn times_of_different_units_are_compiled_in_nanoseconds(rt: HostRuntime) -> Result<(), Fail> {
+    let text = "version = 2
+[[block]]
+at = 1
+at_unit = \"min\"
+times = 2
+every = 1
+every_unit = \"h\"
+[[block.call]]
+op = \"rate\"
+name = \"a\"
+first = 500
+first_unit = \"ms\"
+period = 1
+period_unit = \"d\"
+";
+    assert_eq!(rt;
+        listed(&rt, text)?.as_str(),
+        "0 loop 2 every 3600000000000
+1 submit 60000000000 rate 500000000 86400000000000
+2 endloop
+3 halt
+"
+    );
+    assert!(rt; makes_its_calls(&rt, text, 2)?);
+    Ok(())
+}
+
+#[test]
 fn plans_without_calls_have_a_halt_alone(rt: HostRuntime) -> Result<(), Fail> {
     for text in [
         "version = 1",

@@ -1,18 +1,35 @@
 //! What holds of the calls of each plan, and of the limits on its text and its calls.
 ghost use Rattle.std.specs.Prelude.{◌≡◌, ◌↔◌, ℕ, List, true};
+ghost use Rattle.plan_read.specs.Data.{Members};
 ghost use Rattle.queue_code.specs.Calls.{IsOrderly, most_calls_of_code};
 ghost use Rattle.plan_read.specs.Plans.{PlanTree, most_calls as most_calls_of_plan};
+ghost use Rattle.plan_read.specs.Migrating.{migrated, in_nanoseconds};
 ghost use Rattle.plan_read.specs.Texts.{TextWrites, longest_text};
+ghost use Rattle.plan_read.specs.Writes.{TreeWritesIn};
+ghost use Rattle.plan_read.specs.declared.versions.Version.TheVariants.{One, Two};
 ghost use Rattle.plan_compile.specs.PlanCalls.{calls_of_plan};
 
 use crate::fault::CompileFault;
-use plan_read::{LONGEST_TEXT, plans_are_ordered};
+use plan_read::{LONGEST_TEXT, migrated_trees_write, plans_are_ordered};
 
 /// The calls of each plan that a text writes are in order, as the executor takes them and as its laws ask.
 pub fn calls_are_in_order()
     ensures { (text : List ℕ) (plan : PlanTree) → TextWrites text plan → IsOrderly (calls_of_plan plan) }
 {
     plans_are_ordered();
+}
+
+/// What a plan calls does not depend on the units that its blocks keep.
+pub fn units_make_no_calls()
+    ensures { (plan : PlanTree) → calls_of_plan (in_nanoseconds plan) ≡ calls_of_plan plan }
+{}
+
+/// A tree of version 1 and the tree to which it is migrated make the same calls.
+pub fn migrated_trees_call_the_same()
+    ensures { (ms : Members) (plan : PlanTree) → TreeWritesIn One ms plan → (other : PlanTree) × TreeWritesIn Two (migrated ms) other × (calls_of_plan other ≡ calls_of_plan plan) }
+{
+    migrated_trees_write();
+    units_make_no_calls();
 }
 
 /// A plan may make as many calls as a code may: the two limits are one number. And

@@ -76,4 +76,7 @@ mod size_tests;
 
 pub use compiling::compile;
 pub use fault::CompileFault;
-pub use laws::{calls_are_in_order, compile_fault_equality_tells, limits_agree};
+pub use laws::{
+    calls_are_in_order, compile_fault_equality_tells, limits_agree, migrated_trees_call_the_same,
+    units_make_no_calls,
+};

@@ -3,6 +3,8 @@ mod calls;
 mod controls;
 mod documents;
 mod headers;
+mod longest;
+mod migrations;
 mod names;
 mod nesting;
 mod numbers;
@@ -11,8 +13,10 @@ mod repeated;
 mod sizes;
 mod times;
 mod tops;
+mod unit_faults;
+mod units;
 
-use plan_read::{Block, Call, Op, Plan, PlanFault, PlanFaultKind, read_plan};
+use plan_read::{Block, Call, Op, Plan, PlanFault, PlanFaultKind, migrate, read_plan};
 use sched_time::Span;
 use std::alloc::Global;
 use std::process::Abort;
@@ -27,9 +31,20 @@ const LATE_BLOCK: &str = "version = 1\n[[block]]\nat = 100\n";
 /// What stands before the keys of a plan's only call.
 const CALL: &str = "version = 1\n[[block]]\n[[block.call]]\n";
 
+/// What stands before the keys of the only block of a plan of version 2.
+const HEADER_2: &str = "version = 2\n[[block]]\n";
+
+/// What stands before the keys of the only call of a plan of version 2.
+const CALL_2: &str = "version = 2\n[[block]]\n[[block.call]]\n";
+
 /// The plan of a text. All tests read plans through it: what `read_plan` ensures is then looked at once.
 fn read(alloc: Global, text: &[u8]) -> Result<Plan<Global>, PlanFault> {
     read_plan(alloc, text)
+}
+
+/// The migrated text of a text. All tests migrate texts through it, for the same end.
+fn migrated(alloc: Global, text: &[u8]) -> Result<String, PlanFault> {
+    migrate(alloc, text)
 }
 
 /// The text of a fault.
@@ -37,11 +52,13 @@ fn spelled(alloc: Global, fault: &PlanFault) -> Result<String, Fail> {
     Ok(fault.to_string(alloc)?)
 }
 
-/// What is told of a text: its fault, or that it is a plan.
+/// What is told of a text: its fault, or that it is a plan, of version 1 ("plan") or of version 2 ("plan 2"). Each text
+/// is migrated too, and what is told is none of these where it does not migrate as it has to.
 fn told(alloc: Global, text: &str) -> Result<String, Fail> {
+    let migrated = migrated(alloc, text.as_bytes());
     match read(alloc, text.as_bytes()) {
-        Ok(_) => Ok(String::from_str(alloc, "plan")?),
-        Err(fault) => spelled(alloc, &fault),
+        Ok(plan) => migrations::told_of_plan(alloc, &plan, &migrated),
+        Err(fault) => migrations::told_of_fault(alloc, &fault, &migrated),
     }
 }
 

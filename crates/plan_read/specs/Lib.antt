@@ -1,4 +1,5 @@
 pub use Rattle.sched_time.specs.Times
+pub use Rattle.toml.specs.Data
 pub mod Names
 pub mod Keys
 pub mod Plans

@@ -9,13 +9,13 @@ use thiserror::Error;
 /// What is wrong with a plan text.
 #[derive(Clone, Copy, Debug, PartialEq, Eq, Error)]
 pub enum PlanFaultKind {
-    /// It has more than 1,048,576 bytes.
+    /// It has more than 1,048,576 bytes, or that to which it is migrated has.
     #[error("TooLong")]
     TooLong,
     /// It is no UTF-8, or no TOML document.
     #[error("Toml")]
     Toml,
-    /// `version` is missing, or not the integer 1.
+    /// `version` is missing, or neither of the integers 1 and 2; or the text is of version 2, and was to be migrated to it.
     #[error("Version")]
     Version,
     /// A table has a key that does not belong there.
@@ -27,7 +27,7 @@ pub enum PlanFaultKind {
     /// A value is not what its key wants: of another type, or an `op` or a `which` that is none.
     #[error("WrongType")]
     WrongType,
-    /// A `unit` is none of "ns", "us", "ms" and "s".
+    /// A unit is none of "ns", "us", "ms" and "s", and of "min", "h" and "d" in version 2.
     #[error("BadUnit")]
     BadUnit,
     /// A `times` is not 1 to 65,536.

@@ -5,17 +5,18 @@
 //! A plan text is a TOML document. It says which calls are made on an executor, and when.
 //!
 //! ```toml
-//! version = 1
+//! version = 2
 //!
 //! [[block]]           # every night for a week
-//! unit = "s"
 //! times = 7
-//! every = 86400
+//! every = 1
+//! every_unit = "d"
 //!
 //! [[block.call]]
 //! op = "schedule"
 //! name = "backup"
-//! delay = 3600
+//! delay = 90
+//! delay_unit = "min"
 //! ```
 //!
 //! ```rust
@@ -23,16 +24,17 @@
 //!     Ok(plan) => plan.blocks(),         // one block, made seven times
 //!     Err(fault) => return Err(fault),   // prints as `Missing block 1 call 0`
 //! }
+//! migrate(alloc, older)?;                // the text of version 2 for a text of version 1
 //! ```
 //!
 //! # Behaviour
 //!
-//! At the top stand `version`, which is 1, and `block`, an array of tables, at most 256. A block has
+//! At the top stand `version`, which is 2, or 1 in the older form of plans, and `block`, an array of tables, at most
+//! 256. A block has
 //!
 //! | Key | Value | Default |
 //! |---|---|---|
 //! | `at` | its moment | 0 |
-//! | `unit` | "ns", "us", "ms" or "s": that of all times of the block | "ns" |
 //! | `times` | how often its calls are made, 1 to 65,536 | 1 |
 //! | `every` | from one iteration to the next; it has to be there where `times` exceeds 1 | 0 |
 //! | `call` | an array of tables, at most 256 | no calls |
@@ -50,6 +52,12 @@
 //! | `shutdown` | none | a shutdown |
 //! | `shutdown_now` | none | a shutdown at once: what waits is ended |
 //! | `ask` | none | how the executor stands |
+//!
+//! Times are `at` and `every` of a block, and `at`, `delay`, `first` and `period` of a call. In version 2 the unit of a time
+//! stands beside it, at the key with `_unit` behind the time's, as `delay_unit`: "ns", "us", "ms", "s", "min", "h" or "d",
+//! and "ns" where it is left out. It may stand wherever its time may, also where that is left to its default. In version 1 no
+//! time has a unit of its own: a block has a key `unit`, which is that of all its times, one of "ns", "us", "ms" and "s", and
+//! "ns" where it is left out. [`migrate`] gives the text of version 2 for one of version 1.
 //!
 //! The call with offset `o` is made at `at + r * every + o` in iteration `r`, counted from 0. Moments,
 //! offsets and spans are at most 2^62 nanoseconds, and so is the moment of each call in the last iteration.
@@ -78,9 +86,12 @@
 //! | text | `TooLong`: over 1,048,576 bytes. `Toml`: no UTF-8, or no TOML document |
 //! | top | `Version`, `UnknownKey`, `WrongType`, `TooMany` blocks |
 //! | header | `UnknownKey`, `WrongType`, `BadUnit`, `BadTimes`, `Missing` (`every`), `Negative`, `TooLarge`, `OutOfOrder`, `TooMany` calls |
-//! | call | `Missing` (`op`), `WrongType` (`op`), `UnknownKey`, `Missing`, `WrongType` (a `which` that is no policy among them), `BadName`, `DuplicateName` or `UnknownName`, `Ambiguous`, `Negative`, `TooLarge`, `OutOfOrder` |
+//! | call | `Missing` (`op`), `WrongType` (`op`), `UnknownKey`, `Missing`, `WrongType` (a `which` that is no policy among them), `BadUnit` in version 2, `BadName`, `DuplicateName` or `UnknownName`, `Ambiguous`, `Negative`, `TooLarge`, `OutOfOrder` |
 //!
 //! `Memory`, with block 0 and call 0, may come in place of any other answer, and says nothing of the text.
+//!
+//! [`migrate`] answers the fault of its text; where it has none, `Version` with block 0 and call 0 for a text of version 2,
+//! and `TooLong` with block 0 and call 0 where the text that it prints is over 1,048,576 bytes.
 //!
 //! # Memory and cost
 //!
@@ -92,6 +103,9 @@
 //! once, and each table is read once. What a call needs of those before it is handed on. A header of h bytes with k
 //! keys below it takes `toml` the time of h times k, since each key goes along its header's path: at the longest
 //! text that is 2.5 processor seconds, for a header of 500,000 bytes.
+//!
+//! A migration takes the tree apart, changes it in place and prints it; it takes memory of the heap for the keys and the
+//! values that it adds, and for the text.
 //!
 //! The tests of this crate stand in the crate above it, in `plan_compile/src/plan_tests.rt`.
 #![tactic(auto)]

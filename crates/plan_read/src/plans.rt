@@ -137,7 +137,8 @@ impl<A: Allocator> Block<A> {
         self.header.at
     }
 
-    /// The unit in which its text gives times. All times of a plan are in nanoseconds.
+    /// The unit in which its text gives times, and nanoseconds for a text of version 2, where each time has its own.
+    /// All times of a plan are in nanoseconds.
     pub fn unit(&self) -> Unit
         ensures { result ≡ self.now.header.unit }
     {

@@ -1,16 +1,18 @@
 -- Orders: the first fault of a command, by what each step of it answers.
-use Rattle.std.proofs.Common.{◌≡◌, ◌≢◌, ℕ, zero, suc, MatchResult, ◌<◌, ◌≤◌, ◌⊎◌, inl, inr, Bool, true, false, List, length, Option, Some, None, Result, Ok, Err, refl, ap, sym, ◌∙◌, arith}
+use Rattle.std.proofs.Common.{◌≡◌, ◌≢◌, ℕ, zero, suc, MatchResult, ◌<◌, ◌≤◌, ◌⊎◌, inl, inr, Bool, true, false, List, length, Option, Some, None, Result, Ok, Err, refl, ap, sym, subst, ◌∙◌, arith}
 use Rattle.std.specs.Prelude.{nat_le, nat_lt}
 use Rattle.std.proofs.lemmas.Bool.{cases_Bool, and_parts}
 use Rattle.std.proofs.lemmas.Bool.Decides.{nat_tests}
 use Rattle.std.specs.Io.KnownBytes.{Keeps}
 use Rattle.executor_core.specs.Counts.{IsWorkerCount, most_workers}
+use Rattle.plan_read.specs.Migrating.{Migrates, MigrationFails}
 use Rattle.plan_read.specs.Plans.{PlanTree}
 use Rattle.plan_read.specs.Reads.{out_of_memory}
 use Rattle.plan_read.specs.Texts.{TextWrites, TextFails}
 use Rattle.plan_read.specs.declared.faults.PlanFault.{PlanFault}
 use Rattle.plan_read.specs.declared.faults.PlanFaultKind.{PlanFaultKind}
 use Rattle.plan_read.specs.declared.faults.PlanFaultKind.TheVariants as k
+use Rattle.plan_read.proofs.MigrationLaw.{migration_never_both}
 use Rattle.plan_read.proofs.TextLaw.{text_never_both}
 use Rattle.pool_engine.specs.PoolRuns.{PoolRan}
 use Rattle.sched_engine.specs.Running.{IsAccepted, IsUntouched, Ran, RefusesToRun}
@@ -21,12 +23,12 @@ use Rattle.sched_engine.specs.declared.report.RunError.TheVariants as x
 use Rattle.sched.specs.declared.error.ProgramError.{ProgramError}
 use Rattle.sched.specs.declared.error.ProgramError.TheVariants.{PlanFile, TraceFile, TraceTooLong, Run}
 use Rattle.sched.specs.declared.arguments.RunArguments.{RunArguments}
-use Rattle.sched.specs.Answers.{ListedAsAsked, PooledAsAsked, RanAsAsked, TellsEnd}
+use Rattle.sched.specs.Answers.{ListedAsAsked, MigratedAsAsked, PooledAsAsked, RanAsAsked, TellsEnd}
 use Rattle.sched.specs.Commands.{IsEndOf, NamesCheck}
 use Rattle.sched.specs.Errors.{IsToldAs, status_of}
 use Rattle.sched.specs.Findings.{IsCheckedAsAsked}
 use Rattle.trace_check.specs.Standing.{most_bytes}
-use Rattle.sched.specs.Order.{◌barring◌, AnswersCheck, AnswersCode, AnswersPool, AnswersRun, AnswersToPlan, NoneTold, PlanFails, code_faults, is_worker_count, run_faults}
+use Rattle.sched.specs.Order.{◌barring◌, AnswersCheck, AnswersCode, AnswersMigrate, AnswersPool, AnswersRun, AnswersToPlan, NoneTold, PlanFails, code_faults, is_worker_count, migrate_faults, run_faults}
 
 -- what stays is kept
 pub kept : (contents : Option (List ℕ)) → Keeps contents contents
@@ -57,16 +59,21 @@ memory_or_not k.Memory = inl refl
 pub silent : (fault : ProgramError) (holds : Bool) → holds ≡ true → (told : ProgramError) → (fault barring holds) told → ⊥
 silent fault holds held told h = absurd (let e = sym held ∙ h.0 in cc)
 
--- a fault of a plan's text is told as want of memory, or as itself
-pub told_plan : (text : List ℕ) (fault : PlanFault) (told : ProgramError) → TextFails text fault ⊎ (fault ≡ out_of_memory) → IsToldAs (x.Plan fault) told
-    → (told ≡ Run x.Memory) ⊎ PlanFails text told
-told_plan text fault told why is = elim (memory_or_not fault.kind) [
+-- a fault of a plan is told as want of memory, or as itself
+told_fault : (Fails : PlanFault → Type 0) (fault : PlanFault) (told : ProgramError) → Fails fault ⊎ (fault ≡ out_of_memory) → IsToldAs (x.Plan fault) told
+    → (told ≡ Run x.Memory) ⊎ ((f : PlanFault) × Fails f × (told ≡ Run (x.Plan f)))
+told_fault Fails fault told why is = elim (memory_or_not fault.kind) [
   | inl memory ↦ inl (is.0 memory)
   | inr other ↦ elim why [
-    | inl of_text ↦ inr (fault, of_text, is.1 other)
+    | inl fails ↦ inr (fault, fails, is.1 other)
     | inr memory ↦ absurd (other (ap (λ (f : PlanFault). f.kind) memory))
   ]
 ]
+
+-- a fault of a plan's text is told as want of memory, or as itself
+pub told_plan : (text : List ℕ) (fault : PlanFault) (told : ProgramError) → TextFails text fault ⊎ (fault ≡ out_of_memory) → IsToldAs (x.Plan fault) told
+    → (told ≡ Run x.Memory) ⊎ PlanFails text told
+told_plan text fault told why is = told_fault (TextFails text) fault told why is
 
 -- a text that writes a plan has no fault
 pub no_plan_fault : (text : List ℕ) (plan : PlanTree) → TextWrites text plan → (told : ProgramError) → PlanFails text told → ⊥
@@ -194,6 +201,32 @@ code_read text answer IsPlan old new read all = go all.ended all.listed all.told
     go (Err x.Full) listed told = absurd listed.0
     go (Err x.Read) listed told = absurd listed.0
     go (Err x.Lost) listed told = absurd listed.0
+
+-- ---- a migration
+
+-- a text that is migrated has none of the faults of a migration
+no_migrate_fault : (text printed : List ℕ) → Migrates text printed → NoneTold (migrate_faults (Some text))
+no_migrate_fault text printed migrates = (plan_there text, ((λ told h. migration_never_both text printed h.0 migrates h.1), tt))
+
+-- a text has a fault
+pub migrate_wrong_plan : (text : List ℕ) (fault : PlanFault) (told : ProgramError) (contents : Option (List ℕ))
+    → MigrationFails text fault ⊎ (fault ≡ out_of_memory) → IsToldAs (x.Plan fault) told
+    → AnswersMigrate (Err told) (λ plan. plan ≡ Some text) contents contents
+migrate_wrong_plan text fault told contents why is = elim (told_fault (MigrationFails text) fault told why is) [
+  | inl memory ↦ inl (ap Err memory, kept contents)
+  | inr first ↦ inr (Some text, refl, inl (told, inr (plan_there text, inl first), refl, kept contents))
+]
+
+-- a text was migrated
+pub migrate_done : (text printed : List ℕ) (answer : Result ℕ ProgramError) (old new : Option (List ℕ))
+    → Migrates text printed → MigratedAsAsked answer text old new → AnswersMigrate answer (λ plan. plan ≡ Some text) old new
+migrate_done text printed answer old new migrates done = inr (Some text, refl, inr (no_migrate_fault text printed migrates, done))
+
+-- the plan's file was read
+pub migrate_read : (text : List ℕ) (answer : Result ℕ ProgramError) (IsPlan : Option (List ℕ) → Type 0) (old new : Option (List ℕ))
+    → IsPlan (Some text) → AnswersMigrate answer (λ plan. plan ≡ Some text) old new → AnswersMigrate answer IsPlan old new
+migrate_read text answer IsPlan old new read (inl memory) = inl memory
+migrate_read text answer IsPlan old new read (inr told) = inr (told.0, subst IsPlan (sym told.1) read, told.2)
 
 -- ---- a run
 

@@ -1,14 +1,18 @@
--- Answers: how the end of a run is told.
+-- Answers: how the end of a run, of a listing or of a migration is told.
 -- All of it is this project's rule.
-use Rattle.std.specs.Prelude.{◌≡◌, ℕ, List, Option, Result, Ok, Err}
+use Rattle.std.specs.Prelude.{◌≡◌, ℕ, List, Option, Result, Ok, Err, take}
+use Rattle.std.specs.Io.KnownBytes.{Appends}
+use Rattle.plan_read.specs.Migrating.{Migrates}
 use Rattle.sched.specs.Errors.{IsToldAs, status_of}
 use Rattle.sched.specs.declared.arguments.RunArguments.{RunArguments}
 use Rattle.sched.specs.declared.error.ProgramError.{ProgramError}
+use Rattle.sched.specs.declared.error.ProgramError.TheVariants.{Run}
 use Rattle.sched_engine.specs.Running.{Ran}
 use Rattle.sched_engine.specs.CodeTexts.{Listed}
 use Rattle.pool_engine.specs.PoolRuns.{PoolRan}
 use Rattle.sched_engine.specs.declared.report.Report.{Report}
 use Rattle.sched_engine.specs.declared.report.RunError.{RunError}
+use Rattle.sched_engine.specs.declared.report.RunError.TheVariants as x
 
 -- what was done is told by status 0, and what was not by its error
 abbrev pub TellsEnd : {T : Type 0} → Result T RunError → Result ℕ ProgramError → Type 0
@@ -32,6 +36,13 @@ pub record ListedAsAsked (answer : Result ℕ ProgramError) (text : List ℕ) (o
   pub ended : Result (Unit {0}) RunError
   pub listed : Listed ended text old new
   pub told : TellsEnd ended answer
+
+-- the migration of the plan that the text writes, as the answer tells it: the whole of it was written, or a front of it where the
+-- writer is at fault
+abbrev pub MigratedAsAsked : Result ℕ ProgramError → List ℕ → Option (List ℕ) → Option (List ℕ) → Type 0
+MigratedAsAsked (Ok status) text old new = (printed : List ℕ) × Migrates text printed × (status ≡ 0) × Appends old new printed
+MigratedAsAsked (Err (Run x.Write)) text old new = (printed : List ℕ) × Migrates text printed × (n : ℕ) × Appends old new (take n printed)
+MigratedAsAsked (Err fault) text old new = ⊥
 
 -- the exit status that goes with an answer
 abbrev pub exit_status_of : Result ℕ ProgramError → ℕ

@@ -5,10 +5,10 @@ use Rattle.std.specs.Str.Parse.{IsNumeral, digits_value, without_leading_plus}
 use Rattle.clap.specs.Words.{Row, Text, first_of, one_of, subcommand_of}
 use Rattle.sched.specs.Commands.{sched_app}
 use Rattle.sched.specs.declared.arguments.RunArguments.{RunArguments}
-use Rattle.sched.specs.declared.arguments.CodeArguments.{CodeArguments}
+use Rattle.sched.specs.declared.arguments.PlanArguments.{PlanArguments}
 use Rattle.sched.specs.declared.arguments.CheckArguments.{CheckArguments}
 use Rattle.sched.specs.declared.arguments.Asked.{Asked}
-use Rattle.sched.specs.declared.arguments.Asked.TheVariants.{Run, Pool, Code, Check}
+use Rattle.sched.specs.declared.arguments.Asked.TheVariants.{Run, Pool, Code, Check, Migrate}
 
 -- a text writes, in decimal digits, a number that fits `bits` bits
 abbrev pub WritesNumber : ℕ → Text → Type 0
@@ -26,9 +26,9 @@ pub record AsksForRun (rows : List Row) (asked : RunArguments) : Type 0 where
   pub workers : IsNumberOf 8 (one_of (codes "workers") rows) asked.workers
   pub limit : IsNumberOf 32 (one_of (codes "limit") rows) asked.limit
 
--- the name is the value of `code`'s argument
-abbrev pub AsksForCode : List Row → CodeArguments → Type 0
-AsksForCode rows asked = asked.path.now ≡ unwrap_or (first_of (codes "plan") rows) []
+-- the name is the value of the argument of `code` or `migrate`
+abbrev pub AsksForPlan : List Row → PlanArguments → Type 0
+AsksForPlan rows asked = asked.path.now ≡ unwrap_or (first_of (codes "plan") rows) []
 
 -- the two names and the number are the values of `check`'s arguments
 pub record AsksForCheck (rows : List Row) (asked : CheckArguments) : Type 0 where
@@ -37,12 +37,13 @@ pub record AsksForCheck (rows : List Row) (asked : CheckArguments) : Type 0 wher
   pub workers : IsNumberOf 8 (one_of (codes "workers") rows) asked.workers
 
 -- what is asked for, by the command that is named, with what a command line holds for its arguments: a listing by `code`, a
--- check by `check`, a run by a pool by `pool`, and a run by any other one, which is `run`
+-- check by `check`, a migration by `migrate`, a run by a pool by `pool`, and a run by any other one, which is `run`
 abbrev pub AsksIn : Option (Text × List Row) → Asked → Type 0
-AsksIn named (Code c) = (rows : List Row) × (named ≡ Some (codes "code", rows)) × AsksForCode rows c
+AsksIn named (Code c) = (rows : List Row) × (named ≡ Some (codes "code", rows)) × AsksForPlan rows c
 AsksIn named (Check c) = (rows : List Row) × (named ≡ Some (codes "check", rows)) × AsksForCheck rows c
+AsksIn named (Migrate m) = (rows : List Row) × (named ≡ Some (codes "migrate", rows)) × AsksForPlan rows m
 AsksIn named (Pool p) = (rows : List Row) × (named ≡ Some (codes "pool", rows)) × AsksForRun rows p
-AsksIn named (Run r) = (name : Text) × (rows : List Row) × (named ≡ Some (name, rows)) × (name ≢ codes "code") × (name ≢ codes "check") × (name ≢ codes "pool") × AsksForRun rows r
+AsksIn named (Run r) = (name : Text) × (rows : List Row) × (named ≡ Some (name, rows)) × (name ≢ codes "code") × (name ≢ codes "check") × (name ≢ codes "pool") × (name ≢ codes "migrate") × AsksForRun rows r
 
 -- what the arguments of a command line ask for
 abbrev pub Asks : List Text → Asked → Type 0

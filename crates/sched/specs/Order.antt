@@ -3,6 +3,7 @@
 use Rattle.std.specs.Prelude.{◌≡◌, ℕ, ◌⊎◌, Bool, false, ◌&&◌, nat_le, nat_lt, List, [], ◌∷◌, length, Option, is_some, unwrap_or, Result, Err}
 use Rattle.std.specs.Io.KnownBytes.{Keeps}
 use Rattle.executor_core.specs.Counts.{most_workers}
+use Rattle.plan_read.specs.Migrating.{MigrationFails}
 use Rattle.plan_read.specs.Plans.{PlanTree}
 use Rattle.plan_read.specs.Texts.{TextWrites, TextFails}
 use Rattle.plan_read.specs.declared.faults.PlanFault.{PlanFault}
@@ -11,7 +12,7 @@ use Rattle.sched_engine.specs.declared.report.RunError.TheVariants as x
 use Rattle.sched.specs.declared.arguments.RunArguments.{RunArguments}
 use Rattle.sched.specs.declared.error.ProgramError.{ProgramError}
 use Rattle.sched.specs.declared.error.ProgramError.TheVariants.{PlanFile, TraceFile, TraceTooLong, Run}
-use Rattle.sched.specs.Answers.{ListedAsAsked, PooledAsAsked, RanAsAsked}
+use Rattle.sched.specs.Answers.{ListedAsAsked, MigratedAsAsked, PooledAsAsked, RanAsAsked}
 use Rattle.sched.specs.Findings.{IsCheckedAsAsked}
 use Rattle.trace_check.specs.Standing.{most_bytes}
 
@@ -35,6 +36,10 @@ bytes_of read = unwrap_or read []
 abbrev pub PlanFails : List ℕ → Step
 PlanFails text told = (fault : PlanFault) × TextFails text fault × (told ≡ Run (x.Plan fault))
 
+-- the fault of the migration of a plan's text
+abbrev pub MigrationTold : List ℕ → Step
+MigrationTold text told = (fault : PlanFault) × MigrationFails text fault × (told ≡ Run (x.Plan fault))
+
 -- there may be this many workers
 abbrev pub is_worker_count : ℕ → Bool
 is_worker_count workers = nat_le 1 workers && nat_le workers most_workers
@@ -44,6 +49,13 @@ abbrev pub code_faults : Option (List ℕ) → List Step
 code_faults plan =
     (PlanFile barring is_some plan)
     ∷ PlanFails (bytes_of plan)
+    ∷ []
+
+-- the faults of `sched migrate`
+abbrev pub migrate_faults : Option (List ℕ) → List Step
+migrate_faults plan =
+    (PlanFile barring is_some plan)
+    ∷ MigrationTold (bytes_of plan)
     ∷ []
 
 -- the faults of `sched run` and of `sched pool`, before an event is read
@@ -89,6 +101,14 @@ AnswersCode answer IsPlan old new =
     ((answer ≡ Err (Run x.Memory)) × Keeps old new)
     ⊎ ((plan : Option (List ℕ)) × IsPlan plan
     × ToldOr (code_faults plan) answer (Keeps old new) (ListedAsAsked answer (bytes_of plan) old new))
+
+-- what `sched migrate` answers to what was read of the plan's file: its first fault, or a migration. Want of memory may come in
+-- place of each answer, with nothing written
+abbrev pub AnswersMigrate : Result ℕ ProgramError → (Option (List ℕ) → Type 0) → Option (List ℕ) → Option (List ℕ) → Type 0
+AnswersMigrate answer IsPlan old new =
+    ((answer ≡ Err (Run x.Memory)) × Keeps old new)
+    ⊎ ((plan : Option (List ℕ)) × IsPlan plan
+    × ToldOr (migrate_faults plan) answer (Keeps old new) (MigratedAsAsked answer (bytes_of plan) old new))
 
 -- what a run of a plan answers to what was read of the plan's file: its first fault, or what was done with the plan's text. Want of
 -- memory may come in place of each fault, with nothing touched

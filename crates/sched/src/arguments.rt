@@ -3,7 +3,7 @@
 ghost use Rattle.std.specs.Prelude.{◌≡◌, map, string_bytes, IfOk};
 ghost use Rattle.clap.specs.Words.{FailsBy, fault_of, found_of, rows_of};
 ghost use Rattle.sched.specs.Commands.{sched_app};
-ghost use Rattle.sched.specs.Arguments.{Asks, AsksForCheck, AsksForCode, AsksForRun};
+ghost use Rattle.sched.specs.Arguments.{Asks, AsksForCheck, AsksForPlan, AsksForRun};
 
 use crate::command::command;
 use clap::{ArgMatches, Error};
@@ -17,9 +17,11 @@ pub enum Asked<'a> {
     /// A run of a plan by a pool over the clocks on standard input.
     Pool(RunArguments<'a>),
     /// The listing of a plan's code.
-    Code(CodeArguments<'a>),
+    Code(PlanArguments<'a>),
     /// The check of a trace against a plan.
     Check(CheckArguments<'a>),
+    /// The migration of a plan's text.
+    Migrate(PlanArguments<'a>),
 }
 
 /// What `sched run` or `sched pool` is asked for.
@@ -33,9 +35,9 @@ pub struct RunArguments<'a> {
     pub limit: u32,
 }
 
-/// What `sched code` is asked for.
+/// What `sched code` or `sched migrate` is asked for.
 #[derive(Clone, Copy, Debug)]
-pub struct CodeArguments<'a> {
+pub struct PlanArguments<'a> {
     /// The name of the plan's file.
     pub path: &'a str,
 }
@@ -60,13 +62,16 @@ impl<'a> Asked<'a> {
     {
         let matches = command(alloc)?.try_get_matches_from(arguments)?;
         if let Some(code) = matches.subcommand_matches("code") {
-            return Ok(Asked::Code(CodeArguments::of_matches(code)));
+            return Ok(Asked::Code(PlanArguments::of_matches(code)));
         }
         if let Some(check) = matches.subcommand_matches("check") {
             return Ok(Asked::Check(CheckArguments::of_matches(check)));
         }
         if let Some(pool) = matches.subcommand_matches("pool") {
             return Ok(Asked::Pool(RunArguments::of_matches(pool)));
+        }
+        if let Some(migrate) = matches.subcommand_matches("migrate") {
+            return Ok(Asked::Migrate(PlanArguments::of_matches(migrate)));
         }
         match matches.subcommand() {
             Some((_, run)) => Ok(Asked::Run(RunArguments::of_matches(run))),
@@ -89,13 +94,13 @@ impl<'a> RunArguments<'a> {
     }
 }
 
-impl<'a> CodeArguments<'a> {
-    /// What was found for the argument of `code`, as [`RunArguments`] has it.
-    fn of_matches(code: &ArgMatches<'a>) -> CodeArguments<'a>
-        ensures { AsksForCode (rows_of (found_of code.now)) result }
+impl<'a> PlanArguments<'a> {
+    /// What was found for the argument of `code` or `migrate`, as [`RunArguments`] has it.
+    fn of_matches(matches: &ArgMatches<'a>) -> PlanArguments<'a>
+        ensures { AsksForPlan (rows_of (found_of matches.now)) result }
     {
-        CodeArguments {
-            path: code.get_str("plan").unwrap_or(""),
+        PlanArguments {
+            path: matches.get_str("plan").unwrap_or(""),
         }
     }
 }

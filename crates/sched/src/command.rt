@@ -2,7 +2,7 @@
 
 ghost use Rattle.std.specs.Prelude.{◌≡◌, false, IfOk};
 ghost use Rattle.clap.specs.Words.{app_of, rule_of};
-ghost use Rattle.sched.specs.Commands.{check_app, code_app, limit_rule, plan_rule, pool_app, run_app, sched_app, trace_rule, workers_rule};
+ghost use Rattle.sched.specs.Commands.{check_app, code_app, limit_rule, migrate_app, plan_rule, pool_app, run_app, sched_app, trace_rule, workers_rule};
 
 use clap::{Arg, ArgAction, Command, value_parser};
 use executor_core::MOST_WORKERS;
@@ -23,11 +23,9 @@ const FORMS: &str = "\
 The plan is a file of TOML, version 1.1, as the kit's crate 'toml' reads it, of
 at most 1,048,576 bytes. Its integers have 64 bits, its arrays and inline tables
 are nested at most 80 deep, and its keys have at most 80 parts. It has
-'version = 1', and at most 256 [[block]], each with a [[block.call]] for each
+'version = 2', and at most 256 [[block]], each with a [[block.call]] for each
 call that is made, at most 256. A block may have
   at      the moment from which its calls are counted, 0 where it is left out
-  unit    of all its times: \"ns\", \"us\", \"ms\" or \"s\", and \"ns\" where it is left
-          out
   times   how often its calls are made, 1 to 65,536, and 1 where it is left out
   every   from one time to the next; it is needed where times is more than 1
 All blocks together make at most 65,536 calls. A call has
@@ -49,7 +47,6 @@ All blocks together make at most 65,536 calls. A call has
           which is the one of the same time, or of a block that is made once
   at      when the call is made after the block begins, 0 where it is left out;
           no call has a smaller one than the call before it
-and, as all times in the block's unit,
   delay   of schedule: when the task is due after the call
   first   of rate and fixed: when the first run is due after the call
   period  of rate: from one due moment to the next
@@ -59,6 +56,15 @@ and, as all times in the block's unit,
           due, true before) or \"remove\" (a cancelled task that waits leaves the
           queue at once, false before)
   value   of policy: true or false
+Times are at, every, delay, first and period. The unit of a time may stand
+beside it:
+  at_unit, every_unit, delay_unit, first_unit, period_unit
+          \"ns\", \"us\", \"ms\", \"s\", \"min\", \"h\" or \"d\", which is 24 hours, and
+          \"ns\" where it is left out
+The older form of plans has 'version = 1': there a block may have
+  unit    of all its times: \"ns\", \"us\", \"ms\" or \"s\", and \"ns\" where it is left
+          out
+and no other unit. 'sched migrate' prints such a plan as one of version 2.
 A shutdown ends the tasks that wait and do not go on, and so does continue or
 execute that is set to false later.
 A negative first, or delay of schedule, counts as 0. A task whose period, or
@@ -81,12 +87,13 @@ the time in front, and behind that of a call one for each task that it ends.
 All events that were read are answered before more are read.
 
 Example, with the plan
-  version = 1
+  version = 2
   [[block]]
   [[block.call]]
   op = \"schedule\"
   name = \"a\"
   delay = 5
+  delay_unit = \"ns\"
 in the file plan.toml:
   $ printf 'clock 5\\nstart 0\\nfinish 0 ok 7\\n' | sched run plan.toml --workers 1
   0 submit 0 schedule due 5
@@ -189,8 +196,28 @@ Exit status:
        sched: out of memory
   2  a fault of the command line";
 
+/// What the help of `migrate` says below the options: what is printed, which plans are refused, and the exit
+/// statuses.
+const MIGRATION: &str = "\
+The plan is one of version 1, and it is printed as one of version 2, which
+makes the same calls: where a block has a unit, that is left out and stands
+beside each time of the block and of its calls instead. Comments and the layout
+are lost. A plan of version 2 is refused as 'Version', and one whose printed
+text would have more than 1,048,576 bytes as 'TooLong', both with block 0 and
+call 0.
+
+Exit status:
+  0  the plan was printed
+  1  a fault, told by one of these lines on standard error:
+       sched: plan file not read
+       sched: plan: KIND block B call C   no plan; KIND tells what is wrong
+       sched: write fault
+       sched: out of memory
+     Nothing was printed, but for a front of the plan at a write fault.
+  2  a fault of the command line";
+
 /// The command lines of the program: `sched run PLAN --workers N [--limit N]`, `sched pool` with the same arguments,
-/// `sched code PLAN` and `sched check PLAN TRACE --workers N`. `Err` where memory ran out.
+/// `sched code PLAN`, `sched check PLAN TRACE --workers N` and `sched migrate PLAN`. `Err` where memory ran out.
 pub fn command<'a>(alloc: Global) -> Result<Command<'a>, AllocError>
     ensures app { IfOk result (λ c. app_of c ≡ sched_app) }
 {
@@ -203,7 +230,8 @@ pub fn command<'a>(alloc: Global) -> Result<Command<'a>, AllocError>
             .subcommand(run_command(alloc)?)?
             .subcommand(pool_command(alloc)?)?
             .subcommand(code_command(alloc)?)?
-            .subcommand(check_command(alloc)?)?,
+            .subcommand(check_command(alloc)?)?
+            .subcommand(migrate_command(alloc)?)?,
     )
 }
 
@@ -262,6 +290,18 @@ fn check_command<'a>(alloc: Global) -> Result<Command<'a>, AllocError>
             .arg(plan(alloc))?
             .arg(trace(alloc))?
             .arg(workers(alloc))?,
+    )
+}
+
+/// `migrate`, with its argument. `Err` where memory ran out.
+fn migrate_command<'a>(alloc: Global) -> Result<Command<'a>, AllocError>
+    ensures app { IfOk result (λ c. app_of c ≡ migrate_app) }
+{
+    Ok(
+        Command::new(alloc, "migrate")
+            .about("Prints a plan of version 1 as one of version 2 to standard output.")
+            .after_help(MIGRATION)
+            .arg(plan(alloc))?,
     )
 }
 

@@ -1,4 +1,5 @@
-//! Runs a plan of scheduled tasks over lines of events or by a pool of threads, prints its code, and checks traces of it.
+//! Runs a plan of scheduled tasks over lines of events or by a pool of threads, prints its code, checks traces of it, and migrates
+//! it to the next version of plans.
 //!
 //! # Usage
 //!
@@ -7,12 +8,13 @@
 //! sched pool PLAN --workers N [--limit N]
 //! sched code PLAN
 //! sched check PLAN TRACE --workers N
+//! sched migrate PLAN
 //! ```
 //!
 //! PLAN is the file of the plan, and TRACE that of a trace. There are 1 to 64 workers, and a run takes at most 1 to
 //! 4,294,967,295 events, 1,000,000 where the limit is left out. Events come on standard input, and the trace goes to
-//! standard output. `sched run --help` has the forms of all three, `sched code --help` that of a listing, and
-//! `sched check --help` what a check finds.
+//! standard output. `sched run --help` has the forms of all three, `sched code --help` that of a listing,
+//! `sched check --help` what a check finds, and `sched migrate --help` which plans are migrated.
 //!
 //! # Behaviour
 //!
@@ -21,7 +23,8 @@
 //! reads more. `code` writes the listing of the plan's code instead ([`write_listing`](sched_engine::write_listing)).
 //! `pool` does it by [`run_pool`](pool_engine::run_pool): standard input has clocks alone, all of which are read first, and a run's
 //! value is its number. `check` reads the plan, then at most 67,108,865 bytes of the trace file, and writes `conforms`, or `breaks N` with the
-//! number of a line from 1 ([`check`](trace_check::check)). No clock of the machine is read.
+//! number of a line from 1 ([`check`](trace_check::check)). `migrate` writes the plan of a text of version 1 as one of version 2
+//! ([`migrate`](plan_read::migrate)). No clock of the machine is read.
 //!
 //! # Order and ties
 //!

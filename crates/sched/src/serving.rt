@@ -10,7 +10,7 @@ ghost use Rattle.sched_engine.specs.Running.{IsUntouched};
 
 use crate::arguments::Asked;
 use crate::error::ProgramError;
-use crate::work::{check_files, list_file, pool_file, run_file};
+use crate::work::{check_files, list_file, migrate_file, pool_file, run_file};
 use clap::Error;
 use sched_engine::{Sink, Source};
 use std::alloc::Global;
@@ -61,5 +61,6 @@ pub fn serve<
             let plan = open_file(asked.path);
             Ok(check_files(alloc, &asked, plan, open_file, writer))
         }
+        Asked::Migrate(asked) => Ok(migrate_file(alloc, open_file(asked.path), writer)),
     }
 }

@@ -1,20 +1,20 @@
 //! What each command does with its files, and which fault it tells.
 
-ghost use Rattle.std.specs.Prelude.{◌≡◌, ◌≤◌, IsErrOf, MatchResult, Result};
+ghost use Rattle.std.specs.Prelude.{◌≡◌, ◌≤◌, IsErrOf, MatchResult, Result, Some};
 ghost use Rattle.std.specs.declared.io.Error.{Error};
 ghost use Rattle.sched.specs.Answers.{ListedAsAsked, PooledAsAsked, RanAsAsked};
 ghost use Rattle.sched.specs.EndCounts.{CountsInput, CountsOutput};
 ghost use Rattle.sched.specs.Errors.{status_of};
 ghost use Rattle.sched.specs.Fronts.{IsReadOf, most_of_plan, most_of_trace};
-ghost use Rattle.sched.specs.Order.{AnswersCheck, AnswersCode, AnswersPool, AnswersRun};
+ghost use Rattle.sched.specs.Order.{AnswersCheck, AnswersCode, AnswersMigrate, AnswersPool, AnswersRun};
 
 use crate::arguments::{CheckArguments, RunArguments};
 use crate::error::ProgramError;
 use crate::files::{plan_text, trace_text};
 use crate::finding::write_finding;
-use plan_read::read_plan;
+use plan_read::{migrate, read_plan};
 use pool_engine::run_pool;
-use sched_engine::{HeapAllocator, RunError, Sink, Source, run, write_listing};
+use sched_engine::{HeapAllocator, RunError, Sink, Source, run, write_listing, write_text};
 use std::alloc::Global;
 use std::io;
 use std::io::Read;
@@ -150,4 +150,40 @@ pub fn check_files<P: Read + Drop, O: Fn(&str) -> io::Result<P> + Drop, W: Sink>
     };
     let trace = trace_text(alloc, open_file(asked.trace))?;
     write_finding(alloc, &plan, asked.workers, &trace, writer)
+}
+
+/// Writes the plan of a file, as the system opened it, as `migrate` prints it. `Ok` is the exit status, 0. At a fault of the
+/// file or the plan, the first in this order, nothing is written.
+pub fn migrate_file<P: Read + Drop, W: Sink>(
+    alloc: Global,
+    plan: io::Result<P>,
+    writer: &mut W,
+) -> Result<u8, ProgramError>
+    ensures answers { AnswersMigrate result (IsReadOf P.remaining most_of_plan plan) (W.contents writer.old) (W.contents writer.new) }
+    ensures write { CountsOutput result (W.failed writer.old) (W.fruitless writer.old) (W.failed writer.new) (W.fruitless writer.new) }
+    ensures unread { IsErrOf result (ProgramError.Run RunError.Read) → ⊥ }
+    ensures status { MatchResult result (λ s. s ≡ 0) (λ e. status_of e ≡ 1) }
+{
+    migrate_text(alloc, &plan_text(alloc, plan)?, writer)
+}
+
+/// Writes a plan's text as `migrate` prints it. `Ok` is the exit status, 0.
+fn migrate_text<A: HeapAllocator, W: Sink>(
+    alloc: A,
+    text: &[u8],
+    writer: &mut W,
+) -> Result<u8, ProgramError>
+    ensures answers { AnswersMigrate result (λ plan. plan ≡ Some text.now) (W.contents writer.old) (W.contents writer.new) }
+    ensures write { CountsOutput result (W.failed writer.old) (W.fruitless writer.old) (W.failed writer.new) (W.fruitless writer.new) }
+    ensures unread { IsErrOf result (ProgramError.Run RunError.Read) → ⊥ }
+    ensures status { MatchResult result (λ s. s ≡ 0) (λ e. status_of e ≡ 1) }
+{
+    let printed = match migrate(alloc, text) {
+        Ok(printed) => printed,
+        Err(fault) => return Err(ProgramError::from(RunError::Plan(fault))),
+    };
+    if !write_text(writer, printed.as_bytes()) {
+        return Err(ProgramError::Run(RunError::Write));
+    }
+    Ok(0)
 }

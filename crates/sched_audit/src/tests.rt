@@ -1,10 +1,11 @@
 mod examples;
 mod growths;
 mod sizes;
+mod units;
 
 use crate::audit::{Audit, run_and_check};
 use crate::error::AuditError;
-use plan_read::{PlanFault, PlanFaultKind};
+use plan_read::{PlanFault, PlanFaultKind, migrate};
 use sched_engine::{Report, RunError};
 use std::process::Abort;
 use std::test::Fail;
@@ -73,15 +74,42 @@ struct Row<'a> {
     trace: &'a str,
 }
 
-/// Checks the answer and the trace of a row, and that the trace conforms.
+/// Checks the answer and the trace of a row, and that the trace conforms; and all that with its plan migrated, where
+/// that is of version 1.
 fn conforms(rt: &(impl AllocGlobal + Abort), row: &Row<'_>) -> Result<(), Fail> {
+    conforms_with(rt, row.plan, row)?;
+    match migrate(rt.alloc(), row.plan.as_bytes()) {
+        Ok(plan) => {
+            conforms_with(rt, plan.as_str(), row)?;
+            is_migrated(rt, plan.as_str());
+        }
+        Err(_) => is_migrated(rt, row.plan),
+    }
+    Ok(())
+}
+
+/// Checks that a plan is of version 2.
+fn is_migrated(rt: &(impl AllocGlobal + Abort), plan: &str) {
+    let fault = migrate(rt.alloc(), plan.as_bytes()).err();
+    assert_eq!(rt;
+        fault,
+        Some(PlanFault {
+            kind: PlanFaultKind::Version,
+            block: 0,
+            call: 0,
+        })
+    );
+}
+
+/// Checks the answer and the trace of a row with this plan, and that the trace conforms.
+fn conforms_with(rt: &(impl AllocGlobal + Abort), plan: &str, row: &Row<'_>) -> Result<(), Fail> {
     let Audit {
         answer,
         trace,
         finding,
     } = run_and_check(
         rt.alloc(),
-        row.plan.as_bytes(),
+        plan.as_bytes(),
         row.workers,
         row.limit,
         row.events.as_bytes(),
@@ -161,7 +189,7 @@ fn what_is_refused_has_no_audit(rt: HostRuntime) {
     };
     fails(
         &rt,
-        "version = 2",
+        "version = 3",
         1,
         1,
         AuditError::Run(RunError::Plan(fault)),

@@ -2,7 +2,7 @@
 use super::*;
 
 /// Texts that are no TOML document.
-const NO_TOML: &str = r#"Toml block 0 call 0 | version = 2 / =
+const NO_TOML: &str = r#"Toml block 0 call 0 | version = 3 / =
 Toml block 0 call 0 | version = 1 / version = 1
 Toml block 0 call 0 | version = 1 / x = 9223372036854775808
 Toml block 0 call 0 | version = 1 / [[block]] / at = 9223372036854775808"#;

@@ -131,7 +131,9 @@ fn answers_texts_of_many_keys(rt: HostRuntime) -> Result<(), Fail> {
         ("[x.", "]"),
     ] {
         let text = many_keys(rt.alloc(), open, close)?;
-        tells(&rt, text.as_str(), UNKNOWN)?;
+        // It is read once, and not migrated too, as `told` does: each reading of the third takes a while.
+        let fault = read(rt.alloc(), text.as_bytes()).err().ok_or("a plan")?;
+        assert!(rt; spelled(rt.alloc(), &fault)?.as_str() == UNKNOWN);
     }
     Ok(())
 }

@@ -47,7 +47,37 @@ fn reads_as_many_names_as_fit(rt: HostRuntime) -> Result<(), Fail> {
         "{}",
         text.len()
     );
-    reads_sizes(&rt, text.as_str(), 108, 256)
+    reads_sizes(&rt, text.as_str(), 108, 256)?;
+    tells(&rt, text.as_str(), "plan TooLong block 0 call 0")
+}
+
+/// A plan of 44 blocks in seconds with 256 calls in each, 11,264 in all, whose names have this many letters behind their
+/// numbers, all together: at most 26 each.
+fn with_letters(rt: &impl AllocGlobal, letters: usize) -> Result<String, Fail> {
+    let mut text = String::from_str(rt.alloc(), "version=1\n")?;
+    for block in 0..44usize {
+        text.push_str("[[block]]\nunit=\"s\"\ncall=[")?;
+        for call in 0..256usize {
+            let number = 256 * block + call;
+            let more = letters.saturating_sub(number).div_ceil(11_264);
+            let more = "n".repeat(rt.alloc(), more)?;
+            write!(text, "{{op=\"schedule\",name=\"{number}{more}\",delay=0}},")?;
+        }
+        text.push_str("]\n")?;
+    }
+    Ok(text)
+}
+
+#[test]
+fn migrates_to_1048576_bytes_at_most(rt: HostRuntime) -> Result<(), Fail> {
+    let text = with_letters(&rt, 0)?;
+    let length = migrated(rt.alloc(), text.as_bytes())?.len();
+    let letters = 1_048_576usize.saturating_sub(length);
+    let text = with_letters(&rt, letters)?;
+    assert_eq!(rt; migrated(rt.alloc(), text.as_bytes())?.len(), 1_048_576);
+    tells(&rt, text.as_str(), "plan")?;
+    let text = with_letters(&rt, letters.saturating_add(1))?;
+    tells(&rt, text.as_str(), "plan TooLong block 0 call 0")
 }
 
 /// What a plan of 65,536 calls asks in each but the last.

@@ -22,18 +22,38 @@ fn takes_a_plan_of_the_longest_text(rt: HostRuntime) -> Result<(), Fail> {
     tells(&rt, text.as_str(), "plan")
 }
 
-/// Faults at the top.
+/// Versions, and faults at the top.
 const TOPS: &str = r#"Version block 0 call 0 | version = 1.0
+Version block 0 call 0 | version = 2.0
 Version block 0 call 0 | version = -1
-Version block 0 call 0 | version = 2 / x = 1
-Version block 0 call 0 | x = 1 / version = 2
+Version block 0 call 0 | version = 0
+Version block 0 call 0 | version = 3
+Version block 0 call 0 | version = 12
+Version block 0 call 0 | version = 9223372036854775807
+Version block 0 call 0 | version = "2"
+Version block 0 call 0 | version = [2]
+Version block 0 call 0 | version = 3 / x = 1
+Version block 0 call 0 | x = 1 / version = 3
+Version block 0 call 0 | version = 3 / block = 1
 Version block 0 call 0 | x = 1
+plan | version = 1
+plan 2 | version = 2
+plan 2 | version = 0b10
+plan 2 | version = 2 / block = []
+plan 2 | version = 2 / [[block]]
 UnknownKey block 0 call 0 | version = 1 / x = 1 / block = 1
 UnknownKey block 0 call 0 | block = 1 / x = 1 / version = 1
+UnknownKey block 0 call 0 | version = 2 / x = 1
+UnknownKey block 0 call 0 | x = 1 / version = 2
+UnknownKey block 0 call 0 | version = 2 / unit = "s"
+UnknownKey block 0 call 0 | version = 2 / at_unit = "s"
+UnknownKey block 0 call 0 | version = 2 / block_unit = "s" / block = 1
 WrongType block 0 call 0 | version = 1 / block = [{}, 1]
-WrongType block 0 call 0 | version = 1 / [block]"#;
+WrongType block 0 call 0 | version = 1 / [block]
+WrongType block 0 call 0 | version = 2 / block = [{}, 1]
+WrongType block 0 call 0 | version = 2 / [block]"#;
 
 #[test]
-fn refuses_at_the_top(rt: HostRuntime) -> Result<(), Fail> {
+fn takes_versions_1_and_2_and_refuses_at_the_top(rt: HostRuntime) -> Result<(), Fail> {
     tells_each(&rt, "", TOPS)
 }

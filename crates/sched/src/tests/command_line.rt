@@ -1,6 +1,6 @@
 //! What the command line takes.
 
-use crate::arguments::{Asked, CheckArguments, CodeArguments, RunArguments};
+use crate::arguments::{Asked, CheckArguments, PlanArguments, RunArguments};
 use std::alloc::Global;
 use std::process::Abort;
 use std::test::Fail;
@@ -18,6 +18,7 @@ fn in_words(alloc: Global, arguments: &[String]) -> Result<String, Fail> {
         Ok(Asked::Check(asked)) => {
             format!(in alloc; "check {} {} {}", asked.path, asked.trace, asked.workers)?
         }
+        Ok(Asked::Migrate(asked)) => format!(in alloc; "migrate {}", asked.path)?,
         Err(error) => format!(in alloc; "status {}", error.exit_code())?,
     };
     Ok(words)
@@ -72,6 +73,14 @@ fn takes_two_names_and_a_number_for_a_check(rt: HostRuntime) -> Result<(), Fail>
     tells_each(&rt, "check p t 64 | sched check --workers 64 p t")
 }
 
+#[test]
+fn takes_a_name_for_a_migration(rt: HostRuntime) -> Result<(), Fail> {
+    tells_each(
+        &rt,
+        "migrate p | sched migrate p\nmigrate -p | sched migrate -- -p",
+    )
+}
+
 /// Command lines that the program ends at.
 const REFUSED: &str = "status 2 | sched check p --workers 1
 status 2 | sched check p t
@@ -80,6 +89,9 @@ status 2 | sched
 status 2 | sched code
 status 2 | sched code p q
 status 2 | sched code p --workers 1
+status 2 | sched migrate
+status 2 | sched migrate p q
+status 2 | sched migrate p --workers 1
 status 2 | sched walk
 status 2 | sched run p
 status 2 | sched run --workers 1
@@ -123,12 +135,16 @@ fn shows_what_is_asked_for_to_programmers(rt: HostRuntime) -> Result<(), Fail> {
             "Pool(RunArguments { path: \"p\", workers: 2, limit: 3 })",
         ),
         (
-            Asked::Code(CodeArguments { path: "p" }),
-            "Code(CodeArguments { path: \"p\" })",
+            Asked::Code(PlanArguments { path: "p" }),
+            "Code(PlanArguments { path: \"p\" })",
         ),
         (
             Asked::Check(check),
             "Check(CheckArguments { path: \"p\", trace: \"t\", workers: 2 })",
+        ),
+        (
+            Asked::Migrate(PlanArguments { path: "p" }),
+            "Migrate(PlanArguments { path: \"p\" })",
         ),
     ] {
         let shown = format!(in rt.alloc(); "{asked:?}")?;

@@ -40,10 +40,11 @@ fn help_names_the_command_and_the_statuses(rt: HostRuntime) {
         0,
         &[
             "Usage: sched <COMMAND>\n",
-            "  run    Runs a plan over the events on standard input",
-            "  pool   Runs a plan by threads through the clocks on standard input",
-            "  code   Prints the queue code of a plan to standard output",
-            "  check  Checks that a trace is one that a plan allows",
+            "  run      Runs a plan over the events on standard input",
+            "  pool     Runs a plan by threads through the clocks on standard input",
+            "  code     Prints the queue code of a plan to standard output",
+            "  check    Checks that a trace is one that a plan allows",
+            "  migrate  Prints a plan of version 1 as one of version 2 to standard output",
             "'sched run --help' tells what a plan, an event and a trace look like.\n",
             "  0  done\n",
             "  1  a fault, told by a line on standard error, or a trace that breaks\n",
@@ -123,6 +124,28 @@ fn help_of_check_names_what_is_found(rt: HostRuntime) {
 }
 
 #[test]
+fn help_of_migrate_names_what_is_printed_and_refused(rt: HostRuntime) {
+    shows(
+        &rt,
+        &[b"sched", b"migrate", b"--help"],
+        0,
+        &[
+            "Usage: sched migrate <PLAN>\n",
+            "The plan is one of version 1, and it is printed as one of version 2",
+            "A plan of version 2 is refused as 'Version'",
+            "text would have more than 1,048,576 bytes as 'TooLong'",
+            "  0  the plan was printed\n",
+            "  1  a fault, told by one of these lines",
+            "sched: plan file not read\n",
+            "sched: plan: KIND block B call C",
+            "sched: write fault\n",
+            "sched: out of memory\n",
+            "  2  a fault of the command line\n",
+        ],
+    );
+}
+
+#[test]
 fn help_of_run_names_forms_limits_and_statuses(rt: HostRuntime) {
     shows(
         &rt,
@@ -138,6 +161,11 @@ fn help_of_run_names_forms_limits_and_statuses(rt: HostRuntime) {
             "integers have 64 bits",
             "nested at most 80 deep",
             "keys have at most 80 parts",
+            "'version = 2'",
+            "at_unit, every_unit, delay_unit, first_unit, period_unit\n",
+            "\"min\", \"h\" or \"d\", which is 24 hours",
+            "The older form of plans has 'version = 1'",
+            "'sched migrate' prints such a plan",
             "\"schedule\"",
             "\"execute\"   submits",
             "\"rate\"",

@@ -108,7 +108,7 @@ fn tells_faults_of_a_run_by_a_pool(rt: HostRuntime) {
     pool.is_closed = true;
     ends_given(&rt, pool, 1, "", "sched: write fault\n");
     let wrong = Given {
-        plan: file(b"version = 2\n"),
+        plan: file(b"version = 3\n"),
         ..given(&POOL, "start 0\n")
     };
     ends_given(&rt, wrong, 1, "", "sched: plan: Version block 0 call 0\n");
@@ -144,7 +144,7 @@ fn prints_the_code_of_the_plan(rt: HostRuntime) {
     let other = given(&[b"sched", b"code", b"other.toml"], "");
     ends_given(&rt, other, 1, "", "sched: plan file not read\n");
     let wrong = Given {
-        plan: file(b"version = 2\n"),
+        plan: file(b"version = 3\n"),
         ..given(&[b"sched", b"code", b"plan.toml"], "")
     };
     ends_given(&rt, wrong, 1, "", "sched: plan: Version block 0 call 0\n");
@@ -219,7 +219,7 @@ fn tells_faults_of_a_check(rt: HostRuntime) {
     };
     ends_given(&rt, broken, 1, "", "sched: trace file not read\n");
     let wrong = Given {
-        plan: file(b"version = 2\n"),
+        plan: file(b"version = 3\n"),
         trace,
         ..given(&CHECK, "")
     };
@@ -236,4 +236,43 @@ fn tells_faults_of_a_check(rt: HostRuntime) {
         "",
     );
     ends_given(&rt, missing, 1, "", "sched: trace file not read\n");
+}
+
+/// The command line of a migration of `plan.toml`.
+const MIGRATE: [&[u8]; 3] = [b"sched", b"migrate", b"plan.toml"];
+
+#[test]
+fn tells_faults_of_a_file_that_is_to_be_migrated(rt: HostRuntime) {
+    let missing = given(&[b"sched", b"migrate", b"other.toml"], "");
+    ends_given(&rt, missing, 1, "", "sched: plan file not read\n");
+    let plan = GivenFile {
+        rest: b"version = 1\n",
+        is_broken: true,
+    };
+    let broken = Given {
+        plan,
+        ..given(&MIGRATE, "")
+    };
+    ends_given(&rt, broken, 1, "", "sched: plan file not read\n");
+}
+
+#[test]
+fn migrates_a_plan(rt: HostRuntime) {
+    let text =
+        "version = 2\n\n[[block]]\n\n[[block.call]]\ndelay = 5\nname = \"a\"\nop = \"schedule\"\n";
+    ends_given(&rt, given(&MIGRATE, ""), 0, text, "");
+    let plan = file(text.as_bytes());
+    let code = Given {
+        plan,
+        ..given(&[b"sched", b"code", b"plan.toml"], "")
+    };
+    ends_given(&rt, code, 0, "0 submit 0 schedule 5\n1 halt\n", "");
+    let again = Given {
+        plan,
+        ..given(&MIGRATE, "")
+    };
+    ends_given(&rt, again, 1, "", "sched: plan: Version block 0 call 0\n");
+    let mut closed = given(&MIGRATE, "");
+    closed.is_closed = true;
+    ends_given(&rt, closed, 1, "", "sched: write fault\n");
 }

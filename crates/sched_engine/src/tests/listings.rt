@@ -53,7 +53,7 @@ call = [
 
 #[test]
 fn lists_nothing_of_a_text_that_is_no_plan(rt: HostRuntime) {
-    let (answer, text) = listed(rt.alloc(), "version = 2");
+    let (answer, text) = listed(rt.alloc(), "version = 3");
     assert!(rt;
         answer
             == Err(RunError::Plan(PlanFault {

@@ -2,11 +2,20 @@ use Rattle.std.proofs.Common.{rules, ap, ap₂, codes, true, ◌≡◌, ◌∙�
 use Rattle.std.proofs.lemmas.Bool.{and_parts, not-true}
 use Rattle.clap.specs.Words.{App, app_of, new_app, with_subcommand}
 use Rattle.sched.proofs.command.command.Goals as goal
+use Rattle.sched.proofs.command.command.Goals.{After-subcommand_required}
+
+-- the program before its commands: one has to be named
+own : App
+own = record (new_app (codes "sched")) { top = record (new_app (codes "sched")).top { subcommand_required = true } }
+
+own_of : (c : After-subcommand_required) → app_of c.subcommand_required.result ≡ own
+unfolding own
+own_of c = search rules
 
 pub returns : goal.returns
+unfolding own
 returns c =
-    let own = new_app (codes "sched") in
-    let bare : app_of c.subcommand_required.result ≡ record own { top = record own.top { subcommand_required = true } } = search rules in
+    let bare = own_of (goal.at.returns c).After-subcommand_required in
     let run = c.in_ok-run_command.ensures.app in
     let run_plain = ap (λ (a : App). a.top.is_plain) run in
     let run_local = not-true _ (and_parts _ _ (and_parts _ _ (and_parts _ _ run_plain).1).1).0 in
@@ -19,7 +28,11 @@ returns c =
     let check = c.in_ok-check_command.ensures.app in
     let check_plain = ap (λ (a : App). a.top.is_plain) check in
     let check_local = not-true _ (and_parts _ _ (and_parts _ _ (and_parts _ _ check_plain).1).1).0 in
+    let migrate = c.in_ok-migrate_command.ensures.app in
+    let migrate_plain = ap (λ (a : App). a.top.is_plain) migrate in
+    let migrate_local = not-true _ (and_parts _ _ (and_parts _ _ (and_parts _ _ migrate_plain).1).1).0 in
     let one = c.in_ok-subcommand.ensures.shape run_local ∙ ap₂ with_subcommand bare (ap (λ (a : App). a.top) run) in
     let two = c.in_ok-subcommand-2.ensures.shape pool_local ∙ ap₂ with_subcommand one (ap (λ (a : App). a.top) pool) in
     let three = c.in_ok-subcommand-3.ensures.shape code_local ∙ ap₂ with_subcommand two (ap (λ (a : App). a.top) code) in
-    record { app = c.in_ok-subcommand-4.ensures.shape check_local ∙ ap₂ with_subcommand three (ap (λ (a : App). a.top) check) }
+    let four = c.in_ok-subcommand-4.ensures.shape check_local ∙ ap₂ with_subcommand three (ap (λ (a : App). a.top) check) in
+    record { app = c.in_ok-subcommand-5.ensures.shape migrate_local ∙ ap₂ with_subcommand four (ap (λ (a : App). a.top) migrate) }

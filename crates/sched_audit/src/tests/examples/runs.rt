@@ -10,7 +10,7 @@ fn one_delay(rt: HostRuntime) -> Result<(), Fail> {
         &rt,
         &Row {
             plan: "\
-version = 1
+version = 2
 
 [[block]]
 
@@ -18,6 +18,7 @@ version = 1
 op = \"schedule\"
 name = \"a\"
 delay = 5
+delay_unit = \"ns\"
 ",
             workers: 1,
             limit: 1_000_000,
@@ -186,26 +187,30 @@ fn nightly(rt: HostRuntime) -> Result<(), Fail> {
         &rt,
         &Row {
             plan: "\
-# A week of nightly backups: at 2 o'clock of each of seven days, in seconds from
+# A week of nightly backups: at 2 o'clock of each of seven days, counted from
 # Monday's midnight, a backup that has to begin within its minute. If it has not
-# by 2:10, the same night's backup is cancelled.
-version = 1
+# by 2:10, the same night's backup is cancelled. Hours, days and minutes stand
+# here as such, each beside its time: that is what version 2 of plans is for.
+version = 2
 
 [[block]]
-at = 7200
-unit = \"s\"
+at = 2
+at_unit = \"h\"
 times = 7
-every = 86400
+every = 1
+every_unit = \"d\"
 
 [[block.call]]
 op = \"schedule\"
 name = \"backup\"
-delay = 60
+delay = 1
+delay_unit = \"min\"
 
 [[block.call]]
 op = \"cancel\"
 name = \"backup\"
-at = 600
+at = 10
+at_unit = \"min\"
 ",
             workers: 1,
             limit: 1_000_000,

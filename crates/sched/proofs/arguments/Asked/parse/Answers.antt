@@ -1,34 +1,30 @@
-use Rattle.std.proofs.Common.{ap, ap₂, sym, map, string_bytes, Option, Some, None, List, true, false, ◌≡◌, ◌∙◌}
+use Rattle.std.proofs.Common.{ap, ap₂, sym, map, string_bytes, Option, Some, None, List, [], true, false, ◌≡◌, ◌∙◌}
 use Rattle.std.specs.Prelude.{IsSome, option_map}
 use Rattle.std.proofs.lemmas.Bool.{and_parts, not-true}
 use Rattle.std.proofs.lemmas.Option.{none-some, same_Some}
 use Rattle.clap.specs.Words.{App, Row, Text, fault_of, found_of, is_simple, is_simple_and_free, rows_of, subcommand_of}
+use Rattle.sched.specs.Commands.{sched_app}
 use Rattle.sched.proofs.KnownCommand.{is_known}
 use Rattle.sched.proofs.arguments.Asked.parse.Goals as goal
 
+-- arguments that were taken have no fault
+no_fault : (app : App) (arguments : List Text) → app ≡ sched_app → (is_simple_and_free app ≡ true → fault_of app arguments ≡ []) → fault_of sched_app arguments ≡ []
+no_fault app arguments is none = ap (λ (a : App). fault_of a arguments) (sym is) ∙ none (ap is_simple_and_free is ∙ is_known)
+
 pub returns-in-Some-clause-fails : goal.returns-in-Some-clause-fails
-returns-in-Some-clause-fails c =
-    let app = c.in_ok-command.ensures.app in
-    let none = c.in_ok-matches.ensures.kinds (ap is_simple_and_free app ∙ is_known) in
-    ap (λ (a : App). fault_of a (map string_bytes c.args.arguments.now)) (sym app) ∙ none
+returns-in-Some-clause-fails c = no_fault _ _ c.in_ok-command.ensures.app c.in_ok-matches.ensures.kinds
 
 pub returns-in-Some-subcommand_matches-clause-fails : goal.returns-in-Some-subcommand_matches-clause-fails
-returns-in-Some-subcommand_matches-clause-fails c =
-    let app = c.in_ok-command.ensures.app in
-    let none = c.in_ok-matches.ensures.kinds (ap is_simple_and_free app ∙ is_known) in
-    ap (λ (a : App). fault_of a (map string_bytes c.args.arguments.now)) (sym app) ∙ none
+returns-in-Some-subcommand_matches-clause-fails c = no_fault _ _ c.in_ok-command.ensures.app c.in_ok-matches.ensures.kinds
 
 pub returns-in-Some-subcommand_matches-2-clause-fails : goal.returns-in-Some-subcommand_matches-2-clause-fails
-returns-in-Some-subcommand_matches-2-clause-fails c =
-    let app = c.in_ok-command.ensures.app in
-    let none = c.in_ok-matches.ensures.kinds (ap is_simple_and_free app ∙ is_known) in
-    ap (λ (a : App). fault_of a (map string_bytes c.args.arguments.now)) (sym app) ∙ none
+returns-in-Some-subcommand_matches-2-clause-fails c = no_fault _ _ c.in_ok-command.ensures.app c.in_ok-matches.ensures.kinds
+
+pub returns-in-Some-subcommand_matches-3-clause-fails : goal.returns-in-Some-subcommand_matches-3-clause-fails
+returns-in-Some-subcommand_matches-3-clause-fails c = no_fault _ _ c.in_ok-command.ensures.app c.in_ok-matches.ensures.kinds
 
 pub returns-clause-fails : goal.returns-clause-fails
-returns-clause-fails c =
-    let app = c.in_ok-command.ensures.app in
-    let none = c.in_ok-matches.ensures.kinds (ap is_simple_and_free app ∙ is_known) in
-    ap (λ (a : App). fault_of a (map string_bytes c.args.arguments.now)) (sym app) ∙ none
+returns-clause-fails c = no_fault _ _ c.in_ok-command.ensures.app c.in_ok-matches.ensures.kinds
 
 -- false is not true
 no_truth : false ≡ true → ⊥
@@ -62,6 +58,7 @@ returns-clause-asked c =
       λ q. absurd (no_truth (c.in_default.ensures.found.1 (sym name ∙ ap Some q))),
       λ q. none_found _ c.in_default-subcommand_matches.is (c.subcommand_matches-2.ensures.found.1 (sym name ∙ ap Some q)),
       λ q. none_found _ c.in_default-subcommand_matches-2.is (c.subcommand_matches-3.ensures.found.1 (sym name ∙ ap Some q)),
+      λ q. none_found _ c.in_default-subcommand_matches-3.is (c.subcommand_matches-4.ensures.found.1 (sym name ∙ ap Some q)),
       c.of_matches-in-Some-subcommand.ensures,
     )
 
