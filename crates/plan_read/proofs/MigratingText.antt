@@ -1,5 +1,5 @@
 -- A text and the text that it is migrated to.
-use Rattle.std.proofs.Common.{◌≡◌, ◌≤◌, ℕ, true, false, List, length, Option, None, Some, String, Global, refl, ap, ◌∙◌, inl, inr, arith}
+use Rattle.std.proofs.Common.{◌≡◌, ◌≤◌, ℕ, true, false, List, length, Option, None, Some, String, Global, refl, sym, ap, ◌∙◌, inl, inr, arith}
 use Rattle.std.specs.Prelude.{Result, Ok, Err}
 use Rattle.toml.specs.Data.{Members}
 use Rattle.toml.specs.Text.{IsDocumentText}
@@ -56,6 +56,18 @@ prints_it text printed m = rw (text_is text m.tree m.parsed) m.prints
 -- a text is migrated to one text
 pub one_migrated : (text a b : List ℕ) → OnePrinted text → Migrates text a → Migrates text b → a ≡ b
 one_migrated text a b one m n = one a b (prints_it text a m) (prints_it text b n)
+
+-- a text that is migrated has no fault
+pub never_fails : (text printed : List ℕ) (fault : PlanFault) → OnePrinted text → Migrates text printed → MigrationFails text fault → ⊥
+never_fails text printed fault one m (inl fails) = text_never_both text m.plan fault (migrates_writes text printed m) fails
+never_fails text printed fault one m (inr (inl again)) =
+    let second : version_at (tree_at text) ≡ Two = rw (text_is text again.0.tree again.0.parsed) (writes_version Two again.0.tree again.0.plan again.0.writes) in
+    let e = sym second ∙ first_version text printed m in
+    absurd (cc)
+never_fails text printed fault one m (inr (inr long)) =
+    let same : long.0.printed ≡ printed = one long.0.printed printed (rw (text_is text long.0.tree long.0.parsed) long.0.prints) (prints_it text printed m) in
+    let short : length long.0.printed ≤ longest_text = rw same m.short in
+    absurd (omega (arith, long.0.long))
 
 -- ---- what stops a migration
 

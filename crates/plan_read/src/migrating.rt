@@ -32,6 +32,7 @@ pub fn migrate<A: HeapAllocator>(alloc: A, text: &[u8]) -> Result<String, PlanFa
     ensures migrated { IfOk result (λ s. Migrates text.now (string_bytes s)) }
     ensures only { (printed : List ℕ) → Migrates text.now printed → MatchResult result (λ s. string_bytes s ≡ printed) (λ e. e ≡ out_of_memory) }
     ensures fault { IfErr result (λ e. MigrationFails text.now e ⊎ (e ≡ out_of_memory)) }
+    ensures faultless { IfOk result (λ s. (fault : PlanFault) → MigrationFails text.now fault → ⊥) }
     ensures plan { IfOk result (λ s. (plan : PlanTree) × TextWrites text.now plan × TextWrites (string_bytes s) (in_nanoseconds plan)) }
 {
     match migrate_text(alloc, text) {

@@ -5,14 +5,13 @@ use Rattle.std.proofs.lemmas.Bool.{cases_Bool, and_parts}
 use Rattle.std.proofs.lemmas.Bool.Decides.{nat_tests}
 use Rattle.std.specs.Io.KnownBytes.{Keeps}
 use Rattle.executor_core.specs.Counts.{IsWorkerCount, most_workers}
-use Rattle.plan_read.specs.Migrating.{Migrates, MigrationFails}
+use Rattle.plan_read.specs.Migrating.{MigrationFails}
 use Rattle.plan_read.specs.Plans.{PlanTree}
 use Rattle.plan_read.specs.Reads.{out_of_memory}
 use Rattle.plan_read.specs.Texts.{TextWrites, TextFails}
 use Rattle.plan_read.specs.declared.faults.PlanFault.{PlanFault}
 use Rattle.plan_read.specs.declared.faults.PlanFaultKind.{PlanFaultKind}
 use Rattle.plan_read.specs.declared.faults.PlanFaultKind.TheVariants as k
-use Rattle.plan_read.proofs.MigrationLaw.{migration_never_both}
 use Rattle.plan_read.proofs.TextLaw.{text_never_both}
 use Rattle.pool_engine.specs.PoolRuns.{PoolRan}
 use Rattle.sched_engine.specs.Running.{IsAccepted, IsUntouched, Ran, RefusesToRun}
@@ -205,8 +204,8 @@ code_read text answer IsPlan old new read all = go all.ended all.listed all.told
 -- ---- a migration
 
 -- a text that is migrated has none of the faults of a migration
-no_migrate_fault : (text printed : List ℕ) → Migrates text printed → NoneTold (migrate_faults (Some text))
-no_migrate_fault text printed migrates = (plan_there text, ((λ told h. migration_never_both text printed h.0 migrates h.1), tt))
+no_migrate_fault : (text : List ℕ) → ((fault : PlanFault) → MigrationFails text fault → ⊥) → NoneTold (migrate_faults (Some text))
+no_migrate_fault text faultless = (plan_there text, ((λ told h. faultless h.0 h.1), tt))
 
 -- a text has a fault
 pub migrate_wrong_plan : (text : List ℕ) (fault : PlanFault) (told : ProgramError) (contents : Option (List ℕ))
@@ -218,9 +217,9 @@ migrate_wrong_plan text fault told contents why is = elim (told_fault (Migration
 ]
 
 -- a text was migrated
-pub migrate_done : (text printed : List ℕ) (answer : Result ℕ ProgramError) (old new : Option (List ℕ))
-    → Migrates text printed → MigratedAsAsked answer text old new → AnswersMigrate answer (λ plan. plan ≡ Some text) old new
-migrate_done text printed answer old new migrates done = inr (Some text, refl, inr (no_migrate_fault text printed migrates, done))
+pub migrate_done : (text : List ℕ) (answer : Result ℕ ProgramError) (old new : Option (List ℕ))
+    → ((fault : PlanFault) → MigrationFails text fault → ⊥) → MigratedAsAsked answer text old new → AnswersMigrate answer (λ plan. plan ≡ Some text) old new
+migrate_done text answer old new faultless done = inr (Some text, refl, inr (no_migrate_fault text faultless, done))
 
 -- the plan's file was read
 pub migrate_read : (text : List ℕ) (answer : Result ℕ ProgramError) (IsPlan : Option (List ℕ) → Type 0) (old new : Option (List ℕ))

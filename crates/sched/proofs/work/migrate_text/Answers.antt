@@ -11,9 +11,9 @@ pub returns-then-not-write_text-clause-answers : goal.returns-then-not-write_tex
 returns-then-not-write_text-clause-answers g c =
     let migrates = c.in-Ok.ensures.migrated in
     let front = rw c.as_bytes.ensures.value at c.if-not-write_text.ensures.bytes in
-    migrate_done c.args.text.now _ (Err (Run x.Write)) _ _ migrates (_, migrates, front.0, front.2)
+    migrate_done c.args.text.now (Err (Run x.Write)) _ _ c.in-Ok.ensures.faultless (_, migrates, front.0, front.2)
 
 pub returns-clause-answers : goal.returns-clause-answers
 returns-clause-answers g c =
     let migrates = c.in-Ok.ensures.migrated in
-    migrate_done c.args.text.now _ (Ok 0) _ _ migrates (_, migrates, refl, rw c.as_bytes.ensures.value at c.if-not-write_text.ensures.bytes)
+    migrate_done c.args.text.now (Ok 0) _ _ c.in-Ok.ensures.faultless (_, migrates, refl, rw c.as_bytes.ensures.value at c.if-not-write_text.ensures.bytes)
