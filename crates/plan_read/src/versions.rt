@@ -14,7 +14,7 @@ pub enum Version {
 
 impl Version {
     /// The version of this number, if there is one.
-    pub fn of_number(number: i64) -> Option<Version>
+    pub(crate) fn of_number(number: i64) -> Option<Version>
         ensures { result ≡ version_of number }
     {
         match number {
