@@ -11,7 +11,10 @@ LONGEST_PLAN = 1_048_576
 MOST_CALLS = 65_536
 BOUNDS = [0, 1, 2, 63, 64, 65, 255, 256, 257, 65_535, 65_536, 65_537, 2**32 - 1, 2**32, 2**62 - 1, 2**62, 2**62 + 1,
           2**63 - 1, 2**63, 2**64 - 1, 2**64, -1, -(2**62), -(2**63), -(2**63) - 1]
-UNITS = {"ns": 1, "us": 1_000, "ms": 1_000_000, "s": 1_000_000_000}
+UNITS = {"ns": 1, "us": 1_000, "ms": 1_000_000, "s": 1_000_000_000,
+         "min": 60 * 10**9, "h": 3_600 * 10**9, "d": 86_400 * 10**9}
+OLD_UNITS = ("ns", "us", "ms", "s")     # those of version 1
+TIMES = ("at", "every", "delay", "first", "period")
 
 # ---- plans that have to be accepted
 
@@ -20,7 +23,7 @@ class Plan:
 
     def __init__(self, choose):
         self.choose = choose
-        self.top = {"version": 1}
+        self.top = {"version": choose.choice((1, 2))}
         self.blocks = []
         self.last = 0           # the moment of the last call
         self.tasks = 0
@@ -34,7 +37,7 @@ class Plan:
     def add_block(self, is_latest=False):
         """A block behind the others; the latest one is made once, about as late as may be."""
         choose = self.choose
-        unit = choose.choice(("ns", "ns", "ns", "us", "ms", "s"))
+        unit = choose.choice(("ns", "ns", "ns", *(OLD_UNITS if self.top["version"] == 1 else UNITS)))
         at = -(-self.last // UNITS[unit]) + choose.choice((0, 0, 1, choose.randrange(30)))
         times = choose.choice((1, 1, 1, 2, 3, choose.randrange(1, 40)))
         if is_latest:
@@ -53,7 +56,10 @@ class Plan:
         defaults = {"at": 0, "unit": "ns", "times": 1}
         if times == 1:
             defaults["every"] = every
-        self.blocks.append((without_defaults(choose, header, defaults), calls))
+        tables = [without_defaults(choose, header, defaults), *calls]
+        if self.top["version"] == 2:
+            tables = [with_own_units(choose, keys, unit) for keys in tables]
+        self.blocks.append((tables[0], tables[1:]))
 
     def new_call(self, at, offset, nanos, times, own):
         """A call of a block; `own` are the names of its tasks before this one."""
@@ -95,6 +101,21 @@ class Plan:
             else:
                 parts += ["[[block.call]]\n" + table(choose, call) for call in calls]
         return "".join(parts).encode()
+
+
+def with_own_units(choose, keys, unit):
+    """The keys of a table of version 1 whose block has this unit, as those of version 2: each time has a unit of its own,
+    at times a finer one."""
+    own = {}
+    for key, value in keys.items():
+        if key in TIMES:
+            nanos = value * UNITS[unit]
+            units = [name for name, length in UNITS.items() if nanos % length == 0 and abs(nanos) // length < 2**63]
+            chosen = choose.choice(units) if choose.random() < 0.3 else unit
+            own |= {key: nanos // UNITS[chosen], key + "_unit": chosen}
+        elif key != "unit":
+            own[key] = value
+    return without_defaults(choose, own, {f"{time}_unit": "ns" for time in TIMES})
 
 
 def without_defaults(choose, keys, defaults):
@@ -142,6 +163,7 @@ class Raw:
 # ---- plans, events and traces that are changed
 
 WORDS = """version block call at unit times every op name delay first period which value schedule rate fixed cancel policy
+at_unit every_unit delay_unit first_unit period_unit min h d
 shutdown shutdown_now ask continue execute remove true false ns us ms s a b clock start finish ok fail submit refuse illegal
 rejected due yes no none again queue running terminated idle task run done failed dropped ended outside end error backward
 too far worker busy not""".split()
@@ -200,7 +222,15 @@ def set_other(choose, plan):
 
 def set_header(choose, plan):
     header, _ = some_block(choose, plan)
-    header[choose.choice(("at", "times", "every", "unit"))] = choose.choice((*BOUNDS, "us", "ms", "s", "year"))
+    header[choose.choice(("at", "times", "every", "unit", "at_unit", "every_unit"))] = choose.choice((*BOUNDS, *UNITS, "year"))
+
+
+def set_unit(choose, plan):
+    choose.choice(tables_of(plan))[choose.choice(TIMES) + "_unit"] = choose.choice((*UNITS, "year", 1))
+
+
+def set_version(choose, plan):
+    plan.top["version"] = choose.choice((1, 2, 2, 3, 0, -1))
 
 
 def set_name(choose, plan):
@@ -223,7 +253,8 @@ def add_block(choose, plan):
     plan.blocks.insert(choose.randrange(len(plan.blocks) + 1), some_block(choose, plan))
 
 
-SPOILS = (drop_key, rename_key, set_strange, set_bound, set_other, set_header, set_name, add_cancel, add_call, add_block)
+SPOILS = (drop_key, rename_key, set_strange, set_bound, set_other, set_header, set_unit, set_version, set_name, add_cancel,
+          add_call, add_block)
 
 
 def some_place(choose, text):
@@ -375,7 +406,7 @@ def large_plan(choose, _text):
     """A plan with about as many blocks or calls as it may have."""
     ask = b'[[block.call]]\nop = "ask"\n'
     count = choose.choice((255, 256, 257))
-    return b"version = 1\n" + choose.choice((
+    return b"version = %d\n" % choose.choice((1, 2)) + choose.choice((
         b"[[block]]\n" * count,
         b"[[block]]\n" + ask * count,
         b"[[block]]\ntimes = %d\nevery = 0\n" % (MOST_CALLS // choose.choice((1, 2, 3))) + ask * choose.choice((1, 2, 3)),
