@@ -23,7 +23,8 @@ use toml::{Table, Value};
 
 /// The text of version 2 for a text of version 1: the tree of the one is that of the other with version 2, and
 /// with the unit of each block, where it has one, beside each time of its header and of its calls. It is printed as
-/// `toml` prints a tree, so comments and the layout are lost. It writes the same plan.
+/// `toml` prints a tree, so comments and the layout are lost. It writes the same plan, but that each block keeps
+/// nanoseconds as its unit, as all of version 2 do.
 ///
 /// A text that writes no plan has the fault that [`read_plan`](crate::read_plan) answers. One that writes a plan has
 /// `Version`, block 0 and call 0, where it is of version 2 already, and `TooLong`, block 0 and call 0, where the text that
