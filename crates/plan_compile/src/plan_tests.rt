@@ -113,6 +113,20 @@ fn has_sizes(plan: &Plan<Global>, blocks: usize, calls: usize) -> bool {
             .all(|block| block.calls().len() == calls)
 }
 
+/// Half of the greatest number of bytes of a plan's text: one of fewer bytes migrates to one that is not too long.
+const HALF: usize = 524_288;
+
+/// Checks that a text is told to be a plan, of either version, and so that it migrates as it has to.
+fn is_told(rt: &(impl AllocGlobal + Abort), text: &str) -> Result<(), Fail> {
+    let answer = told(rt.alloc(), text)?;
+    let is_long = text.len() > HALF && answer.as_str() == "plan TooLong block 0 call 0";
+    assert!(rt;
+        is_long || answer.as_str() == "plan" || answer.as_str() == "plan 2",
+        "{answer}"
+    );
+    Ok(())
+}
+
 /// Checks how many blocks the plan of a text has, and how many calls each of them has.
 fn reads_sizes(
     rt: &(impl AllocGlobal + Abort),
@@ -122,7 +136,7 @@ fn reads_sizes(
 ) -> Result<(), Fail> {
     let plan = read(rt.alloc(), text.as_bytes())?;
     assert!(rt; has_sizes(&plan, blocks, calls), "{text}");
-    Ok(())
+    is_told(rt, text)
 }
 
 /// Writes a period or a fixed delay, in nanoseconds.
@@ -188,7 +202,7 @@ fn reads(rt: &(impl AllocGlobal + Abort), text: &str, lines: &str) -> Result<(),
         write_block(&mut out, block)?;
     }
     assert!(rt; out.as_str() == lines, "{text}");
-    Ok(())
+    is_told(rt, text)
 }
 
 /// Each fault by an example.

@@ -6,7 +6,7 @@ mod units;
 use crate::audit::{Audit, run_and_check};
 use crate::error::AuditError;
 use plan_read::{PlanFault, PlanFaultKind, migrate};
-use sched_engine::{Report, RunError};
+use sched_engine::{Report, RunError, Writing, write_listing};
 use std::process::Abort;
 use std::test::Fail;
 use trace_check::Finding;
@@ -74,14 +74,22 @@ struct Row<'a> {
     trace: &'a str,
 }
 
+/// The listing of the code of the plan that a text writes.
+fn listed(rt: &impl AllocGlobal, plan: &str) -> Result<Vec<u8>, Fail> {
+    let mut writer = Writing::new(Vec::new(rt.alloc()));
+    write_listing(rt.alloc(), plan.as_bytes(), &mut writer)?;
+    Ok(writer.into_inner())
+}
+
 /// Checks the answer and the trace of a row, and that the trace conforms; and all that with its plan migrated, where
-/// that is of version 1.
+/// that is of version 1, whose listing is the same.
 fn conforms(rt: &(impl AllocGlobal + Abort), row: &Row<'_>) -> Result<(), Fail> {
     conforms_with(rt, row.plan, row)?;
     match migrate(rt.alloc(), row.plan.as_bytes()) {
         Ok(plan) => {
             conforms_with(rt, plan.as_str(), row)?;
             is_migrated(rt, plan.as_str());
+            assert!(rt; listed(rt, plan.as_str())?.as_slice() == listed(rt, row.plan)?.as_slice());
         }
         Err(_) => is_migrated(rt, row.plan),
     }

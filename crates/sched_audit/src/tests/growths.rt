@@ -93,6 +93,7 @@ fn refuse_each(rt: &(impl AllocGlobal + Abort), call: Call) -> Result<(), Fail> 
 fn each_growth_is_refused_in_turn(rt: HostRuntime) -> Result<(), Fail> {
     let calls = [
         Call::ReadPlan,
+        Call::Migrate,
         Call::Compile,
         Call::Listing,
         Call::Event,

@@ -6,7 +6,7 @@ use super::{EVENTS, LISTING, PLAN, TRACE, is_front};
 use crate::audit::run_and_check;
 use crate::error::AuditError;
 use plan_compile::{CompileFault, compile};
-use plan_read::{PlanFault, PlanFaultKind, read_plan};
+use plan_read::{PlanFault, PlanFaultKind, migrate, read_plan};
 use queue_code::{CodeFault, listing};
 use refusing_allocator::Refusing;
 use sched_engine::{Pieces, Report, RunError, Writing, run, write_listing};
@@ -19,6 +19,7 @@ use trace_check::{CheckError, Finding, MOST_BYTES, check};
 #[derive(Clone, Copy, Debug)]
 pub enum Call {
     ReadPlan,
+    Migrate,
     Compile,
     Listing,
     Event,
@@ -37,6 +38,7 @@ pub fn wants_memory(
 ) -> Result<bool, Fail> {
     match call {
         Call::ReadPlan => Ok(reads_no_plan(rt, heap, number)),
+        Call::Migrate => migrates_nothing(rt, heap, number),
         Call::Compile => compiles_nothing(rt, heap, number),
         Call::Listing => lists_nothing(rt, heap, number),
         Call::Event => takes_events(rt, heap, number),
@@ -78,6 +80,26 @@ fn reads_no_plan(rt: &impl Abort, heap: &Refusing<Global>, number: u64) -> bool 
         Err(fault) => {
             assert_eq!(rt; fault, NO_MEMORY);
             true
+        }
+    }
+}
+
+/// The tree and the text of a migration take memory of the heap, which is not refused here.
+fn migrates_nothing(
+    rt: &(impl AllocGlobal + Abort),
+    heap: &Refusing<Global>,
+    number: u64,
+) -> Result<bool, Fail> {
+    let ample = migrate(rt.alloc(), PLAN.as_bytes())?;
+    heap.refuse(number);
+    match migrate(heap, PLAN.as_bytes()) {
+        Ok(text) => {
+            assert_eq!(rt; text.as_str(), ample.as_str());
+            Ok(false)
+        }
+        Err(fault) => {
+            assert_eq!(rt; fault, NO_MEMORY);
+            Ok(true)
         }
     }
 }
