@@ -18,6 +18,7 @@ pub mod OrderLaw
 pub mod Words
 pub mod RowLaw
 pub mod KeyCounts
+pub mod KeyTable
 pub mod GivenKeys
 pub mod VersionKeys
 pub mod UnitLaw

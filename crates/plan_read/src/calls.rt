@@ -15,7 +15,7 @@ ghost use Rattle.plan_read.specs.declared.faults.PlanFaultKind.TheVariants as ki
 use crate::faults::{Place, PlanFaultKind, ReadError};
 use crate::headers::{moment_in_last, read_span};
 use crate::key_names::KeyName;
-use crate::keys::{are_typed, call_keys, has_only, has_required};
+use crate::keys::{Role, check_keys};
 use crate::plans::{Call, Header, Op};
 use crate::rows::{EMPTY_SLOTS, Row};
 use crate::sites::Site;
@@ -47,7 +47,7 @@ pub fn read_call<'a, A: Allocator + Copy>(
     let mut slots = EMPTY_SLOTS;
     let row = Row::new(table, &mut slots);
     let verb = read_verb(place, &row)?;
-    let units = check_keys(place, version, verb, header.unit, &row)?;
+    let units = read_units(place, version, verb, header.unit, &row)?;
     let subject = read_subject(place, verb, site, names, &row)?;
     read_timed(place, subject, units, header, last, &row)
 }
@@ -71,7 +71,7 @@ fn read_verb(place: Place, row: &Row) -> Result<Verb, ReadError>
 
 /// The units of the times of a call in a block of this unit, where the call's keys are those of its operation.
 #[tactic(auto, unfolding(crate::specs::own::Walk::key_tests))]
-fn check_keys(
+fn read_units(
     place: Place,
     version: Version,
     verb: Verb,
@@ -80,16 +80,7 @@ fn check_keys(
 ) -> Result<Units, ReadError>
     ensures { Reads (λ u. u) result (place_fault place (key_tests version verb (table_view row.now.table.now))) (units_in version unit (table_view row.now.table.now)) }
 {
-    let keys = call_keys(version, verb);
-    if !has_only(keys, row) {
-        return Err(place.fault(PlanFaultKind::UnknownKey));
-    }
-    if !has_required(keys, row) {
-        return Err(place.fault(PlanFaultKind::Missing));
-    }
-    if !are_typed(keys, row) {
-        return Err(place.fault(PlanFaultKind::WrongType));
-    }
+    check_keys(place, version, Role::Call(verb), row)?;
     match version {
         Version::One => Ok(Units::same(unit)),
         Version::Two => Units::read(place, row),

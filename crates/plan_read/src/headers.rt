@@ -15,7 +15,7 @@ ghost use Rattle.plan_read.specs.declared.faults.PlanFaultKind.TheVariants as ki
 
 use crate::faults::{Place, PlanFaultKind, ReadError};
 use crate::key_names::KeyName;
-use crate::keys::{TOP_KEYS, are_typed, has_only, header_keys};
+use crate::keys::{Role, check_keys};
 use crate::limits::{MOST_BLOCK_CALLS, MOST_BLOCKS, MOST_CALLS};
 use crate::plans::Header;
 use crate::rows::{EMPTY_SLOTS, Row};
@@ -53,12 +53,7 @@ pub fn read_top(table: &Table) -> Result<Top<'_>, ReadError>
     let Some(version) = read_version(&row) else {
         return Err(place.fault(PlanFaultKind::Version));
     };
-    if !has_only(TOP_KEYS, &row) {
-        return Err(place.fault(PlanFaultKind::UnknownKey));
-    }
-    if !are_typed(TOP_KEYS, &row) {
-        return Err(place.fault(PlanFaultKind::WrongType));
-    }
+    check_keys(place, version, Role::Top, &row)?;
     let tables = row.tables(KeyName::Block);
     if tables.len() > MOST_BLOCKS {
         return Err(place.fault(PlanFaultKind::TooMany));
@@ -107,13 +102,7 @@ pub fn read_head(
 fn read_block_units(place: Place, version: Version, row: &Row) -> Result<(Unit, Units), ReadError>
     ensures { Reads (λ u. u) result (place_fault place (header_key_tests version (table_view row.now.table.now))) (unit_at version (table_view row.now.table.now), header_units version (table_view row.now.table.now)) }
 {
-    let keys = header_keys(version);
-    if !has_only(keys, row) {
-        return Err(place.fault(PlanFaultKind::UnknownKey));
-    }
-    if !are_typed(keys, row) {
-        return Err(place.fault(PlanFaultKind::WrongType));
-    }
+    check_keys(place, version, Role::Header, row)?;
     match version {
         Version::One => {
             let unit = read_unit(place, version, KeyName::Unit, row)?;

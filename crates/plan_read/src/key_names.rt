@@ -3,32 +3,32 @@
 ghost use Rattle.std.specs.Prelude.{◌≡◌, ◌<◌};
 ghost use Rattle.plan_read.specs.own.Rows.{key_of_word, place};
 
-/// The name of a key. Those of a call stand first, in the order that a word is compared with them.
+/// The name of a key, in the order of the table of keys.
 #[derive(Clone, Copy)]
 pub enum KeyName {
-    Op,
-    At,
-    Name,
-    Delay,
-    First,
-    Period,
-    Which,
-    Value,
     Version,
     Block,
+    Op,
+    At,
+    AtUnit,
     Unit,
     Times,
     Every,
-    Call,
-    AtUnit,
     EveryUnit,
-    DelayUnit,
+    Call,
+    Name,
+    First,
     FirstUnit,
+    Delay,
+    DelayUnit,
+    Period,
     PeriodUnit,
+    Which,
+    Value,
 }
 
 impl KeyName {
-    /// The name that a word is, if it is one.
+    /// The name that a word is, if it is one. The keys of calls are tried first.
     pub fn of_word(word: &str) -> Option<KeyName>
         ensures { result ≡ key_of_word word.now }
     {

@@ -1,12 +1,13 @@
-//! The keys of a plan's tables, and tests of a table against them.
+//! The keys of a plan's tables, a row for each name, and the tests of a table against them.
 
-ghost use Rattle.std.specs.Prelude.{◌≡◌, true, ◌||◌, not, is_some};
-ghost use Rattle.toml.specs.Data.{get_member};
+ghost use Rattle.std.specs.Prelude.{◌≡◌, ◌≤◌, ◌<◌, length};
 ghost use Rattle.toml.specs.View.{view, table_view, items_view};
-ghost use Rattle.plan_read.specs.declared.versions.Version.TheVariants.{One, Two};
-ghost use Rattle.plan_read.specs.Keys.{header_keys, call_keys, are_tables, has_shape, fits, has_only, has_required, are_typed};
-ghost use Rattle.plan_read.specs.own.Rows.{word_of, as_defined, are_apart};
+ghost use Rattle.plan_read.specs.Keys.{are_tables, has_shape};
+ghost use Rattle.plan_read.specs.own.Reads.{Reads};
+ghost use Rattle.plan_read.specs.own.Rows.{AreAllKeys, is_home, stands_in, keys_in, with_key, found_with, nothing};
+ghost use Rattle.plan_read.specs.own.Walk.{place_fault, table_tests};
 
+use crate::faults::{Place, PlanFaultKind, ReadError};
 use crate::key_names::KeyName;
 use crate::rows::Row;
 use crate::units::which_of_word;
@@ -26,212 +27,223 @@ pub enum Shape {
     Tables,
 }
 
-/// A key of a table: its name, what its value is, and whether it has to be there.
+/// What a table of a plan is.
+#[derive(Clone, Copy)]
+pub enum Role {
+    Top,
+    Header,
+    /// A call with this operation.
+    Call(Verb),
+}
+
+/// Where a key stands.
+#[derive(Clone, Copy)]
+pub enum Home {
+    Top,
+    Header,
+    /// In each call.
+    Calls,
+    HeaderAndCalls,
+    /// In the calls with these operations.
+    CallsOf(&'static [Verb]),
+}
+
+/// The versions in which a key stands.
+#[derive(Clone, Copy)]
+pub enum Versions {
+    Each,
+    OneAlone,
+    TwoAlone,
+}
+
+/// A key: its name, what its value is, whether it has to be there, and in which tables it stands.
 #[derive(Clone, Copy)]
 pub struct Key {
     pub name: KeyName,
     pub shape: Shape,
     pub required: bool,
-}
-
-/// A key that may be left out.
-macro_rules! optional {
-    ($name:ident, $shape:ident) => {
-        Key {
-            name: KeyName::$name,
-            shape: Shape::$shape,
-            required: false,
-        }
-    };
+    pub home: Home,
+    pub versions: Versions,
 }
 
 /// A key that has to be there.
 macro_rules! required {
-    ($name:ident, $shape:ident) => {
+    ($name:ident, $shape:ident, $home:expr) => {
         Key {
             name: KeyName::$name,
             shape: Shape::$shape,
             required: true,
+            home: $home,
+            versions: Versions::Each,
         }
     };
 }
 
-/// The key of a time's unit.
-macro_rules! unit {
-    ($name:ident) => {
-        optional!($name, Text)
+/// A key that may be left out.
+macro_rules! optional {
+    ($name:ident, $shape:ident, $home:expr) => {
+        optional!($name, $shape, $home, Each)
+    };
+    ($name:ident, $shape:ident, $home:expr, $versions:ident) => {
+        Key {
+            name: KeyName::$name,
+            shape: Shape::$shape,
+            required: false,
+            home: $home,
+            versions: Versions::$versions,
+        }
     };
 }
 
-const OP: Key = required!(Op, Text);
+/// The key of a time's unit, which stands in version 2 where the time does.
+macro_rules! unit {
+    ($name:ident, $home:expr) => {
+        optional!($name, Text, $home, TwoAlone)
+    };
+}
 
-const AT: Key = optional!(At, Integer);
+const NAMED: Home = Home::CallsOf(&[
+    Verb::Schedule,
+    Verb::Execute,
+    Verb::Rate,
+    Verb::Fixed,
+    Verb::Cancel,
+]);
 
-const AT_UNIT: Key = unit!(AtUnit);
+const STARTED: Home = Home::CallsOf(&[Verb::Rate, Verb::Fixed]);
 
-const NAME: Key = required!(Name, Text);
+const DELAYED: Home = Home::CallsOf(&[Verb::Schedule, Verb::Fixed]);
 
-const DELAY: Key = required!(Delay, Integer);
+const REPEATED: Home = Home::CallsOf(&[Verb::Rate]);
 
-const DELAY_UNIT: Key = unit!(DelayUnit);
+const POLICIES: Home = Home::CallsOf(&[Verb::Policy]);
 
-const FIRST: Key = required!(First, Integer);
-
-const FIRST_UNIT: Key = unit!(FirstUnit);
-
-const PERIOD: Key = required!(Period, Integer);
-
-const PERIOD_UNIT: Key = unit!(PeriodUnit);
-
-const TIMES: Key = optional!(Times, Integer);
-
-const EVERY: Key = optional!(Every, Integer);
-
-const EVERY_UNIT: Key = unit!(EveryUnit);
-
-const CALL: Key = optional!(Call, Tables);
-
-const WHICH: Key = required!(Which, Policy);
-
-const VALUE: Key = required!(Value, Truth);
-
-/// The keys of the top.
-pub const TOP_KEYS: &[Key] = &[required!(Version, Integer), optional!(Block, Tables)];
-
-/// Those of a block of version 1.
-const HEADER_KEYS: &[Key] = &[AT, optional!(Unit, Text), TIMES, EVERY, CALL];
-
-/// Those of a block of version 2, and below the same of each operation.
-const HEADER_KEYS_WITH_UNITS: &[Key] = &[AT, AT_UNIT, TIMES, EVERY, EVERY_UNIT, CALL];
-
-const SCHEDULE_KEYS: &[Key] = &[OP, AT, NAME, DELAY];
-
-const SCHEDULE_KEYS_WITH_UNITS: &[Key] = &[OP, AT, AT_UNIT, NAME, DELAY, DELAY_UNIT];
-
-const EXECUTE_KEYS: &[Key] = &[OP, AT, NAME];
-
-const EXECUTE_KEYS_WITH_UNITS: &[Key] = &[OP, AT, AT_UNIT, NAME];
-
-const RATE_KEYS: &[Key] = &[OP, AT, NAME, FIRST, PERIOD];
-
-const RATE_KEYS_WITH_UNITS: &[Key] = &[
-    OP,
-    AT,
-    AT_UNIT,
-    NAME,
-    FIRST,
-    FIRST_UNIT,
-    PERIOD,
-    PERIOD_UNIT,
+/// The keys of all tables, those of one table in the order of its definition, each unit behind its time.
+const KEYS: &[Key] = &[
+    required!(Version, Integer, Home::Top),
+    optional!(Block, Tables, Home::Top),
+    required!(Op, Text, Home::Calls),
+    optional!(At, Integer, Home::HeaderAndCalls),
+    unit!(AtUnit, Home::HeaderAndCalls),
+    optional!(Unit, Text, Home::Header, OneAlone),
+    optional!(Times, Integer, Home::Header),
+    optional!(Every, Integer, Home::Header),
+    unit!(EveryUnit, Home::Header),
+    optional!(Call, Tables, Home::Header),
+    required!(Name, Text, NAMED),
+    required!(First, Integer, STARTED),
+    unit!(FirstUnit, STARTED),
+    required!(Delay, Integer, DELAYED),
+    unit!(DelayUnit, DELAYED),
+    required!(Period, Integer, REPEATED),
+    unit!(PeriodUnit, REPEATED),
+    required!(Which, Policy, POLICIES),
+    required!(Value, Truth, POLICIES),
 ];
 
-const FIXED_KEYS: &[Key] = &[OP, AT, NAME, FIRST, DELAY];
-
-const FIXED_KEYS_WITH_UNITS: &[Key] = &[
-    OP, AT, AT_UNIT, NAME, FIRST, FIRST_UNIT, DELAY, DELAY_UNIT,
-];
-
-const CANCEL_KEYS: &[Key] = &[OP, AT, NAME];
-
-const CANCEL_KEYS_WITH_UNITS: &[Key] = &[OP, AT, AT_UNIT, NAME];
-
-const POLICY_KEYS: &[Key] = &[OP, AT, WHICH, VALUE];
-
-const POLICY_KEYS_WITH_UNITS: &[Key] = &[OP, AT, AT_UNIT, WHICH, VALUE];
-
-const BARE_KEYS: &[Key] = &[OP, AT];
-
-const BARE_KEYS_WITH_UNITS: &[Key] = &[OP, AT, AT_UNIT];
-
-/// The keys of a block.
-pub fn header_keys(version: Version) -> &'static [Key]
-    ensures { as_defined result.now ≡ header_keys version }
+/// The keys of all tables: those that stand in a table are its keys.
+fn all_keys() -> &'static [Key]
+    ensures few { length result.now ≤ 19 }
+    ensures defined { AreAllKeys result.now }
 {
-    match version {
-        Version::One => HEADER_KEYS,
-        Version::Two => HEADER_KEYS_WITH_UNITS,
-    }
+    KEYS
 }
 
-/// The keys of a call, by its operation: those of each call, and the operation's own.
-pub fn call_keys(version: Version, verb: Verb) -> &'static [Key]
-    ensures { as_defined result.now ≡ call_keys version verb }
-{
-    match version {
-        Version::One => call_keys_without_units(verb),
-        Version::Two => call_keys_with_units(verb),
-    }
-}
-
-/// Those of version 1.
-fn call_keys_without_units(verb: Verb) -> &'static [Key]
-    ensures { as_defined result.now ≡ call_keys One verb }
-{
-    match verb {
-        Verb::Schedule => SCHEDULE_KEYS,
-        Verb::Execute => EXECUTE_KEYS,
-        Verb::Rate => RATE_KEYS,
-        Verb::Fixed => FIXED_KEYS,
-        Verb::Cancel => CANCEL_KEYS,
-        Verb::Policy => POLICY_KEYS,
-        _ => BARE_KEYS,
-    }
-}
-
-/// Those of version 2.
-fn call_keys_with_units(verb: Verb) -> &'static [Key]
-    ensures { as_defined result.now ≡ call_keys Two verb }
-{
-    match verb {
-        Verb::Schedule => SCHEDULE_KEYS_WITH_UNITS,
-        Verb::Execute => EXECUTE_KEYS_WITH_UNITS,
-        Verb::Rate => RATE_KEYS_WITH_UNITS,
-        Verb::Fixed => FIXED_KEYS_WITH_UNITS,
-        Verb::Cancel => CANCEL_KEYS_WITH_UNITS,
-        Verb::Policy => POLICY_KEYS_WITH_UNITS,
-        _ => BARE_KEYS_WITH_UNITS,
-    }
+/// What a pass over keys finds in a table: how many of those that stand in it are there, whether each that has to be
+/// there is, and whether the value at each is of its shape.
+#[derive(Clone, Copy)]
+pub struct Found {
+    pub known: usize,
+    pub complete: bool,
+    pub typed: bool,
 }
 
 impl Key {
-    /// Whether this key is there, or may be left out.
-    fn is_met(&self, row: &Row) -> bool
-        ensures { result ≡ (not self.now.required || is_some (get_member (word_of self.now.name) (table_view row.now.table.now))) }
+    /// Whether this key stands in a table of this role.
+    fn stands_in(&self, version: Version, role: Role) -> bool
+        ensures { result ≡ stands_in version role self.now }
     {
-        !self.required || row.has(self.name)
+        let in_version = match (self.versions, version) {
+            (Versions::Each, _) => true,
+            (Versions::OneAlone, Version::One) => true,
+            (Versions::TwoAlone, Version::Two) => true,
+            _ => false,
+        };
+        in_version && self.home.has(role)
     }
 
-    /// Whether there is no value at this key, or one of its shape.
-    fn is_typed(&self, row: &Row) -> bool
-        ensures { result ≡ fits self.now.shape (get_member (word_of self.now.name) (table_view row.now.table.now)) }
+    /// What is found with this key too.
+    fn look(&self, version: Version, role: Role, row: &Row, found: Found) -> Found
+        requires { found.known < 19 }
+        ensures { result ≡ with_key version role (table_view row.now.table.now) found self.now }
     {
         match row.get(self.name) {
-            Some(value) => has_shape(self.shape, value),
-            None => true,
+            Some(value) if self.stands_in(version, role) => Found {
+                known: found.known + 1,
+                typed: found.typed && has_shape(self.shape, value),
+                ..found
+            },
+            None if self.required && self.stands_in(version, role) => Found {
+                complete: false,
+                ..found
+            },
+            _ => found,
         }
     }
 }
 
-/// Whether each key of a table is one of these: the table has no more keys than there are of these.
-pub fn has_only(keys: &[Key], row: &Row) -> bool
-    requires { are_apart (as_defined keys.now) ≡ true }
-    ensures { result ≡ has_only (as_defined keys.now) (table_view row.now.table.now) }
-{
-    keys.iter().filter(|key| row.has(key.name)).count() == row.table.len()
+impl Home {
+    /// Whether a table of this role is among these.
+    fn has(self, role: Role) -> bool
+        ensures { result ≡ is_home self role }
+    {
+        match (self, role) {
+            (Home::Top, Role::Top) => true,
+            (Home::Header | Home::HeaderAndCalls, Role::Header) => true,
+            (Home::Calls | Home::HeaderAndCalls, Role::Call(_)) => true,
+            (Home::CallsOf(verbs), Role::Call(verb)) => verbs.contains(&verb),
+            _ => false,
+        }
+    }
 }
 
-/// Whether each of these keys that has to be there is there.
-pub fn has_required(keys: &[Key], row: &Row) -> bool
-    ensures { result ≡ has_required (as_defined keys.now) (table_view row.now.table.now) }
+/// What a pass over these keys finds in a table of this role.
+fn look_for(keys: &[Key], version: Version, role: Role, row: &Row) -> Found
+    requires { length keys.now ≤ 19 }
+    ensures { result ≡ found_with version role (table_view row.now.table.now) nothing keys.now }
 {
-    keys.iter().all(|key| key.is_met(row))
+    let mut found = Found {
+        known: 0,
+        complete: true,
+        typed: true,
+    };
+    for key in keys {
+        found = key.look(version, role, row, found);
+    }
+    found
 }
 
-/// Whether the value at each of these keys is of its shape.
-pub fn are_typed(keys: &[Key], row: &Row) -> bool
-    ensures { result ≡ are_typed (as_defined keys.now) (table_view row.now.table.now) }
+/// That each key of a table stands in tables of its role, that each that has to be there is, and that the value at
+/// each is of its shape. The first of these that does not hold is the fault.
+pub fn check_keys(
+    place: Place,
+    version: Version,
+    role: Role,
+    row: &Row,
+) -> Result<(), ReadError>
+    ensures { Reads (λ u. u) result (place_fault place (table_tests (keys_in version role) (table_view row.now.table.now))) tt }
 {
-    keys.iter().all(|key| key.is_typed(row))
+    let found = look_for(all_keys(), version, role, row);
+    if found.known != row.table.len() {
+        return Err(place.fault(PlanFaultKind::UnknownKey));
+    }
+    if !found.complete {
+        return Err(place.fault(PlanFaultKind::Missing));
+    }
+    if !found.typed {
+        return Err(place.fault(PlanFaultKind::WrongType));
+    }
+    Ok(())
 }
 
 /// Whether a value is of a shape.

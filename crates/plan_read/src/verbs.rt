@@ -4,7 +4,7 @@ ghost use Rattle.std.specs.Prelude.{◌≡◌};
 ghost use Rattle.plan_read.specs.Keys.{verb_of_word};
 
 /// What a call asks for, as the word of its `op` says.
-#[derive(Clone, Copy)]
+#[derive(Clone, Copy, PartialEq, Eq)]
 pub enum Verb {
     /// A task runs once, after a delay.
     Schedule,

@@ -1,15 +1,28 @@
 -- How a table of a plan is gone over once: the words of its keys, and the slots of what stands at them.
 -- No promise to a caller names these; they say what the functions of `key_names`, `rows` and `keys` answer.
 -- All of it is this project's rule.
-use Rattle.std.specs.Prelude.{◌≡◌, ℕ, Bool, true, not, ◌&&◌, List, [], ◌∷◌, map, get_or, if◌then◌else◌, Option, Some, None, option_map, String, codes, bytes_eq}
+use Rattle.std.specs.Prelude.{◌≡◌, ℕ, ◌+◌, Bool, true, false, not, ◌&&◌, ◌||◌, List, [], ◌∷◌, map, get_or, if◌then◌else◌, Option, Some, None, is_some, option_map, String, codes, bytes_eq}
+use Rattle.std.specs.List.{list_any}
 use Rattle.std.specs.Borrow.{Bor}
 use Rattle.std.specs.BTreeMap.{BTreeMap, get_by_text}
 use Rattle.std.specs.declared.alloc.Global.{Global}
 use Rattle.toml.specs.declared.value.Value.{Value}
 use Rattle.plan_read.specs.declared.key_names.KeyName.{KeyName}
 use Rattle.plan_read.specs.declared.key_names.KeyName.TheVariants as names
+use Rattle.plan_read.specs.declared.keys.Found.{Found}
+use Rattle.plan_read.specs.declared.keys.Home.{Home}
+use Rattle.plan_read.specs.declared.keys.Home.TheVariants as homes
 use Rattle.plan_read.specs.declared.keys.Key.{Key as CodeKey}
-use Rattle.plan_read.specs.Keys.{Key, is_key}
+use Rattle.plan_read.specs.declared.keys.Role.{Role}
+use Rattle.plan_read.specs.declared.keys.Role.TheVariants as roles
+use Rattle.plan_read.specs.declared.keys.Versions.{Versions}
+use Rattle.plan_read.specs.declared.keys.Versions.TheVariants as versions
+use Rattle.plan_read.specs.declared.verbs.Verb.{Verb}
+use Rattle.plan_read.specs.declared.verbs.Verb.TheVariants as verbs
+use Rattle.plan_read.specs.declared.versions.Version.{Version}
+use Rattle.plan_read.specs.declared.versions.Version.TheVariants.{One, Two}
+use Rattle.plan_read.specs.Keys.{Key, is_key, fits, top_keys, header_keys, call_keys}
+use Rattle.toml.specs.Data.{Members, get_member}
 
 -- the word of a name
 abbrev pub word_of : KeyName → List ℕ
@@ -58,25 +71,25 @@ key_of_word word =
 
 -- the place of a name among the slots
 abbrev pub place : KeyName → ℕ
-place names.Op = 0
-place names.At = 1
-place names.Name = 2
-place names.Delay = 3
-place names.First = 4
-place names.Period = 5
-place names.Which = 6
-place names.Value = 7
-place names.Version = 8
-place names.Block = 9
-place names.Unit = 10
-place names.Times = 11
-place names.Every = 12
-place names.Call = 13
-place names.AtUnit = 14
-place names.EveryUnit = 15
-place names.DelayUnit = 16
-place names.FirstUnit = 17
-place names.PeriodUnit = 18
+place names.Version = 0
+place names.Block = 1
+place names.Op = 2
+place names.At = 3
+place names.AtUnit = 4
+place names.Unit = 5
+place names.Times = 6
+place names.Every = 7
+place names.EveryUnit = 8
+place names.Call = 9
+place names.Name = 10
+place names.First = 11
+place names.FirstUnit = 12
+place names.Delay = 13
+place names.DelayUnit = 14
+place names.Period = 15
+place names.PeriodUnit = 16
+place names.Which = 17
+place names.Value = 18
 
 -- what stands at a name
 abbrev pub slot : KeyName → List (Option (Bor Value)) → Option (Bor Value)
@@ -86,6 +99,53 @@ slot name slots = get_or slots (place name) None
 abbrev pub Holds : List (Option (Bor Value)) → BTreeMap (String Global) Value → Type 0
 Holds slots table = (name : KeyName) → option_map (λ v. v.now) (slot name slots) ≡ get_by_text table (word_of name)
 
+-- ---- the table of keys
+
+-- two operations are one
+abbrev pub is_verb : Verb → Verb → Bool
+is_verb verbs.Schedule verbs.Schedule = true
+is_verb verbs.Execute verbs.Execute = true
+is_verb verbs.Rate verbs.Rate = true
+is_verb verbs.Fixed verbs.Fixed = true
+is_verb verbs.Cancel verbs.Cancel = true
+is_verb verbs.Policy verbs.Policy = true
+is_verb verbs.Shutdown verbs.Shutdown = true
+is_verb verbs.ShutdownNow verbs.ShutdownNow = true
+is_verb verbs.Ask verbs.Ask = true
+is_verb v w = false
+
+-- a table of this role is among these
+abbrev pub is_home : Home → Role → Bool
+is_home homes.Top roles.Top = true
+is_home homes.Header roles.Header = true
+is_home homes.HeaderAndCalls roles.Header = true
+is_home homes.HeaderAndCalls (roles.Call verb) = true
+is_home homes.Calls (roles.Call verb) = true
+is_home (homes.CallsOf those) (roles.Call verb) = list_any (λ v. is_verb v verb) those.now
+is_home home role = false
+
+-- a version is one of these
+abbrev pub is_version : Versions → Version → Bool
+is_version versions.Each version = true
+is_version versions.OneAlone One = true
+is_version versions.TwoAlone Two = true
+is_version versions version = false
+
+-- a key stands in a table of this role
+abbrev pub stands_in : Version → Role → CodeKey → Bool
+stands_in version role k = is_version k.versions version && is_home k.home role
+
+-- those of some keys that stand in a table of this role
+abbrev pub standing : Version → Role → List CodeKey → List CodeKey
+standing version role [] = []
+standing version role (k ∷ keys) = if stands_in version role k then k ∷ standing version role keys else standing version role keys
+
+-- the keys of a table of this role, as the definitions have them
+abbrev pub keys_in : Version → Role → List Key
+keys_in version roles.Top = top_keys
+keys_in version roles.Header = header_keys version
+keys_in version (roles.Call verb) = call_keys version verb
+
 -- a key as the definitions have it, with a word in place of a name
 abbrev pub key_as_defined : CodeKey → Key
 key_as_defined k = record { name = word_of k.name; shape = k.shape; required = k.required }
@@ -94,7 +154,30 @@ key_as_defined k = record { name = word_of k.name; shape = k.shape; required = k
 abbrev pub as_defined : List CodeKey → List Key
 as_defined keys = map key_as_defined keys
 
+-- of these keys those that stand in a table are its keys, for each version and role
+unfoldable pub AreAllKeys : List CodeKey → Type 0
+AreAllKeys keys = (version : Version) (role : Role) → as_defined (standing version role keys) ≡ keys_in version role
+
 -- no two of these keys have one name
 abbrev pub are_apart : List Key → Bool
 are_apart [] = true
 are_apart (k ∷ keys) = not (is_key keys k.name) && are_apart keys
+
+-- ---- a pass over keys
+
+-- what is found in a table with this key too
+abbrev pub with_key : Version → Role → Members → Found → CodeKey → Found
+with_key version role ms found k = if stands_in version role k then (record {
+  known = found.known + (if is_some (get_member (word_of k.name) ms) then 1 else 0);
+  complete = found.complete && (not k.required || is_some (get_member (word_of k.name) ms));
+  typed = found.typed && fits k.shape (get_member (word_of k.name) ms);
+}) else found
+
+-- before any key
+abbrev pub nothing : Found
+nothing = record { known = 0; complete = true; typed = true }
+
+-- what is found with all of these
+abbrev pub found_with : Version → Role → Members → Found → List CodeKey → Found
+found_with version role ms found [] = found
+found_with version role ms found (k ∷ keys) = found_with version role ms (with_key version role ms found k) keys

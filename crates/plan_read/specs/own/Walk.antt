@@ -17,7 +17,7 @@ use Rattle.plan_read.specs.declared.verbs.Verb.TheVariants as verbs
 use Rattle.plan_read.specs.declared.units.Units.{Units}
 use Rattle.plan_read.specs.declared.versions.Version.{Version as PlanVersion}
 use Rattle.plan_read.specs.declared.versions.Version.TheVariants.{One, Two}
-use Rattle.plan_read.specs.Keys.{time_keys, unit_key, top_keys, header_keys, call_keys, verb_of_word, unit_of_word, has_only, has_required, are_typed}
+use Rattle.plan_read.specs.Keys.{Key, time_keys, unit_key, top_keys, header_keys, call_keys, verb_of_word, unit_of_word, has_only, has_required, are_typed}
 use Rattle.plan_read.specs.Names.{is_name}
 use Rattle.plan_read.specs.Plans.{PlanTree, most_blocks, most_block_calls, most_calls, moment_in_last, last_offset, end_of, made_by}
 use Rattle.plan_read.specs.own.Values.{given_integer, text_or, tables_at, is_negative, span_at, units_in, header_units, times_at, header_of, verb_at, name_at, found_at, next_call, block_of, version_of, version_at}
@@ -44,6 +44,14 @@ infixr 7 ◌or_else◌
 abbrev pub ◌or_else◌ : Option PlanFault → Option PlanFault → Option PlanFault
 None or_else next = next
 (Some fault) or_else next = Some fault
+
+-- on the keys of a table
+abbrev pub table_tests : List Key → Members → List Test
+table_tests keys ms =
+    (UnknownKey barring has_only keys ms)
+    ∷ (Missing barring has_required keys ms)
+    ∷ (WrongType barring are_typed keys ms)
+    ∷ []
 
 -- ---- the top
 
