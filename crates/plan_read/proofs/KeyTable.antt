@@ -112,10 +112,10 @@ none_tested false = refl
 -- one key more, which stands in the table or does not
 one_row : (stands : Bool) (ms : Members) (found : Found) (k : CodeKey) (rest : List CodeKey)
     → tested (if stands then (record {
-        known = found.known + (if is_some (get_member (word_of k.name) ms) then 1 else 0);
-        complete = found.complete && (not k.required || is_some (get_member (word_of k.name) ms));
-        typed = found.typed && fits k.shape (get_member (word_of k.name) ms);
-      }) else found) (as_defined rest) ms ≡ tested found (as_defined (if stands then k ∷ rest else rest)) ms
+      known = found.known + (if is_some (get_member (word_of k.name) ms) then 1 else 0);
+      complete = found.complete && (not k.required || is_some (get_member (word_of k.name) ms));
+      typed = found.typed && fits k.shape (get_member (word_of k.name) ms);
+    }) else found) (as_defined rest) ms ≡ tested found (as_defined (if stands then k ∷ rest else rest)) ms
 one_row true ms found k rest =
     let keys = as_defined rest in
     rw (one_known found.known (key_as_defined k) keys ms, and-assoc found.complete (not k.required || is_some (get_member (word_of k.name) ms)) (has_required keys ms), and-assoc found.typed (fits k.shape (get_member (word_of k.name) ms)) (are_typed keys ms)) refl
@@ -218,7 +218,7 @@ pub header_halts : (e : ReadError) (p : Place) (version : Version) (ms : Members
 unfolding header_key_tests
 header_halts e p version ms h =
     stops_here e p ((UnknownKey barring has_only (header_keys version) ms) ∷ (WrongType barring are_typed (header_keys version) ms) ∷ []) ((BadUnit barring are_header_units version ms) ∷ []) (
-      between e p (has_only (header_keys version) ms) (are_typed (header_keys version) ms) (has_required (header_keys version) ms) (none_wanted version ms) h)
+    between e p (has_only (header_keys version) ms) (are_typed (header_keys version) ms) (has_required (header_keys version) ms) (none_wanted version ms) h)
 
 -- where they pass, its units decide
 pub header_goes_on : (p : Place) (version : Version) (ms : Members) → place_fault p (table_tests (header_keys version) ms) ≡ None
