@@ -1,12 +1,11 @@
 -- The table of keys is what the definitions say of each table, and what a pass over it finds is what their tests tell.
-use Rattle.std.proofs.Common.{◌≡◌, ◌≤◌, ◌<◌, ℕ, zero, suc, ◌+◌, Bool, true, false, cond, if◌then◌else◌, ◌&&◌, ◌||◌, ◌==◌, not, List, [], ◌∷◌, length, get_or, drop, Option, None, Some, is_some, refl, sym, ap, ◌∙◌, inl, inr, arith}
+use Rattle.std.proofs.Common.{◌≡◌, ◌≤◌, ◌<◌, ℕ, zero, suc, ◌+◌, Bool, true, false, cond, if◌then◌else◌, ◌&&◌, ◌||◌, ◌==◌, not, List, [], ◌∷◌, length, get_or, drop, None, is_some, refl, sym, ap, ◌∙◌, inl, inr, arith}
 use Rattle.std.proofs.lemmas.Bool.{cases_Bool}
 use Rattle.std.proofs.lemmas.List.Sums.{sum_by-cons}
 use Rattle.std.specs.List.Sorted.{IsStrictlySortedBy}
 use Rattle.std.specs.Map.{keys_of}
-use Rattle.std.specs.Prelude.{option_and_then, codes, nat_le}
 use Rattle.std.specs.String.{string_cmp}
-use Rattle.toml.specs.Data.{Data, Members, get_member, as_integer}
+use Rattle.toml.specs.Data.{Members, get_member}
 use Rattle.toml.specs.View.{members_view}
 use Rattle.plan_read.specs.declared.keys.Found.{Found}
 use Rattle.plan_read.specs.declared.keys.Key.{Key as CodeKey}
@@ -17,14 +16,12 @@ use Rattle.plan_read.specs.declared.verbs.Verb.TheVariants as verbs
 use Rattle.plan_read.specs.declared.versions.Version.{Version}
 use Rattle.plan_read.specs.declared.versions.Version.TheVariants.{One, Two}
 use Rattle.plan_read.specs.declared.faults.Place.{Place}
-use Rattle.plan_read.specs.declared.faults.PlanFaultKind.TheVariants.{UnknownKey, Missing, WrongType, BadUnit, TooMany}
+use Rattle.plan_read.specs.declared.faults.PlanFaultKind.TheVariants.{UnknownKey, Missing, WrongType, BadUnit}
 use Rattle.plan_read.specs.declared.faults.ReadError.{ReadError}
-use Rattle.plan_read.specs.Keys.{Key, top_keys, header_keys, call_keys, fits, has_only, has_required, are_typed}
-use Rattle.plan_read.specs.Plans.{most_blocks}
+use Rattle.plan_read.specs.Keys.{Key, header_keys, call_keys, fits, has_only, has_required, are_typed}
 use Rattle.plan_read.specs.own.Reads.{FailsWith}
 use Rattle.plan_read.specs.own.Rows.{word_of, stands_in, standing, keys_in, key_as_defined, as_defined, AreAllKeys, with_key, found_with, nothing}
-use Rattle.plan_read.specs.own.Values.{given_integer, version_of, tables_at}
-use Rattle.plan_read.specs.own.Walk.{◌barring◌, place_fault, table_tests, top_tests, are_header_units, header_key_tests, are_units, key_tests}
+use Rattle.plan_read.specs.own.Walk.{◌barring◌, place_fault, table_tests, are_header_units, header_key_tests, are_units, key_tests}
 use Rattle.plan_read.proofs.Failing.{all_pass, goes_on, stops_here}
 use Rattle.plan_read.proofs.KeyCounts.{there, only_these, keys_apart}
 use Rattle.plan_read.proofs.RowLaw.{Entry}
