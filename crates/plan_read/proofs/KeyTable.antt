@@ -1,12 +1,11 @@
 -- The table of keys is what the definitions say of each table, and what a pass over it finds is what their tests tell.
-use Rattle.std.proofs.Common.{◌≡◌, ◌≤◌, ◌<◌, ℕ, zero, suc, ◌+◌, Bool, true, false, cond, if◌then◌else◌, ◌&&◌, ◌||◌, ◌==◌, not, List, [], ◌∷◌, length, get_or, drop, Option, None, Some, is_some, refl, sym, ap, ◌∙◌, inl, inr, arith}
+use Rattle.std.proofs.Common.{◌≡◌, ◌≤◌, ◌<◌, ℕ, zero, suc, ◌+◌, Bool, true, false, cond, if◌then◌else◌, ◌&&◌, ◌||◌, ◌==◌, not, List, [], ◌∷◌, length, get_or, drop, None, is_some, refl, sym, ap, ◌∙◌, inl, inr, arith}
 use Rattle.std.proofs.lemmas.Bool.{cases_Bool}
 use Rattle.std.proofs.lemmas.List.Sums.{sum_by-cons}
 use Rattle.std.specs.List.Sorted.{IsStrictlySortedBy}
 use Rattle.std.specs.Map.{keys_of}
-use Rattle.std.specs.Prelude.{option_and_then, codes, nat_le}
 use Rattle.std.specs.String.{string_cmp}
-use Rattle.toml.specs.Data.{Data, Members, get_member, as_integer}
+use Rattle.toml.specs.Data.{Members, get_member}
 use Rattle.toml.specs.View.{members_view}
 use Rattle.plan_read.specs.declared.keys.Found.{Found}
 use Rattle.plan_read.specs.declared.keys.Key.{Key as CodeKey}
@@ -17,14 +16,12 @@ use Rattle.plan_read.specs.declared.verbs.Verb.TheVariants as verbs
 use Rattle.plan_read.specs.declared.versions.Version.{Version}
 use Rattle.plan_read.specs.declared.versions.Version.TheVariants.{One, Two}
 use Rattle.plan_read.specs.declared.faults.Place.{Place}
-use Rattle.plan_read.specs.declared.faults.PlanFaultKind.TheVariants.{UnknownKey, Missing, WrongType, BadUnit, TooMany}
+use Rattle.plan_read.specs.declared.faults.PlanFaultKind.TheVariants.{UnknownKey, Missing, WrongType, BadUnit}
 use Rattle.plan_read.specs.declared.faults.ReadError.{ReadError}
-use Rattle.plan_read.specs.Keys.{Key, top_keys, header_keys, call_keys, fits, has_only, has_required, are_typed}
-use Rattle.plan_read.specs.Plans.{most_blocks}
+use Rattle.plan_read.specs.Keys.{Key, header_keys, call_keys, fits, has_only, has_required, are_typed}
 use Rattle.plan_read.specs.own.Reads.{FailsWith}
 use Rattle.plan_read.specs.own.Rows.{word_of, stands_in, standing, keys_in, key_as_defined, as_defined, AreAllKeys, with_key, found_with, nothing}
-use Rattle.plan_read.specs.own.Values.{given_integer, version_of, tables_at}
-use Rattle.plan_read.specs.own.Walk.{◌barring◌, place_fault, table_tests, top_tests, are_header_units, header_key_tests, are_units, key_tests}
+use Rattle.plan_read.specs.own.Walk.{◌barring◌, place_fault, table_tests, are_header_units, header_key_tests, are_units, key_tests}
 use Rattle.plan_read.proofs.Failing.{all_pass, goes_on, stops_here}
 use Rattle.plan_read.proofs.KeyCounts.{there, only_these, keys_apart}
 use Rattle.plan_read.proofs.RowLaw.{Entry}
@@ -112,10 +109,10 @@ none_tested false = refl
 -- one key more, which stands in the table or does not
 one_row : (stands : Bool) (ms : Members) (found : Found) (k : CodeKey) (rest : List CodeKey)
     → tested (if stands then (record {
-        known = found.known + (if is_some (get_member (word_of k.name) ms) then 1 else 0);
-        complete = found.complete && (not k.required || is_some (get_member (word_of k.name) ms));
-        typed = found.typed && fits k.shape (get_member (word_of k.name) ms);
-      }) else found) (as_defined rest) ms ≡ tested found (as_defined (if stands then k ∷ rest else rest)) ms
+      known = found.known + (if is_some (get_member (word_of k.name) ms) then 1 else 0);
+      complete = found.complete && (not k.required || is_some (get_member (word_of k.name) ms));
+      typed = found.typed && fits k.shape (get_member (word_of k.name) ms);
+    }) else found) (as_defined rest) ms ≡ tested found (as_defined (if stands then k ∷ rest else rest)) ms
 one_row true ms found k rest =
     let keys = as_defined rest in
     rw (one_known found.known (key_as_defined k) keys ms, and-assoc found.complete (not k.required || is_some (get_member (word_of k.name) ms)) (has_required keys ms), and-assoc found.typed (fits k.shape (get_member (word_of k.name) ms)) (are_typed keys ms)) refl
@@ -218,7 +215,7 @@ pub header_halts : (e : ReadError) (p : Place) (version : Version) (ms : Members
 unfolding header_key_tests
 header_halts e p version ms h =
     stops_here e p ((UnknownKey barring has_only (header_keys version) ms) ∷ (WrongType barring are_typed (header_keys version) ms) ∷ []) ((BadUnit barring are_header_units version ms) ∷ []) (
-      between e p (has_only (header_keys version) ms) (are_typed (header_keys version) ms) (has_required (header_keys version) ms) (none_wanted version ms) h)
+    between e p (has_only (header_keys version) ms) (are_typed (header_keys version) ms) (has_required (header_keys version) ms) (none_wanted version ms) h)
 
 -- where they pass, its units decide
 pub header_goes_on : (p : Place) (version : Version) (ms : Members) → place_fault p (table_tests (header_keys version) ms) ≡ None

@@ -153,7 +153,7 @@ fn all_keys() -> &'static [Key]
 /// there is, and whether the value at each is of its shape.
 #[derive(Clone, Copy)]
 pub struct Found {
-    pub known: usize,
+    pub known: u16,
     pub complete: bool,
     pub typed: bool,
 }
@@ -225,16 +225,11 @@ fn look_for(keys: &[Key], version: Version, role: Role, row: &Row) -> Found
 
 /// That each key of a table stands in tables of its role, that each that has to be there is, and that the value at
 /// each is of its shape. The first of these that does not hold is the fault.
-pub fn check_keys(
-    place: Place,
-    version: Version,
-    role: Role,
-    row: &Row,
-) -> Result<(), ReadError>
+pub fn check_keys(place: Place, version: Version, role: Role, row: &Row) -> Result<(), ReadError>
     ensures { Reads (λ u. u) result (place_fault place (table_tests (keys_in version role) (table_view row.now.table.now))) tt }
 {
     let found = look_for(all_keys(), version, role, row);
-    if found.known != row.table.len() {
+    if found.known as usize != row.table.len() {
         return Err(place.fault(PlanFaultKind::UnknownKey));
     }
     if !found.complete {
