@@ -1,0 +1,25 @@
+//! What a picture of a trace shows.
+#![tactic(auto)]
+
+mod bars;
+mod drawing;
+mod ends;
+mod error;
+mod lines;
+mod marks;
+mod scale;
+mod shown;
+mod steps;
+#[cfg(test)]
+mod tests;
+mod ticks;
+mod window;
+
+pub use bars::{Bar, Finish};
+pub use drawing::picture;
+pub use error::{LinesError, PictureError};
+pub use lines::lines_of;
+pub use scale::place;
+pub use shown::Picture;
+pub use ticks::Tick;
+pub use window::{Window, whole_window};
