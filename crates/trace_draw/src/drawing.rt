@@ -1,22 +1,34 @@
 //! The picture of the lines of a trace.
+ghost use Rattle.std.specs.Prelude.{◌≡◌, None, length, IfOk, IfErr};
+ghost use Rattle.trace_draw.specs.Bars.{meets, bars_of};
+ghost use Rattle.trace_draw.specs.Pictures.{picture_of, bars_within, marks_within, crowd, crowd_told};
+
+use crate::axis::ticks;
 use crate::bars::Bar;
 use crate::ends::Ends;
 use crate::error::PictureError;
 use crate::marks::is_shown_mark;
 use crate::shown::Picture;
-use crate::ticks::ticks;
 use crate::window::Window;
 use executor_core::Line;
 use std::alloc::{AllocError, Allocator};
 
-/// The picture of the lines of a trace.
+/// The picture of the lines of a trace, which stand in its order.
+///
+/// It shows each run of which the window shows a part as one bar, each other line that the window shows as one mark, and ticks.
+/// The error is [`PictureError::Crowded`] exactly where more than `most` marks, or else more than `most` bars, would be shown; else
+/// [`PictureError::Memory`] may come.
 pub fn picture<A: Allocator + Copy>(
     alloc: A,
     lines: &[Line],
     workers: u8,
     window: Window,
     most: u64,
-) -> Result<Picture<A>, PictureError> {
+) -> Result<Picture<A>, PictureError>
+    ensures picture { IfOk result (λ p. p ≡ picture_of lines.now workers window) }
+    ensures fits { IfOk result (λ p. crowd most p.marks p.bars ≡ None) }
+    ensures error { IfErr result (λ e. crowd_told e ≡ crowd most (marks_within window lines.now) (bars_within window lines.now)) }
+{
     let marks = count_marks(lines, window);
     if marks > most {
         return Err(PictureError::Crowded { marks });
@@ -25,17 +37,16 @@ pub fn picture<A: Allocator + Copy>(
     if bars > most {
         return Err(PictureError::Crowded { marks: bars });
     }
-    Ok(Picture {
-        window,
-        workers,
-        bars: bars_in(alloc, lines, window)?,
-        marks: marks_in(alloc, lines, window)?,
-        ticks: ticks(alloc, window)?,
-    })
+    let bars = bars_in(alloc, lines, window)?;
+    let marks = marks_in(alloc, lines, window)?;
+    let ticks = ticks(alloc, window)?;
+    Ok(Picture::new(window, workers, bars, marks, ticks))
 }
 
 /// Whether a window shows a part of a run.
-fn meets(window: Window, bar: &Bar) -> bool {
+fn meets(window: Window, bar: &Bar) -> bool
+    ensures { result ≡ meets window bar.now }
+{
     bar.first <= window.to()
         && match bar.finish {
             None => true,
@@ -44,7 +55,9 @@ fn meets(window: Window, bar: &Bar) -> bool {
 }
 
 /// How many of the lines are marks that a window shows.
-fn count_marks(lines: &[Line], window: Window) -> u64 {
+fn count_marks(lines: &[Line], window: Window) -> u64
+    ensures { result ≡ length (marks_within window lines.now) }
+{
     lines
         .iter()
         .filter(|line| is_shown_mark(window, line))
@@ -56,7 +69,9 @@ fn marks_in<A: Allocator>(
     alloc: A,
     lines: &[Line],
     window: Window,
-) -> Result<Vec<Line, A>, AllocError> {
+) -> Result<Vec<Line, A>, AllocError>
+    ensures { IfOk result (λ marks. marks.items ≡ marks_within window lines.now) }
+{
     lines
         .iter()
         .copied()
@@ -65,11 +80,13 @@ fn marks_in<A: Allocator>(
 }
 
 /// How many of the bars of some lines a window meets.
-fn count_bars(lines: &[Line], window: Window) -> u64 {
+fn count_bars(lines: &[Line], window: Window) -> u64
+    ensures { result ≡ length (bars_within window lines.now) }
+{
     let mut ends = Ends::new();
     let mut count = 0;
-    for line in lines.iter().rev() {
-        if let Some(bar) = ends.read(line) {
+    for index in (0..lines.len()).rev() {
+        if let Some(bar) = ends.read(&lines[index]) {
             if meets(window, &bar) {
                 count += 1;
             }
@@ -83,11 +100,13 @@ fn bars_in<A: Allocator>(
     alloc: A,
     lines: &[Line],
     window: Window,
-) -> Result<Vec<Bar, A>, AllocError> {
+) -> Result<Vec<Bar, A>, AllocError>
+    ensures { IfOk result (λ bars. bars.items ≡ bars_within window lines.now) }
+{
     let mut ends = Ends::new();
     let mut bars = Vec::new(alloc);
-    for line in lines.iter().rev() {
-        if let Some(bar) = ends.read(line) {
+    for index in (0..lines.len()).rev() {
+        if let Some(bar) = ends.read(&lines[index]) {
             if meets(window, &bar) {
                 bars.push(bar)?;
             }

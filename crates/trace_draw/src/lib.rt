@@ -1,6 +1,7 @@
 //! What a picture of a trace shows.
 #![tactic(auto)]
 
+mod axis;
 mod bars;
 mod drawing;
 mod ends;
@@ -13,6 +14,7 @@ mod steps;
 #[cfg(test)]
 mod tests;
 mod ticks;
+mod whole;
 mod window;
 
 pub use bars::{Bar, Finish};
@@ -22,4 +24,5 @@ pub use lines::lines_of;
 pub use scale::place;
 pub use shown::Picture;
 pub use ticks::Tick;
-pub use window::{Window, whole_window};
+pub use whole::whole_window;
+pub use window::Window;

@@ -1,15 +1,12 @@
 //! The steps of an axis of time.
+ghost use Rattle.std.specs.Prelude.{◌≡◌, ℕ, ◌*◌, ◌^◌, ◌<◌, nat_le};
+ghost use Rattle.std.specs.List.{find};
+ghost use Rattle.trace_draw.specs.Ticks.{step_nanos, step_of};
+
 use sched_time::Unit;
 
-/// How far two ticks of an axis stand apart: `count` of `unit`.
-#[derive(Clone, Copy, Debug, PartialEq, Eq)]
-pub struct Step {
-    pub count: u64,
-    pub unit: Unit,
-}
-
 /// The steps, ascending: each some of a unit.
-const TABLE: [(u64, Unit); 59] = [
+const STEPS: [(u64, Unit); 59] = [
     (1, Unit::Ns),
     (2, Unit::Ns),
     (5, Unit::Ns),
@@ -71,20 +68,23 @@ const TABLE: [(u64, Unit); 59] = [
     (50_000, Unit::Day),
 ];
 
-/// How far two ticks of an axis stand apart, where a window has this length in nanoseconds: the first of the steps of which ten
-/// reach over it.
-pub fn step_over(length: u64) -> Step {
-    first_over(&TABLE, length).unwrap_or(Step {
-        count: 50_000,
-        unit: Unit::Day,
-    })
+/// How far two ticks of an axis stand apart, some of a unit, where a window has this length in nanoseconds: the first of the steps
+/// of which ten reach over it.
+pub fn step_over(length: u64) -> (u64, Unit)
+    ensures step { result ≡ step_of length }
+    ensures some { 0 < step_nanos result }
+    ensures small { step_nanos result < 2 ^ 64 }
+{
+    first_over(&STEPS, length).unwrap_or((50_000, Unit::Day))
 }
 
 /// The first of some steps of which ten reach over a length.
-fn first_over(steps: &[(u64, Unit)], length: u64) -> Option<Step> {
+fn first_over(steps: &[(u64, Unit)], length: u64) -> Option<(u64, Unit)>
+    ensures { result ≡ find (λ step. nat_le length (10 * step_nanos step)) steps.now }
+{
     for &(count, unit) in steps {
         if length as u128 <= 10 * (count as u128 * unit.nanos() as u128) {
-            return Some(Step { count, unit });
+            return Some((count, unit));
         }
     }
     None

@@ -1,5 +1,5 @@
 //! The part of time that a picture shows.
-use executor_core::Line;
+ghost use Rattle.std.specs.Prelude.{◌≡◌, ◌<◌, ◌≤◌, min, max, MatchOption};
 
 /// The part of time that a picture shows: from one moment to another, both shown, in nanoseconds.
 #[derive(Clone, Copy, Debug, PartialEq, Eq)]
@@ -11,7 +11,9 @@ pub struct Window {
 
 impl Window {
     /// The window from one moment to another: `None` exactly where the second is below the first.
-    pub fn new(from: u64, to: u64) -> Option<Window> {
+    pub fn new(from: u64, to: u64) -> Option<Window>
+        ensures { MatchOption result (to < from) (λ w. (w.from ≡ from) × (w.to ≡ to) × (from ≤ to)) }
+    {
         if to < from {
             return None;
         }
@@ -19,36 +21,39 @@ impl Window {
     }
 
     /// The first moment shown, in nanoseconds.
-    pub fn from(self) -> u64 {
+    pub fn from(self) -> u64
+        ensures { result ≡ self.from }
+    {
         self.from
     }
 
     /// The last moment shown, in nanoseconds: no less than the first.
-    pub fn to(self) -> u64 {
+    pub fn to(self) -> u64
+        ensures moment { result ≡ self.to }
+        ensures ordered { self.from ≤ result }
+    {
         self.to
     }
 
-    /// Whether it shows a moment.
-    pub(crate) fn shows(self, moment: u64) -> bool {
-        self.from <= moment && moment <= self.to
+    /// The window that shows one moment.
+    pub(crate) fn at(moment: u64) -> Window
+        ensures from { result.from ≡ moment }
+        ensures to { result.to ≡ moment }
+    {
+        Window {
+            from: moment,
+            to: moment,
+        }
     }
-}
 
-/// The smallest window that shows each line: from their least moment to their greatest. Of a trace that conforms these are the
-/// moments of the first line and the last one. Where there is no line it is from 0 to 0.
-pub fn whole_window(lines: &[Line]) -> Window {
-    let Some(first) = lines.first() else {
-        return Window { from: 0, to: 0 };
-    };
-    let mut window = Window {
-        from: first.moment,
-        to: first.moment,
-    };
-    for line in lines {
-        window = Window {
-            from: window.from.min(line.moment),
-            to: window.to.max(line.moment),
-        };
+    /// The smallest window that shows what this one shows, and a moment.
+    pub(crate) fn with(self, moment: u64) -> Window
+        ensures from { result.from ≡ min self.from moment }
+        ensures to { result.to ≡ max self.to moment }
+    {
+        Window {
+            from: self.from.min(moment),
+            to: self.to.max(moment),
+        }
     }
-    window
 }
