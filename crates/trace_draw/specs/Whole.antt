@@ -1,17 +1,13 @@
 -- The part of time that lines take. All of it is this project's rule.
-use Rattle.std.specs.Prelude.{ℕ, min, max, List, [], ◌∷◌, map, fold}
+use Rattle.std.specs.Prelude.{ℕ, min, max, List, [], ◌∷◌, fold}
 use Rattle.executor_core.specs.declared.types.Line.{Line}
 
--- the moments of lines
-abbrev pub moments : List Line → List ℕ
-moments lines = map (λ line. line.moment) lines
-
--- the least of some numbers, and 0 where there is none
-abbrev pub least : List ℕ → ℕ
+-- the least moment of lines, and 0 where there is none
+abbrev pub least : List Line → ℕ
 least [] = 0
-least (n ∷ more) = fold min n more
+least (first ∷ more) = fold (λ n line. min n line.moment) first.moment more
 
--- the greatest of some numbers, and 0 where there is none
-abbrev pub greatest : List ℕ → ℕ
+-- the greatest moment of lines, and 0 where there is none
+abbrev pub greatest : List Line → ℕ
 greatest [] = 0
-greatest (n ∷ more) = fold max n more
+greatest (first ∷ more) = fold (λ n line. max n line.moment) first.moment more

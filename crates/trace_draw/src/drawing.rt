@@ -7,7 +7,7 @@ use crate::axis::ticks;
 use crate::bars::Bar;
 use crate::ends::Ends;
 use crate::error::PictureError;
-use crate::marks::is_shown_mark;
+use crate::marks::{is_mark, shows};
 use crate::shown::Picture;
 use crate::window::Window;
 use executor_core::Line;
@@ -60,7 +60,8 @@ fn count_marks(lines: &[Line], window: Window) -> u64
 {
     lines
         .iter()
-        .filter(|line| is_shown_mark(window, line))
+        .filter(|line| is_mark(line))
+        .filter(|line| shows(window, line.moment))
         .count() as u64
 }
 
@@ -75,7 +76,8 @@ fn marks_in<A: Allocator>(
     lines
         .iter()
         .copied()
-        .filter(|line| is_shown_mark(window, line))
+        .filter(is_mark)
+        .filter(|line| shows(window, line.moment))
         .collect(alloc)
 }
 

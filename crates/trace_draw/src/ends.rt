@@ -1,5 +1,5 @@
 //! The bars of lines that are read from the last one to the first.
-ghost use Rattle.std.specs.Prelude.{◌≡◌, ℕ, ◌<◌, ◌∷◌, List, slice_index_or, None};
+ghost use Rattle.std.specs.Prelude.{◌≡◌, ℕ, ◌<◌, [], ◌∷◌, List, slice_index_or, None};
 ghost use Rattle.executor_core.specs.declared.types.Line.{Line as Said};
 ghost use Rattle.trace_draw.specs.Bars.{finish_of, bar_in};
 ghost use Rattle.trace_draw.specs.own.Ends.{TellEnds};

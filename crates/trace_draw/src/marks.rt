@@ -1,6 +1,6 @@
 //! The lines that are marks.
 ghost use Rattle.std.specs.Prelude.{◌≡◌, ◌&&◌};
-ghost use Rattle.trace_draw.specs.Marks.{is_mark, shows, within};
+ghost use Rattle.trace_draw.specs.Marks.{is_mark, shows};
 
 use crate::window::Window;
 use executor_core::{Answer, Line, Message};
@@ -15,15 +15,8 @@ pub fn is_mark(line: &Line) -> bool
     )
 }
 
-/// Whether a line is a mark that a window shows.
-pub fn is_shown_mark(window: Window, line: &Line) -> bool
-    ensures { result ≡ (is_mark line.now.message && within window line.now) }
-{
-    is_mark(line) && shows(window, line.moment)
-}
-
 /// Whether a window shows a moment.
-fn shows(window: Window, moment: u64) -> bool
+pub fn shows(window: Window, moment: u64) -> bool
     ensures { result ≡ shows window moment }
 {
     window.from() <= moment && moment <= window.to()

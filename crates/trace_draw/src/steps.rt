@@ -82,10 +82,13 @@ pub fn step_over(length: u64) -> (u64, Unit)
 fn first_over(steps: &[(u64, Unit)], length: u64) -> Option<(u64, Unit)>
     ensures { result ≡ find (λ step. nat_le length (10 * step_nanos step)) steps.now }
 {
-    for &(count, unit) in steps {
-        if length as u128 <= 10 * (count as u128 * unit.nanos() as u128) {
-            return Some((count, unit));
-        }
-    }
-    None
+    steps.iter().copied().find(|step| reaches(*step, length))
+}
+
+/// Whether ten of a step reach over a length.
+fn reaches(step: (u64, Unit), length: u64) -> bool
+    ensures { result ≡ nat_le length (10 * step_nanos step) }
+{
+    let (count, unit) = step;
+    length as u128 <= 10 * (count as u128 * unit.nanos() as u128)
 }
