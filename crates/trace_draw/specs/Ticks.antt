@@ -35,9 +35,9 @@ step_of length = unwrap_or (find (λ step. nat_le length (10 * step_nanos step))
 abbrev pub tick_at : ℕ × Unit → ℕ → Tick
 tick_at step n = record { moment = n * step_nanos step; count = n * step.0; unit = step.1 }
 
--- the ticks from one moment to another at each multiple of a step, ascending
+-- the ticks from one moment to another, ascending: of those at each multiple of a step up to the one, those no sooner than the other
 abbrev pub ticks_by : ℕ × Unit → ℕ → ℕ → List Tick
-ticks_by step from to = map (tick_at step) (filter (λ n. nat_le from (n * step_nanos step)) (range_with_len 0 (to / step_nanos step + 1)))
+ticks_by step from to = filter (λ tick. nat_le from tick.moment) (map (tick_at step) (range_with_len 0 (to / step_nanos step + 1)))
 
 -- the ticks of a window
 abbrev pub ticks_of : Window → List Tick

@@ -73,12 +73,13 @@ fn marks_in<A: Allocator>(
 ) -> Result<Vec<Line, A>, AllocError>
     ensures { IfOk result (λ marks. marks.items ≡ marks_within window lines.now) }
 {
-    lines
-        .iter()
-        .copied()
-        .filter(is_mark)
-        .filter(|line| shows(window, line.moment))
-        .collect(alloc)
+    let mut marks = Vec::new(alloc);
+    for line in lines {
+        if is_mark(line) && shows(window, line.moment) {
+            marks.push(*line)?;
+        }
+    }
+    Ok(marks)
 }
 
 /// How many of the bars of some lines a window meets.
@@ -87,7 +88,8 @@ fn count_bars(lines: &[Line], window: Window) -> u64
 {
     let mut ends = Ends::new();
     let mut count = 0;
-    for index in (0..lines.len()).rev() {
+    let size = lines.len();
+    for index in (0..size).rev() {
         if let Some(bar) = ends.read(&lines[index]) {
             if meets(window, &bar) {
                 count += 1;

@@ -1,0 +1,3 @@
+pub mod Backward
+pub mod Spelled
+pub mod Multiples
