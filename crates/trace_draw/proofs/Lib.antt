@@ -1,3 +1,5 @@
 pub mod Backward
 pub mod Spelled
 pub mod Multiples
+pub mod Turns
+pub mod Lanes

@@ -5,4 +5,5 @@ pub mod Scale
 pub mod Pictures
 pub mod Texts
 pub mod Whole
+pub mod Laws
 pub mod own
