@@ -61,21 +61,21 @@ bars_start (line ∷ later) i bar is =
 -- ---- a line in turn, by the run that is under way before it
 
 -- it finishes that run
-record FinishesHere (w k n moment : ℕ) (message : Message) : Type 0 where
+pub record FinishesHere (w k n moment : ℕ) (message : Message) : Type 0 where
   pub outcome : Outcome
   pub said : message ≡ m.Answer (a.Finish w k n outcome)
   pub found : finish_in w moment message ≡ Some (record { moment = moment; outcome = outcome })
   pub none : run_said w message (Some (k, n)) ≡ None
 
 -- it leaves the worker's run as it is, which is none or this one
-record GoesOn (w moment : ℕ) (q : Option (ℕ × ℕ)) (message : Message) : Type 0 where
+pub record GoesOn (w moment : ℕ) (q : Option (ℕ × ℕ)) (message : Message) : Type 0 where
   pub none : finish_in w moment message ≡ None
   pub same : run_said w message q ≡ q
   pub apart : (later : List Line) (bar : Bar) → bar_in moment message later ≡ Some bar → (bar.worker == w) ≡ false
   pub unfinished : is_finish_by w message ≡ false
 
 -- it starts a run
-record StartsHere (w : ℕ) (message : Message) : Type 0 where
+pub record StartsHere (w : ℕ) (message : Message) : Type 0 where
   pub task : ℕ
   pub run : ℕ
   pub due : ℕ
@@ -126,7 +126,7 @@ step_by w k n moment (a.Finish u j run o) told =
 step_by w k n moment r told = inr (record { none = refl; same = refl; apart = λ later bar is. no_bar_of w bar is; unfinished = refl })
 
 -- where a run is under way
-step : (w k n moment : ℕ) (message : Message) → ToldBy w (Some (k, n)) message → FinishesHere w k n moment message ⊎ GoesOn w moment (Some (k, n)) message
+pub step : (w k n moment : ℕ) (message : Message) → ToldBy w (Some (k, n)) message → FinishesHere w k n moment message ⊎ GoesOn w moment (Some (k, n)) message
 step w k n moment (m.Answer r) told = step_by w k n moment r told
 step w k n moment (m.End task) told = inr (record { none = refl; same = refl; apart = λ later bar is. no_bar_of w bar is; unfinished = refl })
 
@@ -147,7 +147,7 @@ free_step_by w moment (a.Finish u j run o) told =
 free_step_by w moment r told = inr (record { none = refl; same = refl; apart = λ later bar is. no_bar_of w bar is; unfinished = refl })
 
 -- where none is
-free_step : (w moment : ℕ) (message : Message) → ToldBy w None message → StartsHere w message ⊎ GoesOn w moment None message
+pub free_step : (w moment : ℕ) (message : Message) → ToldBy w None message → StartsHere w message ⊎ GoesOn w moment None message
 free_step w moment (m.Answer r) told = free_step_by w moment r told
 free_step w moment (m.End task) told = inr (record { none = refl; same = refl; apart = λ later bar is. no_bar_of w bar is; unfinished = refl })
 
@@ -219,9 +219,9 @@ finished_first w k n now (line ∷ later) j bar turn is of =
           elim (bar_at (bar_in line.moment line.message later) (bars_of later) j bar is) [
             | inl here ↦ absurd (none-some bar (ap (λ said. bar_in line.moment said later) (sym ends.said) ∙ here))
             | inr there ↦ record {
-                finish = record { moment = line.moment; outcome = ends.outcome };
-                found = ap (λ f. option_or f (finish_of w later)) ends.found;
-                over = later_bar w (run_said w line.message (Some (k, n))) line.moment later there.0 bar turn.2 there.1;
+              finish = record { moment = line.moment; outcome = ends.outcome };
+              found = ap (λ f. option_or f (finish_of w later)) ends.found;
+              over = later_bar w (run_said w line.message (Some (k, n))) line.moment later there.0 bar turn.2 there.1;
             }
           ]
       | inr on ↦
@@ -264,7 +264,7 @@ finishes_in w q now (line ∷ later) i bar finish turn is of has =
           record { before = line ∷ rest.before; between = rest.between; behind = rest.behind; parts = ap (λ ls. line ∷ ls) rest.parts; later = rest.later }
     ]
 
-turn_of : (calls : List Planned) (workers : ℕ) (lines : List Line) (w : ℕ) → IsTraceOf calls workers lines → AreInTurn w None 0 lines
+pub turn_of : (calls : List Planned) (workers : ℕ) (lines : List Line) (w : ℕ) → IsTraceOf calls workers lines → AreInTurn w None 0 lines
 turn_of calls workers lines w trace = subst (AreInTurn w None 0) (sym trace.are) (in_turn calls workers trace.past w trace.means)
 
 pub finishes_are_their_own : FinishesAreTheirOwn

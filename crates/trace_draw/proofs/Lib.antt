@@ -3,3 +3,4 @@ pub mod Spelled
 pub mod Multiples
 pub mod Turns
 pub mod Lanes
+pub mod Counts

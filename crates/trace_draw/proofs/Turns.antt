@@ -165,16 +165,20 @@ under_start past e u j run due is even first before = record {
   where
     now : (w : ℕ) → run_of w (e ∷ past) ≡ cond (u == w) (Some (j, run)) (run_of w past)
     now w = ap (λ t. run_after w t (run_of w past)) is
+
     apart : (w k n : ℕ) → run_of w past ≡ Some (k, n) → j ≡ k → ⊥
     apart w k n has same = absurd (omega (arith, before.started w k n has, before.unfinished w k n has, even, ap (λ i. starts i past) same, ap (λ i. finishes i past) same))
+
     start_by : (w k n : ℕ) (b c : Bool) → (u == w) ≡ b → (j == k) ≡ c → cond b (Some (j, run)) (run_of w past) ≡ Some (k, n) → cond c (1 + starts k past) (starts k past) ≡ n + 1
     start_by w k n true true p q has = let both = parts_of (j, run) (k, n) has in omega (arith, both.1, first, ap (λ i. starts i past) both.0)
     start_by w k n true false p q has = let both = parts_of (j, run) (k, n) has in absurd (false≢true (sym q ∙ eq-eqb j k both.0))
     start_by w k n false true p q has = absurd (apart w k n has (eqb-true j k q))
     start_by w k n false false p q has = before.started w k n has
+
     unfinished_by : (w k n : ℕ) (b : Bool) → (u == w) ≡ b → cond b (Some (j, run)) (run_of w past) ≡ Some (k, n) → finishes k past ≡ n
     unfinished_by w k n true p has = let both = parts_of (j, run) (k, n) has in omega (arith, both.1, first, even, ap (λ i. finishes i past) both.0)
     unfinished_by w k n false p has = before.unfinished w k n has
+
     alone_by : (v w k n i : ℕ) (b c : Bool) → (u == v) ≡ b → (u == w) ≡ c → cond b (Some (j, run)) (run_of v past) ≡ Some (k, n) → cond c (Some (j, run)) (run_of w past) ≡ Some (k, i) → v ≡ w
     alone_by v w k n i true true p q one two = sym (eqb-true u v p) ∙ eqb-true u w q
     alone_by v w k n i true false p q one two = absurd (apart w k i two (parts_of (j, run) (k, n) one).0)
@@ -193,9 +197,11 @@ under_finish past e u j run m o is ran before = record {
   where
     now : (w : ℕ) → run_of w (e ∷ past) ≡ cond (u == w) None (run_of w past)
     now w = ap (λ t. run_after w t (run_of w past)) is
+
     other : (w k n : ℕ) (b : Bool) → (u == w) ≡ b → cond b None (run_of w past) ≡ Some (k, n) → ((u == w) ≡ false) × (run_of w past ≡ Some (k, n))
     other w k n true p has = absurd (none-some (k, n) has)
     other w k n false p has = (p, has)
+
     apart : (w k n : ℕ) → (u == w) ≡ false → run_of w past ≡ Some (k, n) → (b : Bool) → (j == k) ≡ b → b ≡ false
     apart w k n differ has true q = absurd (false≢true (sym differ ∙ eq-eqb u w (before.alone u w k m n (ran ∙ ap (λ i. Some (i, m)) (eqb-true j k q)) has)))
     apart w k n differ has false q = refl

@@ -21,7 +21,10 @@ mod window;
 pub use bars::{Bar, Finish};
 pub use drawing::picture;
 pub use error::{LinesError, PictureError};
-pub use laws::bars_do_not_overlap;
+pub use laws::{
+    bars_are_in_lanes, bars_do_not_overlap, bars_start, conforming_texts_are_traces,
+    finishes_are_counted, finishes_are_their_own, lines_are_counted, moments_do_not_fall,
+};
 pub use lines::lines_of;
 pub use scale::place;
 pub use shown::Picture;
