@@ -4,3 +4,4 @@ pub mod Multiples
 pub mod Turns
 pub mod Lanes
 pub mod Counts
+pub mod WindowLaws

@@ -4,7 +4,7 @@ use Rattle.std.specs.List.{filter, range_with_len}
 use Rattle.std.specs.Int.{div_ceil}
 use Rattle.std.proofs.Math.Nat.{mul-le-mul_left, div-mul-le_self, mul-div-le}
 use Rattle.std.proofs.lemmas.Nat.{le-div}
-use Rattle.std.proofs.lemmas.Bool.{cases_eq, le-leb, lt-leb}
+use Rattle.std.proofs.lemmas.Bool.{cases_eq, cases_order, le-leb, lt-leb}
 use Rattle.std.proofs.lemmas.List.FromFn.{filter_of_map_range_with_len_more}
 use Rattle.sched_time.specs.declared.unit.Unit.{Unit}
 use Rattle.trace_draw.specs.declared.ticks.Tick.{Tick}
@@ -32,6 +32,14 @@ from_first from step k some low =
     elim (cases_eq (from % step) 0) [
       | inl none ↦ let most : from / step ≤ k = omega (arith, low) in omega (arith, mul-le-mul_left step most, none, some)
       | inr over ↦ let less : from / step + 1 ≤ k = omega (arith, low, over) in omega (arith, mul-le-mul_left step less, some)
+    ]
+
+-- a multiple that is no sooner is no less than the first one
+pub no_less : (from step k : ℕ) → 0 < step → from ≤ k * step → div_ceil from step ≤ k
+no_less from step k some low =
+    elim (cases_order k (div_ceil from step)) [
+      | inl same ↦ omega (arith, same)
+      | inr other ↦ elim other [ inl less ↦ absurd (omega (arith, below_first from step k some less, low)) | inr more ↦ omega (arith, more) ]
     ]
 
 -- a length of time has no fewer of a step than a shorter one

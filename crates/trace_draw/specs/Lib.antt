@@ -6,4 +6,5 @@ pub mod Pictures
 pub mod Texts
 pub mod Whole
 pub mod Laws
+pub mod AxisLaws
 pub mod own

@@ -2,6 +2,7 @@
 #![tactic(auto)]
 
 mod axis;
+mod axis_laws;
 mod bars;
 mod drawing;
 mod ends;
@@ -18,6 +19,10 @@ mod ticks;
 mod whole;
 mod window;
 
+pub use axis_laws::{
+    multiples_have_ticks, places_are_exact, places_are_within, places_reach_the_ends, places_rise,
+    steps_reach, ticks_are_few, ticks_ascend, ticks_stand, whole_is_first_to_last, whole_shows_all,
+};
 pub use bars::{Bar, Finish};
 pub use drawing::picture;
 pub use error::{LinesError, PictureError};
