@@ -4,4 +4,5 @@ pub mod Multiples
 pub mod Turns
 pub mod Lanes
 pub mod Counts
+pub mod SameWindows
 pub mod WindowLaws

@@ -6,6 +6,7 @@ mod axis_laws;
 mod bars;
 mod drawing;
 mod ends;
+mod equality;
 mod error;
 mod laws;
 mod lines;
@@ -25,6 +26,10 @@ pub use axis_laws::{
 };
 pub use bars::{Bar, Finish};
 pub use drawing::picture;
+pub use equality::{
+    bar_equality_tells, finish_equality_tells, lines_error_equality_tells,
+    picture_error_equality_tells, tick_equality_tells, window_equality_tells,
+};
 pub use error::{LinesError, PictureError};
 pub use laws::{
     bars_are_in_lanes, bars_do_not_overlap, bars_start, conforming_texts_are_traces,
