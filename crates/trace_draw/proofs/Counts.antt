@@ -1,23 +1,22 @@
 -- Each line is shown once.
-use Rattle.std.proofs.Common.{zero, suc, ◌≡◌, ℕ, ◌+◌, ◌<◌, ◌≤◌, ◌==◌, Bool, true, false, cond, inl, inr, List, [], ◌∷◌, ◌++◌, length, Option, Some, None, refl, sym, ap, ◌∙◌, subst, arith}
+use Rattle.std.proofs.Common.{◌≡◌, ℕ, ◌+◌, ◌==◌, Bool, true, false, cond, inl, inr, List, [], ◌∷◌, ◌++◌, length, Option, Some, None, refl, sym, ap, ◌∙◌, arith}
 use Rattle.std.specs.Prelude.{slice_get, is_some, ◌&&◌, if◌then◌else◌}
 use Rattle.std.specs.Option.{option_or}
-use Rattle.std.specs.List.{cons_option, filter}
+use Rattle.std.specs.List.{cons_option}
 use Rattle.std.proofs.lemmas.Bool.{eq-eqb}
 use Rattle.executor_core.specs.declared.types.Answer.{Answer}
 use Rattle.executor_core.specs.declared.types.Answer.TheVariants as a
 use Rattle.executor_core.specs.declared.types.Line.{Line}
 use Rattle.executor_core.specs.declared.types.Message.{Message}
 use Rattle.executor_core.specs.declared.types.Message.TheVariants as m
-use Rattle.queue_code.specs.Calls.{Planned, IsOrderly, how_many}
+use Rattle.queue_code.specs.Calls.{how_many}
 use Rattle.executor_core.specs.Flows.{lines_of}
-use Rattle.executor_laws.specs.Lines.{IsMessageInRange}
 use Rattle.executor_laws.proofs.Lines.{lines_are_in_range}
 use Rattle.trace_draw.specs.declared.bars.Bar.{Bar}
 use Rattle.trace_draw.specs.declared.bars.Finish.{Finish}
 use Rattle.trace_draw.specs.Bars.{finish_in, finish_of, bar_by, bar_in, bars_of}
 use Rattle.trace_draw.specs.Marks.{is_mark, is_mark_by, marks_of}
-use Rattle.trace_draw.specs.Laws.{IsTraceOf, BarsAreInLanes, start_line, is_finish_by, finishes_some, is_finish, LinesAreCounted, is_finished_of, FinishesAreCounted}
+use Rattle.trace_draw.specs.Laws.{BarsAreInLanes, start_line, is_finish_by, finishes_some, is_finish, LinesAreCounted, is_finished_of, FinishesAreCounted}
 use Rattle.trace_draw.proofs.Turns.{run_said, AreInTurn}
 use Rattle.trace_draw.proofs.Lanes.{FinishesHere, GoesOn, StartsHere, step, free_step, turn_of, bars_start}
 

@@ -1,8 +1,8 @@
 -- The bars of lines that are in turn.
-use Rattle.std.proofs.Common.{zero, suc, ◌≡◌, ℕ, ◌+◌, ◌-◌, ◌<◌, ◌≤◌, ◌==◌, Bool, true, false, cond, ◌⊎◌, inl, inr, List, [], ◌∷◌, ◌++◌, length, map, Option, Some, None, refl, sym, ap, ◌∙◌, subst, arith}
-use Rattle.std.specs.Prelude.{slice_get, is_some, ◌&&◌, if◌then◌else◌}
+use Rattle.std.proofs.Common.{zero, suc, ◌≡◌, ℕ, ◌<◌, ◌≤◌, ◌==◌, Bool, true, false, cond, ◌⊎◌, inl, inr, List, [], ◌∷◌, ◌++◌, Option, Some, None, refl, sym, ap, ◌∙◌, subst, arith}
+use Rattle.std.specs.Prelude.{slice_get}
 use Rattle.std.specs.Option.{option_or}
-use Rattle.std.specs.List.{cons_option, filter}
+use Rattle.std.specs.List.{cons_option}
 use Rattle.std.proofs.lemmas.Bool.{false≢true, eqb-true, eq-eqb}
 use Rattle.std.proofs.lemmas.Option.{none-some, same_Some}
 use Rattle.executor_core.specs.declared.types.Answer.{Answer}
@@ -11,14 +11,13 @@ use Rattle.executor_core.specs.declared.types.Line.{Line}
 use Rattle.executor_core.specs.declared.types.Message.{Message}
 use Rattle.executor_core.specs.declared.types.Message.TheVariants as m
 use Rattle.executor_core.specs.declared.types.Outcome.{Outcome}
-use Rattle.queue_code.specs.Calls.{Planned, how_many}
+use Rattle.queue_code.specs.Calls.{Planned}
 use Rattle.executor_core.specs.Flows.{answer_line}
 use Rattle.trace_draw.specs.declared.bars.Bar.{Bar}
 use Rattle.trace_draw.specs.declared.bars.Finish.{Finish}
-use Rattle.trace_draw.specs.Bars.{finish_by, finish_in, finish_of, bar_by, bar_in, bars_of}
-use Rattle.trace_draw.specs.Marks.{is_mark, is_mark_by, marks_of}
-use Rattle.trace_draw.specs.Laws.{IsTraceOf, MomentsDoNotFall, start_line, finish_line, StartsIn, BarsStart, FinishesIn, FinishesAreTheirOwn, IsOverBefore, BarsDoNotOverlap, finishes_by, is_finish_by, finishes_some, is_finish, LinesAreCounted, is_finished_of, FinishesAreCounted}
-use Rattle.trace_draw.proofs.Turns.{run_after, run_said, ToldRun, ToldBy, AreInTurn, in_turn}
+use Rattle.trace_draw.specs.Bars.{finish_in, finish_of, bar_by, bar_in, bars_of}
+use Rattle.trace_draw.specs.Laws.{IsTraceOf, MomentsDoNotFall, start_line, BarsStart, FinishesIn, FinishesAreTheirOwn, IsOverBefore, BarsDoNotOverlap, is_finish_by}
+use Rattle.trace_draw.proofs.Turns.{run_said, ToldRun, ToldBy, AreInTurn, in_turn}
 
 -- ---- which line a bar is of
 

@@ -1,7 +1,7 @@
 -- The run that each worker has under way, told by a history and by its lines.
-use Rattle.std.proofs.Common.{zero, suc, ◌≡◌, ℕ, ◌+◌, ◌-◌, ◌<◌, ◌≤◌, ◌==◌, nat_lt, Bool, true, false, cond, inl, inr, List, [], ◌∷◌, ◌++◌, length, map, Option, Some, None, refl, sym, ap, ◌∙◌, subst, arith}
+use Rattle.std.proofs.Common.{◌≡◌, ℕ, ◌+◌, ◌-◌, ◌≤◌, ◌==◌, nat_lt, Bool, true, false, cond, List, [], ◌∷◌, ◌++◌, map, Option, Some, None, refl, sym, ap, ◌∙◌, subst, arith}
 use Rattle.std.specs.Prelude.{slice_get, max, if◌then◌else◌}
-use Rattle.std.specs.Option.{option_map_or, option_map}
+use Rattle.std.specs.Option.{option_map_or}
 use Rattle.std.proofs.lemmas.Bool.{false≢true, eqb-true, eq-eqb}
 use Rattle.std.proofs.lemmas.Bool.Decides.{nat_tests}
 use Rattle.std.proofs.lemmas.Option.{none-some, same_Some}
@@ -17,7 +17,7 @@ use Rattle.queue_code.specs.Calls.{Planned, numbers}
 use Rattle.executor_core.specs.View.{View, first_enabled}
 use Rattle.executor_core.specs.Answers.{bare, reply, called, start_answer, finish_answer, moment_after, is_accepted, effect_on}
 use Rattle.executor_core.specs.Histories.{HistoryEntry, IsHistoryOf, view_of_history, now_of, happenings, made, work_of, work_after, starts, finishes, is_start, is_finish}
-use Rattle.executor_core.specs.Flows.{answer_line, end_line, lines_at, lines_of, reply_in}
+use Rattle.executor_core.specs.Flows.{end_line, lines_at, lines_of, reply_in}
 use Rattle.executor_laws.proofs.Replies.{IsOfCall, call_answer}
 use Rattle.executor_laws.proofs.Places.{work_is_told}
 use Rattle.executor_laws.proofs.Repeats.{started_so, waits_even}

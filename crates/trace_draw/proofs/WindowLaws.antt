@@ -1,5 +1,5 @@
 -- The laws of the axis, of the scale and of the window of a whole trace.
-use Rattle.std.proofs.Common.{zero, suc, ◌≡◌, ℕ, ◌+◌, ◌-◌, ◌*◌, ◌/◌, ◌%◌, ◌<◌, ◌≤◌, ◌==◌, Bool, true, false, cond, inl, inr, List, [], ◌∷◌, ◌++◌, length, map, nat_le, min, max, Option, Some, None, refl, sym, ap, ◌∙◌, subst, arith}
+use Rattle.std.proofs.Common.{zero, suc, ◌≡◌, ℕ, ◌+◌, ◌-◌, ◌*◌, ◌/◌, ◌<◌, ◌≤◌, ◌==◌, Bool, true, false, cond, inl, inr, List, [], ◌∷◌, ◌++◌, length, map, nat_le, min, max, Option, Some, None, refl, sym, ap, ◌∙◌, subst, arith}
 use Rattle.std.specs.Prelude.{slice_get, unwrap_or, fold}
 use Rattle.std.specs.List.{find, list_all, range_with_len}
 use Rattle.std.specs.Int.{div_ceil}
@@ -11,15 +11,12 @@ use Rattle.std.proofs.lemmas.List.FromFn.{map-range_with_len_more, length-map-ra
 use Rattle.sched_time.specs.Times.{nanos_of}
 use Rattle.sched_time.specs.declared.unit.Unit.{Unit}
 use Rattle.sched_time.specs.declared.unit.Unit.TheVariants.{Day}
-use Rattle.queue_code.specs.Calls.{Planned}
 use Rattle.executor_core.specs.declared.types.Line.{Line}
 use Rattle.trace_draw.specs.declared.ticks.Tick.{Tick}
 use Rattle.trace_draw.specs.declared.window.Window.{Window}
 use Rattle.trace_draw.specs.Ticks.{steps, step_nanos, step_of, tick_at, ticks_of}
-use Rattle.trace_draw.specs.Scale.{passed, place_of}
-use Rattle.trace_draw.specs.Whole.{least, greatest}
-use Rattle.trace_draw.specs.Laws.{IsTraceOf}
-use Rattle.trace_draw.specs.AxisLaws.{StepsReach, IsTickOf, TicksStand, MultiplesHaveTicks, TicksAscend, TicksAreFew, PlacesRise, PlacesAreWithin, PlacesReachTheEnds, PlacesAreExact, WholeShowsAll, WholeIsFirstToLast}
+use Rattle.trace_draw.specs.Scale.{passed}
+use Rattle.trace_draw.specs.AxisLaws.{StepsReach, TicksStand, MultiplesHaveTicks, TicksAscend, TicksAreFew, PlacesRise, PlacesAreWithin, PlacesReachTheEnds, PlacesAreExact, WholeShowsAll, WholeIsFirstToLast}
 use Rattle.trace_draw.proofs.Multiples.{ticks_below, none_before, one_more, first_near, from_first, no_less, quotient_grows}
 use Rattle.trace_draw.proofs.Lanes.{moments_do_not_fall}
 

@@ -1,7 +1,6 @@
 -- What holds of the pictures of a trace. The lines stand in the order of the trace, the oldest first.
 -- All of it is this project's rule.
-use Rattle.std.specs.Prelude.{◌≡◌, ℕ, ◌+◌, ◌<◌, ◌≤◌, ◌==◌, ◌&&◌, Bool, true, false, List, ◌∷◌, ◌++◌, length, Option, Some, slice_get, is_some}
-use Rattle.std.specs.List.{filter}
+use Rattle.std.specs.Prelude.{◌≡◌, ℕ, ◌+◌, ◌<◌, ◌≤◌, ◌==◌, ◌&&◌, Bool, true, false, List, ◌∷◌, ◌++◌, length, Some, slice_get, is_some}
 use Rattle.queue_code.specs.Calls.{Planned, IsOrderly, how_many}
 use Rattle.executor_core.specs.Counts.{IsWorkerCount}
 use Rattle.executor_core.specs.declared.types.Answer.{Answer}

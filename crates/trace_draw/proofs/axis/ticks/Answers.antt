@@ -1,6 +1,6 @@
-use Rattle.std.proofs.Common.{◌≡◌, ℕ, ◌+◌, ◌*◌, ◌/◌, ◌≤◌, ◌<◌, ◌∷◌, ◌++◌, [], ◌∙◌, ap, sym, arith}
+use Rattle.std.proofs.Common.{◌≡◌, ◌+◌, ◌*◌, ◌/◌, ◌≤◌, ◌∷◌, ◌++◌, [], ◌∙◌, ap, arith}
 use Rattle.std.specs.Int.{div_ceil}
-use Rattle.trace_draw.specs.Ticks.{step_nanos, tick_at}
+use Rattle.trace_draw.specs.Ticks.{step_nanos}
 use Rattle.trace_draw.proofs.Multiples.{none_before, one_more, all_ticks, first_near, count_within, factor_some}
 use Rattle.trace_draw.proofs.axis.ticks.Goals as goal
 use Rattle.trace_draw.proofs.axis.ticks.Goals.{else-loop-number-test, then-loop-number-test+in_ok-push+else-number-number-end}

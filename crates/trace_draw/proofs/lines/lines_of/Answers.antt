@@ -1,4 +1,4 @@
-use Rattle.std.proofs.Common.{ℕ, ◌+◌, sym, ap, ◌∙◌, arith}
+use Rattle.std.proofs.Common.{◌+◌, sym, ◌∙◌, arith}
 use Rattle.trace_check.proofs.Texts.{some_left}
 use Rattle.trace_draw.specs.Texts.{StopsAt}
 use Rattle.trace_draw.proofs.Spelled.{goes_on, fit_more, stops_spell_none, something}
