@@ -1,6 +1,6 @@
 //! Which runs and lines a window shows.
 use super::*;
-use crate::{Bar, Finish};
+use crate::{Bar, Finish, place, whole_window};
 use executor_core::{Answer, Message, Outcome};
 
 /// The bar of a run, from its start to its finish.
@@ -36,6 +36,21 @@ fn the_whole_trace_is_shown(rt: HostRuntime) -> Result<(), Fail> {
     assert_eq!(rt; shown.bars(), bars.as_slice());
     assert_eq!(rt; shown.marks().len(), 7);
     assert_eq!(rt; shown.ticks().len(), 7);
+    Ok(())
+}
+
+#[test]
+fn the_page_shows_this(rt: HostRuntime) -> Result<(), Fail> {
+    let text =
+        "0 submit 0 schedule due 5\n5 clock\n5 start 0 task 0 run 0 due 5\n9 clock\n9 finish 0 task 0 run 0 done 7\n";
+    let lines = lines(&rt, text)?;
+    let whole = whole_window(&lines);
+    let shown = picture(rt.alloc(), &lines, 1, whole, 2_000)?;
+    assert_eq!(rt; whole, window(0, 9)?);
+    assert_eq!(rt; shown.bars().len(), 1);
+    assert_eq!(rt; shown.marks().len(), 3);
+    assert_eq!(rt; shown.ticks().len(), 10);
+    assert_eq!(rt; place(whole, 900, 5), 500);
     Ok(())
 }
 
