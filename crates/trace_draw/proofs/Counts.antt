@@ -16,7 +16,7 @@ use Rattle.trace_draw.specs.declared.bars.Bar.{Bar}
 use Rattle.trace_draw.specs.declared.bars.Finish.{Finish}
 use Rattle.trace_draw.specs.Bars.{finish_in, finish_of, bar_by, bar_in, bars_of}
 use Rattle.trace_draw.specs.Marks.{is_mark, is_mark_by, marks_of}
-use Rattle.trace_draw.specs.Laws.{BarsAreInLanes, start_line, is_finish_by, finishes_some, is_finish, LinesAreCounted, is_finished_of, FinishesAreCounted}
+use Rattle.trace_draw.specs.Laws.{BarsAreInLanes, start_line, tells_finish_by, finishes_some, tells_finish, LinesAreCounted, is_finished_of, FinishesAreCounted}
 use Rattle.trace_draw.proofs.Turns.{run_said, AreInTurn}
 use Rattle.trace_draw.proofs.Lanes.{FinishesHere, GoesOn, StartsHere, step, free_step, turn_of, bars_start}
 
@@ -29,14 +29,14 @@ counts_one_by moment (a.Finish w k n o) line later bars f marks = omega arith
 counts_one_by moment r line later bars f marks = omega arith
 
 counts_one : (moment : ℕ) (message : Message) (line : Line) (later : List Line) (bars : List Bar) (f : ℕ) (marks : List Line) →
-    1 + (length bars + (f + length marks)) ≡ length (cons_option (bar_in moment message later) bars) + (cond (is_finish message) (1 + f) f + length (cond (is_mark message) (line ∷ marks) marks))
+    1 + (length bars + (f + length marks)) ≡ length (cons_option (bar_in moment message later) bars) + (cond (tells_finish message) (1 + f) f + length (cond (is_mark message) (line ∷ marks) marks))
 counts_one moment (m.Answer r) line later bars f marks = counts_one_by moment r line later bars f marks
 counts_one moment (m.End task) line later bars f marks = omega arith
 
 pub lines_are_counted : LinesAreCounted
 lines_are_counted [] = refl
 lines_are_counted (line ∷ later) =
-    omega (arith, lines_are_counted later, counts_one line.moment line.message line later (bars_of later) (how_many (λ l. is_finish l.message) later) (marks_of later))
+    omega (arith, lines_are_counted later, counts_one line.moment line.message line later (bars_of later) (how_many (λ l. tells_finish l.message) later) (marks_of later))
 
 -- ---- finishes
 
@@ -56,11 +56,11 @@ counted_by b c n is = ap (λ t. cond t (1 + n) n) is
 -- the run goes on
 count_on : (w moment : ℕ) (q : Option (ℕ × ℕ)) (message : Message) (later : List Line) (f : ℕ) → GoesOn w moment q message →
     f ≡ how_many (is_finished_of w) (bars_of later) + open_count q (finish_of w later) →
-    cond (is_finish_by w message) (1 + f) f ≡ how_many (is_finished_of w) (cons_option (bar_in moment message later) (bars_of later)) + open_count q (option_or (finish_in w moment message) (finish_of w later))
+    cond (tells_finish_by w message) (1 + f) f ≡ how_many (is_finished_of w) (cons_option (bar_in moment message later) (bars_of later)) + open_count q (option_or (finish_in w moment message) (finish_of w later))
 count_on w moment q message later f on rest =
     omega (
       arith,
-      counted_by (is_finish_by w message) false f on.unfinished,
+      counted_by (tells_finish_by w message) false f on.unfinished,
       rest,
       not_counted w (bar_in moment message later) (bars_of later) (on.apart later),
       ap (λ g. open_count q (option_or g (finish_of w later))) on.none,
@@ -69,11 +69,11 @@ count_on w moment q message later f on rest =
 -- it finishes
 count_finish : (w k n moment : ℕ) (message : Message) (later : List Line) (f : ℕ) → FinishesHere w k n moment message →
     f ≡ how_many (is_finished_of w) (bars_of later) + 0 →
-    cond (is_finish_by w message) (1 + f) f ≡ how_many (is_finished_of w) (cons_option (bar_in moment message later) (bars_of later)) + open_count (Some (k, n)) (option_or (finish_in w moment message) (finish_of w later))
+    cond (tells_finish_by w message) (1 + f) f ≡ how_many (is_finished_of w) (cons_option (bar_in moment message later) (bars_of later)) + open_count (Some (k, n)) (option_or (finish_in w moment message) (finish_of w later))
 count_finish w k n moment message later f here rest =
     omega (
       arith,
-      counted_by (is_finish_by w message) true f (ap (is_finish_by w) here.said ∙ eq-eqb w w refl),
+      counted_by (tells_finish_by w message) true f (ap (tells_finish_by w) here.said ∙ eq-eqb w w refl),
       rest,
       ap (λ s. how_many (is_finished_of w) (cons_option (bar_in moment s later) (bars_of later))) here.said,
       ap (λ g. open_count (Some (k, n)) (option_or g (finish_of w later))) here.found,
@@ -89,33 +89,33 @@ started_count b finish n is = ap (λ t. cond (t && is_some finish) (1 + n) n) is
 
 count_start : (w moment : ℕ) (message : Message) (later : List Line) (f : ℕ) → (here : StartsHere w message) →
     f ≡ how_many (is_finished_of w) (bars_of later) + open_count (Some (here.task, here.run)) (finish_of w later) →
-    cond (is_finish_by w message) (1 + f) f ≡ how_many (is_finished_of w) (cons_option (bar_in moment message later) (bars_of later)) + 0
+    cond (tells_finish_by w message) (1 + f) f ≡ how_many (is_finished_of w) (cons_option (bar_in moment message later) (bars_of later)) + 0
 count_start w moment message later f here rest =
     omega (
       arith,
-      counted_by (is_finish_by w message) false f (ap (is_finish_by w) here.said),
+      counted_by (tells_finish_by w message) false f (ap (tells_finish_by w) here.said),
       rest,
       ap (λ s. how_many (is_finished_of w) (cons_option (bar_in moment s later) (bars_of later))) here.said,
       started_count (w == w) (finish_of w later) (how_many (is_finished_of w) (bars_of later)) (eq-eqb w w refl),
     )
 
 count_turn : (w : ℕ) (q : Option (ℕ × ℕ)) (now : ℕ) (lines : List Line) → AreInTurn w q now lines →
-    how_many (λ line. is_finish_by w line.message) lines ≡ how_many (is_finished_of w) (bars_of lines) + open_count q (finish_of w lines)
+    how_many (λ line. tells_finish_by w line.message) lines ≡ how_many (is_finished_of w) (bars_of lines) + open_count q (finish_of w lines)
 count_turn w None now [] turn = refl
 count_turn w (Some run) now [] turn = refl
 count_turn w None now (line ∷ later) turn =
     elim (free_step w line.moment line.message turn.1) [
       | inl here ↦
           let run : run_said w line.message None ≡ Some (here.task, here.run) = ap (λ s. run_said w s None) here.said ∙ ap (λ b. cond b (Some (here.task, here.run)) None) (eq-eqb w w refl) in
-          count_start w line.moment line.message later (how_many (λ l. is_finish_by w l.message) later) here (count_turn w (run_said w line.message None) line.moment later turn.2 ∙ ap (λ r. how_many (is_finished_of w) (bars_of later) + open_count r (finish_of w later)) run)
-      | inr on ↦ count_on w line.moment None line.message later (how_many (λ l. is_finish_by w l.message) later) on
+          count_start w line.moment line.message later (how_many (λ l. tells_finish_by w l.message) later) here (count_turn w (run_said w line.message None) line.moment later turn.2 ∙ ap (λ r. how_many (is_finished_of w) (bars_of later) + open_count r (finish_of w later)) run)
+      | inr on ↦ count_on w line.moment None line.message later (how_many (λ l. tells_finish_by w l.message) later) on
           (count_turn w (run_said w line.message None) line.moment later turn.2 ∙ ap (λ r. how_many (is_finished_of w) (bars_of later) + open_count r (finish_of w later)) on.same)
     ]
 count_turn w (Some run) now (line ∷ later) turn =
     elim (step w run.0 run.1 line.moment line.message turn.1) [
-      | inl here ↦ count_finish w run.0 run.1 line.moment line.message later (how_many (λ l. is_finish_by w l.message) later) here
+      | inl here ↦ count_finish w run.0 run.1 line.moment line.message later (how_many (λ l. tells_finish_by w l.message) later) here
           (count_turn w (run_said w line.message (Some run)) line.moment later turn.2 ∙ ap (λ r. how_many (is_finished_of w) (bars_of later) + open_count r (finish_of w later)) here.none)
-      | inr on ↦ count_on w line.moment (Some run) line.message later (how_many (λ l. is_finish_by w l.message) later) on
+      | inr on ↦ count_on w line.moment (Some run) line.message later (how_many (λ l. tells_finish_by w l.message) later) on
           (count_turn w (run_said w line.message (Some run)) line.moment later turn.2 ∙ ap (λ r. how_many (is_finished_of w) (bars_of later) + open_count r (finish_of w later)) on.same)
     ]
 

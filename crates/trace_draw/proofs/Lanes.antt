@@ -16,7 +16,7 @@ use Rattle.executor_core.specs.Flows.{answer_line}
 use Rattle.trace_draw.specs.declared.bars.Bar.{Bar}
 use Rattle.trace_draw.specs.declared.bars.Finish.{Finish}
 use Rattle.trace_draw.specs.Bars.{finish_in, finish_of, bar_by, bar_in, bars_of}
-use Rattle.trace_draw.specs.Laws.{IsTraceOf, MomentsDoNotFall, start_line, BarsStart, FinishesIn, FinishesAreTheirOwn, IsOverBefore, BarsDoNotOverlap, is_finish_by}
+use Rattle.trace_draw.specs.Laws.{IsTraceOf, MomentsDoNotFall, start_line, BarsStart, FinishesIn, FinishesAreTheirOwn, IsOverBefore, BarsDoNotOverlap, tells_finish_by}
 use Rattle.trace_draw.proofs.Turns.{run_said, ToldRun, ToldBy, AreInTurn, in_turn}
 
 -- ---- which line a bar is of
@@ -71,7 +71,7 @@ pub record GoesOn (w moment : ℕ) (q : Option (ℕ × ℕ)) (message : Message)
   pub none : finish_in w moment message ≡ None
   pub same : run_said w message q ≡ q
   pub apart : (later : List Line) (bar : Bar) → bar_in moment message later ≡ Some bar → (bar.worker == w) ≡ false
-  pub unfinished : is_finish_by w message ≡ false
+  pub unfinished : tells_finish_by w message ≡ false
 
 -- it starts a run
 pub record StartsHere (w : ℕ) (message : Message) : Type 0 where

@@ -12,9 +12,9 @@ use Rattle.trace_text.proofs.LineEnds.{line_ended}
 use Rattle.executor_core.specs.Flows.{lines_of}
 use Rattle.trace_check.proofs.TextLaws.{traces_conform}
 use Rattle.trace_draw.specs.Laws.{ConformingTextsAreTraces}
-use Rattle.trace_draw.specs.Texts.{AreSpelled, StopsAt}
+use Rattle.trace_draw.specs.Texts.{AreSpelled, BreaksOffAt}
 
--- a line has a byte at least
+-- a line has a byte at least_moment
 some_bytes : (line : Line) → FitsLine line → 1 ≤ length (line_text line)
 some_bytes line fit = let e = line_ended line fit in omega (arith, ap length e.2, length-append e.0 (codes "\n"))
 
@@ -44,7 +44,7 @@ stops (line ∷ read) (other ∷ lines) rest p q left unread same =
     stops read lines rest p.1 q.1 left unread
     (first_line line other (lines_text read ++ rest) (lines_text lines) p.0 q.0 (sym (append_assoc (line_text line) (lines_text read) rest) ∙ same)).1
 
-pub stops_spell_none : (text : List ℕ) (n : ℕ) (lines : List Line) → StopsAt text n → AreSpelled text lines → ⊥
+pub stops_spell_none : (text : List ℕ) (n : ℕ) (lines : List Line) → BreaksOffAt text n → AreSpelled text lines → ⊥
 stops_spell_none text n lines at are =
     stops at.lines lines at.rest (recursion_from_All FitsLine at.lines at.fit) (recursion_from_All FitsLine lines are.fit) at.left at.unread (sym at.spelled ∙ are.spelled)
 

@@ -8,7 +8,7 @@ use Rattle.trace_draw.specs.declared.window.Window.{Window}
 use Rattle.trace_draw.specs.Laws.{IsTraceOf}
 use Rattle.trace_draw.specs.Ticks.{step_nanos, step_of, tick_at, ticks_of}
 use Rattle.trace_draw.specs.Scale.{passed, place_of}
-use Rattle.trace_draw.specs.Whole.{least, greatest}
+use Rattle.trace_draw.specs.Whole.{least_moment, greatest_moment}
 
 -- ---- the axis
 
@@ -64,9 +64,9 @@ PlacesAreExact = (window : Window) (width t : ℕ) → window.from < window.to
 
 -- no line stands outside
 abbrev pub WholeShowsAll : Type 0
-WholeShowsAll = (lines : List Line) (i : ℕ) (line : Line) → slice_get lines i ≡ Some line → (least lines ≤ line.moment) × (line.moment ≤ greatest lines)
+WholeShowsAll = (lines : List Line) (i : ℕ) (line : Line) → slice_get lines i ≡ Some line → (least_moment lines ≤ line.moment) × (line.moment ≤ greatest_moment lines)
 
 -- that of a trace is from its first line to its last one
 abbrev pub WholeIsFirstToLast : Type 0
 WholeIsFirstToLast = (calls : List Planned) (workers : ℕ) (lines : List Line) (first last : Line) → IsTraceOf calls workers lines
-    → slice_get lines 0 ≡ Some first → slice_get lines (length lines - 1) ≡ Some last → (least lines ≡ first.moment) × (greatest lines ≡ last.moment)
+    → slice_get lines 0 ≡ Some first → slice_get lines (length lines - 1) ≡ Some last → (least_moment lines ≡ first.moment) × (greatest_moment lines ≡ last.moment)

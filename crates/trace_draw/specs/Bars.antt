@@ -48,5 +48,5 @@ lasts_to moment None = true
 lasts_to moment (Some finish) = nat_le moment finish.moment
 
 -- a window shows a part of a run: the run starts no later than the window ends, and lasts to its beginning
-abbrev pub meets : Window → Bar → Bool
-meets window bar = nat_le bar.first window.to && lasts_to window.from bar.finish
+abbrev pub shows_bar : Window → Bar → Bool
+shows_bar window bar = nat_le bar.first window.to && lasts_to window.from bar.finish

@@ -10,6 +10,7 @@ use Rattle.executor_core.specs.declared.types.Message.{Message}
 use Rattle.executor_core.specs.declared.types.Message.TheVariants as m
 use Rattle.executor_core.specs.Histories.{HistoryEntry, IsHistoryOf}
 use Rattle.executor_core.specs.Flows.{answer_line, lines_of}
+use Rattle.executor_laws.specs.Positions.{finishes_by}
 use Rattle.trace_check.specs.Findings.{Conforms}
 use Rattle.trace_draw.specs.declared.bars.Bar.{Bar}
 use Rattle.trace_draw.specs.declared.bars.Finish.{Finish}
@@ -87,15 +88,10 @@ BarsDoNotOverlap = (calls : List Planned) (workers : ℕ) (lines : List Line) (i
 
 -- ---- each line is shown once
 
--- an answer says that a worker finished a run
-abbrev pub finishes_by : ℕ → Answer → Bool
-finishes_by w (a.Finish worker task run outcome) = worker == w
-finishes_by w _ = false
-
--- the same of what a line says
-abbrev pub is_finish_by : ℕ → Message → Bool
-is_finish_by w (m.Answer answer) = finishes_by w answer
-is_finish_by w (m.End task) = false
+-- what a line says is that a worker finished a run
+abbrev pub tells_finish_by : ℕ → Message → Bool
+tells_finish_by w (m.Answer answer) = finishes_by w answer
+tells_finish_by w (m.End task) = false
 
 -- an answer says that a run was finished
 abbrev pub finishes_some : Answer → Bool
@@ -103,13 +99,13 @@ finishes_some (a.Finish worker task run outcome) = true
 finishes_some _ = false
 
 -- the same of what a line says
-abbrev pub is_finish : Message → Bool
-is_finish (m.Answer answer) = finishes_some answer
-is_finish (m.End task) = false
+abbrev pub tells_finish : Message → Bool
+tells_finish (m.Answer answer) = finishes_some answer
+tells_finish (m.End task) = false
 
 -- the lines are as many as the bars, the finishes and the marks
 abbrev pub LinesAreCounted : Type 0
-LinesAreCounted = (lines : List Line) → length lines ≡ length (bars_of lines) + (how_many (λ line. is_finish line.message) lines + length (marks_of lines))
+LinesAreCounted = (lines : List Line) → length lines ≡ length (bars_of lines) + (how_many (λ line. tells_finish line.message) lines + length (marks_of lines))
 
 -- a bar is of a worker, and has a finish
 abbrev pub is_finished_of : ℕ → Bar → Bool
@@ -118,4 +114,4 @@ is_finished_of w bar = (bar.worker == w) && is_some bar.finish
 -- a worker has as many finishes as bars that have one
 abbrev pub FinishesAreCounted : Type 0
 FinishesAreCounted = (calls : List Planned) (workers : ℕ) (lines : List Line) (w : ℕ) → IsTraceOf calls workers lines
-    → how_many (λ line. is_finish_by w line.message) lines ≡ how_many (is_finished_of w) (bars_of lines)
+    → how_many (λ line. tells_finish_by w line.message) lines ≡ how_many (is_finished_of w) (bars_of lines)

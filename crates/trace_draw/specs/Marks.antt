@@ -28,5 +28,5 @@ abbrev pub shows : Window → ℕ → Bool
 shows window moment = nat_le window.from moment && nat_le moment window.to
 
 -- a window shows a line
-abbrev pub within : Window → Line → Bool
-within window line = shows window line.moment
+abbrev pub shows_line : Window → Line → Bool
+shows_line window line = shows window line.moment

@@ -7,8 +7,8 @@ use Rattle.trace_draw.specs.declared.ticks.Tick.{Tick}
 use Rattle.trace_draw.specs.declared.window.Window.{Window}
 use Rattle.trace_draw.specs.declared.error.PictureError.{PictureError}
 use Rattle.trace_draw.specs.declared.error.PictureError.TheVariants.{Crowded, Memory}
-use Rattle.trace_draw.specs.Bars.{bars_of, meets}
-use Rattle.trace_draw.specs.Marks.{marks_of, within}
+use Rattle.trace_draw.specs.Bars.{bars_of, shows_bar}
+use Rattle.trace_draw.specs.Marks.{marks_of, shows_line}
 use Rattle.trace_draw.specs.Ticks.{ticks_of}
 
 -- what a picture shows: a part of time, a lane for each worker, the bars and the marks, and an axis
@@ -21,11 +21,11 @@ pub record Shown : Type 0 where
 
 -- the bars of lines of which a window shows a part, in their order
 abbrev pub bars_within : Window → List Line → List Bar
-bars_within window lines = filter (meets window) (bars_of lines)
+bars_within window lines = filter (shows_bar window) (bars_of lines)
 
 -- the marks of lines that a window shows, in their order
 abbrev pub marks_within : Window → List Line → List Line
-marks_within window lines = filter (within window) (marks_of lines)
+marks_within window lines = filter (shows_line window) (marks_of lines)
 
 -- the picture of lines
 abbrev pub picture_of : List Line → ℕ → Window → Shown

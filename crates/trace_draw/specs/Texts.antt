@@ -12,7 +12,7 @@ pub record AreSpelled (text : List ℕ) (lines : List Line) : Type 0 where
   pub spelled : text ≡ lines_text lines
 
 -- a text spells all lines before this one, counted from 1, and then goes on with something that is no line
-pub record StopsAt (text : List ℕ) (n : ℕ) : Type 0 where
+pub record BreaksOffAt (text : List ℕ) (n : ℕ) : Type 0 where
   pub lines : List Line
   pub fit : All FitsLine lines
   pub count : n ≡ length lines + 1
@@ -23,5 +23,5 @@ pub record StopsAt (text : List ℕ) (n : ℕ) : Type 0 where
 
 -- why the lines of a text were not read
 abbrev pub IsLinesError : List ℕ → LinesError → Type 0
-IsLinesError text (NotATrace line) = StopsAt text line × ((lines : List Line) → AreSpelled text lines → ⊥)
+IsLinesError text (NotATrace line) = BreaksOffAt text line × ((lines : List Line) → AreSpelled text lines → ⊥)
 IsLinesError text Memory = Unit {0}

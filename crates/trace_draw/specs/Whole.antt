@@ -3,11 +3,11 @@ use Rattle.std.specs.Prelude.{ℕ, min, max, List, [], ◌∷◌, fold}
 use Rattle.executor_core.specs.declared.types.Line.{Line}
 
 -- the least moment of lines, and 0 where there is none
-abbrev pub least : List Line → ℕ
-least [] = 0
-least (first ∷ more) = fold (λ n line. min n line.moment) first.moment more
+abbrev pub least_moment : List Line → ℕ
+least_moment [] = 0
+least_moment (first ∷ more) = fold (λ n line. min n line.moment) first.moment more
 
 -- the greatest moment of lines, and 0 where there is none
-abbrev pub greatest : List Line → ℕ
-greatest [] = 0
-greatest (first ∷ more) = fold (λ n line. max n line.moment) first.moment more
+abbrev pub greatest_moment : List Line → ℕ
+greatest_moment [] = 0
+greatest_moment (first ∷ more) = fold (λ n line. max n line.moment) first.moment more

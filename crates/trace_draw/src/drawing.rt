@@ -1,6 +1,6 @@
 //! The picture of the lines of a trace.
 ghost use Rattle.std.specs.Prelude.{◌≡◌, None, length, IfOk, IfErr};
-ghost use Rattle.trace_draw.specs.Bars.{meets, bars_of};
+ghost use Rattle.trace_draw.specs.Bars.{shows_bar, bars_of};
 ghost use Rattle.trace_draw.specs.Pictures.{picture_of, bars_within, marks_within, crowd, crowd_told};
 
 use crate::axis::ticks;
@@ -44,8 +44,8 @@ pub fn picture<A: Allocator + Copy>(
 }
 
 /// Whether a window shows a part of a run.
-fn meets(window: Window, bar: &Bar) -> bool
-    ensures { result ≡ meets window bar.now }
+fn shows_bar(window: Window, bar: &Bar) -> bool
+    ensures { result ≡ shows_bar window bar.now }
 {
     bar.first <= window.to()
         && match bar.finish {
@@ -82,7 +82,7 @@ fn marks_in<A: Allocator>(
     Ok(marks)
 }
 
-/// How many of the bars of some lines a window meets.
+/// Of how many of the bars of some lines a window shows a part.
 fn count_bars(lines: &[Line], window: Window) -> u64
     ensures { result ≡ length (bars_within window lines.now) }
 {
@@ -91,7 +91,7 @@ fn count_bars(lines: &[Line], window: Window) -> u64
     let size = lines.len();
     for index in (0..size).rev() {
         if let Some(bar) = ends.read(&lines[index]) {
-            if meets(window, &bar) {
+            if shows_bar(window, &bar) {
                 count += 1;
             }
         }
@@ -99,7 +99,7 @@ fn count_bars(lines: &[Line], window: Window) -> u64
     count
 }
 
-/// The bars of some lines that a window meets.
+/// The bars of some lines of which a window shows a part.
 fn bars_in<A: Allocator>(
     alloc: A,
     lines: &[Line],
@@ -111,7 +111,7 @@ fn bars_in<A: Allocator>(
     let mut bars = Vec::new(alloc);
     for index in (0..lines.len()).rev() {
         if let Some(bar) = ends.read(&lines[index]) {
-            if meets(window, &bar) {
+            if shows_bar(window, &bar) {
                 bars.push(bar)?;
             }
         }

@@ -1,13 +1,13 @@
 use Rattle.std.proofs.Common.{◌+◌, sym, ◌∙◌, arith}
 use Rattle.trace_check.proofs.Texts.{some_left}
-use Rattle.trace_draw.specs.Texts.{StopsAt}
+use Rattle.trace_draw.specs.Texts.{BreaksOffAt}
 use Rattle.trace_draw.proofs.Spelled.{goes_on, fit_more, stops_spell_none, something}
 use Rattle.trace_draw.proofs.lines.lines_of.Goals as goal
 
 pub returns-in_default-clause-error : goal.returns-in_default-clause-error
 returns-in_default-clause-error g c =
     let text = c.args.text.now in
-    let at : StopsAt text (c.len-read.result + 1) = record {
+    let at : BreaksOffAt text (c.len-read.result + 1) = record {
       lines = c.loop-rest.lines.items;
       fit = c.loop-rest.invariant.fit;
       count = omega (arith, c.len-read.ensures);
