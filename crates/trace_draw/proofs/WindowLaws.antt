@@ -272,7 +272,7 @@ whole_shows_all (first ∷ more) zero line is =
     (omega (arith, least_low first.moment more, same), omega (arith, greatest_high first.moment more, same))
 whole_shows_all (first ∷ more) (suc i) line is = (least_each first.moment more i line is, greatest_each first.moment more i line is)
 
--- a number that is no more than each moment stays the least_moment, and one that is no less than each is an upper bound
+-- a number that is no more than each moment stays the least one, and one that is no less than each is an upper bound
 least_stays : (a : ℕ) (lines : List Line) → ((i : ℕ) (line : Line) → slice_get lines i ≡ Some line → a ≤ line.moment) → least_from a lines ≡ a
 least_stays a [] low = refl
 least_stays a (line ∷ later) low = ap (λ n. least_from n later) (omega (arith, low 0 line refl)) ∙ least_stays a later (λ i l is. low (suc i) l is)
