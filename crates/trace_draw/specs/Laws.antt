@@ -1,0 +1,117 @@
+-- What holds of the pictures of a trace. The lines stand in the order of the trace, the oldest first.
+-- All of it is this project's rule.
+use Rattle.std.specs.Prelude.{◌≡◌, ℕ, ◌+◌, ◌<◌, ◌≤◌, ◌==◌, ◌&&◌, Bool, true, false, List, ◌∷◌, ◌++◌, length, Some, slice_get, is_some}
+use Rattle.queue_code.specs.Calls.{Planned, IsOrderly, how_many}
+use Rattle.executor_core.specs.Counts.{IsWorkerCount}
+use Rattle.executor_core.specs.declared.types.Answer.{Answer}
+use Rattle.executor_core.specs.declared.types.Answer.TheVariants as a
+use Rattle.executor_core.specs.declared.types.Line.{Line}
+use Rattle.executor_core.specs.declared.types.Message.{Message}
+use Rattle.executor_core.specs.declared.types.Message.TheVariants as m
+use Rattle.executor_core.specs.Histories.{HistoryEntry, IsHistoryOf}
+use Rattle.executor_core.specs.Flows.{answer_line, lines_of}
+use Rattle.executor_laws.specs.Positions.{finishes_by}
+use Rattle.trace_check.specs.Findings.{Conforms}
+use Rattle.trace_draw.specs.declared.bars.Bar.{Bar}
+use Rattle.trace_draw.specs.declared.bars.Finish.{Finish}
+use Rattle.trace_draw.specs.Bars.{finish_of, bars_of}
+use Rattle.trace_draw.specs.Marks.{marks_of}
+use Rattle.trace_draw.specs.Texts.{AreSpelled}
+
+-- these are the lines of a history that means the calls
+pub record IsTraceOf (calls : List Planned) (workers : ℕ) (lines : List Line) : Type 0 where
+  pub past : List HistoryEntry
+  pub means : IsHistoryOf calls workers past
+  pub are : lines ≡ lines_of calls past
+
+-- the lines of a text that conforms are such
+abbrev pub ConformingTextsAreTraces : Type 0
+ConformingTextsAreTraces = (calls : List Planned) (workers : ℕ) (text : List ℕ) (lines : List Line) → IsOrderly calls → IsWorkerCount workers
+    → Conforms calls workers text → AreSpelled text lines → IsTraceOf calls workers lines
+
+-- ---- moments
+
+-- no line has a moment below that of one before it
+abbrev pub MomentsDoNotFall : Type 0
+MomentsDoNotFall = (calls : List Planned) (workers : ℕ) (lines : List Line) (i j : ℕ) (one other : Line) → IsTraceOf calls workers lines
+    → i ≤ j → slice_get lines i ≡ Some one → slice_get lines j ≡ Some other → one.moment ≤ other.moment
+
+-- ---- bars
+
+-- the line with which a run starts
+abbrev pub start_line : Bar → Line
+start_line bar = answer_line bar.first (a.Start bar.worker bar.task bar.run bar.due)
+
+-- the line with which it finishes
+abbrev pub finish_line : Bar → Finish → Line
+finish_line bar finish = answer_line finish.moment (a.Finish bar.worker bar.task bar.run finish.outcome)
+
+-- the line that starts a bar stands among the lines, and its finish is the first by its worker behind it
+pub record StartsIn (lines : List Line) (bar : Bar) : Type 0 where
+  pub before : List Line
+  pub later : List Line
+  pub parts : lines ≡ before ++ start_line bar ∷ later
+  pub finish : bar.finish ≡ finish_of bar.worker later
+
+-- each bar stands for a start of a run
+abbrev pub BarsStart : Type 0
+BarsStart = (lines : List Line) (i : ℕ) (bar : Bar) → slice_get (bars_of lines) i ≡ Some bar → StartsIn lines bar
+
+-- its worker is one of the workers
+abbrev pub BarsAreInLanes : Type 0
+BarsAreInLanes = (calls : List Planned) (workers : ℕ) (lines : List Line) (i : ℕ) (bar : Bar) → IsOrderly calls → IsTraceOf calls workers lines
+    → slice_get (bars_of lines) i ≡ Some bar → bar.worker < workers
+
+-- the line that finishes a bar stands behind the one that starts it, at no lower moment: it is of the same worker, task and run
+pub record FinishesIn (lines : List Line) (bar : Bar) (finish : Finish) : Type 0 where
+  pub before : List Line
+  pub between : List Line
+  pub behind : List Line
+  pub parts : lines ≡ before ++ start_line bar ∷ (between ++ finish_line bar finish ∷ behind)
+  pub later : bar.first ≤ finish.moment
+
+-- each bar that has a finish ends with that of its own run
+abbrev pub FinishesAreTheirOwn : Type 0
+FinishesAreTheirOwn = (calls : List Planned) (workers : ℕ) (lines : List Line) (i : ℕ) (bar : Bar) (finish : Finish) → IsTraceOf calls workers lines
+    → slice_get (bars_of lines) i ≡ Some bar → bar.finish ≡ Some finish → FinishesIn lines bar finish
+
+-- a bar is over before another begins
+pub record IsOverBefore (one other : Bar) : Type 0 where
+  pub finish : Finish
+  pub has : one.finish ≡ Some finish
+  pub over : finish.moment ≤ other.first
+
+-- of two bars in one lane the one that stands first is over before the other begins
+abbrev pub BarsDoNotOverlap : Type 0
+BarsDoNotOverlap = (calls : List Planned) (workers : ℕ) (lines : List Line) (i j : ℕ) (one other : Bar) → IsTraceOf calls workers lines
+    → i < j → slice_get (bars_of lines) i ≡ Some one → slice_get (bars_of lines) j ≡ Some other → one.worker ≡ other.worker → IsOverBefore one other
+
+-- ---- each line is shown once
+
+-- what a line says is that a worker finished a run
+abbrev pub tells_finish_by : ℕ → Message → Bool
+tells_finish_by w (m.Answer answer) = finishes_by w answer
+tells_finish_by w (m.End task) = false
+
+-- an answer says that a run was finished
+abbrev pub finishes_some : Answer → Bool
+finishes_some (a.Finish worker task run outcome) = true
+finishes_some _ = false
+
+-- the same of what a line says
+abbrev pub tells_finish : Message → Bool
+tells_finish (m.Answer answer) = finishes_some answer
+tells_finish (m.End task) = false
+
+-- the lines are as many as the bars, the finishes and the marks
+abbrev pub LinesAreCounted : Type 0
+LinesAreCounted = (lines : List Line) → length lines ≡ length (bars_of lines) + (how_many (λ line. tells_finish line.message) lines + length (marks_of lines))
+
+-- a bar is of a worker, and has a finish
+abbrev pub is_finished_of : ℕ → Bar → Bool
+is_finished_of w bar = (bar.worker == w) && is_some bar.finish
+
+-- a worker has as many finishes as bars that have one
+abbrev pub FinishesAreCounted : Type 0
+FinishesAreCounted = (calls : List Planned) (workers : ℕ) (lines : List Line) (w : ℕ) → IsTraceOf calls workers lines
+    → how_many (λ line. tells_finish_by w line.message) lines ≡ how_many (is_finished_of w) (bars_of lines)

@@ -1,0 +1,10 @@
+pub mod Bars
+pub mod Marks
+pub mod Ticks
+pub mod Scale
+pub mod Pictures
+pub mod Texts
+pub mod Whole
+pub mod Laws
+pub mod AxisLaws
+pub mod own

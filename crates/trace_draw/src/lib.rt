@@ -1,0 +1,99 @@
+//! What a picture of a trace shows: bars for the runs, marks for all other lines, and an axis of time.
+//!
+//! # Usage
+//!
+//! [`lines_of`] reads a trace, [`whole_window`] tells the part of time that it takes, and [`picture`] makes the picture. [`place`]
+//! says where a moment stands in it. No picture is drawn here: a layer above turns the value into text.
+//!
+//! ```rust
+//! let text = b"0 submit 0 schedule due 5\n5 clock\n5 start 0 task 0 run 0 due 5\n9 clock\n9 finish 0 task 0 run 0 done 7\n";
+//! let lines = lines_of(alloc, text)?;
+//! let window = whole_window(&lines);                 // from 0 to 9
+//! let shown = picture(alloc, &lines, 1, window, 2_000)?;
+//! shown.bars();     // one: worker 0, task 0, run 0, due at 5, from 5 to its finish at 9, done with 7
+//! shown.marks();    // three: the submission, and two clocks
+//! shown.ticks();    // ten: 0 ns, 1 ns, and so on to 9 ns
+//! place(window, 900, 5);                             // 500
+//! ```
+//!
+//! # Behaviour
+//!
+//! A [`Bar`] stands for each line that starts a run: from its moment to the first finish by the same worker behind it, or open,
+//! where there is none. Each other line is a mark, unless it finishes a run: a submission, a refusal, a cancel, the end of a
+//! task, a policy, a shutdown, an `ask`, a clock, a worker that is idle, an error. A picture shows the bars of which its
+//! [`Window`] has a part, also where they reach over an end of it, and the marks within it. Both ends of a window are shown.
+//!
+//! The lines may be any. Of those of a trace that conforms more is so: their moments do not fall ([`moments_do_not_fall`]), the
+//! finish of a bar is that of its own task and run ([`finishes_are_their_own`]), bars in one lane do not overlap
+//! ([`bars_do_not_overlap`]), and each worker has as many finishes as bars that have one ([`finishes_are_counted`]). So each of
+//! their lines is shown once: [`lines_are_counted`].
+//!
+//! [`Tick`]s stand at each multiple of a step that the window shows: the first step of 1, 2, 5, 10, 20, 50, 100, 200, 500 ns, the
+//! same of us and ms, 1, 2, 5, 10, 15, 30 s and min, 1, 2, 3, 6, 12 h, and 1, 2, 5 d and so on to 50,000 d, of which ten reach over
+//! it. So there are eleven at most ([`ticks_are_few`]), and each says its moment exactly ([`ticks_stand`]).
+//!
+//! [`place`] rounds down, never lets a later moment stand before an earlier one ([`places_rise`]), and puts the ends of a window at
+//! 0 and at the width ([`places_reach_the_ends`]).
+//!
+//! # Order and ties
+//!
+//! Lines stand in the order of the trace, the oldest first. Bars stand in the order of their starts, marks in that of their lines,
+//! ticks ascend.
+//!
+//! # Errors
+//!
+//! [`PictureError::Crowded`] tells how many marks the window shows, where they are more than asked for, and else how many bars. It
+//! is found before any memory is taken, and comes exactly then. [`LinesError::NotATrace`] tells the first line of a text that is no
+//! line of a trace. [`PictureError::Memory`] and [`LinesError::Memory`] come where a growth was refused. Nothing is kept after an
+//! error.
+//!
+//! # Memory and cost
+//!
+//! A picture takes memory for what it shows alone. Lines are gone over twice for marks and twice for bars, from the last one to the
+//! first, with a table of 256 workers: time grows with the number of lines, whatever they are. A text is read in one pass.
+//!
+//! # Tests
+//!
+//! They stand under `src/tests`.
+#![tactic(auto)]
+
+mod axis;
+mod axis_laws;
+mod bars;
+mod drawing;
+mod ends;
+mod equality;
+mod error;
+mod laws;
+mod lines;
+mod marks;
+mod scale;
+mod shown;
+mod steps;
+#[cfg(test)]
+mod tests;
+mod ticks;
+mod whole;
+mod window;
+
+pub use axis_laws::{
+    multiples_have_ticks, places_are_exact, places_are_within, places_reach_the_ends, places_rise,
+    steps_reach, ticks_are_few, ticks_ascend, ticks_stand, whole_is_first_to_last, whole_shows_all,
+};
+pub use bars::{Bar, Finish};
+pub use drawing::picture;
+pub use equality::{
+    bar_equality_tells, finish_equality_tells, lines_error_equality_tells,
+    picture_error_equality_tells, tick_equality_tells, window_equality_tells,
+};
+pub use error::{LinesError, PictureError};
+pub use laws::{
+    bars_are_in_lanes, bars_do_not_overlap, bars_start, conforming_texts_are_traces,
+    finishes_are_counted, finishes_are_their_own, lines_are_counted, moments_do_not_fall,
+};
+pub use lines::lines_of;
+pub use scale::place;
+pub use shown::Picture;
+pub use ticks::Tick;
+pub use whole::whole_window;
+pub use window::Window;
