@@ -1,0 +1,3 @@
+pub mod Ops
+pub mod Told
+pub mod Given

@@ -1,0 +1,48 @@
+//! A submission of a plan.
+
+use crate::words::kind_text;
+use executor_core::Kind;
+use plan_read::Name;
+use std::fmt;
+use std::marker::Model;
+
+/// A submission of a plan, as it is made in one iteration of its block. Contracts see it with the bytes of its name.
+#[derive(Debug, Drop)]
+pub struct Submission<'a> {
+    /// The number of its task.
+    pub task: u32,
+    /// Its name in the plan's text, which all iterations of its block share.
+    pub name: &'a Name,
+    /// Its kind; that of an `execute` is [`Kind::Schedule`].
+    pub kind: Kind,
+    /// The moment of its call, 0 to 2^62 nanoseconds.
+    pub moment: u64,
+    /// The due moment of its first run, at most 2^63 nanoseconds, and none where its period, or its fixed delay, is illegal.
+    pub due: Option<u64>,
+}
+
+impl<'a> Model for Submission<'a> {
+    ghost use Rattle.task_list.specs.Submissions.{Submitted};
+
+    ghost Value = { Submitted };
+
+    ghost view = { λ s. record { task = s.task; name = s.name.now; kind = s.kind; moment = s.moment; due = s.due } };
+}
+
+impl<'a> fmt::Display for Submission<'a> {
+    ghost use Rattle.std.specs.Prelude.{Some};
+    ghost use Rattle.task_list.specs.Lines.{submission_text};
+
+    ghost output = { λ s. Some (submission_text s) };
+
+    fn fmt<W: fmt::Write>(&self, f: &mut fmt::Formatter<W>) -> fmt::Result {
+        let task = self.task;
+        let name = self.name.as_str();
+        let kind = kind_text(self.kind);
+        let moment = self.moment;
+        match self.due {
+            Some(due) => write!(f, "{task} {name} {kind} submitted {moment} due {due}"),
+            None => write!(f, "{task} {name} {kind} submitted {moment} refused illegal"),
+        }
+    }
+}

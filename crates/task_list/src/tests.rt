@@ -1,0 +1,112 @@
+mod memory;
+mod rows;
+mod writers;
+
+use crate::names::names_of_tasks;
+use crate::submissions::Submissions;
+use crate::writing::write_tasks;
+use executor_core::Kind;
+use plan_read::{PlanFault, PlanFaultKind, read_plan};
+use sched_engine::{RunError, Writing};
+use std::alloc::Global;
+use std::process::Abort;
+use std::test::Fail;
+
+/// A plan with each kind of submission, and calls that are none. Its block is made twice, and so is a second one.
+const EACH_KIND: &str = "\
+version = 1
+
+[[block]]
+at = 100
+times = 2
+every = 10
+call = [
+  { op = \"schedule\", name = \"once\", delay = 50 },
+  { at = 1, op = \"ask\" },
+  { at = 2, op = \"execute\", name = \"at-once\" },
+  { at = 3, op = \"rate\", name = \"by_rate\", first = 4, period = 5 },
+  { at = 4, op = \"cancel\", name = \"once\" },
+  { at = 5, op = \"fixed\", name = \"F\", first = 6, delay = 7 },
+]
+
+[[block]]
+at = 200
+call = [
+  { op = \"rate\", name = \"never\", first = 1, period = 0 },
+  { op = \"shutdown\" },
+  { at = 1, op = \"fixed\", name = \"nor-this\", first = 1, delay = -1 },
+]
+";
+
+/// Its tasks.
+const ITS_TASKS: &str = "\
+0 once schedule submitted 100 due 150
+1 at-once schedule submitted 102 due 102
+2 by_rate rate submitted 103 due 107
+3 F fixed submitted 105 due 111
+4 once schedule submitted 110 due 160
+5 at-once schedule submitted 112 due 112
+6 by_rate rate submitted 113 due 117
+7 F fixed submitted 115 due 121
+8 never rate submitted 200 refused illegal
+9 nor-this fixed submitted 201 refused illegal
+";
+
+/// What the writing of a plan's tasks answered, and what it wrote.
+fn written(alloc: Global, plan: &str) -> (Result<(), RunError>, Vec<u8>) {
+    let mut writer = Writing::new(Vec::new(alloc));
+    let answer = write_tasks(alloc, plan.as_bytes(), &mut writer);
+    (answer, writer.into_inner())
+}
+
+/// Checks the lines of a plan's tasks.
+fn writes(rt: &(impl AllocGlobal + Abort), plan: &str, lines: &str) {
+    let (answer, text) = written(rt.alloc(), plan);
+    assert!(rt; answer == Ok(()), "{plan}: {answer:?}");
+    assert!(rt; text.as_slice() == lines.as_bytes(), "{plan}");
+}
+
+#[test]
+fn names_each_task(rt: HostRuntime) -> Result<(), Fail> {
+    let plan = read_plan(rt.alloc(), EACH_KIND.as_bytes())?;
+    let names = names_of_tasks(rt.alloc(), &plan)?;
+    let expected = [
+        "once", "at-once", "by_rate", "F", "once", "at-once", "by_rate", "F", "never", "nor-this",
+    ];
+    assert_eq!(rt; names.len(), expected.len());
+    for (name, text) in names.iter().zip(expected.iter()) {
+        assert_eq!(rt; name.as_str(), *text);
+    }
+    Ok(())
+}
+
+#[test]
+fn gives_each_submission(rt: HostRuntime) -> Result<(), Fail> {
+    let plan = read_plan(rt.alloc(), EACH_KIND.as_bytes())?;
+    let mut submissions = Submissions::new(&plan);
+    let first = submissions.next().ok_or("none")?;
+    assert_eq!(rt; (first.task, first.kind), (0, Kind::Schedule));
+    assert_eq!(rt; (first.moment, first.due), (100, Some(150)));
+    assert_eq!(rt; first.name.as_str(), "once");
+    let told = format!(in rt.alloc(); "{first}")?;
+    assert_eq!(rt; told.as_str(), "0 once schedule submitted 100 due 150");
+    let mut count = 0u32;
+    let mut illegal = 0u32;
+    for submission in submissions {
+        count = count.saturating_add(1);
+        illegal = illegal.saturating_add(u32::from(submission.due.is_none()));
+        assert_eq!(rt; submission.task, count);
+    }
+    assert_eq!(rt; (count, illegal), (9, 2));
+    Ok(())
+}
+
+#[test]
+fn tells_an_illegal_submission(rt: HostRuntime) -> Result<(), Fail> {
+    let plan = read_plan(rt.alloc(), EACH_KIND.as_bytes())?;
+    let mut submissions = Submissions::new(&plan);
+    let never = submissions.nth(8).ok_or("none")?;
+    let told = format!(in rt.alloc(); "{never}")?;
+    assert_eq!(rt; told.as_str(), "8 never rate submitted 200 refused illegal");
+    Ok(())
+}
