@@ -44,7 +44,7 @@ fn a_front_is_written_where_the_writer_is_at_fault(rt: HostRuntime) {
             let (answer, is_front, len) = scripted(rt.alloc(), script);
             assert!(rt; answer == Err(RunError::Write), "{answer:?}");
             assert!(rt; is_front);
-            assert_eq!(rt; len as u32, 7 * (trouble_at - 1));
+            assert_eq!(rt; len as u64, u64::from(7 * (trouble_at - 1)));
         }
     }
 }
