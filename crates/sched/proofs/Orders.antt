@@ -16,18 +16,19 @@ use Rattle.plan_read.proofs.TextLaw.{text_never_both}
 use Rattle.pool_engine.specs.PoolRuns.{PoolRan}
 use Rattle.sched_engine.specs.Running.{IsAccepted, IsUntouched, Ran, RefusesToRun}
 use Rattle.sched_engine.specs.CodeTexts.{Listed}
+use Rattle.task_list.specs.Writing.{TasksWritten}
 use Rattle.sched_engine.specs.declared.report.Report.{Report}
 use Rattle.sched_engine.specs.declared.report.RunError.{RunError}
 use Rattle.sched_engine.specs.declared.report.RunError.TheVariants as x
 use Rattle.sched.specs.declared.error.ProgramError.{ProgramError}
 use Rattle.sched.specs.declared.error.ProgramError.TheVariants.{PlanFile, TraceFile, TraceTooLong, Run}
 use Rattle.sched.specs.declared.arguments.RunArguments.{RunArguments}
-use Rattle.sched.specs.Answers.{ListedAsAsked, MigratedAsAsked, PooledAsAsked, RanAsAsked, TellsEnd}
+use Rattle.sched.specs.Answers.{ListedAsAsked, MigratedAsAsked, PooledAsAsked, RanAsAsked, TellsEnd, ToldTasksAsAsked}
 use Rattle.sched.specs.Commands.{IsEndOf, NamesCheck}
 use Rattle.sched.specs.Errors.{IsToldAs, status_of}
 use Rattle.sched.specs.Findings.{IsCheckedAsAsked}
 use Rattle.trace_check.specs.Standing.{most_bytes}
-use Rattle.sched.specs.Order.{◌barring◌, AnswersCheck, AnswersCode, AnswersMigrate, AnswersPool, AnswersRun, AnswersToPlan, NoneTold, PlanFails, code_faults, is_worker_count, migrate_faults, run_faults}
+use Rattle.sched.specs.Order.{◌barring◌, AnswersCheck, AnswersCode, AnswersMigrate, AnswersPool, AnswersRun, AnswersTasks, AnswersToPlan, NoneTold, PlanFails, code_faults, is_worker_count, migrate_faults, run_faults}
 
 -- what stays is kept
 pub kept : (contents : Option (List ℕ)) → Keeps contents contents
@@ -200,6 +201,28 @@ code_read text answer IsPlan old new read all = go all.ended all.listed all.told
     go (Err x.Full) listed told = absurd listed.0
     go (Err x.Read) listed told = absurd listed.0
     go (Err x.Lost) listed told = absurd listed.0
+
+-- ---- the tasks
+
+-- the plan's file was read
+pub tasks_read : (text : List ℕ) (answer : Result ℕ ProgramError) (IsPlan : Option (List ℕ) → Type 0) (old new : Option (List ℕ))
+    → IsPlan (Some text) → ToldTasksAsAsked answer text old new → AnswersTasks answer IsPlan old new
+tasks_read text answer IsPlan old new read all = go all.ended all.written all.told
+  where
+    go : (ended : Result (Unit {0}) RunError) → TasksWritten ended text old new → TellsEnd ended answer → AnswersTasks answer IsPlan old new
+    go (Ok done) written told = inr (Some text, read, inr (no_code_fault text written.1.plan written.1.reads, all))
+    go (Err x.Write) written told = inr (Some text, read, inr (no_code_fault text written.1.plan written.1.reads, all))
+    go (Err (x.Plan fault)) written told = elim (told_plan text fault told.0 written.0 told.1) [
+      | inl memory ↦ inl (told.2 ∙ ap Err memory, written.1)
+      | inr first ↦ inr (Some text, read, inl (told.0, inr (plan_there text, inl first), told.2, written.1))
+    ]
+    go (Err x.Memory) written told = inl (told.2 ∙ ap Err told.1, written.1)
+    go (Err x.Workers) written told = absurd written.0
+    go (Err x.Limit) written told = absurd written.0
+    go (Err (x.EventLine n)) written told = absurd written.0
+    go (Err x.Full) written told = absurd written.0
+    go (Err x.Read) written told = absurd written.0
+    go (Err x.Lost) written told = absurd written.0
 
 -- ---- a migration
 

@@ -1,4 +1,4 @@
--- Answers: how the end of a run, of a listing or of a migration is told.
+-- Answers: how the end of a run, of a listing, of a list of tasks or of a migration is told.
 -- All of it is this project's rule.
 use Rattle.std.specs.Prelude.{◌≡◌, ℕ, List, Option, Result, Ok, Err, take}
 use Rattle.std.specs.Io.KnownBytes.{Appends}
@@ -9,6 +9,7 @@ use Rattle.sched.specs.declared.error.ProgramError.{ProgramError}
 use Rattle.sched.specs.declared.error.ProgramError.TheVariants.{Run}
 use Rattle.sched_engine.specs.Running.{Ran}
 use Rattle.sched_engine.specs.CodeTexts.{Listed}
+use Rattle.task_list.specs.Writing.{TasksWritten}
 use Rattle.pool_engine.specs.PoolRuns.{PoolRan}
 use Rattle.sched_engine.specs.declared.report.Report.{Report}
 use Rattle.sched_engine.specs.declared.report.RunError.{RunError}
@@ -35,6 +36,12 @@ pub record PooledAsAsked (answer : Result ℕ ProgramError) (asked : RunArgument
 pub record ListedAsAsked (answer : Result ℕ ProgramError) (text : List ℕ) (old new : Option (List ℕ)) : Type 0 where
   pub ended : Result (Unit {0}) RunError
   pub listed : Listed ended text old new
+  pub told : TellsEnd ended answer
+
+-- the tasks of the plan that the text writes, and their end as the answer tells it
+pub record ToldTasksAsAsked (answer : Result ℕ ProgramError) (text : List ℕ) (old new : Option (List ℕ)) : Type 0 where
+  pub ended : Result (Unit {0}) RunError
+  pub written : TasksWritten ended text old new
   pub told : TellsEnd ended answer
 
 -- the migration of the plan that the text writes, as the answer tells it: the whole of it was written, or a front of it where the

@@ -8,7 +8,7 @@ use Rattle.sched.specs.declared.arguments.RunArguments.{RunArguments}
 use Rattle.sched.specs.declared.arguments.PlanArguments.{PlanArguments}
 use Rattle.sched.specs.declared.arguments.CheckArguments.{CheckArguments}
 use Rattle.sched.specs.declared.arguments.Asked.{Asked}
-use Rattle.sched.specs.declared.arguments.Asked.TheVariants.{Run, Pool, Code, Check, Migrate}
+use Rattle.sched.specs.declared.arguments.Asked.TheVariants.{Run, Pool, Code, Tasks, Check, Migrate}
 
 -- a text writes, in decimal digits, a number that fits `bits` bits
 abbrev pub WritesNumber : ℕ → Text → Type 0
@@ -26,7 +26,7 @@ pub record AsksForRun (rows : List Row) (asked : RunArguments) : Type 0 where
   pub workers : IsNumberOf 8 (one_of (codes "workers") rows) asked.workers
   pub limit : IsNumberOf 32 (one_of (codes "limit") rows) asked.limit
 
--- the name is the value of the argument of `code` or `migrate`
+-- the name is the value of the argument of `code`, `tasks` or `migrate`
 abbrev pub AsksForPlan : List Row → PlanArguments → Type 0
 AsksForPlan rows asked = asked.path.now ≡ unwrap_or (first_of (codes "plan") rows) []
 
@@ -36,14 +36,15 @@ pub record AsksForCheck (rows : List Row) (asked : CheckArguments) : Type 0 wher
   pub trace : asked.trace.now ≡ unwrap_or (first_of (codes "trace") rows) []
   pub workers : IsNumberOf 8 (one_of (codes "workers") rows) asked.workers
 
--- what is asked for, by the command that is named, with what a command line holds for its arguments: a listing by `code`, a
--- check by `check`, a migration by `migrate`, a run by a pool by `pool`, and a run by any other one, which is `run`
+-- what is asked for, by the command that is named, with what a command line holds for its arguments: a listing by `code`, the tasks
+-- by `tasks`, a check by `check`, a migration by `migrate`, a run by a pool by `pool`, and a run by any other one, which is `run`
 abbrev pub AsksIn : Option (Text × List Row) → Asked → Type 0
 AsksIn named (Code c) = (rows : List Row) × (named ≡ Some (codes "code", rows)) × AsksForPlan rows c
+AsksIn named (Tasks t) = (rows : List Row) × (named ≡ Some (codes "tasks", rows)) × AsksForPlan rows t
 AsksIn named (Check c) = (rows : List Row) × (named ≡ Some (codes "check", rows)) × AsksForCheck rows c
 AsksIn named (Migrate m) = (rows : List Row) × (named ≡ Some (codes "migrate", rows)) × AsksForPlan rows m
 AsksIn named (Pool p) = (rows : List Row) × (named ≡ Some (codes "pool", rows)) × AsksForRun rows p
-AsksIn named (Run r) = (name : Text) × (rows : List Row) × (named ≡ Some (name, rows)) × (name ≢ codes "code") × (name ≢ codes "check") × (name ≢ codes "pool") × (name ≢ codes "migrate") × AsksForRun rows r
+AsksIn named (Run r) = (name : Text) × (rows : List Row) × (named ≡ Some (name, rows)) × (name ≢ codes "code") × (name ≢ codes "tasks") × (name ≢ codes "check") × (name ≢ codes "pool") × (name ≢ codes "migrate") × AsksForRun rows r
 
 -- what the arguments of a command line ask for
 abbrev pub Asks : List Text → Asked → Type 0

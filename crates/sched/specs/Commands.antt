@@ -1,5 +1,5 @@
 -- Commands: the command lines that the program takes: `sched run PLAN --workers N [--limit N]`, `sched pool` with the same
--- arguments, `sched code PLAN`, `sched check PLAN TRACE --workers N` and `sched migrate PLAN`.
+-- arguments, `sched code PLAN`, `sched tasks PLAN`, `sched check PLAN TRACE --workers N` and `sched migrate PLAN`.
 -- All of it is this project's rule, in the words that clap has for arguments and commands. The texts of help are no part of it.
 use Rattle.std.specs.Prelude.{◌≡◌, ◌≢◌, ◌⊎◌, ℕ, List, [], ◌∷◌, Some, Ok, Err, Result, MatchResult, true, false, pos, codes}
 use Rattle.clap.specs.Words.{App, Row, Rule, IsAmong, fault_of, new_rule, subcommand_of}
@@ -63,6 +63,13 @@ code_app = record {
   subs = [];
 }
 
+-- `tasks` with its argument
+abbrev pub tasks_app : App
+tasks_app = record {
+  top = record (new_shape (codes "tasks")) { rules = plan_rule ∷ [] };
+  subs = [];
+}
+
 -- `check` with its three arguments
 abbrev pub check_app : App
 check_app = record {
@@ -81,7 +88,7 @@ migrate_app = record {
 abbrev pub sched_app : App
 sched_app = record {
   top = record (new_shape (codes "sched")) { is_leaf = false; subcommand_required = true };
-  subs = run_app.top ∷ pool_app.top ∷ code_app.top ∷ check_app.top ∷ migrate_app.top ∷ [];
+  subs = run_app.top ∷ pool_app.top ∷ code_app.top ∷ tasks_app.top ∷ check_app.top ∷ migrate_app.top ∷ [];
 }
 
 -- ---- what the program answers to the arguments of a command line

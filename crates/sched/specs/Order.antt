@@ -12,7 +12,7 @@ use Rattle.sched_engine.specs.declared.report.RunError.TheVariants as x
 use Rattle.sched.specs.declared.arguments.RunArguments.{RunArguments}
 use Rattle.sched.specs.declared.error.ProgramError.{ProgramError}
 use Rattle.sched.specs.declared.error.ProgramError.TheVariants.{PlanFile, TraceFile, TraceTooLong, Run}
-use Rattle.sched.specs.Answers.{ListedAsAsked, MigratedAsAsked, PooledAsAsked, RanAsAsked}
+use Rattle.sched.specs.Answers.{ListedAsAsked, MigratedAsAsked, PooledAsAsked, RanAsAsked, ToldTasksAsAsked}
 use Rattle.sched.specs.Findings.{IsCheckedAsAsked}
 use Rattle.trace_check.specs.Standing.{most_bytes}
 
@@ -44,7 +44,7 @@ MigrationTold text told = (fault : PlanFault) × MigrationFails text fault × (t
 abbrev pub is_worker_count : ℕ → Bool
 is_worker_count workers = nat_le 1 workers && nat_le workers most_workers
 
--- the faults of `sched code`
+-- the faults of `sched code` and of `sched tasks`
 abbrev pub code_faults : Option (List ℕ) → List Step
 code_faults plan =
     (PlanFile barring is_some plan)
@@ -101,6 +101,14 @@ AnswersCode answer IsPlan old new =
     ((answer ≡ Err (Run x.Memory)) × Keeps old new)
     ⊎ ((plan : Option (List ℕ)) × IsPlan plan
     × ToldOr (code_faults plan) answer (Keeps old new) (ListedAsAsked answer (bytes_of plan) old new))
+
+-- what `sched tasks` answers to what was read of the plan's file: its first fault, or the tasks. Want of memory may come in place of
+-- each answer, with nothing written
+abbrev pub AnswersTasks : Result ℕ ProgramError → (Option (List ℕ) → Type 0) → Option (List ℕ) → Option (List ℕ) → Type 0
+AnswersTasks answer IsPlan old new =
+    ((answer ≡ Err (Run x.Memory)) × Keeps old new)
+    ⊎ ((plan : Option (List ℕ)) × IsPlan plan
+    × ToldOr (code_faults plan) answer (Keeps old new) (ToldTasksAsAsked answer (bytes_of plan) old new))
 
 -- what `sched migrate` answers to what was read of the plan's file: its first fault, or a migration. Want of memory may come in
 -- place of each answer, with nothing written

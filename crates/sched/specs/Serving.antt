@@ -7,13 +7,13 @@ use Rattle.std.specs.declared.io.Error.{Error}
 use Rattle.clap.specs.Words.{Text}
 use Rattle.sched.specs.Arguments.{Asks}
 use Rattle.sched.specs.Fronts.{IsReadOf, most_of_plan, most_of_trace}
-use Rattle.sched.specs.Order.{AnswersCheck, AnswersCode, AnswersMigrate, AnswersPool, AnswersRun}
+use Rattle.sched.specs.Order.{AnswersCheck, AnswersCode, AnswersMigrate, AnswersPool, AnswersRun, AnswersTasks}
 use Rattle.sched.specs.declared.arguments.Asked.{Asked}
-use Rattle.sched.specs.declared.arguments.Asked.TheVariants.{Run, Pool, Code, Check, Migrate}
+use Rattle.sched.specs.declared.arguments.Asked.TheVariants.{Run, Pool, Code, Tasks, Check, Migrate}
 use Rattle.sched.specs.declared.error.ProgramError.{ProgramError}
 
--- what is asked for is done over the files that it names, as they are opened by their names. A listing, a check and a migration
--- read nothing else
+-- what is asked for is done over the files that it names, as they are opened by their names. A listing, a list of tasks, a
+-- check and a migration read nothing else
 abbrev pub AnswersAsked : {P : Type 0} → Result ℕ ProgramError → (P → Option (List ℕ)) → (Bor Text → Result P Error → Type 0) → Asked → Option (List ℕ) → Option (List ℕ) → Option (List ℕ) → Option (List ℕ) → Type 0
 AnswersAsked {P} answer remaining Opens (Run asked) input left old new =
     (plan : Result P Error) × Opens asked.path plan × AnswersRun answer (IsReadOf remaining most_of_plan plan) asked input left old new
@@ -21,6 +21,8 @@ AnswersAsked {P} answer remaining Opens (Pool asked) input left old new =
     (plan : Result P Error) × Opens asked.path plan × AnswersPool answer (IsReadOf remaining most_of_plan plan) asked input left old new
 AnswersAsked {P} answer remaining Opens (Code asked) input left old new =
     (plan : Result P Error) × Opens asked.path plan × AnswersCode answer (IsReadOf remaining most_of_plan plan) old new × Keeps input left
+AnswersAsked {P} answer remaining Opens (Tasks asked) input left old new =
+    (plan : Result P Error) × Opens asked.path plan × AnswersTasks answer (IsReadOf remaining most_of_plan plan) old new × Keeps input left
 AnswersAsked {P} answer remaining Opens (Check asked) input left old new =
     (plan : Result P Error) × Opens asked.path plan
     × AnswersCheck answer (IsReadOf remaining most_of_plan plan) (λ text. (trace : Result P Error) × Opens asked.trace trace × IsReadOf remaining most_of_trace trace text) asked.workers old new

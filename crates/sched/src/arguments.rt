@@ -18,6 +18,8 @@ pub enum Asked<'a> {
     Pool(RunArguments<'a>),
     /// The listing of a plan's code.
     Code(PlanArguments<'a>),
+    /// The tasks of a plan.
+    Tasks(PlanArguments<'a>),
     /// The check of a trace against a plan.
     Check(CheckArguments<'a>),
     /// The migration of a plan's text.
@@ -35,7 +37,7 @@ pub struct RunArguments<'a> {
     pub limit: u32,
 }
 
-/// What `sched code` or `sched migrate` is asked for.
+/// What `sched code`, `sched tasks` or `sched migrate` is asked for.
 #[derive(Clone, Copy, Debug)]
 pub struct PlanArguments<'a> {
     /// The name of the plan's file.
@@ -63,6 +65,9 @@ impl<'a> Asked<'a> {
         let matches = command(alloc)?.try_get_matches_from(arguments)?;
         if let Some(code) = matches.subcommand_matches("code") {
             return Ok(Asked::Code(PlanArguments::of_matches(code)));
+        }
+        if let Some(tasks) = matches.subcommand_matches("tasks") {
+            return Ok(Asked::Tasks(PlanArguments::of_matches(tasks)));
         }
         if let Some(check) = matches.subcommand_matches("check") {
             return Ok(Asked::Check(CheckArguments::of_matches(check)));
@@ -95,7 +100,7 @@ impl<'a> RunArguments<'a> {
 }
 
 impl<'a> PlanArguments<'a> {
-    /// What was found for the argument of `code` or `migrate`, as [`RunArguments`] has it.
+    /// What was found for the argument of `code`, `tasks` or `migrate`, as [`RunArguments`] has it.
     fn of_matches(matches: &ArgMatches<'a>) -> PlanArguments<'a>
         ensures { AsksForPlan (rows_of (found_of matches.now)) result }
     {

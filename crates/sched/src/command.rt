@@ -2,7 +2,7 @@
 
 ghost use Rattle.std.specs.Prelude.{◌≡◌, false, IfOk};
 ghost use Rattle.clap.specs.Words.{app_of, rule_of};
-ghost use Rattle.sched.specs.Commands.{check_app, code_app, limit_rule, migrate_app, plan_rule, pool_app, run_app, sched_app, trace_rule, workers_rule};
+ghost use Rattle.sched.specs.Commands.{check_app, code_app, limit_rule, migrate_app, plan_rule, pool_app, run_app, sched_app, tasks_app, trace_rule, workers_rule};
 
 use clap::{Arg, ArgAction, Command, value_parser};
 use executor_core::MOST_WORKERS;
@@ -174,6 +174,28 @@ Exit status:
        sched: out of memory
   2  a fault of the command line";
 
+/// What the help of `tasks` says below the options: what the lines look like, and the exit statuses.
+const TASKS: &str = "\
+A line is printed for each task that the plan submits, in the order of their
+numbers, those of each time that a block is made among them:
+  K NAME KIND submitted M due D
+  K NAME KIND submitted M refused illegal
+  K     the task's number, from 0
+  KIND  schedule, for an execute too, rate or fixed
+  M     when its call is made
+  D     when its first run is due
+A task whose period, or delay of fixed, is zero or negative is refused when its
+call is made. All times are nanoseconds.
+
+Exit status:
+  0  the tasks were printed
+  1  a fault, told by one of these lines on standard error:
+       sched: plan file not read
+       sched: plan: KIND block B call C   no plan; KIND tells what is wrong
+       sched: write fault
+       sched: out of memory
+  2  a fault of the command line";
+
 /// What the help of `check` says below the options: what is found, and the exit statuses.
 const FINDINGS: &str = "\
 What is found is printed on a line to standard output:
@@ -217,7 +239,8 @@ Exit status:
   2  a fault of the command line";
 
 /// The command lines of the program: `sched run PLAN --workers N [--limit N]`, `sched pool` with the same arguments,
-/// `sched code PLAN`, `sched check PLAN TRACE --workers N` and `sched migrate PLAN`. `Err` where memory ran out.
+/// `sched code PLAN`, `sched tasks PLAN`, `sched check PLAN TRACE --workers N` and `sched migrate PLAN`. `Err` where memory ran
+/// out.
 pub fn command<'a>(alloc: Global) -> Result<Command<'a>, AllocError>
     ensures app { IfOk result (λ c. app_of c ≡ sched_app) }
 {
@@ -230,6 +253,7 @@ pub fn command<'a>(alloc: Global) -> Result<Command<'a>, AllocError>
             .subcommand(run_command(alloc)?)?
             .subcommand(pool_command(alloc)?)?
             .subcommand(code_command(alloc)?)?
+            .subcommand(tasks_command(alloc)?)?
             .subcommand(check_command(alloc)?)?
             .subcommand(migrate_command(alloc)?)?,
     )
@@ -279,6 +303,18 @@ fn code_command<'a>(alloc: Global) -> Result<Command<'a>, AllocError>
     )
 }
 
+/// `tasks`, with its argument. `Err` where memory ran out.
+fn tasks_command<'a>(alloc: Global) -> Result<Command<'a>, AllocError>
+    ensures app { IfOk result (λ c. app_of c ≡ tasks_app) }
+{
+    Ok(
+        Command::new(alloc, "tasks")
+            .about("Prints the tasks of a plan, with their numbers and names, to standard output.")
+            .after_help(TASKS)
+            .arg(plan(alloc))?,
+    )
+}
+
 /// `check`, with its three arguments. `Err` where memory ran out.
 fn check_command<'a>(alloc: Global) -> Result<Command<'a>, AllocError>
     ensures app { IfOk result (λ c. app_of c ≡ check_app) }
@@ -299,7 +335,9 @@ fn migrate_command<'a>(alloc: Global) -> Result<Command<'a>, AllocError>
 {
     Ok(
         Command::new(alloc, "migrate")
-            .about("Prints a plan of version 1 as one of version 2 to standard output.")
+            .about(
+                "Prints a plan of version 1, the older form, as one of version 2 to standard output.",
+            )
             .after_help(MIGRATION)
             .arg(plan(alloc))?,
     )

@@ -1,5 +1,5 @@
-//! Runs a plan of scheduled tasks over lines of events or by a pool of threads, prints its code, checks traces of it, and migrates
-//! it to the next version of plans.
+//! Runs a plan of scheduled tasks over lines of events or by a pool of threads, prints its code and its tasks, checks traces of
+//! it, and migrates it to the next version of plans.
 //!
 //! # Usage
 //!
@@ -7,20 +7,22 @@
 //! sched run PLAN --workers N [--limit N]
 //! sched pool PLAN --workers N [--limit N]
 //! sched code PLAN
+//! sched tasks PLAN
 //! sched check PLAN TRACE --workers N
 //! sched migrate PLAN
 //! ```
 //!
 //! PLAN is the file of the plan, and TRACE that of a trace. There are 1 to 64 workers, and a run takes at most 1 to
 //! 4,294,967,295 events, 1,000,000 where the limit is left out. Events come on standard input, and the trace goes to
-//! standard output. `sched run --help` has the forms of all three, `sched code --help` that of a listing,
+//! standard output. `sched run --help` has the forms of all three, `sched code --help` that of a listing, `sched tasks --help` that of the tasks,
 //! `sched check --help` what a check finds, and `sched migrate --help` which plans are migrated.
 //!
 //! # Behaviour
 //!
 //! The words of the command line become one value, `Asked`, before anything is opened. Then at most 1,048,577
 //! bytes of the plan file are read, and [`run`](sched_engine::run) does the rest: it answers all that it read before it
-//! reads more. `code` writes the listing of the plan's code instead ([`write_listing`](sched_engine::write_listing)).
+//! reads more. `code` writes the listing of the plan's code instead ([`write_listing`](sched_engine::write_listing)), and `tasks` a
+//! line for each task that it submits ([`write_tasks`](task_list::write_tasks)).
 //! `pool` does it by [`run_pool`](pool_engine::run_pool): standard input has clocks alone, all of which are read first, and a run's
 //! value is its number. `check` reads the plan, then at most 67,108,865 bytes of the trace file, and writes `conforms`, or `breaks N` with the
 //! number of a line from 1 ([`check`](trace_check::check)). `migrate` writes the plan of a text of version 1 as one of version 2

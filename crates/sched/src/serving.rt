@@ -10,7 +10,7 @@ ghost use Rattle.sched_engine.specs.Running.{IsUntouched};
 
 use crate::arguments::Asked;
 use crate::error::ProgramError;
-use crate::work::{check_files, list_file, migrate_file, pool_file, run_file};
+use crate::work::{check_files, list_file, migrate_file, pool_file, run_file, tasks_file};
 use clap::Error;
 use sched_engine::{Sink, Source};
 use std::alloc::Global;
@@ -57,6 +57,7 @@ pub fn serve<
             writer,
         )),
         Asked::Code(asked) => Ok(list_file(alloc, open_file(asked.path), writer)),
+        Asked::Tasks(asked) => Ok(tasks_file(alloc, open_file(asked.path), writer)),
         Asked::Check(asked) => {
             let plan = open_file(asked.path);
             Ok(check_files(alloc, &asked, plan, open_file, writer))

@@ -2,11 +2,11 @@
 
 ghost use Rattle.std.specs.Prelude.{◌≡◌, ◌≤◌, IsErrOf, MatchResult, Result, Some};
 ghost use Rattle.std.specs.declared.io.Error.{Error};
-ghost use Rattle.sched.specs.Answers.{ListedAsAsked, PooledAsAsked, RanAsAsked};
+ghost use Rattle.sched.specs.Answers.{ListedAsAsked, PooledAsAsked, RanAsAsked, ToldTasksAsAsked};
 ghost use Rattle.sched.specs.EndCounts.{CountsInput, CountsOutput};
 ghost use Rattle.sched.specs.Errors.{status_of};
 ghost use Rattle.sched.specs.Fronts.{IsReadOf, most_of_plan, most_of_trace};
-ghost use Rattle.sched.specs.Order.{AnswersCheck, AnswersCode, AnswersMigrate, AnswersPool, AnswersRun};
+ghost use Rattle.sched.specs.Order.{AnswersCheck, AnswersCode, AnswersMigrate, AnswersPool, AnswersRun, AnswersTasks};
 
 use crate::arguments::{CheckArguments, RunArguments};
 use crate::error::ProgramError;
@@ -20,6 +20,7 @@ use std::io;
 use std::io::Read;
 use std::sync::Wait;
 use std::thread::Threads;
+use task_list::write_tasks;
 
 /// Runs the plan of a file, as the system opened it, as asked: events from the reader and the trace to the writer. `Ok` is
 /// the exit status, 0. At a fault of the file, the plan or the numbers, the first in this order, nothing is read or written.
@@ -122,6 +123,36 @@ fn list_text<A: HeapAllocator, W: Sink>(
     ensures status { MatchResult result (λ s. s ≡ 0) (λ e. status_of e ≡ 1) }
 {
     write_listing(alloc, text, writer)?;
+    Ok(0)
+}
+
+/// Writes the tasks of the plan of a file, as the system opened it. `Ok` is the exit status, 0. At a fault of the file or the
+/// plan, the first in this order, nothing is written.
+pub fn tasks_file<P: Read + Drop, W: Sink>(
+    alloc: Global,
+    plan: io::Result<P>,
+    writer: &mut W,
+) -> Result<u8, ProgramError>
+    ensures answers { AnswersTasks result (IsReadOf P.remaining most_of_plan plan) (W.contents writer.old) (W.contents writer.new) }
+    ensures write { CountsOutput result (W.failed writer.old) (W.fruitless writer.old) (W.failed writer.new) (W.fruitless writer.new) }
+    ensures unread { IsErrOf result (ProgramError.Run RunError.Read) → ⊥ }
+    ensures status { MatchResult result (λ s. s ≡ 0) (λ e. status_of e ≡ 1) }
+{
+    tasks_text(alloc, &plan_text(alloc, plan)?, writer)
+}
+
+/// Writes the tasks of a plan's text. `Ok` is the exit status, 0.
+fn tasks_text<A: HeapAllocator, W: Sink>(
+    alloc: A,
+    text: &[u8],
+    writer: &mut W,
+) -> Result<u8, ProgramError>
+    ensures told { ToldTasksAsAsked result text.now (W.contents writer.old) (W.contents writer.new) }
+    ensures write { CountsOutput result (W.failed writer.old) (W.fruitless writer.old) (W.failed writer.new) (W.fruitless writer.new) }
+    ensures unread { IsErrOf result (ProgramError.Run RunError.Read) → ⊥ }
+    ensures status { MatchResult result (λ s. s ≡ 0) (λ e. status_of e ≡ 1) }
+{
+    write_tasks(alloc, text, writer)?;
     Ok(0)
 }
 

@@ -19,6 +19,7 @@ fn in_words(alloc: Global, arguments: &[String]) -> Result<String, Fail> {
             format!(in alloc; "check {} {} {}", asked.path, asked.trace, asked.workers)?
         }
         Ok(Asked::Migrate(asked)) => format!(in alloc; "migrate {}", asked.path)?,
+        Ok(Asked::Tasks(asked)) => format!(in alloc; "tasks {}", asked.path)?,
         Err(error) => format!(in alloc; "status {}", error.exit_code())?,
     };
     Ok(words)
@@ -77,7 +78,7 @@ fn takes_two_names_and_a_number_for_a_check(rt: HostRuntime) -> Result<(), Fail>
 fn takes_a_name_for_a_migration(rt: HostRuntime) -> Result<(), Fail> {
     tells_each(
         &rt,
-        "migrate p | sched migrate p\nmigrate -p | sched migrate -- -p",
+        "tasks p | sched tasks p\nmigrate p | sched migrate p\nmigrate -p | sched migrate -- -p",
     )
 }
 
@@ -89,6 +90,8 @@ status 2 | sched
 status 2 | sched code
 status 2 | sched code p q
 status 2 | sched code p --workers 1
+status 2 | sched tasks
+status 2 | sched tasks p q
 status 2 | sched migrate
 status 2 | sched migrate p q
 status 2 | sched migrate p --workers 1

@@ -43,8 +43,9 @@ fn help_names_the_command_and_the_statuses(rt: HostRuntime) {
             "  run      Runs a plan over the events on standard input",
             "  pool     Runs a plan by threads through the clocks on standard input",
             "  code     Prints the queue code of a plan to standard output",
+            "  tasks    Prints the tasks of a plan, with their numbers and names, to standard output",
             "  check    Checks that a trace is one that a plan allows",
-            "  migrate  Prints a plan of version 1 as one of version 2 to standard output",
+            "  migrate  Prints a plan of version 1, the older form, as one of version 2 to standard output",
             "'sched run --help' tells what a plan, an event and a trace look like.\n",
             "  0  done\n",
             "  1  a fault, told by a line on standard error, or a trace that breaks\n",
@@ -102,6 +103,27 @@ fn help_of_code_names_each_instruction(rt: HostRuntime) {
             "endloop",
             "halt",
             "  1  a fault, told by one of these lines",
+        ],
+    );
+}
+
+#[test]
+fn help_of_tasks_names_what_a_line_has(rt: HostRuntime) {
+    shows(
+        &rt,
+        &[b"sched", b"tasks", b"--help"],
+        0,
+        &[
+            "Usage: sched tasks <PLAN>\n",
+            "  K NAME KIND submitted M due D\n",
+            "  K NAME KIND submitted M refused illegal\n",
+            "All times are nanoseconds.\n",
+            "  0  the tasks were printed\n",
+            "sched: plan file not read\n",
+            "sched: plan: KIND block B call C",
+            "sched: write fault\n",
+            "sched: out of memory\n",
+            "  2  a fault of the command line\n",
         ],
     );
 }

@@ -151,6 +151,21 @@ fn prints_the_code_of_the_plan(rt: HostRuntime) {
 }
 
 #[test]
+fn prints_the_tasks_of_the_plan(rt: HostRuntime) {
+    let mut tasks = given(&[b"sched", b"tasks", b"plan.toml"], "");
+    ends_given(&rt, tasks, 0, "0 a schedule submitted 0 due 5\n", "");
+    tasks.is_closed = true;
+    ends_given(&rt, tasks, 1, "", "sched: write fault\n");
+    let other = given(&[b"sched", b"tasks", b"other.toml"], "");
+    ends_given(&rt, other, 1, "", "sched: plan file not read\n");
+    let wrong = Given {
+        plan: file(b"version = 3\n"),
+        ..given(&[b"sched", b"tasks", b"plan.toml"], "")
+    };
+    ends_given(&rt, wrong, 1, "", "sched: plan: Version block 0 call 0\n");
+}
+
+#[test]
 fn runs_a_delay_far_below_zero_as_none(rt: HostRuntime) {
     let plan = b"version = 1
 [[block]]
