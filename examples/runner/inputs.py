@@ -83,7 +83,10 @@ def call_moments(listing: list[str]) -> deque[int]:
 def read_plan(program: str, plan: str) -> tuple[list[str], deque[int]]:
     """The name of each task, by its number, and the moments of the plan's calls."""
     try:
-        names = [line.split()[1] for line in printed(program, "tasks", plan)]
+        tasks = [line.split()[:2] for line in printed(program, "tasks", plan)]
+        names = [name for _, name in tasks]
+        if [int(number) for number, _ in tasks] != list(range(len(tasks))):
+            raise ValueError("the tasks are not in order")
         return names, call_moments(printed(program, "code", plan))
-    except (ValueError, IndexError) as error:
+    except ValueError as error:
         raise Fault(f"program: {program!r} is no 'sched'") from error

@@ -43,16 +43,15 @@ from functools import partial
 from pathlib import Path
 
 sys.dont_write_bytecode = True
+from executor import Executor
 from inputs import SECOND, Fault, Job, read_jobs, read_plan
 
 BUILT = Path(__file__).resolve().parents[2] / "crates" / "sched" / "out" / "sched"
-MOST_EVENTS = 2**32 - 1
 MOST_WORKERS = 64
 MOST_INPUT_BYTES = 64
 GRACE = SECOND
 LONGEST_SLEEP_S = 86_400.0
 HUNG, NOT_STARTED, NOT_FOUND, SIGNALLED = 124, 126, 127, 128
-ANSWERS = {"clock", "start", "finish", "outside", "error"}
 
 
 def tell(text: str) -> None:
@@ -60,68 +59,6 @@ def tell(text: str) -> None:
     with contextlib.suppress(OSError, AttributeError):
         sys.stderr.write(text + "\n")
         sys.stderr.flush()
-
-
-# ---- the program, and its trace
-
-
-class Executor:
-    """`sched run`, which takes events one at a time. What it answers is the trace."""
-
-    def __init__(self, program: str, plan: str, workers: int, trace: str) -> None:
-        self.workers, self.trace, self.part = workers, trace, trace + ".part"
-        if not os.path.basename(trace) or (os.path.exists(trace) and not os.path.isfile(trace)):
-            raise Fault(f"trace: {trace!r} can't be a file")
-        try:
-            self.file = open(self.part, "w", encoding="latin-1")
-        except OSError as error:
-            raise Fault(f"trace: {self.part!r} not written: {error.strerror}") from error
-        words, pipe = [program, "run", plan, "--workers", str(workers), "--limit", str(MOST_EVENTS)], subprocess.PIPE
-        self.process = subprocess.Popen(words, stdin=pipe, stdout=pipe, encoding="latin-1", start_new_session=True)
-
-    def event(self, event: str) -> list[list[str]]:
-        """Gives an event. Returns the words of each line that it is answered, its own line last."""
-        with contextlib.suppress(BrokenPipeError):
-            self.process.stdin.write(event + "\n")
-            self.process.stdin.flush()
-        lines: list[str] = []
-        while not lines or ANSWERS.isdisjoint(lines[-1].split()[1:2]):
-            lines.append(self.process.stdout.readline())
-            if not lines[-1].endswith("\n"):
-                self.lost()
-        self.write("".join(lines))
-        if "error" in lines[-1].split():
-            raise Fault(f"program: {event!r} was answered {lines[-1]!r}")
-        return [line.split() for line in lines]
-
-    def write(self, lines: str) -> None:
-        """Writes whole lines of the trace."""
-        try:
-            self.file.write(lines)
-            self.file.flush()
-        except OSError as error:
-            raise Fault(f"trace: {self.part!r} not written: {error.strerror}") from error
-
-    def lost(self) -> None:
-        """The program has ended though more events come, or says what it was not asked."""
-        raise Fault(f"program: ended too early; the trace up to then is {self.part!r}")
-
-    def close(self) -> None:
-        """Ends the program. The trace is whole now."""
-        self.process.stdin.close()
-        if self.process.stdout.read() or self.process.wait():
-            self.lost()
-        self.file.close()
-        os.replace(self.part, self.trace)
-
-    def abandon(self) -> None:
-        """Ends the program, where it still runs."""
-        with contextlib.suppress(OSError):
-            self.process.stdin.close()
-        with contextlib.suppress(OSError):
-            self.file.close()
-        self.process.kill()
-        self.process.wait()
 
 
 # ---- the jobs
@@ -176,9 +113,10 @@ class Runner:
         self.event("clock 0")
         self.origin = time.monotonic_ns()
         while not self.is_over():
+            before = self.now()  # a job that is seen to run in this turn has not ended before this
             for key, _ in self.selector.select(self.seconds_to_sleep()):
                 key.data()
-            self.end_hung()
+            self.end_hung(before)
             self.take_due()
 
     def is_over(self) -> bool:
@@ -242,9 +180,8 @@ class Runner:
         run.pidfd = os.pidfd_open(run.process.pid)
         self.watch(run.pidfd, partial(self.reap, run))
 
-    def end_hung(self) -> None:
-        """Ends the jobs whose timeout has come: they are told to end, and a while later they are killed."""
-        now = self.now()
+    def end_hung(self, now: int) -> None:
+        """Ends jobs that ran past their timeout, as was seen at this moment: by SIGTERM, and a while later by SIGKILL."""
         for run in self.running.values():
             if run.ends_at is not None and run.ends_at <= now:
                 run.signal_all(signal.SIGKILL if run.is_hung else signal.SIGTERM)
@@ -275,7 +212,10 @@ class Runner:
 
     def read_input(self) -> None:
         """Reads lines of standard input. Of one that is too long a front is kept, which is no `cancel` either."""
-        piece = os.read(0, 65_536)
+        try:
+            piece = os.read(0, 65_536)
+        except OSError:
+            piece = b""
         *lines, rest = (self.rest + piece).split(b"\n")
         self.rest = rest[:MOST_INPUT_BYTES]
         for line in lines:
@@ -325,8 +265,8 @@ def arguments() -> argparse.Namespace:
     parser = argparse.ArgumentParser(prog="runner.py", description=about, allow_abbrev=False)
     parser.add_argument("plan", metavar="PLAN", help="the plan, a file as 'sched run' takes it")
     parser.add_argument("jobs", metavar="JOBS", help="a file of TOML: for each name of a task its command and timeout_s")
-    parser.add_argument("--workers", metavar="N", type=worker_count, required=True, help="how many jobs may run at a time, 1 to 64")
-    parser.add_argument("--trace", metavar="FILE", default="trace.txt", help="the file of the trace, trace.txt where left out")
+    parser.add_argument("--workers", metavar="N", type=worker_count, required=True, help="how many jobs run at a time, 1 to 64")
+    parser.add_argument("--trace", metavar="FILE", default="trace.txt", help="the trace's file, trace.txt where left out")
     parser.add_argument("--sched", metavar="PROGRAM", help="the program 'sched', the built one where left out")
     return parser.parse_args()
 
@@ -354,6 +294,8 @@ def serve(asked: argparse.Namespace) -> None:
     """Does what is asked for. All that is read is looked at before the trace is begun."""
     signals = wakes_by_signals()
     program, plan = program_named(asked.sched), os.path.abspath(asked.plan)
+    if os.path.realpath(asked.trace) in (os.path.realpath(plan), os.path.realpath(asked.jobs)):
+        raise Fault(f"trace: {asked.trace!r} is the plan or the jobs")
     names, calls = read_plan(program, plan)
     jobs = read_jobs(asked.jobs, set(names))
     executor = Executor(program, plan, asked.workers, asked.trace)

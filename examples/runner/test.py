@@ -221,6 +221,8 @@ def cancel(program: str) -> Checks:
 
 # ---- signals, sleep, and a program that dies
 
+PLAN = 'version = 2\n[[block]]\n[[block.call]]\nop = "execute"\nname = "a"\n'
+JOBS = '[a]\ncommand = ["true"]\ntimeout_s = 1\n'
 SLEEPERS = """
 version = 2
 [[block]]
@@ -298,6 +300,18 @@ def dies(program: str) -> Checks:
         yield "its front conforms", session.conforms("trace.txt.part")
 
 
+def held_up(program: str) -> Checks:
+    """A job that ended in time did not hang, also where the runner is stopped from before its end to after its timeout."""
+    jobs = '[a]\ncommand = ["sh", "-c", "touch begun; sleep 0.5"]\ntimeout_s = 1\n'
+    with Session(program, PLAN, jobs, "--workers", "1") as session:
+        yield "a job runs", soon(lambda: "begun" in session.files())
+        session.runner.send_signal(signal.SIGSTOP)
+        time.sleep(1.2)
+        session.runner.send_signal(signal.SIGCONT)
+        yield from of_session(session)
+        yield "it is done", [line[7:] for line in session.trace("finish")] == [["done", "0"]]
+
+
 def ends(program: str) -> Checks:
     """Commands that are not there, are none, fail, and are ended by a signal; of a task that is refused nothing runs."""
     commands = {"gone": '["/no/such/program"]', "folder": '["/"]', "fails": '["sh", "-c", "exit 3"]',
@@ -315,9 +329,6 @@ def ends(program: str) -> Checks:
 
 # ---- bad input
 
-PLAN = 'version = 2\n[[block]]\n[[block.call]]\nop = "execute"\nname = "a"\n'
-JOBS = '[a]\ncommand = ["true"]\ntimeout_s = 1\n'
-
 
 def job(command: str = '["true"]', timeout: str = "1") -> str:
     return f"[a]\ncommand = {command}\ntimeout_s = {timeout}\n"
@@ -329,7 +340,8 @@ BAD_JOBS = {
     "jobs: Missing 'a': ": ["", "# none\n"],
     "jobs: WrongType 'a': ": ["a = 1\n", "[[a]]\n" + JOBS[4:]],
     "jobs: UnknownKey 'a' 'timeout'": [JOBS + "timeout = 1\n"],
-    "jobs: BadCommand 'a': ": ["[a]\ntimeout_s = 1\n", *map(job, ('"true"', "[]", "[1]", '[""]', '["true", "\\u0000"]', "true"))],
+    "jobs: BadCommand 'a': ": ["[a]\ntimeout_s = 1\n", *map(job, (
+        '"true"', "[]", "[1]", '[""]', '["true", "\\u0000"]', "true"))],
     "jobs: BadTimeout 'a': ": ['[a]\ncommand = ["true"]\n', *(job(timeout=word) for word in (
         "-1", "0", "0.0", '"1"', "true", "nan", "inf", "-inf", "1e300", "[1]"))],
 }
@@ -341,8 +353,9 @@ BAD_WORDS = {
     "an unknown option": (["--workers", "1", "--work", "1"], 2, "unrecognized arguments: --work 1\n"),
     "no such program": (["--workers", "1", "--sched", "/no/sched"], 1, "runner: program: '/no/sched' not found\n"),
     "another program": (["--workers", "1", "--sched", shutil.which("echo")], 1, "is no 'sched'\n"),
-    "a trace in no folder": (["--workers", "1", "--trace", "no/trace"], 1, "runner: trace: 'no/trace.part' not written: "),
+    "a trace in no folder": (["--workers", "1", "--trace", "no/trace"], 1, "trace: 'no/trace.part' not written: "),
     "a folder as the trace": (["--workers", "1", "--trace", "."], 1, "runner: trace: '.' can't be a file\n"),
+    "the jobs as the trace": (["--workers", "1", "--trace", "./jobs.toml"], 1, "'./jobs.toml' is the plan or the jobs\n"),
 }
 
 
@@ -365,9 +378,11 @@ def bad_input(program: str) -> Checks:
     for name, (words, status, text) in BAD_WORDS.items():
         yield name, refused(Session(program, PLAN, JOBS, *words), status, text)
     faulty = Session(program, PLAN.replace("execute", "run"), JOBS, "--workers", "1")
-    yield "a faulty plan", refused(faulty, 1, "sched: plan: WrongType block 1 call 1\nrunner: plan: 'sched tasks' ended with status 1\n")
+    told = "sched: plan: WrongType block 1 call 1\nrunner: plan: 'sched tasks' ended with status 1\n"
+    yield "a faulty plan", refused(faulty, 1, told)
     session = Session(program, PLAN, JOBS, "--workers", "1")
-    yield "no plan", refused(without(session, session.plan), 1, "sched: plan file not read\nrunner: plan: 'sched tasks' ended with")
+    told = "sched: plan file not read\nrunner: plan: 'sched tasks' ended with status 1\n"
+    yield "no plan", refused(without(session, session.plan), 1, told)
     session = Session(program, PLAN, JOBS, "--workers", "1")
     yield "no jobs", refused(without(session, session.jobs), 1, "runner: jobs: file not read: No such file or directory\n")
 
@@ -375,14 +390,16 @@ def bad_input(program: str) -> Checks:
 def listings(_: str) -> Checks:
     """The moments of calls, in front of a loop, in one and behind it."""
     lines = "submit 3 schedule 5,loop 2 every 10,submit 4 rate 1 1,cancel 5 here 0,endloop,illegal 30,halt".split(",")
-    yield "moments of calls", list(call_moments([f"{place} {line}" for place, line in enumerate(lines)])) == [3, 4, 5, 14, 15, 30]
+    moments = list(call_moments([f"{place} {line}" for place, line in enumerate(lines)]))
+    yield "the moments of calls", moments == [3, 4, 5, 14, 15, 30]
 
 
 # ---- all of it
 
 PLANS: list[Callable[[str], Checks]] = [heartbeat, retry, timeout, cancel]
 OTHERS: list[Callable[[str], Checks]] = [
-    partial(stops, number=signal.SIGTERM), partial(stops, number=signal.SIGINT), sleeps, dies, ends, listings, bad_input,
+    partial(stops, number=signal.SIGTERM), partial(stops, number=signal.SIGINT), sleeps, dies, held_up, ends, listings,
+    bad_input,
 ]
 
 
@@ -401,7 +418,8 @@ def main() -> int:
             results = [("it came to its end", False)]
         for what in (what for what, good in results if not good):
             print(f"{getattr(test, '__name__', 'stops')}: {what}: failed")
-        passed, failed = passed + sum(good for _, good in results), failed + sum(not good for _, good in results)
+        good_ones = sum(good for _, good in results)
+        passed, failed = passed + good_ones, failed + len(results) - good_ones
     print(f"{passed} passed, {failed} failed")
     return failed > 0
 
