@@ -25,6 +25,21 @@ final class Alike {
         scene.cancel(0);
     }
 
+    static void remove(Scene scene) {
+        scene.schedule(9);
+        scene.schedule(9);
+        scene.at(1);
+        scene.cancel(0);
+        scene.at(2);
+        scene.setRemove(true);
+        scene.at(3);
+        scene.ask();
+        scene.cancel(0);
+        scene.cancel(1);
+        scene.at(4);
+        scene.ask();
+    }
+
     static void shutdown(Scene scene) throws InterruptedException {
         scene.setExecute(false);
         scene.schedule(9);

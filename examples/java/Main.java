@@ -16,6 +16,7 @@ public final class Main {
             case "stop-order" -> play(Stops::order);
             case "stop-running" -> play(Stops::running);
             case "same-runs" -> play(Alike::runs);
+            case "same-remove" -> play(Alike::remove);
             case "same-shutdown" -> play(Alike::shutdown);
             case "queue-ties" -> Queues.ties();
             case "long-delay" -> Delays.longest();
@@ -27,6 +28,7 @@ public final class Main {
         Scene.warmUp();
         try (Scene scene = new Scene()) {
             play.on(scene);
+            scene.end();
         }
     }
 }

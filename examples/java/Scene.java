@@ -14,11 +14,11 @@ import java.util.concurrent.locks.LockSupport;
 import java.util.function.Function;
 
 /**
- * A ScheduledThreadPoolExecutor with one thread, which is watched: what is asked of it and what it does is printed as lines of a
- * trace.
+ * A ScheduledThreadPoolExecutor with one thread, which is watched: what is asked of it, and what it does, is printed as the
+ * lines of a trace.
  *
- * <p>Moments are counted in steps of 250 milliseconds. All that comes within a step has the moment at which the step begins, so a trace
- * is the same on each run as long as nothing comes later than a step.
+ * <p>Moments are counted in steps of 250 milliseconds. All that comes within a step has the moment at which the step begins. So
+ * a trace is the same on each run in which nothing comes a step late; a scene in which something does ends with an exception.
  *
  * <p>Nothing tells that time goes by. So a line "clock" stands before the first start or finish of a moment, and at the end.
  */
@@ -32,12 +32,13 @@ final class Scene implements AutoCloseable {
     private final long start = System.nanoTime();
     private long reached;
     private long shown = -1;
-    private boolean isClosed;
+    private boolean isMuted;
+    private boolean isLate;
 
     /** Plays a scene of which nothing is printed, so that the first steps of the next one take no longer than others. */
     static void warmUp() throws InterruptedException {
         try (Scene scene = new Scene()) {
-            scene.isClosed = true;
+            scene.isMuted = true;
             scene.schedule(0);
             scene.finishOk(0);
             scene.cancel(0);
@@ -48,14 +49,22 @@ final class Scene implements AutoCloseable {
 
     /** Waits until a moment has come. */
     void at(long moment) {
+        expect(reached);
         long target = start + moment * STEP;
         while (target - System.nanoTime() > 0) {
             LockSupport.parkNanos(target - System.nanoTime());
         }
-        if (now() > moment) {
-            throw new IllegalStateException("late: moment " + moment + " was missed");
-        }
         reached = moment;
+        expect(moment);
+    }
+
+    /** The end of the trace. */
+    synchronized void end() {
+        expect(reached);
+        clock(reached);
+        if (isLate) {
+            throw new IllegalStateException("late: something came after its step");
+        }
     }
 
     void schedule(long delay) {
@@ -121,8 +130,7 @@ final class Scene implements AutoCloseable {
     @Override
     public void close() {
         synchronized (this) {
-            clock(reached);
-            isClosed = true;
+            isMuted = true;
         }
         pool.shutdownNow();
     }
@@ -149,6 +157,11 @@ final class Scene implements AutoCloseable {
         live.stream().filter(ScheduledFuture::isCancelled).forEach(task -> line("end %d", tasks.indexOf(task)));
     }
 
+    /** What comes now was to come at this moment. */
+    private synchronized void expect(long moment) {
+        isLate |= now() > moment;
+    }
+
     /** A line of what the thread does. */
     private synchronized void event(String form, Object... words) {
         long moment = now();
@@ -168,7 +181,7 @@ final class Scene implements AutoCloseable {
     }
 
     private void print(long moment, String line) {
-        if (!isClosed) {
+        if (!isMuted) {
             System.out.println(moment + " " + line);
         }
     }
@@ -229,6 +242,7 @@ final class Scene implements AutoCloseable {
         private ScheduledFuture<?> taken;
         private Job job;
         private boolean isDropped;
+        private long free;
 
         Pool() {
             super(1);
@@ -243,7 +257,9 @@ final class Scene implements AutoCloseable {
         /** A job has started. Of a task that was cancelled none does. */
         void started(Job job) {
             this.job = job;
-            event("start 0 task %d run %d due %d", job.task, job.run, due(taken));
+            long due = due(taken);
+            expect(Math.max(due, free));
+            event("start 0 task %d run %d due %d", job.task, job.run, due);
         }
 
         /** The job is at its end, and its task not yet. */
@@ -255,6 +271,7 @@ final class Scene implements AutoCloseable {
         protected void afterExecute(Runnable task, Throwable fault) {
             if (job != null) {
                 event("finish 0 task %d run %d %s", job.task, job.run++, outcome());
+                free = now();
                 ended.release();
             }
         }
