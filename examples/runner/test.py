@@ -128,7 +128,7 @@ class Session:
 def lateness(session: Session, workers_suffice: bool) -> int:
     """By how many nanoseconds a start came too late, or the clock that makes a call of the plan."""
     late, now = [0], 0
-    for line in reversed(session.trace("clock", "start", "submit", "cancel", "shutdown")):
+    for line in reversed(session.trace("clock", "start", "submit", "cancel", "shutdown", "ask")):
         moment = int(line[0])
         now = moment if line[1] == "clock" else now
         if line[1] == "start" and workers_suffice:
@@ -170,6 +170,8 @@ def heartbeat(program: str) -> Checks:
         yield from of_session(session)
         yield "six beats, and none after the shutdown", len(session.trace("start")) == 6 == len(session.file("beats"))
         beats = [int(beat) - session.begun for beat in session.file("beats")]
+        yield "the plan's last call is made", [line[2:] for line in session.trace("ask")] == [
+            ["queue", "0", "running", "0", "shutdown", "yes", "terminated", "yes"]]
         yield "no beat is early by its own clock", all(beat >= 300_000_000 * (place + 1) for place, beat in enumerate(beats))
         yield "it is short", is_short(session)
 
@@ -301,15 +303,17 @@ def dies(program: str) -> Checks:
 
 
 def held_up(program: str) -> Checks:
-    """A job that ended in time did not hang, also where the runner is stopped from before its end to after its timeout."""
-    jobs = '[a]\ncommand = ["sh", "-c", "touch begun; sleep 0.5"]\ntimeout_s = 1\n'
-    with Session(program, PLAN, jobs, "--workers", "1") as session:
-        yield "a job runs", soon(lambda: "begun" in session.files())
-        session.runner.send_signal(signal.SIGSTOP)
-        time.sleep(1.2)
-        session.runner.send_signal(signal.SIGCONT)
+    """A job that ended in time did not hang, also where the program keeps the runner from seeing it until after its timeout."""
+    jobs = "".join(f'[{name}]\ncommand = ["sh", "-c", "echo $$ > {name}; sleep {seconds}"]\ntimeout_s = 1.2\n'
+                   for name, seconds in (("a", 0.5), ("b", 0.8)))
+    with Session(program, PLAN + '[[block.call]]\nop = "execute"\nname = "b"\n', jobs, "--workers", "2") as session:
+        yield "two jobs run", soon(lambda: session.file("a") != [] != session.file("b"))
+        [child] = set(children(session.runner.pid)) - {int(session.file(name)[0]) for name in "ab"}
+        os.kill(child, signal.SIGSTOP)
+        time.sleep(1.5)
+        os.kill(child, signal.SIGCONT)
         yield from of_session(session)
-        yield "it is done", [line[7:] for line in session.trace("finish")] == [["done", "0"]]
+        yield "both are done", sorted(line[7:] for line in session.trace("finish")) == [["done", "0"], ["done", "0"]]
 
 
 def ends(program: str) -> Checks:
