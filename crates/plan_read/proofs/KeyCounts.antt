@@ -15,6 +15,7 @@ use Rattle.std.specs.Ordering.{match_ordering}
 use Rattle.std.specs.String.{string_cmp}
 use Rattle.toml.specs.Data.{Data, Members, member, get_member}
 use Rattle.toml.specs.View.{view, members_view}
+use Rattle.plan_read.specs.declared.keys.Key.{Key as CodeKey}
 use Rattle.plan_read.specs.declared.keys.Role.{Role}
 use Rattle.plan_read.specs.declared.keys.Role.TheVariants as roles
 use Rattle.plan_read.specs.declared.verbs.Verb.{Verb}
@@ -22,7 +23,7 @@ use Rattle.plan_read.specs.declared.verbs.Verb.TheVariants as verbs
 use Rattle.plan_read.specs.declared.versions.Version.{Version}
 use Rattle.plan_read.specs.declared.versions.Version.TheVariants.{One, Two}
 use Rattle.plan_read.specs.Keys.{Key, is_key, has_only, top_keys, header_keys, call_keys}
-use Rattle.plan_read.specs.own.Rows.{are_apart, keys_in}
+use Rattle.plan_read.specs.own.Rows.{are_apart, key_as_defined, as_defined, keys_in}
 use Rattle.plan_read.proofs.RowLaw.{Entry}
 
 -- ---- what one member more changes
@@ -129,6 +130,14 @@ all_counted keys (e ∷ es) =
 pub only_these : (keys : List Key) (es : List Entry) → are_apart keys ≡ true → IsStrictlySortedBy string_cmp (keys_of es)
     → (there keys (members_view es) == length es) ≡ has_only keys (members_view es)
 only_these keys es apart sorted = ap (λ n. n == length es) (there_all keys es apart sorted) ∙ all_counted keys es
+
+-- to count keys one by one is to count them as the definitions have them
+pub count_as_defined : (test : Key → Bool) (keys : List CodeKey) → count_by (λ k. test (key_as_defined k)) keys ≡ count_by test (as_defined keys)
+count_as_defined test [] = refl
+count_as_defined test (k ∷ keys) =
+    sum_by-cons (λ (j : CodeKey). cond (test (key_as_defined j)) 1 0) k keys
+    ∙ ap (λ n. cond (test (key_as_defined k)) 1 0 + n) (count_as_defined test keys)
+    ∙ sym (sum_by-cons (λ (j : Key). cond (test j) 1 0) (key_as_defined k) (as_defined keys))
 
 -- ---- the keys of each table have different names
 

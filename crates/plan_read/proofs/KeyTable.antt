@@ -1,13 +1,6 @@
--- The table of keys is what the definitions say of each table, and what a pass over it finds is what their tests tell.
-use Rattle.std.proofs.Common.{◌≡◌, ◌≤◌, ◌<◌, ℕ, zero, suc, ◌+◌, Bool, true, false, cond, if◌then◌else◌, ◌&&◌, ◌||◌, ◌==◌, not, List, [], ◌∷◌, length, get_or, drop, None, is_some, refl, sym, ap, ◌∙◌, inl, inr, arith}
-use Rattle.std.proofs.lemmas.Bool.{cases_Bool}
-use Rattle.std.proofs.lemmas.List.Sums.{sum_by-cons}
-use Rattle.std.specs.List.Sorted.{IsStrictlySortedBy}
-use Rattle.std.specs.Map.{keys_of}
-use Rattle.std.specs.String.{string_cmp}
-use Rattle.toml.specs.Data.{Members, get_member}
-use Rattle.toml.specs.View.{members_view}
-use Rattle.plan_read.specs.declared.keys.Found.{Found}
+-- The table of keys is what the definitions say of each table, and what those tests of a table tell.
+use Rattle.std.proofs.Common.{◌≡◌, ◌<◌, ℕ, zero, suc, ◌+◌, Bool, true, false, List, [], ◌∷◌, ◌++◌, length, get_or, drop, None, append_assoc, Option, Some, is_some, option_and_then, codes, nat_le, Result, Ok, Err, IfOk, refl, arith}
+use Rattle.toml.specs.Data.{Data, Members, get_member, as_integer}
 use Rattle.plan_read.specs.declared.keys.Key.{Key as CodeKey}
 use Rattle.plan_read.specs.declared.keys.Role.{Role}
 use Rattle.plan_read.specs.declared.keys.Role.TheVariants as roles
@@ -18,13 +11,14 @@ use Rattle.plan_read.specs.declared.versions.Version.TheVariants.{One, Two}
 use Rattle.plan_read.specs.declared.faults.Place.{Place}
 use Rattle.plan_read.specs.declared.faults.PlanFaultKind.TheVariants.{UnknownKey, Missing, WrongType, BadUnit}
 use Rattle.plan_read.specs.declared.faults.ReadError.{ReadError}
-use Rattle.plan_read.specs.Keys.{Key, header_keys, call_keys, fits, has_only, has_required, are_typed}
+use Rattle.plan_read.specs.Keys.{Key, top_keys, header_keys, call_keys, has_only, has_required, are_typed}
+use Rattle.plan_read.specs.declared.faults.PlanFaultKind.TheVariants as kinds
+use Rattle.plan_read.specs.Plans.{most_blocks}
 use Rattle.plan_read.specs.own.Reads.{FailsWith}
-use Rattle.plan_read.specs.own.Rows.{word_of, stands_in, standing, keys_in, key_as_defined, as_defined, AreAllKeys, with_key, found_with, nothing}
-use Rattle.plan_read.specs.own.Walk.{◌barring◌, place_fault, table_tests, are_header_units, header_key_tests, are_units, key_tests}
+use Rattle.plan_read.specs.own.Values.{given_integer, tables_at, version_of}
+use Rattle.plan_read.specs.own.Rows.{stands_in, standing, keys_in, as_defined, AreAllKeys}
+use Rattle.plan_read.specs.own.Walk.{◌barring◌, place_fault, table_tests, top_tests, are_header_units, header_key_tests, are_units, key_tests}
 use Rattle.plan_read.proofs.Failing.{all_pass, goes_on, stops_here}
-use Rattle.plan_read.proofs.KeyCounts.{there, only_these, keys_apart}
-use Rattle.plan_read.proofs.RowLaw.{Entry}
 
 -- ---- the table, for each version and role
 
@@ -78,63 +72,7 @@ pub keys_are : (keys : List CodeKey) → AreAllKeys keys → (version : Version)
 unfolding AreAllKeys
 keys_are keys h = h
 
--- ---- a pass over keys
-
--- what the tests tell of some keys, behind what was found
-abbrev tested : Found → List Key → Members → Found
-tested found keys ms = record {
-  known = found.known + there keys ms;
-  complete = found.complete && has_required keys ms;
-  typed = found.typed && are_typed keys ms;
-}
-
-and-assoc : (a b c : Bool) → ((a && b) && c) ≡ (a && (b && c))
-and-assoc true b c = refl
-and-assoc false b c = refl
-
-plus-assoc : (a b c : ℕ) → (a + b) + c ≡ a + (b + c)
-plus-assoc a b c = omega arith
-
-one_known : (n : ℕ) (k : Key) (keys : List Key) (ms : Members) → (n + cond (is_some (get_member k.name ms)) 1 0) + there keys ms ≡ n + there (k ∷ keys) ms
-one_known n k keys ms =
-    plus-assoc n _ (there keys ms) ∙ ap (λ m. n + m) (sym (sum_by-cons (λ (j : Key). cond (is_some (get_member j.name ms)) 1 0) k keys))
-
-none_known : (n : ℕ) (ms : Members) → n ≡ n + there [] ms
-none_known n ms = omega arith
-
-none_tested : (b : Bool) → b ≡ (b && true)
-none_tested true = refl
-none_tested false = refl
-
--- one key more, which stands in the table or does not
-one_row : (stands : Bool) (ms : Members) (found : Found) (k : CodeKey) (rest : List CodeKey)
-    → tested (if stands then (record {
-      known = found.known + (if is_some (get_member (word_of k.name) ms) then 1 else 0);
-      complete = found.complete && (not k.required || is_some (get_member (word_of k.name) ms));
-      typed = found.typed && fits k.shape (get_member (word_of k.name) ms);
-    }) else found) (as_defined rest) ms ≡ tested found (as_defined (if stands then k ∷ rest else rest)) ms
-one_row true ms found k rest =
-    let keys = as_defined rest in
-    rw (one_known found.known (key_as_defined k) keys ms, and-assoc found.complete (not k.required || is_some (get_member (word_of k.name) ms)) (has_required keys ms), and-assoc found.typed (fits k.shape (get_member (word_of k.name) ms)) (are_typed keys ms)) refl
-one_row false ms found k rest = refl
-
--- a pass finds what the tests tell
-pub pass_tells : (version : Version) (role : Role) (ms : Members) (found : Found) (keys : List CodeKey) → found_with version role ms found keys ≡ tested found (as_defined (standing version role keys)) ms
-pass_tells version role ms found [] = rw (← none_known found.known ms, ← none_tested found.complete, ← none_tested found.typed) refl
-pass_tells version role ms found (k ∷ keys) =
-    pass_tells version role ms (with_key version role ms found k) keys ∙ one_row (stands_in version role k) ms found k (standing version role keys)
-
--- ---- one key more
-
--- at most one key more is there
-one_more_known : (version : Version) (role : Role) (ms : Members) (found : Found) (k : CodeKey) → (with_key version role ms found k).known ≤ found.known + 1
-one_more_known version role ms found k =
-    elim (cases_Bool (stands_in version role k)) [
-      | inl t ↦ (
-          let one : cond (is_some (get_member (word_of k.name) ms)) 1 0 ≤ 1 = elim (cases_Bool (is_some (get_member (word_of k.name) ms))) [ inl u ↦ rw u (omega arith) | inr v ↦ rw v (omega arith) ] in
-          rw t (omega (arith, one)))
-      | inr f ↦ rw f (omega arith)
-    ]
+-- ---- the keys of one table, gathered
 
 -- the key at an index is the next one
 drop_next : (keys : List CodeKey) (i : ℕ) (d : CodeKey) → i < length keys → drop i keys ≡ get_or keys i d ∷ drop (suc i) keys
@@ -145,49 +83,25 @@ drop_next (k ∷ keys) (suc i) d h = drop_next keys i d (omega (arith, h))
 after : (i : ℕ) → suc i ≡ i + 1
 after i = omega arith
 
--- what is found with the key at an index is at most one more
-pub one_more : (version : Version) (role : Role) (ms : Members) (found next : Found) (keys : List CodeKey) (i : ℕ) (d : CodeKey) → next ≡ with_key version role ms found (get_or keys i d) → found.known ≤ i → next.known ≤ i + 1
-one_more version role ms found next keys i d is few = rw is (omega (arith, one_more_known version role ms found (get_or keys i d), few))
-
--- and is found from the next index on
-pub next_found : (version : Version) (role : Role) (ms : Members) (found next : Found) (keys : List CodeKey) (i : ℕ) (d : CodeKey) → next ≡ with_key version role ms found (get_or keys i d) → i < length keys
-    → found_with version role ms next (drop (i + 1) keys) ≡ found_with version role ms found (drop i keys)
-next_found version role ms found next keys i d is h =
+-- a key that stands in the table is taken
+pub one_taken : (version : Version) (role : Role) (those next : List CodeKey) (keys : List CodeKey) (i : ℕ) (d : CodeKey) → i < length keys → stands_in version role (get_or keys i d) ≡ true
+    → next ≡ those ++ (get_or keys i d ∷ []) → next ++ standing version role (drop (i + 1) keys) ≡ those ++ standing version role (drop i keys)
+one_taken version role those next keys i d h stands is =
     let rest : drop i keys ≡ get_or keys i d ∷ drop (i + 1) keys = rw (drop_next keys i d h, after i) refl in
-    rw is (ap (λ (ks : List CodeKey). found_with version role ms found ks) (sym rest))
+    rw (rest, stands, is) (append_assoc those (get_or keys i d ∷ []) (standing version role (drop (i + 1) keys)))
 
--- ---- all rows
+-- another is left out
+pub one_left_out : (version : Version) (role : Role) (those : List CodeKey) (keys : List CodeKey) (i : ℕ) (d : CodeKey) → i < length keys → stands_in version role (get_or keys i d) ≡ false
+    → those ++ standing version role (drop (i + 1) keys) ≡ those ++ standing version role (drop i keys)
+one_left_out version role those keys i d h stands =
+    let rest : drop i keys ≡ get_or keys i d ∷ drop (i + 1) keys = rw (drop_next keys i d h, after i) refl in
+    rw (rest, stands) refl
 
--- ---- what `not` says
-
-pub fails : (b : Bool) → not b ≡ true → b ≡ false
-fails true h = absurd (cc)
-fails false h = refl
-
-pub holds : (b : Bool) → not b ≡ false → b ≡ true
-holds true h = refl
-holds false h = absurd (cc)
-
-all_known : (n : ℕ) → (0 + n) ≡ n
-all_known n = omega arith
-
--- what the pass over the table finds is what the tests tell of a table with these entries
-pub record Tells (version : Version) (role : Role) (es : List Entry) (found : Found) : Type 0 where
-  pub only : (found.known == length es) ≡ has_only (keys_in version role) (members_view es)
-  pub complete : found.complete ≡ has_required (keys_in version role) (members_view es)
-  pub typed : found.typed ≡ are_typed (keys_in version role) (members_view es)
-
-pub tells : (keys : List CodeKey) (version : Version) (role : Role) (es : List Entry) (found : Found) → AreKeysIn keys version role → IsStrictlySortedBy string_cmp (keys_of es)
-    → found ≡ found_with version role (members_view es) nothing keys → Tells version role es found
-tells keys version role es found table sorted is =
-    let ms = members_view es in
-    let all : found ≡ tested nothing (keys_in version role) ms =
-    is ∙ pass_tells version role ms nothing keys ∙ ap (λ (ks : List Key). tested nothing ks ms) table in
-    record {
-      only = ap (λ (f : Found). f.known == length es) all ∙ ap (λ (n : ℕ). n == length es) (all_known (there (keys_in version role) ms)) ∙ only_these (keys_in version role) es (keys_apart version role) sorted;
-      complete = ap (λ (f : Found). f.complete) all;
-      typed = ap (λ (f : Found). f.typed) all;
-    }
+-- the keys that stand in a table are those of its definition, where they were gathered
+pub gathered : {A E : Type 0} (r : Result A E) (seen : A → List CodeKey) (keys : List CodeKey) (version : Version) (role : Role) → AreAllKeys keys
+    → IfOk r (λ v. seen v ≡ standing version role keys) → IfOk r (λ v. as_defined (seen v) ≡ keys_in version role)
+gathered (Ok v) seen keys version role all is = rw is (keys_are keys all version role)
+gathered (Err e) seen keys version role all is = tt
 
 -- ---- the tests of each role
 
@@ -209,6 +123,23 @@ none_wanted Two ms = refl
 between : (e : ReadError) (p : Place) (a c : Bool) (b : Bool) → b ≡ true
     → FailsWith e (place_fault p ((UnknownKey barring a) ∷ (Missing barring b) ∷ (WrongType barring c) ∷ [])) → FailsWith e (place_fault p ((UnknownKey barring a) ∷ (WrongType barring c) ∷ []))
 between e p a c b is h = rw is at h
+
+-- where a table has a version, its key is there
+an_integer : (o : Option Data) (version : Version) → option_and_then version_of (option_and_then as_integer o) ≡ Some version → is_some o ≡ true
+an_integer None version h = absurd (cc)
+an_integer (Some d) version h = refl
+
+version_there : (ms : Members) (version : Version) → option_and_then version_of (given_integer (codes "version") ms) ≡ Some version → has_required top_keys ms ≡ true
+version_there ms version is = rw (an_integer (get_member (codes "version") ms) version is) refl
+
+-- what stops a function at the keys of the top stops it at the top, where the version is known
+pub top_halts : (e : ReadError) (p : Place) (version : Version) (ms : Members) → option_and_then version_of (given_integer (codes "version") ms) ≡ Some version
+    → FailsWith e (place_fault p (table_tests top_keys ms)) → FailsWith e (place_fault p (top_tests ms))
+unfolding top_tests
+top_halts e p version ms is h =
+    stops_here e p ((kinds.Version barring is_some (option_and_then version_of (given_integer (codes "version") ms))) ∷ (UnknownKey barring has_only top_keys ms) ∷ (WrongType barring are_typed top_keys ms) ∷ [])
+    ((kinds.TooMany barring nat_le (length (tables_at (codes "block") ms)) most_blocks) ∷ []) (
+    rw is (between e p (has_only top_keys ms) (are_typed top_keys ms) (has_required top_keys ms) (version_there ms version is) h))
 
 -- what stops a function at the keys of a header stops it at the header
 pub header_halts : (e : ReadError) (p : Place) (version : Version) (ms : Members) → FailsWith e (place_fault p (table_tests (header_keys version) ms)) → FailsWith e (place_fault p (header_key_tests version ms))

@@ -9,8 +9,8 @@ use Rattle.std.proofs.lemmas.Slice.Eq.{bytes_eq-Decides}
 use Rattle.std.specs.Borrow.{Bor}
 use Rattle.std.specs.Cmp.Lexicographic.{slice_cmp}
 use Rattle.std.specs.Cmp.{tied_itself}
-use Rattle.std.specs.Prelude.{option_map, replicate}
-use Rattle.std.specs.List.{AllByRecursion}
+use Rattle.std.specs.Prelude.{option_map, ◌&&◌, replicate}
+use Rattle.std.specs.List.{AllByRecursion, list_all}
 use Rattle.std.specs.List.Sorted.{IsStrictlySortedBy}
 use Rattle.std.specs.Map.{keys_of, lookup}
 use Rattle.std.specs.Ordering.{is_eq, ordering_reverse}
@@ -19,7 +19,9 @@ use Rattle.toml.specs.declared.value.Value.{Value}
 use Rattle.plan_read.specs.declared.key_names.KeyName.{KeyName}
 use Rattle.plan_read.specs.declared.key_names.KeyName.TheVariants as names
 use Rattle.plan_read.proofs.Words.{differs}
-use Rattle.plan_read.specs.own.Rows.{word_of, key_of_word, place, slot}
+use Rattle.plan_read.specs.declared.keys.Key.{Key as CodeKey}
+use Rattle.plan_read.specs.Keys.{Key}
+use Rattle.plan_read.specs.own.Rows.{word_of, key_of_word, place, slot, key_as_defined, as_defined}
 
 abbrev pub Entry : Type 0
 Entry = String Global × Value
@@ -209,3 +211,10 @@ kept all done e more r j v size is sorted named same h k =
 pub held : (all : List Entry) (o : Option (Bor Value)) (w : List ℕ) → Sees all all o w → option_map (λ v. v.now) o ≡ lookup (at_word w) all
 held all None w h = sym h
 held all (Some v) w h = sym h
+
+-- ---- keys
+
+-- to test keys one by one is to test them as the definitions have them
+pub all_as_defined : (test : Key → Bool) (keys : List CodeKey) → list_all (λ k. test (key_as_defined k)) keys ≡ list_all test (as_defined keys)
+all_as_defined test [] = refl
+all_as_defined test (k ∷ keys) = ap (λ b. test (key_as_defined k) && b) (all_as_defined test keys)

@@ -14,8 +14,9 @@ ghost use Rattle.plan_read.specs.declared.faults.PlanFaultKind.TheVariants as ki
 
 use crate::faults::{Place, PlanFaultKind, ReadError};
 use crate::headers::{moment_in_last, read_span};
+use crate::key_lists::KeyLists;
 use crate::key_names::KeyName;
-use crate::keys::{Role, check_keys};
+use crate::keys::Role;
 use crate::plans::{Call, Header, Op};
 use crate::rows::{EMPTY_SLOTS, Row};
 use crate::sites::Site;
@@ -32,7 +33,7 @@ use toml::Table;
 /// submits, its name is then that of `site`.
 pub fn read_call<'a, A: Allocator + Copy>(
     place: Place,
-    version: Version,
+    lists: &KeyLists<A>,
     site: Site,
     names: &mut BTreeMap<&'a str, Site, A>,
     header: Header,
@@ -40,14 +41,14 @@ pub fn read_call<'a, A: Allocator + Copy>(
     table: &'a Table,
 ) -> Result<Call, ReadError>
     requires { 1 ≤ header.times }
-    ensures call { Reads (λ c. c) result (place_fault place (call_tests version (found_in names.old (name_at (table_view table.now))) site.target.block header last (table_view table.now))) (written_call version (found_in names.old (name_at (table_view table.now))) header (table_view table.now)) }
+    ensures call { Reads (λ c. c) result (place_fault place (call_tests lists.now.version (found_in names.old (name_at (table_view table.now))) site.target.block header last (table_view table.now))) (written_call lists.now.version (found_in names.old (name_at (table_view table.now))) header (table_view table.now)) }
     ensures plain { IfOk result (λ c. members_are_plain 0 (table_view table.now) ≡ true) }
     ensures names { OnOk result ((q : List ℕ) → found_in names.new q ≡ if submits (verb_at (table_view table.now)) && bytes_eq (name_at (table_view table.now)) q then Some site else found_in names.old q) }
 {
     let mut slots = EMPTY_SLOTS;
     let row = Row::new(table, &mut slots);
     let verb = read_verb(place, &row)?;
-    let units = read_units(place, version, verb, header.unit, &row)?;
+    let units = read_units(place, lists, verb, header.unit, &row)?;
     let subject = read_subject(place, verb, site, names, &row)?;
     read_timed(place, subject, units, header, last, &row)
 }
@@ -71,17 +72,17 @@ fn read_verb(place: Place, row: &Row) -> Result<Verb, ReadError>
 
 /// The units of the times of a call in a block of this unit, where the call's keys are those of its operation.
 #[tactic(auto, unfolding(crate::specs::own::Walk::key_tests))]
-fn read_units(
+fn read_units<A: Allocator>(
     place: Place,
-    version: Version,
+    lists: &KeyLists<A>,
     verb: Verb,
     unit: Unit,
     row: &Row,
 ) -> Result<Units, ReadError>
-    ensures { Reads (λ u. u) result (place_fault place (key_tests version verb (table_view row.now.table.now))) (units_in version unit (table_view row.now.table.now)) }
+    ensures { Reads (λ u. u) result (place_fault place (key_tests lists.now.version verb (table_view row.now.table.now))) (units_in lists.now.version unit (table_view row.now.table.now)) }
 {
-    check_keys(place, version, Role::Call(verb), row)?;
-    match version {
+    lists.check(place, Role::Call(verb), row)?;
+    match lists.version {
         Version::One => Ok(Units::same(unit)),
         Version::Two => Units::read(place, row),
     }

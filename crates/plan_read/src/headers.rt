@@ -14,20 +14,22 @@ ghost use Rattle.plan_read.specs.own.Values.{given_integer, tables_in, tables_at
 ghost use Rattle.plan_read.specs.declared.faults.PlanFaultKind.TheVariants as kinds;
 
 use crate::faults::{Place, PlanFaultKind, ReadError};
+use crate::key_lists::KeyLists;
 use crate::key_names::KeyName;
-use crate::keys::{Role, check_keys};
+use crate::keys::Role;
 use crate::limits::{MOST_BLOCK_CALLS, MOST_BLOCKS, MOST_CALLS};
 use crate::plans::Header;
 use crate::rows::{EMPTY_SLOTS, Row};
 use crate::units::{Units, read_unit};
 use crate::versions::Version;
 use sched_time::{Span, Unit, span};
+use std::alloc::Allocator;
 use toml::{Table, Value};
 
-/// What the top of a plan has: its version, and the tables of its blocks.
-#[derive(Clone, Copy)]
-pub struct Top<'a> {
-    pub version: Version,
+/// What the top of a plan has: the keys of the tables of its version, and the tables of its blocks.
+#[derive(Drop)]
+pub struct Top<'a, A: Allocator> {
+    pub lists: KeyLists<A>,
     pub tables: &'a [Value],
 }
 
@@ -40,12 +42,12 @@ pub struct Head<'a> {
 
 /// The top of a plan.
 #[tactic(auto, unfolding(crate::specs::own::Walk::top_tests))]
-pub fn read_top(table: &Table) -> Result<Top<'_>, ReadError>
+pub fn read_top<A: Allocator + Copy>(alloc: A, table: &Table) -> Result<Top<'_, A>, ReadError>
     ensures each { IfOk result (λ t. fits Tables (get_member (codes "block") (table_view table.now)) ≡ true → are_tables (items_view t.tables.now) ≡ true) }
     ensures count { IfOk result (λ t. length t.tables.now ≡ length (tables_at (codes "block") (table_view table.now))) }
     ensures tables { IfOk result (λ t. tables_in (items_view t.tables.now) ≡ tables_at (codes "block") (table_view table.now)) }
     ensures plain { IfOk result (λ t. items_are_plain 3 (items_view t.tables.now) ≡ true → members_are_plain 4 (table_view table.now) ≡ true) }
-    ensures top { Reads (λ t. t.version) result (place_fault top (top_tests (table_view table.now))) (version_at (table_view table.now)) }
+    ensures top { Reads (λ t. t.lists.version) result (place_fault top (top_tests (table_view table.now))) (version_at (table_view table.now)) }
 {
     let place = Place::top();
     let mut slots = EMPTY_SLOTS;
@@ -53,12 +55,13 @@ pub fn read_top(table: &Table) -> Result<Top<'_>, ReadError>
     let Some(version) = read_version(&row) else {
         return Err(place.fault(PlanFaultKind::Version));
     };
-    check_keys(place, version, Role::Top, &row)?;
+    let lists = KeyLists::new(alloc, version)?;
+    lists.check(place, Role::Top, &row)?;
     let tables = row.tables(KeyName::Block);
     if tables.len() > MOST_BLOCKS {
         return Err(place.fault(PlanFaultKind::TooMany));
     }
-    Ok(Top { version, tables })
+    Ok(Top { lists, tables })
 }
 
 /// The version of a plan, if it is one.
@@ -73,23 +76,23 @@ fn read_version(row: &Row) -> Option<Version>
 
 /// The header of a block and the tables of its calls, where the last call before the block is at the
 /// moment `end`, and `made` calls are made before it.
-pub fn read_head(
+pub fn read_head<'a, A: Allocator>(
     place: Place,
-    version: Version,
+    lists: &KeyLists<A>,
     end: u128,
     made: u64,
-    table: &Table,
-) -> Result<Head<'_>, ReadError>
+    table: &'a Table,
+) -> Result<Head<'a>, ReadError>
     requires { made ≤ most_calls }
     ensures each { IfOk result (λ h. fits Tables (get_member (codes "call") (table_view table.now)) ≡ true → are_tables (items_view h.tables.now) ≡ true) }
     ensures count { IfOk result (λ h. length h.tables.now ≡ length (tables_at (codes "call") (table_view table.now))) }
     ensures tables { IfOk result (λ h. tables_in (items_view h.tables.now) ≡ tables_at (codes "call") (table_view table.now)) }
     ensures plain { IfOk result (λ h. items_are_plain 1 (items_view h.tables.now) ≡ true → members_are_plain 2 (table_view table.now) ≡ true) }
-    ensures header { Reads (λ h. h.header) result (place_fault place (header_tests version end made (table_view table.now))) (header_of version (table_view table.now)) }
+    ensures header { Reads (λ h. h.header) result (place_fault place (header_tests lists.now.version end made (table_view table.now))) (header_of lists.now.version (table_view table.now)) }
 {
     let mut slots = EMPTY_SLOTS;
     let row = Row::new(table, &mut slots);
-    let (unit, units) = read_block_units(place, version, &row)?;
+    let (unit, units) = read_block_units(place, lists, &row)?;
     let times = read_times(place, &row)?;
     let header = read_header(place, end, unit, units, times, &row)?;
     let tables = row.tables(KeyName::Call);
@@ -99,13 +102,17 @@ pub fn read_head(
 
 /// The unit of a block, and the units of its header's times, where the header's keys are those of a block.
 #[tactic(auto, unfolding(crate::specs::own::Walk::header_key_tests))]
-fn read_block_units(place: Place, version: Version, row: &Row) -> Result<(Unit, Units), ReadError>
-    ensures { Reads (λ u. u) result (place_fault place (header_key_tests version (table_view row.now.table.now))) (unit_at version (table_view row.now.table.now), header_units version (table_view row.now.table.now)) }
+fn read_block_units<A: Allocator>(
+    place: Place,
+    lists: &KeyLists<A>,
+    row: &Row,
+) -> Result<(Unit, Units), ReadError>
+    ensures { Reads (λ u. u) result (place_fault place (header_key_tests lists.now.version (table_view row.now.table.now))) (unit_at lists.now.version (table_view row.now.table.now), header_units lists.now.version (table_view row.now.table.now)) }
 {
-    check_keys(place, version, Role::Header, row)?;
-    match version {
+    lists.check(place, Role::Header, row)?;
+    match lists.version {
         Version::One => {
-            let unit = read_unit(place, version, KeyName::Unit, row)?;
+            let unit = read_unit(place, lists.version, KeyName::Unit, row)?;
             Ok((unit, Units::same(unit)))
         }
         Version::Two => Ok((Unit::Ns, Units::read(place, row)?)),

@@ -1,13 +1,11 @@
-//! The keys of a plan's tables, a row for each name, and the tests of a table against them.
+//! The keys of a plan's tables, a row for each name, and the tests of a table against some of them.
 
-ghost use Rattle.std.specs.Prelude.{◌≡◌, ◌≤◌, ◌<◌, length};
+ghost use Rattle.std.specs.Prelude.{◌≡◌, ◌||◌, not, true, is_some};
+ghost use Rattle.toml.specs.Data.{get_member};
 ghost use Rattle.toml.specs.View.{view, table_view, items_view};
-ghost use Rattle.plan_read.specs.Keys.{are_tables, has_shape};
-ghost use Rattle.plan_read.specs.own.Reads.{Reads};
-ghost use Rattle.plan_read.specs.own.Rows.{AreAllKeys, is_home, stands_in, keys_in, with_key, found_with, nothing};
-ghost use Rattle.plan_read.specs.own.Walk.{place_fault, table_tests};
+ghost use Rattle.plan_read.specs.Keys.{fits, are_tables, has_shape, has_only, has_required, are_typed};
+ghost use Rattle.plan_read.specs.own.Rows.{AreAllKeys, is_home, stands_in, word_of, as_defined, are_apart};
 
-use crate::faults::{Place, PlanFaultKind, ReadError};
 use crate::key_names::KeyName;
 use crate::rows::Row;
 use crate::units::which_of_word;
@@ -142,25 +140,15 @@ const KEYS: &[Key] = &[
 ];
 
 /// The keys of all tables: those that stand in a table are its keys.
-fn all_keys() -> &'static [Key]
-    ensures few { length result.now ≤ 19 }
-    ensures defined { AreAllKeys result.now }
+pub fn all_keys() -> &'static [Key]
+    ensures { AreAllKeys result.now }
 {
     KEYS
 }
 
-/// What a pass over keys finds in a table: how many of those that stand in it are there, whether each that has to be
-/// there is, and whether the value at each is of its shape.
-#[derive(Clone, Copy)]
-pub struct Found {
-    pub known: u16,
-    pub complete: bool,
-    pub typed: bool,
-}
-
 impl Key {
     /// Whether this key stands in a table of this role.
-    fn stands_in(&self, version: Version, role: Role) -> bool
+    pub fn stands_in(&self, version: Version, role: Role) -> bool
         ensures { result ≡ stands_in version role self.now }
     {
         let in_version = match (self.versions, version) {
@@ -172,22 +160,20 @@ impl Key {
         in_version && self.home.has(role)
     }
 
-    /// What is found with this key too.
-    fn look(&self, version: Version, role: Role, row: &Row, found: Found) -> Found
-        requires { found.known < 19 }
-        ensures { result ≡ with_key version role (table_view row.now.table.now) found self.now }
+    /// Whether this key is there, or may be left out.
+    fn is_met(&self, row: &Row) -> bool
+        ensures { result ≡ (not self.now.required || is_some (get_member (word_of self.now.name) (table_view row.now.table.now))) }
+    {
+        !self.required || row.has(self.name)
+    }
+
+    /// Whether there is no value at this key, or one of its shape.
+    fn is_typed(&self, row: &Row) -> bool
+        ensures { result ≡ fits self.now.shape (get_member (word_of self.now.name) (table_view row.now.table.now)) }
     {
         match row.get(self.name) {
-            Some(value) if self.stands_in(version, role) => Found {
-                known: found.known + 1,
-                typed: found.typed && has_shape(self.shape, value),
-                ..found
-            },
-            None if self.required && self.stands_in(version, role) => Found {
-                complete: false,
-                ..found
-            },
-            _ => found,
+            Some(value) => has_shape(self.shape, value),
+            None => true,
         }
     }
 }
@@ -207,38 +193,26 @@ impl Home {
     }
 }
 
-/// What a pass over these keys finds in a table of this role.
-fn look_for(keys: &[Key], version: Version, role: Role, row: &Row) -> Found
-    requires { length keys.now ≤ 19 }
-    ensures { result ≡ found_with version role (table_view row.now.table.now) nothing keys.now }
+/// Whether each key of a table is one of these: the table has no more keys than there are of these.
+pub fn has_only(keys: &[Key], row: &Row) -> bool
+    requires { are_apart (as_defined keys.now) ≡ true }
+    ensures { result ≡ has_only (as_defined keys.now) (table_view row.now.table.now) }
 {
-    let mut found = Found {
-        known: 0,
-        complete: true,
-        typed: true,
-    };
-    for key in keys {
-        found = key.look(version, role, row, found);
-    }
-    found
+    keys.iter().filter(|key| row.has(key.name)).count() == row.table.len()
 }
 
-/// That each key of a table stands in tables of its role, that each that has to be there is, and that the value at
-/// each is of its shape. The first of these that does not hold is the fault.
-pub fn check_keys(place: Place, version: Version, role: Role, row: &Row) -> Result<(), ReadError>
-    ensures { Reads (λ u. u) result (place_fault place (table_tests (keys_in version role) (table_view row.now.table.now))) tt }
+/// Whether each of these keys that has to be there is there.
+pub fn has_required(keys: &[Key], row: &Row) -> bool
+    ensures { result ≡ has_required (as_defined keys.now) (table_view row.now.table.now) }
 {
-    let found = look_for(all_keys(), version, role, row);
-    if found.known as usize != row.table.len() {
-        return Err(place.fault(PlanFaultKind::UnknownKey));
-    }
-    if !found.complete {
-        return Err(place.fault(PlanFaultKind::Missing));
-    }
-    if !found.typed {
-        return Err(place.fault(PlanFaultKind::WrongType));
-    }
-    Ok(())
+    keys.iter().all(|key| key.is_met(row))
+}
+
+/// Whether the value at each of these keys is of its shape.
+pub fn are_typed(keys: &[Key], row: &Row) -> bool
+    ensures { result ≡ are_typed (as_defined keys.now) (table_view row.now.table.now) }
+{
+    keys.iter().all(|key| key.is_typed(row))
 }
 
 /// Whether a value is of a shape.

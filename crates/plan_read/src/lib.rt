@@ -113,6 +113,7 @@
 mod calls;
 mod faults;
 mod headers;
+mod key_lists;
 mod key_names;
 mod keys;
 mod laws;

@@ -15,6 +15,7 @@ ghost use Rattle.plan_read.specs.own.Values.{tables_in, next_call, calls_through
 use crate::calls::read_call;
 use crate::faults::{Place, PlanFault, PlanFaultKind, ReadError};
 use crate::headers::{moment_in_last, read_head, read_top};
+use crate::key_lists::KeyLists;
 use crate::limits::LONGEST_TEXT;
 use crate::plans::{Block, Call, Header, Op, Plan, Target};
 use crate::sites::Site;
@@ -91,10 +92,10 @@ pub fn read_tree<A: Allocator + Copy>(alloc: A, table: &Table) -> Result<Written
     ensures version { IfOk result (λ w. w.version ≡ version_at (table_view table.now)) }
     ensures plain { IfOk result (λ w. members_are_plain 4 (table_view table.now) ≡ true) }
 {
-    let top = read_top(table)?;
-    let blocks = read_blocks(alloc, top.version, top.tables)?;
+    let top = read_top(alloc, table)?;
+    let blocks = read_blocks(alloc, &top.lists, top.tables)?;
     Ok(Written {
-        version: top.version,
+        version: top.lists.version,
         plan: Plan::new(blocks),
     })
 }
@@ -103,13 +104,13 @@ pub fn read_tree<A: Allocator + Copy>(alloc: A, table: &Table) -> Result<Written
 #[tactic(auto, using(crate::proofs::Accepted::end_from_one_more, crate::proofs::Accepted::made_from_one_more))]
 fn read_blocks<A: Allocator + Copy>(
     alloc: A,
-    version: Version,
+    lists: &KeyLists<A>,
     tables: &[Value],
 ) -> Result<Vec<Block<A>, A>, ReadError>
     requires tables { are_tables (items_view tables.now) ≡ true }
     requires few { length tables.now ≤ most_blocks }
     ensures plain { IfOk result (λ v. items_are_plain 3 (items_view tables.now) ≡ true) }
-    ensures blocks { Reads (λ v. v.items) result (blocks_fault version [] (tables_in (items_view tables.now))) (blocks_through version [] (tables_in (items_view tables.now))) }
+    ensures blocks { Reads (λ v. v.items) result (blocks_fault lists.now.version [] (tables_in (items_view tables.now))) (blocks_through lists.now.version [] (tables_in (items_view tables.now))) }
 {
     let mut blocks = Vec::with_capacity(alloc, tables.len())?;
     let mut names = BTreeMap::new(alloc);
@@ -120,7 +121,7 @@ fn read_blocks<A: Allocator + Copy>(
             unreachable!()
         };
         let earlier = blocks.as_slice();
-        let block = read_block(alloc, version, earlier, end, made, &mut names, table)?;
+        let block = read_block(alloc, lists, earlier, end, made, &mut names, table)?;
         end = end_of_block(end, &block);
         made += u64::from(block.times()) * block.calls().len() as u64;
         blocks.push(block)?;
@@ -132,7 +133,7 @@ fn read_blocks<A: Allocator + Copy>(
 /// and `made` calls are made before it.
 fn read_block<'a, A: Allocator + Copy>(
     alloc: A,
-    version: Version,
+    lists: &KeyLists<A>,
     earlier: &[Block<A>],
     end: u128,
     made: u64,
@@ -144,7 +145,7 @@ fn read_block<'a, A: Allocator + Copy>(
     requires made { made ≡ made_by earlier.now }
     requires few { made ≤ most_calls }
     requires names { Knows names.old (submissions_from 0 earlier.now) }
-    ensures block { Reads (λ b. b) result (block_fault version earlier.now (table_view table.now)) (block_of version earlier.now (table_view table.now)) }
+    ensures block { Reads (λ b. b) result (block_fault lists.now.version earlier.now (table_view table.now)) (block_of lists.now.version earlier.now (table_view table.now)) }
     ensures names { IfOk result (λ b. Knows names.new (submissions_from 0 (earlier.now ++ b ∷ []))) }
     ensures plain { IfOk result (λ b. members_are_plain 2 (table_view table.now) ≡ true) }
     ensures times { IfOk result (λ b. 1 ≤ b.header.times) }
@@ -154,8 +155,8 @@ fn read_block<'a, A: Allocator + Copy>(
         block: earlier.len() as u32 + 1,
         call: 0,
     };
-    let head = read_head(place, version, end, made, table)?;
-    let calls = read_calls(alloc, version, earlier, head.header, head.tables, names)?;
+    let head = read_head(place, lists, end, made, table)?;
+    let calls = read_calls(alloc, lists, earlier, head.header, head.tables, names)?;
     Ok(Block::new(head.header, calls))
 }
 
@@ -173,7 +174,7 @@ fn end_of_block<A: Allocator>(end: u128, block: &Block<A>) -> u128
 /// The calls that the tables of a block write.
 fn read_calls<'a, A: Allocator + Copy>(
     alloc: A,
-    version: Version,
+    lists: &KeyLists<A>,
     earlier: &[Block<A>],
     header: Header,
     tables: &'a [Value],
@@ -184,7 +185,7 @@ fn read_calls<'a, A: Allocator + Copy>(
     requires tables { are_tables (items_view tables.now) ≡ true }
     requires few { length tables.now ≤ most_block_calls }
     requires names { Knows names.old (submissions_from 0 earlier.now) }
-    ensures calls { Reads (λ v. v.items) result (calls_fault version earlier.now header [] (tables_in (items_view tables.now))) (calls_through version earlier.now header [] (tables_in (items_view tables.now))) }
+    ensures calls { Reads (λ v. v.items) result (calls_fault lists.now.version earlier.now header [] (tables_in (items_view tables.now))) (calls_through lists.now.version earlier.now header [] (tables_in (items_view tables.now))) }
     ensures names { IfOk result (λ v. Knows names.new (submissions_before earlier.now header v.items)) }
     ensures count { IfOk result (λ v. length v.items ≡ length tables.now) }
     ensures plain { IfOk result (λ v. items_are_plain 1 (items_view tables.now) ≡ true) }
@@ -195,15 +196,7 @@ fn read_calls<'a, A: Allocator + Copy>(
         let Some(table) = value.as_table() else {
             unreachable!()
         };
-        let call = read_next(
-            version,
-            earlier,
-            header,
-            calls.as_slice(),
-            sub,
-            names,
-            table,
-        )?;
+        let call = read_next(lists, earlier, header, calls.as_slice(), sub, names, table)?;
         if call.op.is_submission() {
             sub += 1;
         }
@@ -215,7 +208,7 @@ fn read_calls<'a, A: Allocator + Copy>(
 /// The call that the next table of a block writes, after the calls before it, `sub` of which are
 /// submissions.
 fn read_next<'a, A: Allocator + Copy>(
-    version: Version,
+    lists: &KeyLists<A>,
     earlier: &[Block<A>],
     header: Header,
     before: &[Call],
@@ -228,7 +221,7 @@ fn read_next<'a, A: Allocator + Copy>(
     requires few { length before.now < most_block_calls }
     requires sub { sub ≡ tasks_after_calls 0 before.now }
     requires names { Knows names.old (submissions_before earlier.now header before.now) }
-    ensures call { Reads (λ c. c) result (call_fault version earlier.now header before.now (table_view table.now)) (next_call version earlier.now header before.now (table_view table.now)) }
+    ensures call { Reads (λ c. c) result (call_fault lists.now.version earlier.now header before.now (table_view table.now)) (next_call lists.now.version earlier.now header before.now (table_view table.now)) }
     ensures names { IfOk result (λ c. Knows names.new (submissions_before earlier.now header (before.now ++ c ∷ []))) }
     ensures plain { IfOk result (λ c. members_are_plain 0 (table_view table.now) ≡ true) }
 {
@@ -242,7 +235,7 @@ fn read_next<'a, A: Allocator + Copy>(
         repeated: header.times > 1,
     };
     let last = last_offset(before);
-    read_call(place, version, site, names, header, last, table)
+    read_call(place, lists, site, names, header, last, table)
 }
 
 /// The offset of the last call, 0 where there is none.

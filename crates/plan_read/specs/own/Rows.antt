@@ -1,7 +1,7 @@
 -- How a table of a plan is gone over once: the words of its keys, and the slots of what stands at them.
 -- No promise to a caller names these; they say what the functions of `key_names`, `rows` and `keys` answer.
 -- All of it is this project's rule.
-use Rattle.std.specs.Prelude.{◌≡◌, ℕ, ◌+◌, Bool, true, false, not, ◌&&◌, ◌||◌, List, [], ◌∷◌, map, get_or, if◌then◌else◌, Option, Some, None, is_some, option_map, String, codes, bytes_eq}
+use Rattle.std.specs.Prelude.{◌≡◌, ℕ, Bool, true, false, not, ◌&&◌, List, [], ◌∷◌, map, get_or, if◌then◌else◌, Option, Some, None, option_map, String, codes, bytes_eq}
 use Rattle.std.specs.List.{list_any}
 use Rattle.std.specs.Borrow.{Bor}
 use Rattle.std.specs.BTreeMap.{BTreeMap, get_by_text}
@@ -9,7 +9,6 @@ use Rattle.std.specs.declared.alloc.Global.{Global}
 use Rattle.toml.specs.declared.value.Value.{Value}
 use Rattle.plan_read.specs.declared.key_names.KeyName.{KeyName}
 use Rattle.plan_read.specs.declared.key_names.KeyName.TheVariants as names
-use Rattle.plan_read.specs.declared.keys.Found.{Found}
 use Rattle.plan_read.specs.declared.keys.Home.{Home}
 use Rattle.plan_read.specs.declared.keys.Home.TheVariants as homes
 use Rattle.plan_read.specs.declared.keys.Key.{Key as CodeKey}
@@ -21,8 +20,7 @@ use Rattle.plan_read.specs.declared.verbs.Verb.{Verb}
 use Rattle.plan_read.specs.declared.verbs.Verb.TheVariants as verbs
 use Rattle.plan_read.specs.declared.versions.Version.{Version}
 use Rattle.plan_read.specs.declared.versions.Version.TheVariants.{One, Two}
-use Rattle.plan_read.specs.Keys.{Key, is_key, fits, top_keys, header_keys, call_keys}
-use Rattle.toml.specs.Data.{Members, get_member}
+use Rattle.plan_read.specs.Keys.{Key, is_key, top_keys, header_keys, call_keys}
 
 -- the word of a name
 abbrev pub word_of : KeyName → List ℕ
@@ -162,22 +160,3 @@ AreAllKeys keys = (version : Version) (role : Role) → as_defined (standing ver
 abbrev pub are_apart : List Key → Bool
 are_apart [] = true
 are_apart (k ∷ keys) = not (is_key keys k.name) && are_apart keys
-
--- ---- a pass over keys
-
--- what is found in a table with this key too
-abbrev pub with_key : Version → Role → Members → Found → CodeKey → Found
-with_key version role ms found k = if stands_in version role k then (record {
-  known = found.known + (if is_some (get_member (word_of k.name) ms) then 1 else 0);
-  complete = found.complete && (not k.required || is_some (get_member (word_of k.name) ms));
-  typed = found.typed && fits k.shape (get_member (word_of k.name) ms);
-}) else found
-
--- before any key
-abbrev pub nothing : Found
-nothing = record { known = 0; complete = true; typed = true }
-
--- what is found with all of these
-abbrev pub found_with : Version → Role → Members → Found → List CodeKey → Found
-found_with version role ms found [] = found
-found_with version role ms found (k ∷ keys) = found_with version role ms (with_key version role ms found k) keys

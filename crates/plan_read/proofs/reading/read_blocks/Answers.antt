@@ -26,7 +26,7 @@ loop-value-preserved g c =
     let b = c.in_ok-block.block in
     let table : as_table (view c.value-item.result) ≡ Some ms = sym (rw c.in-Some.is at c.as_table.ensures) in
     let next : tables_in (items_view (drop i vs)) ≡ ms ∷ tables_in (items_view (drop (i + 1) vs)) = turn vs i c.value-item.result ms c.loop-value-test.true c.value-item.is table in
-    let t = block_turn c.args.version earlier _ _ ms b next (rw c.as_slice-earlier.ensures.value at c.in_ok-block.ensures.block.0) (rw c.as_slice-earlier.ensures.value at c.in_ok-block.ensures.block.1) in
+    let t = block_turn c.args.lists.now.version earlier _ _ ms b next (rw c.as_slice-earlier.ensures.value at c.in_ok-block.ensures.block.0) (rw c.as_slice-earlier.ensures.value at c.in_ok-block.ensures.block.1) in
     let product : c.from.result * length c.calls.result.now ≡ b.header.times * length b.calls = rw (c.from.ensures, c.times.ensures, c.calls.ensures) refl in
     record {
       count = search rules;
@@ -48,5 +48,5 @@ returns-in_err-block-clause-blocks g c =
     let ms = table_view c.in-Some.table.now in
     let table : as_table (view c.value-item.result) ≡ Some ms = sym (rw c.in-Some.is at c.as_table.ensures) in
     let next : tables_in (items_view (drop i vs)) ≡ ms ∷ tables_in (items_view (drop (i + 1) vs)) = turn vs i c.value-item.result ms c.loop-value-test.true c.value-item.is table in
-    let halts = block_halts e c.args.version c.loop-value.blocks.items _ _ ms next (rw c.as_slice-earlier.ensures.value at c.in_err-block.ensures.block) in
+    let halts = block_halts e c.args.lists.now.version c.loop-value.blocks.items _ _ ms next (rw c.as_slice-earlier.ensures.value at c.in_err-block.ensures.block) in
     rw (q.1, q.2) (subst (λ (fault : Option PlanFault). FailsWith e fault) c.loop-value.invariant.fault halts)

@@ -15,6 +15,6 @@ invariant-loop-value g l = record {
   few : l.made ≤ 65536;
   names : Knows l.names (submissions_from 0 l.blocks.items);
   plain : items_are_plain 3 (items_view (take l.value-index l.tables)) ≡ true;
-  fault : blocks_fault l.version l.blocks.items (tables_in (items_view (drop l.value-index l.tables))) ≡ blocks_fault l.version [] (tables_in (items_view l.tables));
-  blocks : blocks_through l.version l.blocks.items (tables_in (items_view (drop l.value-index l.tables))) ≡ blocks_through l.version [] (tables_in (items_view l.tables));
+  fault : blocks_fault l.lists.version l.blocks.items (tables_in (items_view (drop l.value-index l.tables))) ≡ blocks_fault l.lists.version [] (tables_in (items_view l.tables));
+  blocks : blocks_through l.lists.version l.blocks.items (tables_in (items_view (drop l.value-index l.tables))) ≡ blocks_through l.lists.version [] (tables_in (items_view l.tables));
 }

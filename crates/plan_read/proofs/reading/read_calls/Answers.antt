@@ -28,7 +28,7 @@ loop-value-preserved g c =
     let ms = table_view c.in-Some.table.now in
     let table : as_table (view c.value-item.result) ≡ Some ms = sym (rw c.in-Some.is at c.as_table.ensures) in
     let next : tables_in (items_view (drop i vs)) ≡ ms ∷ tables_in (items_view (drop (i + 1) vs)) = turn vs i c.value-item.result ms c.loop-value-test.true c.value-item.is table in
-    let t = call_turn c.args.version earlier c.args.header before _ _ ms c.in_ok-call.call next (rw c.as_slice.ensures.value at c.in_ok-call.ensures.call.0) (rw c.as_slice.ensures.value at c.in_ok-call.ensures.call.1) in
+    let t = call_turn c.args.lists.now.version earlier c.args.header before _ _ ms c.in_ok-call.call next (rw c.as_slice.ensures.value at c.in_ok-call.ensures.call.0) (rw c.as_slice.ensures.value at c.in_ok-call.ensures.call.1) in
     let more = tasks_after-one_more 0 before c.in_ok-call.call in
     let sub : (c.if-is_submission.sub ≡ tasks_after_calls 0 c.push.new.self.items) × (c.if-is_submission.sub ≤ i + 1) =
     elim c.if-is_submission.branch [
@@ -54,5 +54,5 @@ returns-in_err-call-clause-calls g c =
     let ms = table_view c.in-Some.table.now in
     let table : as_table (view c.value-item.result) ≡ Some ms = sym (rw c.in-Some.is at c.as_table.ensures) in
     let next : tables_in (items_view (drop i vs)) ≡ ms ∷ tables_in (items_view (drop (i + 1) vs)) = turn vs i c.value-item.result ms c.loop-value-test.true c.value-item.is table in
-    let halts = call_halts e c.args.version c.args.earlier.now c.args.header c.loop-value.calls.items _ _ ms next (rw c.as_slice.ensures.value at c.in_err-call.ensures.call) in
+    let halts = call_halts e c.args.lists.now.version c.args.earlier.now c.args.header c.loop-value.calls.items _ _ ms next (rw c.as_slice.ensures.value at c.in_err-call.ensures.call) in
     rw (q.1, q.2) (subst (λ (fault : Option PlanFault). FailsWith e fault) c.loop-value.invariant.fault halts)

@@ -14,6 +14,6 @@ invariant-loop-value g l = record {
   sub : l.sub ≡ tasks_after_calls 0 l.calls.items;
   names : Knows l.names (submissions_before l.earlier l.header l.calls.items);
   plain : items_are_plain 1 (items_view (take l.value-index l.tables)) ≡ true;
-  fault : calls_fault l.version l.earlier l.header l.calls.items (tables_in (items_view (drop l.value-index l.tables))) ≡ calls_fault l.version l.earlier l.header [] (tables_in (items_view l.tables));
-  calls : calls_through l.version l.earlier l.header l.calls.items (tables_in (items_view (drop l.value-index l.tables))) ≡ calls_through l.version l.earlier l.header [] (tables_in (items_view l.tables));
+  fault : calls_fault l.lists.version l.earlier l.header l.calls.items (tables_in (items_view (drop l.value-index l.tables))) ≡ calls_fault l.lists.version l.earlier l.header [] (tables_in (items_view l.tables));
+  calls : calls_through l.lists.version l.earlier l.header l.calls.items (tables_in (items_view (drop l.value-index l.tables))) ≡ calls_through l.lists.version l.earlier l.header [] (tables_in (items_view l.tables));
 }
