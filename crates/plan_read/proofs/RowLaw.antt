@@ -1,4 +1,4 @@
--- The pass over the keys of a table.
+-- Where a name has its slot in a row, and what the slots hold of a table.
 use Rattle.std.proofs.Common.{◌≡◌, ◌≢◌, ◌<◌, length, get_or, set, arith, ℕ, Bool, false, if◌then◌else◌, List, [], ◌∷◌, ◌++◌, String, Global, Option, Some, None, Less, Greater, nat_cmp, string_bytes, bytes_eq, refl, sym, ap, ◌∙◌, inl, inr}
 use Rattle.std.proofs.lemmas.Bool.{cases_Bool}
 use Rattle.std.proofs.lemmas.Bool.Decides.{not_from_Decides}

@@ -96,8 +96,8 @@
 //! # Memory and cost
 //!
 //! A plan owns its blocks and calls, in the allocator that it was read with; a name stands in its call. While a
-//! text is read, a map from names to submissions takes memory of that allocator too, and its TOML tree memory of
-//! the heap: the allocator is a [`HeapAllocator`], which gives the heap.
+//! text is read, a map from names to submissions and the lists of keys of its tables take memory of that allocator
+//! too, and its TOML tree memory of the heap: the allocator is a [`HeapAllocator`], which gives the heap.
 //!
 //! A text of n bytes is read in the time of n log n, where its headers are short: each name is looked up in the map
 //! once, and each table is read once. What a call needs of those before it is handed on. A header of h bytes with k
