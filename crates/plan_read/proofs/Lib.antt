@@ -17,6 +17,7 @@ pub mod Found
 pub mod OrderLaw
 pub mod Words
 pub mod RowLaw
+pub mod NameBytes
 pub mod KeyCounts
 pub mod KeyTable
 pub mod GivenKeys

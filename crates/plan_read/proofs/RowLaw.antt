@@ -1,5 +1,5 @@
 -- Where a name has its slot in a row, and what the slots hold of a table.
-use Rattle.std.proofs.Common.{◌≡◌, ◌≢◌, ◌<◌, length, get_or, set, arith, ℕ, Bool, false, if◌then◌else◌, List, [], ◌∷◌, ◌++◌, String, Global, Option, Some, None, Less, Greater, nat_cmp, string_bytes, bytes_eq, refl, sym, ap, ◌∙◌, inl, inr}
+use Rattle.std.proofs.Common.{◌≡◌, ◌≢◌, ◌<◌, length, get_or, set, arith, ℕ, Bool, true, false, if◌then◌else◌, List, [], ◌∷◌, ◌++◌, String, Global, Option, Some, None, Less, Greater, nat_cmp, string_bytes, bytes_eq, refl, sym, ap, ◌∙◌, inl, inr}
 use Rattle.std.proofs.lemmas.Bool.{cases_Bool}
 use Rattle.std.proofs.lemmas.Bool.Decides.{not_from_Decides}
 use Rattle.std.proofs.lemmas.List.{get_or-replicate, get_or-set_same, get_or-set_other}
@@ -218,3 +218,14 @@ held all (Some v) w h = sym h
 pub all_as_defined : (test : Key → Bool) (keys : List CodeKey) → list_all (λ k. test (key_as_defined k)) keys ≡ list_all test (as_defined keys)
 all_as_defined test [] = refl
 all_as_defined test (k ∷ keys) = ap (λ b. test (key_as_defined k) && b) (all_as_defined test keys)
+
+swapped : (a b c d : Bool) → ((a && b) && (c && d)) ≡ ((a && c) && (b && d))
+swapped false b c d = refl
+swapped true true c d = refl
+swapped true false true d = refl
+swapped true false false d = refl
+
+-- all pass both tests where all pass the one and all pass the other
+pub all_of_both : (a b : Key → Bool) (keys : List Key) → list_all (λ k. a k && b k) keys ≡ (list_all a keys && list_all b keys)
+all_of_both a b [] = refl
+all_of_both a b (k ∷ keys) = ap (λ c. (a k && b k) && c) (all_of_both a b keys) ∙ swapped (a k) (b k) (list_all a keys) (list_all b keys)

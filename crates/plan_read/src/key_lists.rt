@@ -9,7 +9,7 @@ ghost use Rattle.plan_read.specs.own.Rows.{standing, keys_in, as_defined};
 ghost use Rattle.plan_read.specs.own.Walk.{place_fault, table_tests};
 
 use crate::faults::{Place, PlanFaultKind, ReadError};
-use crate::keys::{Key, Role, all_keys, are_typed, has_only, has_required};
+use crate::keys::{Key, Role, all_keys, has_only, has_required, hold};
 use crate::rows::Row;
 use crate::verbs::Verb;
 use crate::versions::Version;
@@ -95,13 +95,13 @@ impl<A: Allocator> KeyLists<A> {
         if !has_only(keys, row) {
             return Err(place.fault(PlanFaultKind::UnknownKey));
         }
+        if hold(keys, row) {
+            return Ok(());
+        }
         if !has_required(keys, row) {
             return Err(place.fault(PlanFaultKind::Missing));
         }
-        if !are_typed(keys, row) {
-            return Err(place.fault(PlanFaultKind::WrongType));
-        }
-        Ok(())
+        Err(place.fault(PlanFaultKind::WrongType))
     }
 }
 
@@ -121,7 +121,7 @@ fn standing<A: Allocator>(
 ) -> Result<Vec<Key, A>, AllocError>
     ensures { IfOk result (λ v. v.items ≡ standing version role keys.now) }
 {
-    let mut those = Vec::new(alloc);
+    let mut those = Vec::with_capacity(alloc, keys.len())?;
     for key in keys {
         if key.stands_in(version, role) {
             those.push(*key)?;

@@ -1,6 +1,6 @@
 //! The keys of a plan's tables, a row for each name, and the tests of a table against some of them.
 
-ghost use Rattle.std.specs.Prelude.{◌≡◌, ◌||◌, not, true, is_some};
+ghost use Rattle.std.specs.Prelude.{◌≡◌, ◌&&◌, ◌||◌, not, true, is_some};
 ghost use Rattle.toml.specs.Data.{get_member};
 ghost use Rattle.toml.specs.View.{view, table_view, items_view};
 ghost use Rattle.plan_read.specs.Keys.{fits, are_tables, has_shape, has_only, has_required, are_typed};
@@ -167,13 +167,13 @@ impl Key {
         !self.required || row.has(self.name)
     }
 
-    /// Whether there is no value at this key, or one of its shape.
-    fn is_typed(&self, row: &Row) -> bool
-        ensures { result ≡ fits self.now.shape (get_member (word_of self.now.name) (table_view row.now.table.now)) }
+    /// Whether this key is there with a value of its shape, or may be left out and is.
+    fn holds(&self, row: &Row) -> bool
+        ensures { result ≡ ((not self.now.required || is_some (get_member (word_of self.now.name) (table_view row.now.table.now))) && fits self.now.shape (get_member (word_of self.now.name) (table_view row.now.table.now))) }
     {
         match row.get(self.name) {
             Some(value) => has_shape(self.shape, value),
-            None => true,
+            None => !self.required,
         }
     }
 }
@@ -208,11 +208,11 @@ pub fn has_required(keys: &[Key], row: &Row) -> bool
     keys.iter().all(|key| key.is_met(row))
 }
 
-/// Whether the value at each of these keys is of its shape.
-pub fn are_typed(keys: &[Key], row: &Row) -> bool
-    ensures { result ≡ are_typed (as_defined keys.now) (table_view row.now.table.now) }
+/// Whether each of these keys that has to be there is there, and the value at each is of its shape.
+pub fn hold(keys: &[Key], row: &Row) -> bool
+    ensures { result ≡ (has_required (as_defined keys.now) (table_view row.now.table.now) && are_typed (as_defined keys.now) (table_view row.now.table.now)) }
 {
-    keys.iter().all(|key| key.is_typed(row))
+    keys.iter().all(|key| key.holds(row))
 }
 
 /// Whether a value is of a shape.
