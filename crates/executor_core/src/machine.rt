@@ -127,7 +127,8 @@ impl<A: Allocator> Core<A> {
     /// [`CoreError::Memory`] where `out` cannot grow. That does not come, and `out` keeps its capacity,
     /// where `out` has `room_of` lines free: one, one for each call that is left, and one for each task
     /// that is not cancelled. Both errors leave the core and `out` as they were, and the event may
-    /// be given again. `out` never loses capacity.
+    /// be given again. `out` never loses capacity, and `room_of` never grows: a list that once had room for the lines of an
+    /// event has it for those of each later one, once it is cleared.
     ///
     /// An event that is answered by [`Answer::Error`] changes nothing but the number of events taken.
     #[inline(always)]
@@ -141,6 +142,7 @@ impl<A: Allocator> Core<A> {
         ensures room { vec_len out.old + room_of self.old ≤ vec_capacity out.old → self.old.taken < self.old.limit → IsOk result }
         ensures capacity { vec_len out.old + room_of self.old ≤ vec_capacity out.old → vec_capacity out.new ≡ vec_capacity out.old }
         ensures keeps { vec_capacity out.old ≤ vec_capacity out.new }
+        ensures shrinks { room_of self.new ≤ room_of self.old }
         ensures refused { OnErr result ((self.new ≡ self.old) × (out.new.items ≡ out.old.items) × (vec_capacity out.new ≡ vec_capacity out.old)) }
         ensures taken { OnOk result (self.new.taken ≡ self.old.taken + 1) }
         ensures steps { OnOk result (Steps self.old self.new out.old.items out.new.items (part_of self.old.calls self.old.made self.old.moment event)) }

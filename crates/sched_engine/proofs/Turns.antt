@@ -16,7 +16,8 @@ use Rattle.sched_engine.specs.declared.report.RunError.TheVariants as x
 use Rattle.sched_engine.specs.Inputs.{AreEvents, input_of, IsRefused, BeginsWithEvent}
 use Rattle.sched_engine.specs.Running.{IsAccepted, IsNoEventLine, IsTrace, Ran, Runs, Taken, piece, text_of}
 use Rattle.sched_engine.specs.Pieces.{Output}
-use Rattle.sched_engine.specs.own.Turns.{CutsSteps, Done, Extends, IsAnswered, IsBetweenTurns, IsCut, StandsAfterEvents, Opens, Progress, Setting, Turns, answers_to}
+use Rattle.sched_engine.specs.Cores.{Opens}
+use Rattle.sched_engine.specs.own.Turns.{CutsSteps, Done, Extends, IsAnswered, IsBetweenTurns, IsCut, StandsAfterEvents, Progress, Setting, Turns, answers_to}
 use Rattle.trace_text.specs.declared.front.Front.TheVariants as front
 use Rattle.trace_text.specs.Reading.{IsFront, most_event_bytes}
 use Rattle.trace_text.proofs.Fronts.{some_bytes, unread_part, unread_whatever_follows}

@@ -12,6 +12,7 @@ pub use Rattle.plan_compile.specs.PlanCode
 pub use Rattle.trace_text.specs.Spelling
 pub use Rattle.trace_text.specs.Reading
 pub mod CodeTexts
+pub mod Cores
 pub mod Ends
 pub mod Inputs
 pub mod Pieces

@@ -1,8 +1,9 @@
 //! The engine: it reads a piece, answers it and writes the answers, turn by turn.
 ghost use Rattle.std.specs.Prelude.{◌≡◌, ℕ, ◌+◌, ◌^◌, ◌<◌, ◌≤◌, List, [], Option, IfOk, IfErr, MatchResult, OnOk, length};
 ghost use Rattle.sched_engine.specs.Running.{RefusesToRun, Ran, CountsReader, CountsWriter};
+ghost use Rattle.sched_engine.specs.Cores.{Opens};
 ghost use Rattle.sched_engine.specs.CodeTexts.{IsCodeOfText, RefusesText};
-ghost use Rattle.sched_engine.specs.own.Turns.{Done, IsBetweenTurns, IsCut, IsPieceEnd, StandsAfterEvents, Opens, Progress, Setting, Turns};
+ghost use Rattle.sched_engine.specs.own.Turns.{Done, IsBetweenTurns, IsCut, IsPieceEnd, StandsAfterEvents, Progress, Setting, Turns};
 ghost use Rattle.sched_engine.specs.declared.engine.Turn.TheVariants as t;
 
 use crate::answering::{PieceEnd, answer_events};
@@ -69,8 +70,11 @@ pub fn code_of<A: HeapAllocator>(alloc: A, plan_text: &[u8]) -> Result<Code<A>, 
     }
 }
 
-/// The core of the plan that a text writes.
-fn core_of<A: HeapAllocator>(
+/// The core of the plan that a text writes, before anything happened.
+///
+/// The numbers are those of [`run`]. The errors are [`RunError::Plan`], [`RunError::Workers`] and [`RunError::Limit`], found in
+/// this order, and [`RunError::Memory`].
+pub fn core_of<A: HeapAllocator>(
     alloc: A,
     plan_text: &[u8],
     workers: u8,

@@ -80,7 +80,7 @@ mod writers;
 
 pub use draft::Draft;
 pub use ends::{Sink, Source, read_some, write_some, write_text};
-pub use engine::{code_of, run};
+pub use engine::{code_of, core_of, run};
 pub use held::{Filled, Held, PIECE};
 pub use in_memory::run_in_memory;
 pub use laws::{

@@ -167,13 +167,3 @@ abbrev pub Turns : Result Turn RunError → Setting → Progress → Progress �
 Turns (Ok t.More) run old new = IsBetweenTurns run new × (still_to_come run new < still_to_come run old)
 Turns (Ok (t.Ended report)) run old new = Runs (Ok report) run.calls run.workers run.limit run.input new.left run.contents new.contents
 Turns (Err e) run old new = Runs (Err e) run.calls run.workers run.limit run.input new.left run.contents new.contents
-
--- a core of the plan that the text writes, before anything happened
-pub record Opens (core : CoreView) (text : List ℕ) (workers limit : ℕ) : Type 0 where
-  pub accepted : IsAccepted text core.calls workers limit
-  pub count : workers_of core ≡ workers
-  pub most : core.limit ≡ limit
-  pub small : limit < 2 ^ 32
-  pub orderly : IsOrderly core.calls
-  pub taken : core.taken ≡ 0
-  pub stands : Stands core []

@@ -22,6 +22,7 @@ loop-self-init g c =
       counted = c.count.ensures.runs;
       capacity = refl;
       room = subst (λ (m : CoreView). vec_len c.make_room.new.list + room_of m ≤ vec_capacity c.make_room.new.list) (sym c.count.ensures.same) fits;
+      shrinks = subst (λ (m : CoreView). room_of m ≤ room_of old) (sym c.count.ensures.same) (search rules);
       steps = (
         [],
         subst (λ l. Steps old counted l lines []) c.make_room.ensures.items (uncounted old counted counted lines lines [] c.count.ensures.same (no_steps counted lines)),
@@ -42,6 +43,7 @@ loop-self-preserved g c =
       counted = did.counted refl kept.counted;
       capacity = did.capacity ∙ kept.capacity;
       room = omega (arith, kept.room, (did.call refl).lines, did.capacity);
+      shrinks = omega (arith, kept.shrinks, did.leaves.room);
       steps = (
         h.Call ∷ hs,
         steps_then old mid new c.args.out.now.items c.loop-self.out.items c.happen.new.out.items hs (h.Call ∷ []) kept.steps.1 did.steps,
