@@ -1,5 +1,5 @@
 -- Checks: sentences on what a place of a plan writes, in the order in which they are made. A value that passes all of them is what the
--- place writes. Where none does, the fault is that of the first check that no value passes.
+-- place writes. Where none does, the fault is that of the first check that no value passes which passes those before it.
 -- All of it is this project's rule.
 use Rattle.std.specs.Prelude.{◌≡◌, ◌⊎◌, ℕ, List, [], ◌∷◌, ◌++◌}
 use Rattle.plan_read.specs.declared.faults.PlanFault.{PlanFault}

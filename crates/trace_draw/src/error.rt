@@ -5,7 +5,7 @@ use thiserror::Error;
 #[derive(Clone, Copy, Debug, PartialEq, Eq, Error)]
 pub enum PictureError {
     /// It would show more marks, or else more bars, than it may.
-    #[error("{marks} marks in the window")]
+    #[error("{marks} marks or bars in the window are too many")]
     Crowded {
         /// How many there are.
         marks: u64,
