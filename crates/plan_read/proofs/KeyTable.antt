@@ -75,12 +75,12 @@ keys_are keys h = h
 -- ---- the keys of one table, gathered
 
 -- the key at an index is the next one
-drop_next : (keys : List CodeKey) (i : ℕ) (d : CodeKey) → i < length keys → drop i keys ≡ get_or keys i d ∷ drop (suc i) keys
+pub drop_next : (keys : List CodeKey) (i : ℕ) (d : CodeKey) → i < length keys → drop i keys ≡ get_or keys i d ∷ drop (suc i) keys
 drop_next [] i d h = absurd (omega (arith, h))
 drop_next (k ∷ keys) zero d h = refl
 drop_next (k ∷ keys) (suc i) d h = drop_next keys i d (omega (arith, h))
 
-after : (i : ℕ) → suc i ≡ i + 1
+pub after : (i : ℕ) → suc i ≡ i + 1
 after i = omega arith
 
 -- a key that stands in the table is taken

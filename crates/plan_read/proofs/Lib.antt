@@ -20,6 +20,7 @@ pub mod RowLaw
 pub mod NameBytes
 pub mod KeyCounts
 pub mod KeyTable
+pub mod Passing
 pub mod GivenKeys
 pub mod VersionKeys
 pub mod UnitLaw

@@ -16,15 +16,20 @@ const OK: bool = true;
 /// A byte that cannot.
 const NO: bool = false;
 
-/// Whether each byte of ASCII can stand in a name, from byte 0 on. To look it up takes fewer instructions than comparisons do,
-/// and names are much of a plan.
-const NAME_BYTES: [bool; 128] = [
+/// Whether each byte can stand in a name, from byte 0 on. To look it up takes fewer instructions than comparisons do, and
+/// names are much of a plan.
+const NAME_BYTES: [bool; 256] = [
     NO, NO, NO, NO, NO, NO, NO, NO, NO, NO, NO, NO, NO, NO, NO, NO, NO, NO, NO, NO, NO, NO, NO, NO,
     NO, NO, NO, NO, NO, NO, NO, NO, NO, NO, NO, NO, NO, NO, NO, NO, NO, NO, NO, NO, NO, OK, NO, NO,
     OK, OK, OK, OK, OK, OK, OK, OK, OK, OK, NO, NO, NO, NO, NO, NO, NO, OK, OK, OK, OK, OK, OK, OK,
     OK, OK, OK, OK, OK, OK, OK, OK, OK, OK, OK, OK, OK, OK, OK, OK, OK, OK, OK, NO, NO, NO, NO, OK,
     NO, OK, OK, OK, OK, OK, OK, OK, OK, OK, OK, OK, OK, OK, OK, OK, OK, OK, OK, OK, OK, OK, OK, OK,
-    OK, OK, OK, NO, NO, NO, NO, NO,
+    OK, OK, OK, NO, NO, NO, NO, NO, NO, NO, NO, NO, NO, NO, NO, NO, NO, NO, NO, NO, NO, NO, NO, NO,
+    NO, NO, NO, NO, NO, NO, NO, NO, NO, NO, NO, NO, NO, NO, NO, NO, NO, NO, NO, NO, NO, NO, NO, NO,
+    NO, NO, NO, NO, NO, NO, NO, NO, NO, NO, NO, NO, NO, NO, NO, NO, NO, NO, NO, NO, NO, NO, NO, NO,
+    NO, NO, NO, NO, NO, NO, NO, NO, NO, NO, NO, NO, NO, NO, NO, NO, NO, NO, NO, NO, NO, NO, NO, NO,
+    NO, NO, NO, NO, NO, NO, NO, NO, NO, NO, NO, NO, NO, NO, NO, NO, NO, NO, NO, NO, NO, NO, NO, NO,
+    NO, NO, NO, NO, NO, NO, NO, NO, NO, NO, NO, NO, NO, NO, NO, NO,
 ];
 
 /// The name of a submission: 1 to 32 ASCII letters, digits, `-` and `_`.
@@ -90,5 +95,5 @@ fn has_name_bytes(bytes: &[u8]) -> bool
 fn is_name_byte(b: u8) -> bool
     ensures { result ≡ is_name_byte b }
 {
-    b < 128 && NAME_BYTES[b as usize]
+    NAME_BYTES[b as usize]
 }

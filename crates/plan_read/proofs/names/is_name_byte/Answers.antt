@@ -3,5 +3,5 @@ use Rattle.plan_read.specs.declared.names.TheConstants.{NAME_BYTES}
 use Rattle.plan_read.proofs.NameBytes.{looked_up}
 use Rattle.plan_read.proofs.names.is_name_byte.Goals as goal
 
-pub returns-then-b-lt128 : goal.returns-then-b-lt128
-returns-then-b-lt128 c = looked_up NAME_BYTES 128 refl c.args.b c.if-b-lt128.true
+pub returns : goal.returns
+returns c = looked_up NAME_BYTES 256 refl c.args.b c.ranges.b.fits
