@@ -1,7 +1,11 @@
 //! The delay queue for programs in C.
 #![tactic(auto)]
 
-mod exports;
+mod entry;
 mod held;
+mod insert;
+mod life;
+mod look;
+mod poll;
 mod slot;
 mod status;

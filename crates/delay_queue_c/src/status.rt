@@ -1,6 +1,6 @@
 //! How a call ended.
-ghost use Rattle.std.specs.Prelude.{◌≡◌};
-ghost use Rattle.delay_queue_c.specs.Statuses.{number_of};
+ghost use Rattle.std.specs.Prelude.{◌≡◌, if◌then◌else◌};
+ghost use Rattle.delay_queue_c.specs.Statuses.{number_of, done, no_entry};
 
 /// How a call ended.
 #[derive(Clone, Copy, Debug, PartialEq, Eq)]
@@ -35,5 +35,12 @@ impl Status {
             Status::UnknownTask => 5,
             Status::HasEntry => 6,
         }
+    }
+
+    /// How a call ended that looked an entry up.
+    pub(crate) fn found(there: bool) -> Status
+        ensures { number_of result ≡ (if there then done else no_entry) }
+    {
+        if there { Status::Done } else { Status::NoEntry }
     }
 }

@@ -1,61 +1,14 @@
-//! What C calls, for one entry at a time.
-ghost use Rattle.std.specs.Prelude.{◌≡◌, ◌≢◌, ℕ, ◌-◌, ◌<◌, ◌≤◌, ◌⊎◌, true, false, min, None, Some, length, slice_set, replicate};
-ghost use Rattle.delay_queue.specs.Queues.{due_in, entry_count, most_touches, IsLeast, IsEmpty, NoneIsDue, Touches};
-ghost use Rattle.delay_queue.specs.Touches.{insert_touches, take_touches, CountsTouches, RemovalMakes};
+//! Adding an entry.
+ghost use Rattle.std.specs.Prelude.{◌≡◌, ◌≢◌, ◌<◌, true, min, None, Some, length, slice_set};
+ghost use Rattle.delay_queue.specs.Queues.{due_in, entry_count, most_touches, Touches};
+ghost use Rattle.delay_queue.specs.Touches.{insert_touches, CountsTouches};
 ghost use Rattle.delay_queue_c.specs.Slots.{entry, IsSame};
-ghost use Rattle.delay_queue_c.specs.Statuses.{done, no_memory, has_queue, number_of, insert_status, queue_status};
+ghost use Rattle.delay_queue_c.specs.Statuses.{done, number_of, insert_status};
 
 use crate::slot::Slot;
 use crate::status::Status;
 use delay_queue::{DelayQueue, Entry};
 use std::alloc::Global;
-
-/// An entry, as C sees it.
-#[repr(C)]
-#[derive(Clone, Copy)]
-pub struct DqEntry {
-    /// When the task is due, in nanoseconds.
-    pub due: u64,
-    /// The task's number.
-    pub task: u32,
-}
-
-/// Puts a new queue, for the tasks from 0 to `tasks - 1`, into an empty slot.
-#[unsafe(no_mangle)]
-pub extern "C" fn dq_new(alloc: Global, slot: &mut Slot, tasks: u32) -> u32
-    ensures has_queue { slot.old.full ≡ true → result ≡ has_queue }
-    ensures answers { slot.old.full ≡ false → (result ≡ done) ⊎ (result ≡ no_memory) }
-    ensures full { result ≡ done → slot.new.full ≡ true }
-    ensures empty { result ≡ done → slot.new.held.value.entries ≡ replicate tasks None }
-    ensures untouched { result ≡ done → slot.new.held.value.touched ≡ 0 }
-    ensures unchanged { result ≢ done → slot.new ≡ slot.old }
-{
-    if slot.full {
-        return Status::HasQueue.number();
-    }
-    let Ok(queue) = DelayQueue::new(alloc, tasks) else {
-        return Status::NoMemory.number();
-    };
-    let Ok(queue) = Box::new(alloc, queue) else {
-        return Status::NoMemory.number();
-    };
-    *slot = Slot::of(queue, tasks);
-    Status::Done.number()
-}
-
-/// Frees the queue of a slot, and leaves the slot empty.
-#[unsafe(no_mangle)]
-pub extern "C" fn dq_free(alloc: Global, slot: &mut Slot) -> u32
-    ensures answers { result ≡ queue_status slot.old.full }
-    ensures empty { slot.new.full ≡ false }
-    ensures unchanged { result ≢ done → slot.new ≡ slot.old }
-{
-    let Some(queue) = slot.take(alloc) else {
-        return Status::NoQueue.number();
-    };
-    drop(queue);
-    Status::Done.number()
-}
 
 /// Adds an entry, if its task is below the count of tasks and has no entry yet.
 #[unsafe(no_mangle)]
@@ -77,7 +30,7 @@ pub extern "C" fn dq_try_insert(alloc: Global, slot: &mut Slot, due: u64, task: 
 }
 
 /// Adds an entry to a queue for so many tasks.
-fn insert_into(queue: &mut DelayQueue<Global>, tasks: u32, due: u64, task: u32) -> Status
+pub(crate) fn insert_into(queue: &mut DelayQueue<Global>, tasks: u32, due: u64, task: u32) -> Status
     requires { length queue.old.entries ≡ tasks }
     ensures answers { number_of result ≡ insert_status true queue.old.entries task }
     ensures length { length queue.new.entries ≡ tasks }
