@@ -6,6 +6,7 @@ mod held;
 mod insert;
 mod life;
 mod look;
+mod many;
 mod poll;
 mod slot;
 mod status;
