@@ -10,3 +10,5 @@ mod many;
 mod poll;
 mod slot;
 mod status;
+#[cfg(test)]
+mod tests;
