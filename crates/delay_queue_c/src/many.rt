@@ -13,7 +13,7 @@ use std::alloc::Global;
 
 /// Adds entries in turn, up to the first that is refused, and writes to `inserted` how many were added.
 #[unsafe(no_mangle)]
-pub extern "C" fn dq_insert_many(
+pub extern "C" fn dq_ref_insert_many(
     alloc: Global,
     slot: &mut Slot,
     entries: &[DqEntry],
@@ -58,7 +58,7 @@ fn insert_each(queue: &mut DelayQueue<Global>, tasks: u32, entries: &[DqEntry]) 
 /// Takes out entries that are due at the moment `now`, the least first, as many as `out` has room for, writes them there in
 /// this order, and writes to `polled` how many.
 #[unsafe(no_mangle)]
-pub extern "C" fn dq_poll_many(
+pub extern "C" fn dq_ref_poll_many(
     alloc: Global,
     slot: &mut Slot,
     now: u64,
