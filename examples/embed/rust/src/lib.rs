@@ -47,6 +47,9 @@ pub struct DelayQueue {
     slot: Slot,
 }
 
+// The library proves that a queue may cross to another thread, and that any thread may free it.
+unsafe impl Send for DelayQueue {}
+
 const DONE: u32 = 0;
 
 /// What a status says of a call on a full slot.
