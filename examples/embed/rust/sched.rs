@@ -1,0 +1,273 @@
+//! A scheduled executor that is told what happens, and answers in lines of text: `libsched_c` for Rust.
+//!
+//! ```text
+//! let mut executor = Executor::new(plan, 1, 1_000)?;
+//! executor.take(Event::Clock(10))?;
+//! for line in executor.lines() {
+//!     println!("{line}");
+//! }
+//! ```
+use std::ffi::c_void;
+use std::fmt;
+
+/// Room for one executor, as C has it.
+#[repr(C)]
+struct Slot {
+    hidden: *mut c_void,
+    full: bool,
+}
+
+/// What is wrong with a plan's text, and where.
+#[repr(C)]
+#[derive(Clone, Copy, Debug, Default, PartialEq, Eq)]
+pub struct Fault {
+    /// 1 to 16, as `sched.h` names them.
+    pub kind: u32,
+    /// The block, counted from 1; 0 where the fault is in no block.
+    pub block: u32,
+    /// The call in its block, counted from 1; 0 where the fault is in no call.
+    pub call: u32,
+}
+
+#[repr(C)]
+#[derive(Default)]
+struct Copied {
+    lines: usize,
+    bytes: usize,
+}
+
+/// How far an executor is.
+#[repr(C)]
+#[derive(Clone, Copy, Debug, Default, PartialEq, Eq)]
+struct RawState {
+    now: u64,
+    lines: usize,
+    tasks: u32,
+    taken: u32,
+    ripe: u32,
+}
+
+#[repr(C)]
+#[derive(Default)]
+struct RawTask {
+    phase: u32,
+    run: u32,
+    cancelled: u32,
+}
+
+unsafe extern "C" {
+    fn sched_new(slot: *mut Slot, plan: *const u8, length: usize, workers: u8, limit: u32, fault: *mut Fault) -> u32;
+    fn sched_free(slot: *mut Slot) -> u32;
+    fn sched_clock(slot: *mut Slot, moment: u64) -> u32;
+    fn sched_start(slot: *mut Slot, worker: u8) -> u32;
+    fn sched_finish(slot: *mut Slot, worker: u8, value: u64) -> u32;
+    fn sched_fail(slot: *mut Slot, worker: u8, code: u32) -> u32;
+    fn sched_cancel(slot: *mut Slot, task: u32) -> u32;
+    fn sched_text(slot: *mut Slot, from: usize, out: *mut u8, room: usize, copied: *mut Copied) -> u32;
+    fn sched_state(slot: *mut Slot, state: *mut RawState) -> u32;
+    fn sched_task(slot: *mut Slot, task: u32, state: *mut RawTask) -> u32;
+}
+
+/// How many bytes are enough for any line, with its newline.
+const LINE_ROOM: usize = 128;
+
+/// Why there is no executor, or why it did not take an event.
+#[derive(Clone, Copy, Debug, PartialEq, Eq)]
+pub enum Error {
+    /// The text is no plan.
+    Plan(Fault),
+    /// The number of workers is not 1 to 64.
+    Workers,
+    /// The limit on events is 0.
+    Limit,
+    /// As many events were taken as the limit allows.
+    Full,
+    /// Memory ran out.
+    Memory,
+}
+
+impl Error {
+    /// What a status other than 0 says.
+    fn of(status: u32, fault: Fault) -> Error {
+        match status {
+            1 => Error::Memory,
+            4 => Error::Plan(fault),
+            5 => Error::Workers,
+            6 => Error::Limit,
+            7 => Error::Full,
+            _ => unreachable!("no call of this module is answered by status {status}"),
+        }
+    }
+}
+
+impl fmt::Display for Error {
+    fn fmt(&self, f: &mut fmt::Formatter) -> fmt::Result {
+        match self {
+            Error::Plan(fault) => {
+                write!(f, "the text is no plan: fault {} block {} call {}", fault.kind, fault.block, fault.call)
+            }
+            Error::Workers => write!(f, "the number of workers is not 1 to 64"),
+            Error::Limit => write!(f, "the limit on events is 0"),
+            Error::Full => write!(f, "the limit on events is reached"),
+            Error::Memory => write!(f, "out of memory"),
+        }
+    }
+}
+
+impl std::error::Error for Error {}
+
+/// What the program tells the executor.
+#[derive(Clone, Copy, Debug, PartialEq, Eq)]
+pub enum Event {
+    /// The clock shows this moment, in nanoseconds.
+    Clock(u64),
+    /// This worker asks for work.
+    Start(u8),
+    /// The run of this worker ended with a value.
+    Finish(u8, u64),
+    /// The run of this worker failed, with a code.
+    Fail(u8, u32),
+    /// This task is to be cancelled.
+    Cancel(u32),
+}
+
+/// How far a task has come.
+#[derive(Clone, Copy, Debug, PartialEq, Eq)]
+pub enum Phase {
+    /// Not submitted.
+    Vacant,
+    /// Waits for its run.
+    New,
+    /// Is run.
+    Running,
+    /// Its last run is done.
+    Done,
+    /// Its last run failed.
+    Failed,
+}
+
+/// How far a task is. A cancelled task stands still.
+#[derive(Clone, Copy, Debug, PartialEq, Eq)]
+pub struct Task {
+    pub phase: Phase,
+    /// The number of the run, from 0.
+    pub run: u32,
+    pub cancelled: bool,
+}
+
+/// An executor of the calls of a plan.
+///
+/// It stays on its thread. All its memory is taken when it is made, and given back when it is dropped.
+pub struct Executor {
+    slot: Slot,
+}
+
+impl Executor {
+    /// An executor of a plan's text with 1 to 64 workers, which takes `limit` events, at least 1.
+    pub fn new(plan: &[u8], workers: u8, limit: u32) -> Result<Executor, Error> {
+        let mut slot = Slot {
+            hidden: std::ptr::null_mut(),
+            full: false,
+        };
+        let mut fault = Fault::default();
+        // SAFETY: the slot is empty, and the plan is a slice, whose pointer is never null.
+        match unsafe { sched_new(&mut slot, plan.as_ptr(), plan.len(), workers, limit, &mut fault) } {
+            0 => Ok(Executor { slot }),
+            status => Err(Error::of(status, fault)),
+        }
+    }
+
+    /// Takes an event: the lines are then those that answer it. After an error nothing changed.
+    pub fn take(&mut self, event: Event) -> Result<(), Error> {
+        let slot = &mut self.slot;
+        // SAFETY: the slot has its executor until `drop`, and is in one call at a time.
+        let status = unsafe {
+            match event {
+                Event::Clock(moment) => sched_clock(slot, moment),
+                Event::Start(worker) => sched_start(slot, worker),
+                Event::Finish(worker, value) => sched_finish(slot, worker, value),
+                Event::Fail(worker, code) => sched_fail(slot, worker, code),
+                Event::Cancel(task) => sched_cancel(slot, task),
+            }
+        };
+        match status {
+            0 => Ok(()),
+            _ => Err(Error::of(status, Fault::default())),
+        }
+    }
+
+    /// The lines that answer the last event, without their newlines.
+    pub fn lines(&mut self) -> Lines<'_> {
+        Lines {
+            executor: self,
+            next: 0,
+        }
+    }
+
+    /// The moment, in nanoseconds: the greatest of the accepted clocks and the calls made.
+    pub fn now(&mut self) -> u64 {
+        self.state().now
+    }
+
+    /// How many events were taken.
+    pub fn taken(&mut self) -> u32 {
+        self.state().taken
+    }
+
+    /// How many tasks the plan has.
+    pub fn tasks(&mut self) -> u32 {
+        self.state().tasks
+    }
+
+    /// Whether the due moment of some task is reached, so that a start may get a task.
+    pub fn ripe(&mut self) -> bool {
+        self.state().ripe == 1
+    }
+
+    /// How far the task of a number is. `None` where the plan has no task of this number.
+    pub fn task(&mut self, task: u32) -> Option<Task> {
+        let mut raw = RawTask::default();
+        // SAFETY: as in `take`.
+        let status = unsafe { sched_task(&mut self.slot, task, &mut raw) };
+        let phases = [Phase::Vacant, Phase::New, Phase::Running, Phase::Done, Phase::Failed];
+        (status == 0).then(|| Task {
+            phase: phases[raw.phase as usize],
+            run: raw.run,
+            cancelled: raw.cancelled == 1,
+        })
+    }
+
+    fn state(&mut self) -> RawState {
+        let mut state = RawState::default();
+        // SAFETY: as in `take`.
+        unsafe { sched_state(&mut self.slot, &mut state) };
+        state
+    }
+}
+
+impl Drop for Executor {
+    fn drop(&mut self) {
+        // SAFETY: as in `take`.
+        unsafe { sched_free(&mut self.slot) };
+    }
+}
+
+/// The lines that answer an event.
+pub struct Lines<'a> {
+    executor: &'a mut Executor,
+    next: usize,
+}
+
+impl Iterator for Lines<'_> {
+    type Item = String;
+
+    fn next(&mut self) -> Option<String> {
+        let mut line = [0; LINE_ROOM];
+        let mut copied = Copied::default();
+        // SAFETY: as in `Executor::take`.
+        unsafe { sched_text(&mut self.executor.slot, self.next, line.as_mut_ptr(), line.len(), &mut copied) };
+        self.next += copied.lines;
+        let text = std::str::from_utf8(&line[..copied.bytes]).expect("a line is ASCII");
+        text.strip_suffix('\n').map(str::to_owned)
+    }
+}
