@@ -111,7 +111,7 @@ typedef struct sched_copied {
 typedef struct sched_state_now {
     uint64_t now;   /* the moment, in nanoseconds: the greatest of the accepted clocks and the calls made */
     size_t lines;   /* how many lines the last event was answered */
-    uint32_t tasks; /* how many tasks the plan has */
+    size_t tasks;   /* how many tasks the plan has */
     uint32_t taken; /* how many events were taken */
     uint32_t ripe;  /* 1: the due moment of some task is reached, so that a start may get a task; 0: none is */
 } sched_state_now;

@@ -76,12 +76,12 @@ TakesEvent _ event old new = ⊥
 
 -- ---- reading
 
--- of the text of lines, this much was copied into a buffer: that of the first ones, as long as there was room for any line
-pub record IsCopied (lines : List Line) (before after : List ℕ) (copied : Copied) : Type 0 where
-  pub lines : copied.lines ≤ length lines
-  pub text : take copied.bytes after ≡ lines_text (take copied.lines lines)
+-- of the text of some lines this much was copied into a buffer: that of the first ones, as long as there was room for any line
+pub record IsCopied (all : List Line) (before after : List ℕ) (copied : Copied) : Type 0 where
+  pub lines : copied.lines ≤ length all
+  pub text : take copied.bytes after ≡ lines_text (take copied.lines all)
   pub bytes : copied.bytes ≤ length before
-  pub most : (copied.lines ≡ length lines) ⊎ (length before < copied.bytes + line_room)
+  pub most : (copied.lines ≡ length all) ⊎ (length before < copied.bytes + line_room)
 
 -- what the copying of the text of the lines came to, from the one of this number on, counted from 0
 abbrev pub Copies : Status → ℕ → List ℕ → List ℕ → Copied → Option Seen → Option Seen → Type 0

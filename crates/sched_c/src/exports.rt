@@ -101,7 +101,12 @@ pub extern "C" fn sched_state(alloc: Global, slot: &mut Slot, state: &mut State)
 
 /// How far the task of a number is.
 #[unsafe(no_mangle)]
-pub extern "C" fn sched_task(alloc: Global, slot: &mut Slot, task: u32, state: &mut TaskState) -> u32
+pub extern "C" fn sched_task(
+    alloc: Global,
+    slot: &mut Slot,
+    task: u32,
+    state: &mut TaskState,
+) -> u32
     ensures { Answers result (λ status. ReadsTask status task state.new (holding slot.old.full slot.old.held.value) (holding slot.new.full slot.new.held.value)) }
 {
     calls::read_task(alloc, slot, task, state).number()

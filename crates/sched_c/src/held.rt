@@ -3,8 +3,8 @@ ghost use Rattle.std.specs.Prelude.{◌≡◌, Bool, true, false};
 ghost use Rattle.sched_c.specs.Seen.{Seen};
 ghost use Rattle.sched_c.specs.Slots.{holds_session, seen_coded, no_session};
 
-use c_slot::Kept;
 use crate::session::Session;
+use c_slot::Kept;
 use std::alloc::Global;
 use std::marker::Model;
 

@@ -15,7 +15,7 @@ pub struct State {
     /// How many lines the last event was answered.
     pub lines: usize,
     /// How many tasks the plan has.
-    pub tasks: u32,
+    pub tasks: usize,
     /// How many events were taken.
     pub taken: u32,
     /// 1 where the due moment of some task that waits or is kept is reached, and else 0.
@@ -44,7 +44,7 @@ impl State {
         State {
             now: core.now(),
             lines: session.lines().len(),
-            tasks: core.tasks() as u32,
+            tasks: core.tasks(),
             taken: core.taken(),
             ripe: bool_number(core.ripe()),
         }

@@ -104,7 +104,10 @@ fn the_state_is_read(rt: HostRuntime) {
         cancelled: 0,
     };
     assert_eq!(rt; task, running);
-    assert_eq!(rt; sched_task(alloc, &mut slot, 2, &mut task), Status::UnknownTask.number());
+    assert_eq!(rt;
+        sched_task(alloc, &mut slot, 2, &mut task),
+        Status::UnknownTask.number()
+    );
     assert_eq!(rt; sched_free(alloc, &mut slot), 0);
 }
 
@@ -115,8 +118,14 @@ fn an_empty_slot_is_told(rt: HostRuntime) {
     let empty = Status::NoExecutor.number();
     assert_eq!(rt; sched_clock(alloc, &mut slot, 1), empty);
     assert_eq!(rt; sched_state(alloc, &mut slot, &mut State::none()), empty);
-    assert_eq!(rt; sched_task(alloc, &mut slot, 0, &mut TaskState::none()), empty);
-    assert_eq!(rt; sched_text(alloc, &mut slot, 0, &mut [], &mut Copied::none()), empty);
+    assert_eq!(rt;
+        sched_task(alloc, &mut slot, 0, &mut TaskState::none()),
+        empty
+    );
+    assert_eq!(rt;
+        sched_text(alloc, &mut slot, 0, &mut [], &mut Copied::none()),
+        empty
+    );
     assert_eq!(rt; sched_free(alloc, &mut slot), empty);
 }
 

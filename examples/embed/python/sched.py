@@ -26,7 +26,7 @@ class Copied(Structure):
 
 
 class State(Structure):
-    _fields_ = [("now", c_uint64), ("lines", c_size_t), ("tasks", c_uint32), ("taken", c_uint32), ("ripe", c_uint32)]
+    _fields_ = [("now", c_uint64), ("lines", c_size_t), ("tasks", c_size_t), ("taken", c_uint32), ("ripe", c_uint32)]
 
 
 class Task(Structure):

@@ -42,7 +42,7 @@ struct Copied {
 struct RawState {
     now: u64,
     lines: usize,
-    tasks: u32,
+    tasks: usize,
     taken: u32,
     ripe: u32,
 }
@@ -215,7 +215,7 @@ impl Executor {
     }
 
     /// How many tasks the plan has.
-    pub fn tasks(&mut self) -> u32 {
+    pub fn tasks(&mut self) -> usize {
         self.state().tasks
     }
 

@@ -1,5 +1,5 @@
 -- A slot with nothing is made of the null pointer and the handle of the allocator.
-use Rattle.c_slot.proofs.Steps.{◌≡◌, refl, sym, subst, List, [], ◌∷◌, ◌++◌, proved_at, Val, vstruct, of_list, ftrue, fsep, ent, WpFn, tables, Item, ‵, raw, ◌⊛◌, ◌$◌, ◌∵◌, !, qed, by, move, drop, join, split, fsplit, fjoin, fpack, feq_i, suffices, agg, no_more, and_then, returns, enter, alloc_all, pass_all, free_all, look_at, get, sets, done, yes, Valss, RawPtr, null_ptr, ptr_val, plain, nothing, within, shape, says, Stays, stay_dropped, walk_of, ends_at}
+use Rattle.c_slot.proofs.Steps.{refl, sym, subst, List, [], ◌∷◌, ◌++◌, proved_at, Val, vstruct, of_list, ftrue, fsep, ent, WpFn, tables, Item, ‵, raw, ◌⊛◌, ◌$◌, ◌∵◌, !, qed, by, move, drop, join, split, fsplit, fjoin, fpack, feq_i, suffices, agg, no_more, and_then, returns, enter, alloc_all, pass_all, free_all, look_at, get, sets, done, yes, Valss, RawPtr, null_ptr, ptr_val, plain, nothing, within, shape, says, Stays, stay_dropped, walk_of, ends_at}
 use Rattle.std.specs.Prelude.{false}
 use base.Logic.{emp}
 use types.Run.{lit}
@@ -10,7 +10,7 @@ use Rattle.std.specs.contracts.alloc.Global as heap
 use Rattle.std.proofs.alloc.Calls.{handle_tells}
 use Rattle.std_alloc.proofs.ResultValues.{and_tt}
 use Rattle.sched_c.proofs.AsBox.{E}
-use Rattle.sched_c.specs.Slots.{nothing as no_session}
+use Rattle.sched_c.specs.Slots.{no_session}
 use Rattle.sched_c.specs.contracts.held.Held as held
 use Rattle.sched_c.specs.contracts.held.Held.nothing as f
 use Rattle.sched_c.proofs.held.Held.nothing.Statement.{statement}
