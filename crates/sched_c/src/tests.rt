@@ -9,8 +9,8 @@ use crate::slot::Slot;
 use crate::state::{State, TaskState};
 use crate::status::Status;
 use crate::text::Copied;
+use std::alloc::Global;
 use std::process::Abort;
-use std::test::Fail;
 
 /// The plan of one delayed task, and of one at a fixed rate.
 const PLAN: &str = "version = 1
@@ -27,19 +27,19 @@ period = 10
 ";
 
 /// A slot with an executor of the plan.
-fn executor(rt: &HostRuntime, limit: u32) -> Slot {
-    let mut slot = Slot::empty(rt.alloc());
+fn executor(rt: &impl Abort, alloc: Global, limit: u32) -> Slot {
+    let mut slot = Slot::empty(alloc);
     let mut fault = Fault::none();
-    let status = sched_new(rt.alloc(), &mut slot, PLAN.as_bytes(), 2, limit, &mut fault);
+    let status = sched_new(alloc, &mut slot, PLAN.as_bytes(), 2, limit, &mut fault);
     assert_eq!(rt; status, Status::Done.number());
     slot
 }
 
 /// Checks the text of the lines that answer the last event.
-fn says(rt: &HostRuntime, slot: &mut Slot, text: &str) {
+fn says(rt: &impl Abort, alloc: Global, slot: &mut Slot, text: &str) {
     let mut out = [0u8; 512];
     let mut copied = Copied::none();
-    let status = sched_text(rt.alloc(), slot, 0, &mut out, &mut copied);
+    let status = sched_text(alloc, slot, 0, &mut out, &mut copied);
     assert_eq!(rt; status, Status::Done.number());
     assert!(rt; &out[..copied.bytes] == text.as_bytes(), "{text}");
 }
@@ -47,34 +47,35 @@ fn says(rt: &HostRuntime, slot: &mut Slot, text: &str) {
 #[test]
 fn a_run_is_told(rt: HostRuntime) {
     let alloc = rt.alloc();
-    let mut slot = executor(&rt, 10);
+    let mut slot = executor(&rt, alloc, 10);
     assert_eq!(rt; sched_clock(alloc, &mut slot, 7), 0);
     says(
         &rt,
+        alloc,
         &mut slot,
         "0 submit 0 schedule due 5\n0 submit 1 rate due 7\n7 clock\n",
     );
     assert_eq!(rt; sched_start(alloc, &mut slot, 1), 0);
-    says(&rt, &mut slot, "7 start 1 task 0 run 0 due 5\n");
+    says(&rt, alloc, &mut slot, "7 start 1 task 0 run 0 due 5\n");
     assert_eq!(rt; sched_finish(alloc, &mut slot, 1, 9), 0);
-    says(&rt, &mut slot, "7 finish 1 task 0 run 0 done 9\n");
+    says(&rt, alloc, &mut slot, "7 finish 1 task 0 run 0 done 9\n");
     assert_eq!(rt; sched_start(alloc, &mut slot, 0), 0);
     assert_eq!(rt; sched_fail(alloc, &mut slot, 0, 3), 0);
-    says(&rt, &mut slot, "7 finish 0 task 1 run 0 failed 3\n");
+    says(&rt, alloc, &mut slot, "7 finish 0 task 1 run 0 failed 3\n");
     assert_eq!(rt; sched_cancel(alloc, &mut slot, 0), 0);
-    says(&rt, &mut slot, "7 outside 0 no\n");
+    says(&rt, alloc, &mut slot, "7 outside 0 no\n");
     assert_eq!(rt; sched_free(alloc, &mut slot), 0);
 }
 
 #[test]
 fn a_small_buffer_takes_a_line_at_a_time(rt: HostRuntime) {
     let alloc = rt.alloc();
-    let mut slot = executor(&rt, 10);
+    let mut slot = executor(&rt, alloc, 10);
     assert_eq!(rt; sched_clock(alloc, &mut slot, 7), 0);
     let mut out = [0u8; 128];
     let mut copied = Copied::none();
     assert_eq!(rt; sched_text(alloc, &mut slot, 1, &mut out, &mut copied), 0);
-    assert!(rt; &out[..copied.bytes] == b"0 submit 1 rate due 7\n");
+    assert!(rt; &out[..copied.bytes] == b"0 submit 1 rate due 7\n".as_slice());
     assert_eq!(rt; sched_text(alloc, &mut slot, 3, &mut out, &mut copied), 0);
     assert_eq!(rt; copied, Copied::none());
     assert_eq!(rt; sched_free(alloc, &mut slot), 0);
@@ -83,7 +84,7 @@ fn a_small_buffer_takes_a_line_at_a_time(rt: HostRuntime) {
 #[test]
 fn the_state_is_read(rt: HostRuntime) {
     let alloc = rt.alloc();
-    let mut slot = executor(&rt, 10);
+    let mut slot = executor(&rt, alloc, 10);
     assert_eq!(rt; sched_clock(alloc, &mut slot, 6), 0);
     let mut state = State::none();
     assert_eq!(rt; sched_state(alloc, &mut slot, &mut state), 0);
@@ -148,7 +149,7 @@ fn what_is_refused_is_told(rt: HostRuntime) {
     assert_eq!(rt; status, Status::Workers.number());
     let status = sched_new(alloc, &mut slot, plan, 64, 0, &mut fault);
     assert_eq!(rt; status, Status::Limit.number());
-    let mut slot = executor(&rt, 1);
+    let mut slot = executor(&rt, alloc, 1);
     let status = sched_new(alloc, &mut slot, plan, 1, 1, &mut fault);
     assert_eq!(rt; status, Status::HasExecutor.number());
     assert_eq!(rt; sched_clock(alloc, &mut slot, 1), 0);
