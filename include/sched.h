@@ -1,38 +1,45 @@
 /* A scheduled executor that is told what happens, and answers in lines of text.
  *
  * An executor is made of a plan's text, and takes events: the clock shows a moment, a worker asks for work, a worker's run has
- * ended, a task is to be cancelled. It reads no clock, runs no task, starts no thread and does no input or output: the program
- * around it does, and tells it.
+ * ended, a task is to be cancelled. It reads no clock, runs no task, starts no thread, and does no input or output: the
+ * program around it does, and tells it. Moments are nanoseconds, from 0 to 2^62; what moment 0 is, the program says.
  *
- *     sched_slot slot = SCHED_EMPTY_SLOT;
- *     sched_fault fault;
- *     if (sched_new(&slot, plan, plan_length, 1, 1000, &fault) != SCHED_DONE) ..
- *     sched_clock(&slot, 10);                     the clock shows 10 nanoseconds
+ *     sched_slot slot = SCHED_EMPTY;
+ *     sched_copied copied;
+ *     if (sched_new(&slot, plan, length, 1, 1000, &fault) != SCHED_DONE) return 1;
+ *     sched_clock(&slot, 10);
  *     sched_text(&slot, 0, text, sizeof text, &copied);
- *     fwrite(text, 1, copied.bytes, stdout);      "0 submit 0 rate due 10\n10 clock\n"
+ *     fwrite(text, 1, copied.bytes, stdout);  "0 submit 0 rate due 10\n10 clock\n"
  *     sched_free(&slot);
  *
- * Link with libsched_c.a, and with a rattle_alloc, rattle_realloc and rattle_dealloc, which liblibc_c.a has: they call the
- * program's malloc, realloc and free.
+ * Answers. Each call answers a sched_status. Where it is not SCHED_DONE, the executor is as it was, and so are its lines.
+ * SCHED_NULL comes before all other answers, and nothing is written then; SCHED_NO_EXECUTOR comes next, and what a call
+ * writes through a pointer is zeros then.
  *
- * Time. Moments are nanoseconds from 0 to 2^62. What moment 0 is, the program says.
+ * Memory. sched_new takes all memory that an executor ever needs; no other call answers SCHED_NO_MEMORY. Text goes into the
+ * caller's buffer: so the library keeps none, and hands out no pointer that could be used too late.
  *
- * Statuses. Each call returns a status. After any status but SCHED_DONE the executor is as it was, and so are its lines.
+ * What is proved: each function of the library, named sched_ref_.. below, meets its contract (crates/sched_c), which says for
+ * each answer exactly when it comes, what is written and what becomes of the executor; touches no memory but what it is
+ * handed and what the executor took; and ends. The lines that answer an event are those that the executor's equations give,
+ * in their order, and the text that is copied is the text of these lines. What follows of the equations, as that no run starts
+ * before it is due and that no two runs of a task overlap, is proved in crates/executor_laws. What is not proved: that
+ * sched_free gives all memory back, and that a sched_new does that answers SCHED_NO_MEMORY (tools/embed tries both), the inline
+ * functions of this file, which test for NULL and are tested, and the C library's heap.
  *
- * Memory. sched_new takes all memory that an executor ever needs, and sched_free gives it back. No other call takes memory,
- * so none fails for want of it. Text goes into the caller's buffer: the library keeps no text, and hands out no pointer.
+ * What a caller owes, since nothing can check it:
+ * - a slot is SCHED_EMPTY, or all zeros, before the first call, and only these calls read or write its members after that;
+ * - a slot is not copied: of two copies only one may be used again, and the other is set to SCHED_EMPTY;
+ * - a slot is used by one thread at a time, also for calls that only look; and stays on the thread that made it;
+ * - a pointer that is not NULL points to an object of its type, or to as many bytes as the length beside it says, which
+ *   nothing else uses during the call and which do not overlap each other;
+ * - no call is made from a signal handler, or from the forked child of a process with threads;
+ * - malloc, realloc and free come from one allocator, and align as C asks.
  *
- * What the caller owes, and nothing tests: a pointer is never NULL, and points to what it says, also where a length is 0. The
- * fields of a slot are the library's: they are zero before the first call, and only the library writes them from then on. A
- * slot is not copied, and is in one call at a time; threads may take turns under a lock. No call is made from a signal
- * handler, or in the forked child of a process with threads. malloc and realloc align a block to each power of two up to 16 that
- * divides its size.
- *
- * What is proved, of the library as it is compiled and for every caller that does so. Each call keeps to what stands here:
- * each status comes exactly when it is said, and an empty slot is a status too. The lines that answer an event are those, and
- * in that order, that the executor's equations give for all events before it; so a task never starts before it is due, its
- * runs never overlap, and of the tasks that are due the one with the earliest moment starts first. sched_text copies exactly
- * the text of these lines. No call reads or writes memory that is not its own, and each ends. */
+ * Cost: a plan takes some 80 bytes for each task, 12 for each worker, and 48 for each line that one event may have: one, one
+ * for each call of the plan, and one for each task. An event costs what the calls cost that it reaches, and else what the
+ * queue of waiting tasks does.
+ */
 #ifndef SCHED_H
 #define SCHED_H
 
@@ -44,31 +51,34 @@
 extern "C" {
 #endif
 
-/* Room for one executor. Its fields are the library's. */
-typedef struct sched_slot {
-    void *hidden;
-    bool full;
-} sched_slot;
+/* How a call ended. The numbers stay as they are. */
+typedef uint32_t sched_status;
 
-/* What a slot is before its first call. */
-#ifdef __cplusplus
-#define SCHED_EMPTY_SLOT {}
-#else
-#define SCHED_EMPTY_SLOT {NULL, false}
-#endif
-
-/* What a call came to. */
 enum {
     SCHED_DONE = 0,         /* the call did what it says */
-    SCHED_NO_MEMORY = 1,    /* memory ran out */
+    SCHED_NO_MEMORY = 1,    /* malloc refused */
     SCHED_NO_EXECUTOR = 2,  /* the slot is empty */
     SCHED_HAS_EXECUTOR = 3, /* the slot has an executor already */
     SCHED_NO_PLAN = 4,      /* the text is no plan: the fault says why */
     SCHED_WORKERS = 5,      /* the number of workers is not 1 to 64 */
     SCHED_LIMIT = 6,        /* the limit on events is 0 */
     SCHED_FULL = 7,         /* as many events were taken as the limit allows */
-    SCHED_UNKNOWN_TASK = 8  /* the plan has no task of this number */
+    SCHED_UNKNOWN_TASK = 8, /* the plan has no task of this number */
+    SCHED_NULL = 9          /* a pointer is NULL */
 };
+
+/* Room for an executor, with one or without. Its members are the library's. */
+typedef struct sched_slot {
+    void *hidden;
+    bool full;
+} sched_slot;
+
+/* A slot without an executor. */
+#ifdef __cplusplus
+#define SCHED_EMPTY sched_slot{nullptr, false}
+#else
+#define SCHED_EMPTY {NULL, false}
+#endif
 
 /* What is wrong with a plan's text. */
 enum {
@@ -108,13 +118,13 @@ typedef struct sched_copied {
 } sched_copied;
 
 /* How far an executor is. */
-typedef struct sched_state_now {
+typedef struct sched_state {
     uint64_t now;   /* the moment, in nanoseconds: the greatest of the accepted clocks and the calls made */
     size_t lines;   /* how many lines the last event was answered */
     size_t tasks;   /* how many tasks the plan has */
     uint32_t taken; /* how many events were taken */
     uint32_t ripe;  /* 1: the due moment of some task is reached, so that a start may get a task; 0: none is */
-} sched_state_now;
+} sched_state;
 
 /* How far a task has come. */
 enum {
@@ -126,57 +136,103 @@ enum {
 };
 
 /* How far a task is. A cancelled task stands still, also once the run that was under way has ended. */
-typedef struct sched_task_now {
+typedef struct sched_task {
     uint32_t phase;     /* SCHED_TASK_.. */
     uint32_t run;       /* the number of the run, from 0 */
     uint32_t cancelled; /* 1: it was cancelled; 0: it was not */
-} sched_task_now;
+} sched_task;
 
-/* Makes an executor of a plan's text, `length` bytes of TOML, in an empty slot, before anything happened.
- *
- * `workers` is the number of workers, 1 to 64: events name them from 0. `limit` is how many events the executor takes.
- *
- * SCHED_DONE: the slot has the executor. Else the slot is as it was: SCHED_HAS_EXECUTOR, it has an executor already; SCHED_NO_PLAN, and
- * `fault` says what is wrong with the text, and where; SCHED_WORKERS; SCHED_LIMIT; in this order. SCHED_NO_MEMORY may come in place
- * of any of these but the first, and all memory that was taken is given back. `fault` is all zeros but with SCHED_NO_PLAN. */
-uint32_t sched_new(sched_slot *slot, const uint8_t *plan, size_t length, uint8_t workers, uint32_t limit, sched_fault *fault);
+/* The functions of the library. They are as those without `ref` in their names, but for NULL: no pointer may be NULL, and
+ * each is aligned as its type. */
+sched_status sched_ref_new(sched_slot *slot, const uint8_t *plan, size_t length, uint8_t workers, uint32_t limit, sched_fault *fault);
+sched_status sched_ref_free(sched_slot *slot);
+sched_status sched_ref_clock(sched_slot *slot, uint64_t moment);
+sched_status sched_ref_start(sched_slot *slot, uint8_t worker);
+sched_status sched_ref_finish(sched_slot *slot, uint8_t worker, uint64_t value);
+sched_status sched_ref_fail(sched_slot *slot, uint8_t worker, uint32_t code);
+sched_status sched_ref_cancel(sched_slot *slot, uint32_t task);
+sched_status sched_ref_text(sched_slot *slot, size_t from, uint8_t *out, size_t room, sched_copied *copied);
+sched_status sched_ref_state_of(sched_slot *slot, sched_state *state);
+sched_status sched_ref_task_of(sched_slot *slot, uint32_t task, sched_task *state);
 
-/* Frees the executor: the slot is empty then, and may be used again. SCHED_DONE, or SCHED_NO_EXECUTOR. */
-uint32_t sched_free(sched_slot *slot);
+/* Makes an executor of a plan's text, `length` bytes of TOML, at most 1,048,576, in an empty slot, before anything happened.
+ * `workers` is the number of workers, 1 to 64: events name them from 0. `limit` is how many events the executor takes, 1 to
+ * 4,294,967,295.
+ * SCHED_HAS_EXECUTOR: the slot is full. Then SCHED_NO_PLAN: the text is no plan, and `fault` says what is wrong with it, and
+ * where; on all other answers `fault` is zeros. Then SCHED_WORKERS, then SCHED_LIMIT. SCHED_NO_MEMORY: malloc refused, and
+ * nothing is said of the text; it may come in place of each of the last three. The slot is as it was on each of these, and no
+ * memory is kept. `plan` may be NULL where length is 0. */
+static inline sched_status sched_new(sched_slot *slot, const uint8_t *plan, size_t length, uint8_t workers, uint32_t limit, sched_fault *fault) {
+    static const uint8_t none = 0;
+    if (slot == NULL || fault == NULL || (plan == NULL && length != 0)) return SCHED_NULL;
+    return sched_ref_new(slot, plan == NULL ? &none : plan, length, workers, limit, fault);
+}
 
-/* The five events. Each first makes the calls of the plan that are due with it, and is then answered itself. SCHED_DONE: the event
- * was taken, and the lines are those that answer it. SCHED_FULL: as many events were taken as the limit allows, and nothing
- * changed. SCHED_NO_EXECUTOR.
+/* Frees the executor, and leaves the slot empty. SCHED_NO_EXECUTOR: it was empty. */
+static inline sched_status sched_free(sched_slot *slot) {
+    return slot == NULL ? (sched_status)SCHED_NULL : sched_ref_free(slot);
+}
+
+/* The five events. Each is taken where the answer is SCHED_DONE: the calls of the plan that are due with it are made, and then it
+ * is answered itself; the lines are those that answer all that. SCHED_NO_EXECUTOR. SCHED_FULL: as many events were taken as the
+ * limit allows.
  *
- * An event that makes no sense, as a clock that goes back, a worker that is none, or that has no run, or has one, is taken too:
- * SCHED_DONE. Its one line says what is wrong, and nothing else changes. */
+ * An event that makes no sense is taken too: a clock that goes back or passes 2^62, a worker that is none, one that starts while
+ * it has a run or finishes without one, a task that is none. Its one line says what is wrong, and nothing else changes. */
 
 /* The clock shows a moment, in nanoseconds. */
-uint32_t sched_clock(sched_slot *slot, uint64_t moment);
+static inline sched_status sched_clock(sched_slot *slot, uint64_t moment) {
+    return slot == NULL ? (sched_status)SCHED_NULL : sched_ref_clock(slot, moment);
+}
 
-/* A worker asks for work. The line names the task, the run and its due moment, or says that the worker is idle. */
-uint32_t sched_start(sched_slot *slot, uint8_t worker);
+/* A worker asks for work. The line names the task, its run and the due moment, or says that the worker is idle. */
+static inline sched_status sched_start(sched_slot *slot, uint8_t worker) {
+    return slot == NULL ? (sched_status)SCHED_NULL : sched_ref_start(slot, worker);
+}
 
 /* The run of a worker has ended with a value. */
-uint32_t sched_finish(sched_slot *slot, uint8_t worker, uint64_t value);
+static inline sched_status sched_finish(sched_slot *slot, uint8_t worker, uint64_t value) {
+    return slot == NULL ? (sched_status)SCHED_NULL : sched_ref_finish(slot, worker, value);
+}
 
 /* The run of a worker has failed, with a code of the program's own. It is the last run of its task. */
-uint32_t sched_fail(sched_slot *slot, uint8_t worker, uint32_t code);
+static inline sched_status sched_fail(sched_slot *slot, uint8_t worker, uint32_t code) {
+    return slot == NULL ? (sched_status)SCHED_NULL : sched_ref_fail(slot, worker, code);
+}
 
-/* A task is to be cancelled, by its number: the plan's submissions are counted from 0. */
-uint32_t sched_cancel(sched_slot *slot, uint32_t task);
+/* A task is to be cancelled, by its number: the submissions of the plan are counted from 0. */
+static inline sched_status sched_cancel(sched_slot *slot, uint32_t task) {
+    return slot == NULL ? (sched_status)SCHED_NULL : sched_ref_cancel(slot, task);
+}
 
-/* Copies the text of the lines that answer the last event into a buffer of `room` bytes, from line `from` on, counted from 0:
- * whole lines, as long as SCHED_LINE_ROOM bytes of room are left. So `from` plus `copied->lines` is the line to go on with, and
- * once it is as great as the number of lines, all were copied. What stands in the buffer behind the text is lost. SCHED_DONE, or
- * SCHED_NO_EXECUTOR. */
-uint32_t sched_text(sched_slot *slot, size_t from, uint8_t *out, size_t room, sched_copied *copied);
+/* Copies the text of the lines that answer the last event that was taken into a buffer of `room` bytes, from line `from` on,
+ * counted from 0, and writes to `copied` how much: whole lines, as long as SCHED_LINE_ROOM bytes of room are left. The line to go
+ * on with is `from + copied->lines`; no line is left where `copied->lines` is 0 and there was room for one. What stands in the
+ * buffer behind the text is lost. SCHED_NO_EXECUTOR. `out` may be NULL where room is 0. */
+static inline sched_status sched_text(sched_slot *slot, size_t from, uint8_t *out, size_t room, sched_copied *copied) {
+    uint8_t none = 0;
+    if (slot == NULL || copied == NULL || (out == NULL && room != 0)) return SCHED_NULL;
+    return sched_ref_text(slot, from, out == NULL ? &none : out, room, copied);
+}
 
-/* How far the executor is. SCHED_DONE, or SCHED_NO_EXECUTOR with all zeros. */
-uint32_t sched_state(sched_slot *slot, sched_state_now *state);
+/* Writes how far the executor is. SCHED_NO_EXECUTOR. */
+static inline sched_status sched_state_of(sched_slot *slot, sched_state *state) {
+    return slot == NULL || state == NULL ? (sched_status)SCHED_NULL : sched_ref_state_of(slot, state);
+}
 
-/* How far a task is, by its number. SCHED_DONE; or SCHED_UNKNOWN_TASK, there is no such task, or SCHED_NO_EXECUTOR, with all zeros. */
-uint32_t sched_task(sched_slot *slot, uint32_t task, sched_task_now *state);
+/* Writes how far a task is, by its number. SCHED_NO_EXECUTOR. SCHED_UNKNOWN_TASK: the plan has no task of this number, and zeros
+ * are written. */
+static inline sched_status sched_task_of(sched_slot *slot, uint32_t task, sched_task *state) {
+    return slot == NULL || state == NULL ? (sched_status)SCHED_NULL : sched_ref_task_of(slot, task, state);
+}
+
+/* What a status means, in words. */
+static inline const char *sched_status_text(sched_status status) {
+    static const char *const texts[] = {"done", "out of memory", "the slot is empty", "the slot has an executor already",
+        "the text is no plan", "the number of workers is not 1 to 64", "the limit on events is 0",
+        "the limit on events is reached", "no such task", "a pointer is NULL"};
+    return status <= SCHED_NULL ? texts[status] : "no such status";
+}
 
 #ifdef __cplusplus
 }

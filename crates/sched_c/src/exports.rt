@@ -15,7 +15,7 @@ use std::alloc::Global;
 
 /// Makes an executor of a plan's text, before anything happened, in an empty slot.
 #[unsafe(no_mangle)]
-pub extern "C" fn sched_new(
+pub extern "C" fn sched_ref_new(
     alloc: Global,
     slot: &mut Slot,
     plan: &[u8],
@@ -30,7 +30,7 @@ pub extern "C" fn sched_new(
 
 /// Frees the executor of a slot, which is empty then.
 #[unsafe(no_mangle)]
-pub extern "C" fn sched_free(alloc: Global, slot: &mut Slot) -> u32
+pub extern "C" fn sched_ref_free(alloc: Global, slot: &mut Slot) -> u32
     ensures { Answers result (λ status. Frees status (holding slot.old.full slot.old.held.value) (holding slot.new.full slot.new.held.value)) }
 {
     calls::free(alloc, slot).number()
@@ -38,7 +38,7 @@ pub extern "C" fn sched_free(alloc: Global, slot: &mut Slot) -> u32
 
 /// The clock shows a moment, in nanoseconds.
 #[unsafe(no_mangle)]
-pub extern "C" fn sched_clock(alloc: Global, slot: &mut Slot, moment: u64) -> u32
+pub extern "C" fn sched_ref_clock(alloc: Global, slot: &mut Slot, moment: u64) -> u32
     ensures { Answers result (λ status. TakesEvent status (events.Clock moment) (holding slot.old.full slot.old.held.value) (holding slot.new.full slot.new.held.value)) }
 {
     calls::tell(alloc, slot, Event::Clock(moment)).number()
@@ -46,7 +46,7 @@ pub extern "C" fn sched_clock(alloc: Global, slot: &mut Slot, moment: u64) -> u3
 
 /// A worker asks for work.
 #[unsafe(no_mangle)]
-pub extern "C" fn sched_start(alloc: Global, slot: &mut Slot, worker: u8) -> u32
+pub extern "C" fn sched_ref_start(alloc: Global, slot: &mut Slot, worker: u8) -> u32
     ensures { Answers result (λ status. TakesEvent status (events.Start worker) (holding slot.old.full slot.old.held.value) (holding slot.new.full slot.new.held.value)) }
 {
     calls::tell(alloc, slot, Event::Start(worker)).number()
@@ -54,7 +54,7 @@ pub extern "C" fn sched_start(alloc: Global, slot: &mut Slot, worker: u8) -> u32
 
 /// The run of a worker ended with a value.
 #[unsafe(no_mangle)]
-pub extern "C" fn sched_finish(alloc: Global, slot: &mut Slot, worker: u8, value: u64) -> u32
+pub extern "C" fn sched_ref_finish(alloc: Global, slot: &mut Slot, worker: u8, value: u64) -> u32
     ensures { Answers result (λ status. TakesEvent status (events.Finish worker (endings.Value value)) (holding slot.old.full slot.old.held.value) (holding slot.new.full slot.new.held.value)) }
 {
     calls::tell(alloc, slot, Event::Finish(worker, Ending::Value(value))).number()
@@ -62,7 +62,7 @@ pub extern "C" fn sched_finish(alloc: Global, slot: &mut Slot, worker: u8, value
 
 /// The run of a worker failed, with a code.
 #[unsafe(no_mangle)]
-pub extern "C" fn sched_fail(alloc: Global, slot: &mut Slot, worker: u8, code: u32) -> u32
+pub extern "C" fn sched_ref_fail(alloc: Global, slot: &mut Slot, worker: u8, code: u32) -> u32
     ensures { Answers result (λ status. TakesEvent status (events.Finish worker (endings.Fault code)) (holding slot.old.full slot.old.held.value) (holding slot.new.full slot.new.held.value)) }
 {
     calls::tell(alloc, slot, Event::Finish(worker, Ending::Fault(code))).number()
@@ -70,7 +70,7 @@ pub extern "C" fn sched_fail(alloc: Global, slot: &mut Slot, worker: u8, code: u
 
 /// A cancel of a task is asked for from outside the plan.
 #[unsafe(no_mangle)]
-pub extern "C" fn sched_cancel(alloc: Global, slot: &mut Slot, task: u32) -> u32
+pub extern "C" fn sched_ref_cancel(alloc: Global, slot: &mut Slot, task: u32) -> u32
     ensures { Answers result (λ status. TakesEvent status (events.Cancel task) (holding slot.old.full slot.old.held.value) (holding slot.new.full slot.new.held.value)) }
 {
     calls::tell(alloc, slot, Event::Cancel(task)).number()
@@ -79,7 +79,7 @@ pub extern "C" fn sched_cancel(alloc: Global, slot: &mut Slot, task: u32) -> u32
 /// Copies the text of the lines that the last event was answered, from line `from` on, counted from 0, into the caller's
 /// buffer: whole lines, as long as 128 bytes of room are left.
 #[unsafe(no_mangle)]
-pub extern "C" fn sched_text(
+pub extern "C" fn sched_ref_text(
     alloc: Global,
     slot: &mut Slot,
     from: usize,
@@ -93,7 +93,7 @@ pub extern "C" fn sched_text(
 
 /// How far the executor is.
 #[unsafe(no_mangle)]
-pub extern "C" fn sched_state(alloc: Global, slot: &mut Slot, state: &mut State) -> u32
+pub extern "C" fn sched_ref_state_of(alloc: Global, slot: &mut Slot, state: &mut State) -> u32
     ensures { Answers result (λ status. Reads status state.new (holding slot.old.full slot.old.held.value) (holding slot.new.full slot.new.held.value)) }
 {
     calls::read(alloc, slot, state).number()
@@ -101,7 +101,7 @@ pub extern "C" fn sched_state(alloc: Global, slot: &mut Slot, state: &mut State)
 
 /// How far the task of a number is.
 #[unsafe(no_mangle)]
-pub extern "C" fn sched_task(
+pub extern "C" fn sched_ref_task_of(
     alloc: Global,
     slot: &mut Slot,
     task: u32,

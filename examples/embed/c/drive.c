@@ -8,7 +8,7 @@
 enum { MOST_PLAN = 1048576, TEXT = 4096, EVENTS = 1000000 };
 
 /* Hands an event line to the executor. */
-static uint32_t take(sched_slot *slot, const char *line) {
+static sched_status take(sched_slot *slot, const char *line) {
     uint64_t number;
     uint32_t code;
     unsigned worker;
@@ -41,15 +41,15 @@ int main(int count, char **words) {
     }
     size_t length = fread(plan, 1, sizeof plan, file);
     fclose(file);
-    sched_slot slot = SCHED_EMPTY_SLOT;
+    sched_slot slot = SCHED_EMPTY;
     sched_fault fault;
-    uint32_t status = sched_new(&slot, plan, length, (uint8_t)atoi(words[2]), EVENTS, &fault);
+    sched_status status = sched_new(&slot, plan, length, (uint8_t)atoi(words[2]), EVENTS, &fault);
     char line[128];
     while (status == SCHED_DONE && fgets(line, sizeof line, stdin)) {
         status = take(&slot, line);
         write_lines(&slot);
     }
     sched_free(&slot);
-    if (status != SCHED_DONE) fprintf(stderr, "status %u\n", (unsigned)status);
+    if (status != SCHED_DONE) fprintf(stderr, "%s\n", sched_status_text(status));
     return status == SCHED_DONE ? 0 : 1;
 }

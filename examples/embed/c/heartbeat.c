@@ -23,11 +23,11 @@ static void write_lines(sched_slot *slot) {
 }
 
 int main(void) {
-    sched_slot slot = SCHED_EMPTY_SLOT;
+    sched_slot slot = SCHED_EMPTY;
     sched_fault fault;
-    uint32_t status = sched_new(&slot, (const uint8_t *)plan, sizeof plan - 1, 1, 1000, &fault);
+    sched_status status = sched_new(&slot, (const uint8_t *)plan, sizeof plan - 1, 1, 1000, &fault);
     if (status != SCHED_DONE) {
-        fprintf(stderr, "status %u: fault %u block %u call %u\n", (unsigned)status, (unsigned)fault.kind, (unsigned)fault.block,
+        fprintf(stderr, "%s: fault %u block %u call %u\n", sched_status_text(status), (unsigned)fault.kind, (unsigned)fault.block,
                 (unsigned)fault.call);
         return 1;
     }
@@ -35,8 +35,8 @@ int main(void) {
     for (uint64_t moment = 0; beats < 5; moment += 5) {
         sched_clock(&slot, moment);
         write_lines(&slot);
-        sched_state_now state;
-        while (sched_state(&slot, &state) == SCHED_DONE && state.ripe && beats < 5) {
+        sched_state state;
+        while (sched_state_of(&slot, &state) == SCHED_DONE && state.ripe && beats < 5) {
             sched_start(&slot, 0);
             write_lines(&slot);
             beats += 1; /* the work of the task stands here */

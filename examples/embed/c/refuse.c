@@ -50,7 +50,7 @@ static void demand(bool holds, const char *what) {
     exit(1);
 }
 
-static uint32_t take(sched_slot *slot, const char *line) {
+static sched_status take(sched_slot *slot, const char *line) {
     uint64_t number;
     uint32_t code;
     unsigned worker;
@@ -70,14 +70,14 @@ int main(int count, char **words) {
     size_t length = fread(plan, 1, sizeof plan, file);
     fclose(file);
     uint8_t workers = (uint8_t)atoi(words[2]);
-    sched_slot slot = SCHED_EMPTY_SLOT;
+    sched_slot slot = SCHED_EMPTY;
     sched_fault fault;
     long growths = 0;
     for (met = true; met; growths += 1) {
         long before = live;
         met = false;
         refused = growths + 1;
-        uint32_t status = sched_new(&slot, plan, length, workers, EVENTS, &fault);
+        sched_status status = sched_new(&slot, plan, length, workers, EVENTS, &fault);
         refused = 0;
         demand(status == (met ? SCHED_NO_MEMORY : SCHED_DONE), "a growth was refused, and the status is another one");
         demand(!met || (!slot.full && fault.kind == 0), "there was no memory, and the slot is not empty");
@@ -85,12 +85,12 @@ int main(int count, char **words) {
     }
     char line[128];
     while (fgets(line, sizeof line, stdin)) {
-        sched_state_now state;
+        sched_state state;
         uint8_t text[SCHED_LINE_ROOM];
         sched_copied copied;
         refused = -1;
-        uint32_t status = take(&slot, line);
-        sched_state(&slot, &state);
+        sched_status status = take(&slot, line);
+        sched_state_of(&slot, &state);
         sched_text(&slot, 0, text, sizeof text, &copied);
         refused = 0;
         demand(status == SCHED_DONE && !met, "an event took memory");

@@ -46,16 +46,16 @@ class Library:
     """The library, loaded from a shared object."""
 
     TYPES = {
-        "sched_new": [POINTER(c_uint8), c_size_t, c_uint8, c_uint32, POINTER(Fault)],
-        "sched_free": [],
-        "sched_clock": [c_uint64],
-        "sched_start": [c_uint8],
-        "sched_finish": [c_uint8, c_uint64],
-        "sched_fail": [c_uint8, c_uint32],
-        "sched_cancel": [c_uint32],
-        "sched_text": [c_size_t, POINTER(c_uint8), c_size_t, POINTER(Copied)],
-        "sched_state": [POINTER(State)],
-        "sched_task": [c_uint32, POINTER(Task)],
+        "sched_ref_new": [POINTER(c_uint8), c_size_t, c_uint8, c_uint32, POINTER(Fault)],
+        "sched_ref_free": [],
+        "sched_ref_clock": [c_uint64],
+        "sched_ref_start": [c_uint8],
+        "sched_ref_finish": [c_uint8, c_uint64],
+        "sched_ref_fail": [c_uint8, c_uint32],
+        "sched_ref_cancel": [c_uint32],
+        "sched_ref_text": [c_size_t, POINTER(c_uint8), c_size_t, POINTER(Copied)],
+        "sched_ref_state_of": [POINTER(State)],
+        "sched_ref_task_of": [c_uint32, POINTER(Task)],
     }
 
     def __init__(self, path):
@@ -77,7 +77,7 @@ class Executor:
         self.room = (c_uint8 * ROOM)()
         fault = Fault()
         text = (c_uint8 * max(1, len(plan))).from_buffer_copy(plan or b"\0")
-        status = calls.sched_new(byref(self.slot), text, len(plan), checked(workers, 8), checked(limit, 32), byref(fault))
+        status = calls.sched_ref_new(byref(self.slot), text, len(plan), checked(workers, 8), checked(limit, 32), byref(fault))
         if status != DONE:
             raise SchedError(status, fault)
 
@@ -89,33 +89,33 @@ class Executor:
 
     def close(self):
         """Frees the executor. Each later call but this raises."""
-        self.calls.sched_free(byref(self.slot))
+        self.calls.sched_ref_free(byref(self.slot))
 
     def clock(self, moment):
         """The clock shows a moment."""
-        self._call("sched_clock", checked(moment, 64))
+        self._call("sched_ref_clock", checked(moment, 64))
 
     def start(self, worker):
         """A worker asks for work."""
-        self._call("sched_start", checked(worker, 8))
+        self._call("sched_ref_start", checked(worker, 8))
 
     def finish(self, worker, value):
         """The run of a worker has ended with a value."""
-        self._call("sched_finish", checked(worker, 8), checked(value, 64))
+        self._call("sched_ref_finish", checked(worker, 8), checked(value, 64))
 
     def fail(self, worker, code):
         """The run of a worker has failed, with a code."""
-        self._call("sched_fail", checked(worker, 8), checked(code, 32))
+        self._call("sched_ref_fail", checked(worker, 8), checked(code, 32))
 
     def cancel(self, task):
         """A task is to be cancelled, by its number."""
-        self._call("sched_cancel", checked(task, 32))
+        self._call("sched_ref_cancel", checked(task, 32))
 
     def text(self):
         """The text of the lines that answer the last event, as bytes."""
         parts, next_line, copied = [], 0, Copied(1, 0)
         while copied.lines:
-            self._call("sched_text", next_line, self.room, ROOM, byref(copied))
+            self._call("sched_ref_text", next_line, self.room, ROOM, byref(copied))
             parts.append(ctypes.string_at(self.room, copied.bytes))
             next_line += copied.lines
         return b"".join(parts)
@@ -127,13 +127,13 @@ class Executor:
     def state(self):
         """How far the executor is."""
         state = State()
-        self._call("sched_state", byref(state))
+        self._call("sched_ref_state_of", byref(state))
         return state
 
     def task(self, task):
         """How far a task is, by its number."""
         state = Task()
-        self._call("sched_task", checked(task, 32), byref(state))
+        self._call("sched_ref_task_of", checked(task, 32), byref(state))
         return state
 
     def _call(self, name, *words):

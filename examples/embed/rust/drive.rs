@@ -1,6 +1,4 @@
 //! Runs a plan over event lines, and writes its trace: drive PLAN WORKERS < EVENTS.
-mod sched;
-
 use sched::{Event, Executor};
 use std::error::Error;
 use std::io::{self, BufRead, Write};

@@ -1,6 +1,4 @@
 //! A heartbeat: a task at a fixed rate, every 10 nanoseconds, that runs five times over a clock of the program's own.
-mod sched;
-
 use sched::{Error, Event, Executor};
 
 const PLAN: &str = "version = 1

@@ -56,16 +56,16 @@ struct RawTask {
 }
 
 unsafe extern "C" {
-    fn sched_new(slot: *mut Slot, plan: *const u8, length: usize, workers: u8, limit: u32, fault: *mut Fault) -> u32;
-    fn sched_free(slot: *mut Slot) -> u32;
-    fn sched_clock(slot: *mut Slot, moment: u64) -> u32;
-    fn sched_start(slot: *mut Slot, worker: u8) -> u32;
-    fn sched_finish(slot: *mut Slot, worker: u8, value: u64) -> u32;
-    fn sched_fail(slot: *mut Slot, worker: u8, code: u32) -> u32;
-    fn sched_cancel(slot: *mut Slot, task: u32) -> u32;
-    fn sched_text(slot: *mut Slot, from: usize, out: *mut u8, room: usize, copied: *mut Copied) -> u32;
-    fn sched_state(slot: *mut Slot, state: *mut RawState) -> u32;
-    fn sched_task(slot: *mut Slot, task: u32, state: *mut RawTask) -> u32;
+    fn sched_ref_new(slot: *mut Slot, plan: *const u8, length: usize, workers: u8, limit: u32, fault: *mut Fault) -> u32;
+    fn sched_ref_free(slot: *mut Slot) -> u32;
+    fn sched_ref_clock(slot: *mut Slot, moment: u64) -> u32;
+    fn sched_ref_start(slot: *mut Slot, worker: u8) -> u32;
+    fn sched_ref_finish(slot: *mut Slot, worker: u8, value: u64) -> u32;
+    fn sched_ref_fail(slot: *mut Slot, worker: u8, code: u32) -> u32;
+    fn sched_ref_cancel(slot: *mut Slot, task: u32) -> u32;
+    fn sched_ref_text(slot: *mut Slot, from: usize, out: *mut u8, room: usize, copied: *mut Copied) -> u32;
+    fn sched_ref_state_of(slot: *mut Slot, state: *mut RawState) -> u32;
+    fn sched_ref_task_of(slot: *mut Slot, task: u32, state: *mut RawTask) -> u32;
 }
 
 /// How many bytes are enough for any line, with its newline.
@@ -171,7 +171,7 @@ impl Executor {
         };
         let mut fault = Fault::default();
         // SAFETY: the slot is empty, and the plan is a slice, whose pointer is never null.
-        match unsafe { sched_new(&mut slot, plan.as_ptr(), plan.len(), workers, limit, &mut fault) } {
+        match unsafe { sched_ref_new(&mut slot, plan.as_ptr(), plan.len(), workers, limit, &mut fault) } {
             0 => Ok(Executor { slot }),
             status => Err(Error::of(status, fault)),
         }
@@ -183,11 +183,11 @@ impl Executor {
         // SAFETY: the slot has its executor until `drop`, and is in one call at a time.
         let status = unsafe {
             match event {
-                Event::Clock(moment) => sched_clock(slot, moment),
-                Event::Start(worker) => sched_start(slot, worker),
-                Event::Finish(worker, value) => sched_finish(slot, worker, value),
-                Event::Fail(worker, code) => sched_fail(slot, worker, code),
-                Event::Cancel(task) => sched_cancel(slot, task),
+                Event::Clock(moment) => sched_ref_clock(slot, moment),
+                Event::Start(worker) => sched_ref_start(slot, worker),
+                Event::Finish(worker, value) => sched_ref_finish(slot, worker, value),
+                Event::Fail(worker, code) => sched_ref_fail(slot, worker, code),
+                Event::Cancel(task) => sched_ref_cancel(slot, task),
             }
         };
         match status {
@@ -228,7 +228,7 @@ impl Executor {
     pub fn task(&mut self, task: u32) -> Option<Task> {
         let mut raw = RawTask::default();
         // SAFETY: as in `take`.
-        let status = unsafe { sched_task(&mut self.slot, task, &mut raw) };
+        let status = unsafe { sched_ref_task_of(&mut self.slot, task, &mut raw) };
         let phases = [Phase::Vacant, Phase::New, Phase::Running, Phase::Done, Phase::Failed];
         (status == 0).then(|| Task {
             phase: phases[raw.phase as usize],
@@ -240,7 +240,7 @@ impl Executor {
     fn state(&mut self) -> RawState {
         let mut state = RawState::default();
         // SAFETY: as in `take`.
-        unsafe { sched_state(&mut self.slot, &mut state) };
+        unsafe { sched_ref_state_of(&mut self.slot, &mut state) };
         state
     }
 }
@@ -248,7 +248,7 @@ impl Executor {
 impl Drop for Executor {
     fn drop(&mut self) {
         // SAFETY: as in `take`.
-        unsafe { sched_free(&mut self.slot) };
+        unsafe { sched_ref_free(&mut self.slot) };
     }
 }
 
@@ -265,7 +265,7 @@ impl Iterator for Lines<'_> {
         let mut line = [0; LINE_ROOM];
         let mut copied = Copied::default();
         // SAFETY: as in `Executor::take`.
-        unsafe { sched_text(&mut self.executor.slot, self.next, line.as_mut_ptr(), line.len(), &mut copied) };
+        unsafe { sched_ref_text(&mut self.executor.slot, self.next, line.as_mut_ptr(), line.len(), &mut copied) };
         self.next += copied.lines;
         let text = std::str::from_utf8(&line[..copied.bytes]).expect("a line is ASCII");
         text.strip_suffix('\n').map(str::to_owned)
