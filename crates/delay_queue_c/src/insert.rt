@@ -12,7 +12,7 @@ use std::alloc::Global;
 
 /// Adds an entry, if its task is below the count of tasks and has no entry yet.
 #[unsafe(no_mangle)]
-pub extern "C" fn dq_try_insert(alloc: Global, slot: &mut Slot, due: u64, task: u32) -> u32
+pub extern "C" fn dq_ref_try_insert(alloc: Global, slot: &mut Slot, due: u64, task: u32) -> u32
     ensures answers { result ≡ insert_status slot.old.full slot.old.held.value.entries task }
     ensures full { slot.new.full ≡ slot.old.full }
     ensures inserted { result ≡ done → slot.new.held.value.entries ≡ slice_set slot.old.held.value.entries task (Some due) }

@@ -9,7 +9,7 @@ use std::alloc::Global;
 
 /// Puts a new queue, for the tasks from 0 to `tasks - 1`, into an empty slot.
 #[unsafe(no_mangle)]
-pub extern "C" fn dq_new(alloc: Global, slot: &mut Slot, tasks: u32) -> u32
+pub extern "C" fn dq_ref_new(alloc: Global, slot: &mut Slot, tasks: u32) -> u32
     ensures has_queue { slot.old.full ≡ true → result ≡ has_queue }
     ensures answers { slot.old.full ≡ false → (result ≡ done) ⊎ (result ≡ no_memory) }
     ensures full { result ≡ done → slot.new.full ≡ true }
@@ -32,7 +32,7 @@ pub extern "C" fn dq_new(alloc: Global, slot: &mut Slot, tasks: u32) -> u32
 
 /// Frees the queue of a slot, and leaves the slot empty.
 #[unsafe(no_mangle)]
-pub extern "C" fn dq_free(alloc: Global, slot: &mut Slot) -> u32
+pub extern "C" fn dq_ref_free(alloc: Global, slot: &mut Slot) -> u32
     ensures answers { result ≡ queue_status slot.old.full }
     ensures empty { slot.new.full ≡ false }
     ensures unchanged { result ≢ done → slot.new ≡ slot.old }

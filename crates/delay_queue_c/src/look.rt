@@ -11,7 +11,7 @@ use std::alloc::Global;
 
 /// Writes the least entry to `out`, due or not. The entry stays.
 #[unsafe(no_mangle)]
-pub extern "C" fn dq_peek(alloc: Global, slot: &mut Slot, out: &mut DqEntry) -> u32
+pub extern "C" fn dq_ref_peek(alloc: Global, slot: &mut Slot, out: &mut DqEntry) -> u32
     ensures no_queue { slot.old.full ≡ false → result ≡ no_queue }
     ensures answers { slot.old.full ≡ true → (result ≡ done) ⊎ (result ≡ no_entry) }
     ensures least { result ≡ done → IsLeast slot.old.held.value.entries out.new.due out.new.task }
@@ -35,7 +35,7 @@ pub extern "C" fn dq_peek(alloc: Global, slot: &mut Slot, out: &mut DqEntry) -> 
 
 /// Writes the moment at which a task is due to `due`, in nanoseconds, if the task has an entry.
 #[unsafe(no_mangle)]
-pub extern "C" fn dq_due_of(alloc: Global, slot: &mut Slot, task: u32, due: &mut u64) -> u32
+pub extern "C" fn dq_ref_due_of(alloc: Global, slot: &mut Slot, task: u32, due: &mut u64) -> u32
     ensures answers { result ≡ look_status slot.old.full slot.old.held.value.entries task }
     ensures due { result ≡ done → due_in slot.old.held.value.entries task ≡ Some due.new }
     ensures unwritten { result ≢ done → due.new ≡ due.old }
@@ -57,7 +57,7 @@ pub extern "C" fn dq_due_of(alloc: Global, slot: &mut Slot, task: u32, due: &mut
 
 /// Whether a task has an entry.
 #[unsafe(no_mangle)]
-pub extern "C" fn dq_contains(alloc: Global, slot: &mut Slot, task: u32) -> u32
+pub extern "C" fn dq_ref_contains(alloc: Global, slot: &mut Slot, task: u32) -> u32
     ensures answers { result ≡ look_status slot.old.full slot.old.held.value.entries task }
     ensures full { slot.new.full ≡ slot.old.full }
     ensures same { IsSame slot.old.held.value slot.new.held.value }
@@ -73,7 +73,7 @@ pub extern "C" fn dq_contains(alloc: Global, slot: &mut Slot, task: u32) -> u32
 
 /// Writes to `count` how many entries there are.
 #[unsafe(no_mangle)]
-pub extern "C" fn dq_len(alloc: Global, slot: &mut Slot, count: &mut usize) -> u32
+pub extern "C" fn dq_ref_len(alloc: Global, slot: &mut Slot, count: &mut usize) -> u32
     ensures answers { result ≡ queue_status slot.old.full }
     ensures count { result ≡ done → count.new ≡ entry_count slot.old.held.value.entries }
     ensures unwritten { result ≢ done → count.new ≡ count.old }
@@ -92,7 +92,7 @@ pub extern "C" fn dq_len(alloc: Global, slot: &mut Slot, count: &mut usize) -> u
 
 /// Writes to `touched` how often the calls so far compared two entries, or changed the index of an entry that stays.
 #[unsafe(no_mangle)]
-pub extern "C" fn dq_touched(alloc: Global, slot: &mut Slot, touched: &mut u64) -> u32
+pub extern "C" fn dq_ref_touched(alloc: Global, slot: &mut Slot, touched: &mut u64) -> u32
     ensures answers { result ≡ queue_status slot.old.full }
     ensures touched { result ≡ done → touched.new ≡ slot.old.held.value.touched }
     ensures unwritten { result ≢ done → touched.new ≡ touched.old }

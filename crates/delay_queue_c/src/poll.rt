@@ -12,7 +12,7 @@ use std::alloc::Global;
 
 /// Takes out the least entry, if it is due at the moment `now`, and writes it to `out`.
 #[unsafe(no_mangle)]
-pub extern "C" fn dq_poll(alloc: Global, slot: &mut Slot, now: u64, out: &mut DqEntry) -> u32
+pub extern "C" fn dq_ref_poll(alloc: Global, slot: &mut Slot, now: u64, out: &mut DqEntry) -> u32
     ensures no_queue { slot.old.full ≡ false → result ≡ no_queue }
     ensures answers { slot.old.full ≡ true → (result ≡ done) ⊎ (result ≡ no_entry) }
     ensures full { slot.new.full ≡ slot.old.full }
@@ -40,7 +40,7 @@ pub extern "C" fn dq_poll(alloc: Global, slot: &mut Slot, now: u64, out: &mut Dq
 
 /// Takes out the entry of a task, if there is one.
 #[unsafe(no_mangle)]
-pub extern "C" fn dq_remove(alloc: Global, slot: &mut Slot, task: u32) -> u32
+pub extern "C" fn dq_ref_remove(alloc: Global, slot: &mut Slot, task: u32) -> u32
     ensures answers { result ≡ look_status slot.old.full slot.old.held.value.entries task }
     ensures full { slot.new.full ≡ slot.old.full }
     ensures removed { result ≡ done → slot.new.held.value.entries ≡ slice_set slot.old.held.value.entries task None }
