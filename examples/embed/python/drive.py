@@ -1,8 +1,9 @@
-"""Runs a plan over event lines, and writes its trace: drive.py LIBRARY PLAN WORKERS < EVENTS."""
+"""Runs a plan over event lines, and writes its trace: drive.py PLAN WORKERS < EVENTS."""
+
 import sys
 from pathlib import Path
 
-from sched import Library
+from executor import Executor
 
 
 def take(executor, line):
@@ -22,8 +23,8 @@ def take(executor, line):
             raise ValueError(f"no event line: {line}")
 
 
-def main(library, plan, workers):
-    with Library(library).executor(Path(plan).read_bytes(), int(workers), 1_000_000) as executor:
+def main(plan, workers):
+    with Executor(Path(plan).read_bytes(), int(workers), 1_000_000) as executor:
         for line in sys.stdin:
             take(executor, line)
             sys.stdout.buffer.write(executor.text())

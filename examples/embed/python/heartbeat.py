@@ -1,8 +1,8 @@
 """A heartbeat: a task at a fixed rate, every 10 nanoseconds, that runs five times over a clock of the program's own."""
-import itertools
-import sys
 
-from sched import Library
+import itertools
+
+from executor import Executor
 
 PLAN = b"""version = 1
 [[block]]
@@ -14,20 +14,22 @@ period = 10
 """
 
 
-def main(library):
-    with Library(library).executor(PLAN, workers=1, limit=1000) as executor:
-        beats = 0
-        for moment in itertools.count(0, 5):
-            executor.clock(moment)
-            print(*executor.lines(), sep="\n")
-            while executor.state().ripe:
-                executor.start(0)
-                print(*executor.lines(), sep="\n")
-                beats += 1  # the work of the task stands here
-                executor.finish(0, beats)
-                print(*executor.lines(), sep="\n")
-                if beats == 5:
-                    return
+def beat(executor, beats):
+    """Lets the clock go on until the task has run so often, and yields the lines that answer each event."""
+    beat = 0
+    for moment in itertools.count(0, 5):
+        executor.clock(moment)
+        yield from executor.lines()
+        while executor.state().ripe:
+            executor.start(0)
+            yield from executor.lines()
+            beat += 1  # the work of the task stands here
+            executor.finish(0, beat)
+            yield from executor.lines()
+            if beat == beats:
+                return
 
 
-main(*sys.argv[1:])
+with Executor(PLAN, workers=1, limit=1000) as executor:
+    for line in beat(executor, 5):
+        print(line)

@@ -1,72 +1,24 @@
-//! A scheduled executor that is told what happens, and answers in lines of text: `libsched_c` for Rust.
+//! A safe wrapper of the proved executor: it is told what happens, and answers in lines of text.
 //!
-//! ```text
-//! let mut executor = Executor::new(plan, 1, 1_000)?;
-//! executor.take(Event::Clock(10))?;
+//! ```no_run
+//! # fn main() -> Result<(), executor::Error> {
+//! # let plan = b"version = 1";
+//! let mut executor = executor::Executor::new(plan, 1, 1_000)?;
+//! executor.take(executor::Event::Clock(10))?;
 //! for line in executor.lines() {
 //!     println!("{line}");
 //! }
+//! # Ok(())
+//! # }
 //! ```
-use std::ffi::c_void;
+//!
+//! The calls that only look take `&mut self` too, since the library hands the executor from its slot to the call and back.
+
+mod calls;
+
+pub use calls::Fault;
+use calls::{Copied, Slot};
 use std::fmt;
-
-/// Room for one executor, as C has it.
-#[repr(C)]
-struct Slot {
-    hidden: *mut c_void,
-    full: bool,
-}
-
-/// What is wrong with a plan's text, and where.
-#[repr(C)]
-#[derive(Clone, Copy, Debug, Default, PartialEq, Eq)]
-pub struct Fault {
-    /// 1 to 16, as `sched.h` names them.
-    pub kind: u32,
-    /// The block, counted from 1; 0 where the fault is in no block.
-    pub block: u32,
-    /// The call in its block, counted from 1; 0 where the fault is in no call.
-    pub call: u32,
-}
-
-#[repr(C)]
-#[derive(Default)]
-struct Copied {
-    lines: usize,
-    bytes: usize,
-}
-
-/// How far an executor is.
-#[repr(C)]
-#[derive(Clone, Copy, Debug, Default, PartialEq, Eq)]
-struct RawState {
-    now: u64,
-    lines: usize,
-    tasks: usize,
-    taken: u32,
-    ripe: u32,
-}
-
-#[repr(C)]
-#[derive(Default)]
-struct RawTask {
-    phase: u32,
-    run: u32,
-    cancelled: u32,
-}
-
-unsafe extern "C" {
-    fn sched_ref_new(slot: *mut Slot, plan: *const u8, length: usize, workers: u8, limit: u32, fault: *mut Fault) -> u32;
-    fn sched_ref_free(slot: *mut Slot) -> u32;
-    fn sched_ref_clock(slot: *mut Slot, moment: u64) -> u32;
-    fn sched_ref_start(slot: *mut Slot, worker: u8) -> u32;
-    fn sched_ref_finish(slot: *mut Slot, worker: u8, value: u64) -> u32;
-    fn sched_ref_fail(slot: *mut Slot, worker: u8, code: u32) -> u32;
-    fn sched_ref_cancel(slot: *mut Slot, task: u32) -> u32;
-    fn sched_ref_text(slot: *mut Slot, from: usize, out: *mut u8, room: usize, copied: *mut Copied) -> u32;
-    fn sched_ref_state_of(slot: *mut Slot, state: *mut RawState) -> u32;
-    fn sched_ref_task_of(slot: *mut Slot, task: u32, state: *mut RawTask) -> u32;
-}
 
 /// How many bytes are enough for any line, with its newline.
 const LINE_ROOM: usize = 128;
@@ -104,7 +56,11 @@ impl fmt::Display for Error {
     fn fmt(&self, f: &mut fmt::Formatter) -> fmt::Result {
         match self {
             Error::Plan(fault) => {
-                write!(f, "the text is no plan: fault {} block {} call {}", fault.kind, fault.block, fault.call)
+                write!(
+                    f,
+                    "the text is no plan: fault {} block {} call {}",
+                    fault.kind, fault.block, fault.call
+                )
             }
             Error::Workers => write!(f, "the number of workers is not 1 to 64"),
             Error::Limit => write!(f, "the limit on events is 0"),
@@ -171,7 +127,16 @@ impl Executor {
         };
         let mut fault = Fault::default();
         // SAFETY: the slot is empty, and the plan is a slice, whose pointer is never null.
-        match unsafe { sched_ref_new(&mut slot, plan.as_ptr(), plan.len(), workers, limit, &mut fault) } {
+        match unsafe {
+            calls::sched_ref_new(
+                &mut slot,
+                plan.as_ptr(),
+                plan.len(),
+                workers,
+                limit,
+                &mut fault,
+            )
+        } {
             0 => Ok(Executor { slot }),
             status => Err(Error::of(status, fault)),
         }
@@ -183,11 +148,11 @@ impl Executor {
         // SAFETY: the slot has its executor until `drop`, and is in one call at a time.
         let status = unsafe {
             match event {
-                Event::Clock(moment) => sched_ref_clock(slot, moment),
-                Event::Start(worker) => sched_ref_start(slot, worker),
-                Event::Finish(worker, value) => sched_ref_finish(slot, worker, value),
-                Event::Fail(worker, code) => sched_ref_fail(slot, worker, code),
-                Event::Cancel(task) => sched_ref_cancel(slot, task),
+                Event::Clock(moment) => calls::sched_ref_clock(slot, moment),
+                Event::Start(worker) => calls::sched_ref_start(slot, worker),
+                Event::Finish(worker, value) => calls::sched_ref_finish(slot, worker, value),
+                Event::Fail(worker, code) => calls::sched_ref_fail(slot, worker, code),
+                Event::Cancel(task) => calls::sched_ref_cancel(slot, task),
             }
         };
         match status {
@@ -226,10 +191,16 @@ impl Executor {
 
     /// How far the task of a number is. `None` where the plan has no task of this number.
     pub fn task(&mut self, task: u32) -> Option<Task> {
-        let mut raw = RawTask::default();
+        let mut raw = calls::Task::default();
         // SAFETY: as in `take`.
-        let status = unsafe { sched_ref_task_of(&mut self.slot, task, &mut raw) };
-        let phases = [Phase::Vacant, Phase::New, Phase::Running, Phase::Done, Phase::Failed];
+        let status = unsafe { calls::sched_ref_task_of(&mut self.slot, task, &mut raw) };
+        let phases = [
+            Phase::Vacant,
+            Phase::New,
+            Phase::Running,
+            Phase::Done,
+            Phase::Failed,
+        ];
         (status == 0).then(|| Task {
             phase: phases[raw.phase as usize],
             run: raw.run,
@@ -237,10 +208,10 @@ impl Executor {
         })
     }
 
-    fn state(&mut self) -> RawState {
-        let mut state = RawState::default();
+    fn state(&mut self) -> calls::State {
+        let mut state = calls::State::default();
         // SAFETY: as in `take`.
-        unsafe { sched_ref_state_of(&mut self.slot, &mut state) };
+        unsafe { calls::sched_ref_state_of(&mut self.slot, &mut state) };
         state
     }
 }
@@ -248,7 +219,7 @@ impl Executor {
 impl Drop for Executor {
     fn drop(&mut self) {
         // SAFETY: as in `take`.
-        unsafe { sched_ref_free(&mut self.slot) };
+        unsafe { calls::sched_ref_free(&mut self.slot) };
     }
 }
 
@@ -265,7 +236,15 @@ impl Iterator for Lines<'_> {
         let mut line = [0; LINE_ROOM];
         let mut copied = Copied::default();
         // SAFETY: as in `Executor::take`.
-        unsafe { sched_ref_text(&mut self.executor.slot, self.next, line.as_mut_ptr(), line.len(), &mut copied) };
+        unsafe {
+            calls::sched_ref_text(
+                &mut self.executor.slot,
+                self.next,
+                line.as_mut_ptr(),
+                line.len(),
+                &mut copied,
+            )
+        };
         self.next += copied.lines;
         let text = std::str::from_utf8(&line[..copied.bytes]).expect("a line is ASCII");
         text.strip_suffix('\n').map(str::to_owned)

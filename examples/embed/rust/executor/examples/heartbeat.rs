@@ -1,5 +1,5 @@
 //! A heartbeat: a task at a fixed rate, every 10 nanoseconds, that runs five times over a clock of the program's own.
-use sched::{Error, Event, Executor};
+use executor::{Error, Event, Executor};
 
 const PLAN: &str = "version = 1
 [[block]]
