@@ -1,5 +1,5 @@
 -- One entry more, behind those that were added or taken out.
-use Rattle.std.proofs.Common.{◌≡◌, ℕ, List, [], ◌∷◌, ◌++◌, refl, subst}
+use Rattle.std.proofs.Common.{ℕ, List, [], ◌∷◌, ◌++◌, refl, subst}
 use Rattle.delay_queue.specs.Queues.{Queue}
 use Rattle.delay_queue_c.specs.Slots.{Inserts, InsertsEach, Polls, PollsEach}
 use Rattle.delay_queue_c.specs.declared.entry.DqEntry.{DqEntry}

@@ -1,4 +1,4 @@
-use Rattle.std.proofs.Common.{rules, ◌≡◌, refl, sym, ◌+◌, ◌∷◌, ◌++◌, [], List, take, subst, slice_index_or}
+use Rattle.std.proofs.Common.{rules, refl, sym, List, take, subst, slice_index_or}
 use Rattle.std.proofs.lemmas.List.{take_more}
 use Rattle.delay_queue_c.specs.Slots.{Inserts, InsertsEach}
 use Rattle.delay_queue_c.specs.declared.entry.DqEntry.{DqEntry}

@@ -1,4 +1,4 @@
-use Rattle.std.proofs.Common.{rules, arith, ◌≡◌, ◌∙◌, refl, sym, ◌+◌, ◌∷◌, ◌++◌, [], List, take, subst}
+use Rattle.std.proofs.Common.{rules, arith, ◌∙◌, sym, ◌+◌, List, take, subst}
 use Rattle.std.proofs.lemmas.List.{take_more_set, drop-set-lt}
 use Rattle.std.proofs.lemmas.Grind.{drop_more_same}
 use Rattle.delay_queue_c.specs.Slots.{Polls, PollsEach}

@@ -1,5 +1,5 @@
 -- A slot with nothing is made of the null pointer and the handle of the allocator.
-use Rattle.c_slot.proofs.Steps.{◌≡◌, refl, sym, subst, List, [], ◌∷◌, ◌++◌, proved_at, Val, vstruct, of_list, ftrue, fsep, ent, WpFn, tables, Item, ‵, raw, ◌⊛◌, ◌$◌, ◌∵◌, !, qed, by, move, drop, join, split, fsplit, fjoin, fpack, feq_i, suffices, agg, no_more, and_then, returns, enter, alloc_all, pass_all, free_all, look_at, get, sets, done, yes, Valss, RawPtr, null_ptr, ptr_val, plain, nothing, within, shape, says, Stays, stay_dropped, walk_of, ends_at}
+use Rattle.c_slot.proofs.Steps.{refl, sym, subst, List, [], ◌∷◌, ◌++◌, proved_at, Val, vstruct, of_list, ftrue, fsep, ent, WpFn, tables, Item, ‵, raw, ◌⊛◌, ◌$◌, ◌∵◌, !, qed, by, move, drop, join, split, fsplit, fjoin, fpack, feq_i, suffices, agg, no_more, and_then, returns, enter, alloc_all, pass_all, free_all, look_at, get, sets, done, yes, Valss, RawPtr, null_ptr, ptr_val, plain, nothing, within, shape, says, Stays, stay_dropped, walk_of, ends_at}
 use Rattle.std.specs.Prelude.{false}
 use base.Logic.{emp}
 use types.Run.{lit}

@@ -1,5 +1,5 @@
 -- The two fields move, and what they own goes with them.
-use Rattle.c_slot.proofs.Steps.{◌≡◌, refl, sym, subst, ap, ◌∙◌, List, [], ◌∷◌, ◌++◌, true, proved_at, bare, Val, ftrue, fsep, ent, id⊢, never, fst∗, sem, WpFn, tables, Item, ‵, raw, ◌⊛◌, ◌$◌, ◌∵◌, !, qed, by, move, drop, use1, join, split, fsplit, fjoin, suffices, whole, sub, agg, stop, fld, no_more, and_then, of_opd, returns, enter, alloc_all, pass_all, free_all, look_at, get, get_in, sets, done, yes, Ptr, block_ptr, null_ptr, in_a_block, plain, nothing, says, Stays, stay_dropped, walk_of, ends_at}
+use Rattle.c_slot.proofs.Steps.{refl, sym, subst, ap, ◌∙◌, List, [], ◌∷◌, ◌++◌, true, proved_at, bare, Val, ftrue, fsep, ent, id⊢, never, fst∗, sem, WpFn, tables, Item, ‵, raw, ◌⊛◌, ◌$◌, ◌∵◌, !, qed, by, move, drop, use1, join, split, fsplit, fjoin, suffices, whole, sub, agg, stop, fld, no_more, and_then, of_opd, returns, enter, alloc_all, pass_all, free_all, look_at, get, get_in, sets, done, yes, Ptr, block_ptr, null_ptr, in_a_block, nothing, says, Stays, stay_dropped, walk_of, ends_at}
 use base.Logic.{emp}
 use denote.Triple.Walked.{Goes-dropped}
 use Rattle.std.proofs.alloc.Calls.{token}
