@@ -74,14 +74,13 @@ int main(int count, char **words) {
     sched_fault fault;
     long growths = 0;
     for (met = true; met; growths += 1) {
-        long before = live;
         met = false;
         refused = growths + 1;
         sched_status status = sched_new(&slot, plan, length, workers, EVENTS, &fault);
         refused = 0;
         demand(status == (met ? SCHED_NO_MEMORY : SCHED_DONE), "a growth was refused, and the status is another one");
         demand(!met || (!slot.full && fault.kind == 0), "there was no memory, and the slot is not empty");
-        demand(!met || live == before, "there was no memory, and a block was kept");
+        demand(!met || live == 0, "there was no memory, and a block was kept");
     }
     char line[128];
     while (fgets(line, sizeof line, stdin)) {
@@ -95,9 +94,7 @@ int main(int count, char **words) {
         refused = 0;
         demand(status == SCHED_DONE && !met, "an event took memory");
     }
-    long before = live;
-    sched_free(&slot);
-    demand(live < before && sched_free(&slot) == SCHED_NO_EXECUTOR, "nothing was freed");
+    demand(live > 0 && sched_free(&slot) == SCHED_DONE && live == 0, "a block was kept");
     printf("%ld growths refused\n", growths - 1);
     return 0;
 }
