@@ -30,7 +30,8 @@
  * What a caller owes, since nothing can check it:
  * - a slot is SCHED_EMPTY, or all zeros, before the first call, and only these calls read or write its members after that;
  * - a slot is not copied: of two copies only one may be used again, and the other is set to SCHED_EMPTY;
- * - a slot is used by one thread at a time, also for calls that only look; and stays on the thread that made it;
+ * - a slot is used by one thread at a time, also for calls that only look; it may be used by one thread after another, which
+ *   a lock, or the start or join of a thread, puts in order;
  * - a pointer that is not NULL points to an object of its type, or to as many bytes as the length beside it says, which
  *   nothing else uses during the call and which do not overlap each other;
  * - no call is made from a signal handler, or from the forked child of a process with threads;

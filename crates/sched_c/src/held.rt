@@ -56,3 +56,5 @@ impl Held {
         }
     }
 }
+
+unsafe impl Send for Held {}

@@ -15,6 +15,10 @@
 //! answered. The calls of `exports` are those of the header with `ref` in their names; `include/sched.h` puts a test for null
 //! pointers before each. `examples/embed` has programs in C, Rust and Python.
 //!
+//! # Threads
+//!
+//! A slot may cross to another thread, which is proved (`Send`), and is used by one at a time.
+//!
 //! # Behaviour
 //!
 //! Each event of `executor_core` is one call. Its lines stand in the executor until the next event that is taken, and their

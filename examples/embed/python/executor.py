@@ -4,7 +4,7 @@
         executor.clock(10)
         executor.lines()   # ["0 submit 0 rate due 10", "10 clock"]
 
-Moments are nanoseconds from 0 to 2**62. An executor is used by one thread. `LIBRARY` is the shared library, which
+Moments are nanoseconds from 0 to 2**62. An executor is used by one thread at a time. `LIBRARY` is the shared library, which
 `examples/embed/python/run_heartbeat` builds.
 """
 

@@ -113,10 +113,13 @@ pub struct Task {
 
 /// An executor of the calls of a plan.
 ///
-/// It stays on its thread. All its memory is taken when it is made, and given back when it is dropped.
+/// All its memory is taken when it is made, and given back when it is dropped. It may move to another thread.
 pub struct Executor {
     slot: Slot,
 }
+
+// SAFETY: that a slot may cross to another thread is proved (`Send` in `crates/sched_c`), and `&mut` lends it to one at a time.
+unsafe impl Send for Executor {}
 
 impl Executor {
     /// An executor of a plan's text with 1 to 64 workers, which takes `limit` events, at least 1.
