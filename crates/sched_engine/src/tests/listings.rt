@@ -1,5 +1,6 @@
-//! The listings of plans, and where they are not written.
+//! The listings and cores of plans, and where there are none.
 use super::*;
+use crate::engine::core_of;
 use crate::listing::write_listing;
 
 /// What the writing of a listing answered, and what it wrote.
@@ -93,4 +94,17 @@ fn tells_a_writer_that_takes_no_more(rt: HostRuntime) {
     }
     let mut writer = Writing::new(Short { left: 29 });
     assert!(rt; write_listing(alloc, ONE_DELAY.as_bytes(), &mut writer) == Ok(()));
+}
+
+#[test]
+fn gives_the_core_of_a_plan(rt: HostRuntime) -> Result<(), Fail> {
+    let plan = ONE_DELAY.as_bytes();
+    let core = core_of(rt.alloc(), plan, 2, 9)?;
+    assert_eq!(rt; core.tasks(), 1);
+    assert_eq!(rt; core.taken(), 0);
+    assert_eq!(rt;
+        core_of(rt.alloc(), plan, 2, 0).err(),
+        Some(RunError::Limit)
+    );
+    Ok(())
 }

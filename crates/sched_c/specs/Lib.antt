@@ -1,0 +1,11 @@
+pub use Rattle.executor_core.specs.CoreView
+pub use Rattle.executor_core.specs.Flows
+pub use Rattle.executor_core.specs.Histories
+pub use Rattle.executor_core.specs.Needs
+pub use Rattle.sched_engine.specs.Cores
+pub use Rattle.sched_engine.specs.Running
+pub mod Calls
+pub mod Faults
+pub mod Numbers
+pub mod Seen
+pub mod Slots

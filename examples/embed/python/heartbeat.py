@@ -1,0 +1,35 @@
+"""A heartbeat: a task at a fixed rate, every 10 nanoseconds, that runs five times over a clock of the program's own."""
+
+import itertools
+
+from executor import Executor
+
+PLAN = b"""version = 1
+[[block]]
+[[block.call]]
+op = "rate"
+name = "heartbeat"
+first = 10
+period = 10
+"""
+
+
+def beat(executor, beats):
+    """Lets the clock go on until the task has run so often, and yields the lines that answer each event."""
+    beat = 0
+    for moment in itertools.count(0, 5):
+        executor.clock(moment)
+        yield from executor.lines()
+        while executor.state().ripe:
+            executor.start(0)
+            yield from executor.lines()
+            beat += 1  # the work of the task stands here
+            executor.finish(0, beat)
+            yield from executor.lines()
+            if beat == beats:
+                return
+
+
+with Executor(PLAN, workers=1, limit=1000) as executor:
+    for line in beat(executor, 5):
+        print(line)

@@ -1,0 +1,78 @@
+//! The functions and structs of `include/sched.h`. None of the pointers is null.
+
+use std::ffi::c_void;
+
+/// Room for an executor, with one or without.
+#[repr(C)]
+pub struct Slot {
+    pub hidden: *mut c_void,
+    pub full: bool,
+}
+
+/// What is wrong with a plan's text, and where.
+#[repr(C)]
+#[derive(Clone, Copy, Debug, Default, PartialEq, Eq)]
+pub struct Fault {
+    /// 1 to 16, as `sched.h` names them.
+    pub kind: u32,
+    /// The block, counted from 1; 0 where the fault is in no block.
+    pub block: u32,
+    /// The call in its block, counted from 1; 0 where the fault is in no call.
+    pub call: u32,
+}
+
+/// What of a text was copied.
+#[repr(C)]
+#[derive(Default)]
+pub struct Copied {
+    /// How many whole lines.
+    pub lines: usize,
+    /// How many bytes, with the newline of each line.
+    pub bytes: usize,
+}
+
+/// How far an executor is.
+#[repr(C)]
+#[derive(Default)]
+pub struct State {
+    pub now: u64,
+    pub lines: usize,
+    pub tasks: usize,
+    pub taken: u32,
+    pub ripe: u32,
+}
+
+/// How far a task is.
+#[repr(C)]
+#[derive(Default)]
+pub struct Task {
+    pub phase: u32,
+    pub run: u32,
+    pub cancelled: u32,
+}
+
+unsafe extern "C" {
+    pub fn sched_ref_new(
+        slot: *mut Slot,
+        plan: *const u8,
+        length: usize,
+        workers: u8,
+        limit: u32,
+        fault: *mut Fault,
+    ) -> u32;
+    pub fn sched_ref_free(slot: *mut Slot) -> u32;
+    pub fn sched_ref_clock(slot: *mut Slot, moment: u64) -> u32;
+    pub fn sched_ref_start(slot: *mut Slot, worker: u8) -> u32;
+    pub fn sched_ref_finish(slot: *mut Slot, worker: u8, value: u64) -> u32;
+    pub fn sched_ref_fail(slot: *mut Slot, worker: u8, code: u32) -> u32;
+    pub fn sched_ref_cancel(slot: *mut Slot, task: u32) -> u32;
+    pub fn sched_ref_text(
+        slot: *mut Slot,
+        from: usize,
+        out: *mut u8,
+        room: usize,
+        copied: *mut Copied,
+    ) -> u32;
+    pub fn sched_ref_state_of(slot: *mut Slot, state: *mut State) -> u32;
+    pub fn sched_ref_task_of(slot: *mut Slot, task: u32, state: *mut Task) -> u32;
+}

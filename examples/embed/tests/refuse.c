@@ -1,0 +1,100 @@
+/* Refuses memory: refuse PLAN WORKERS < EVENTS. The first growth of sched_new is refused, then the second, and so on until none
+ * is met; each time the answer has to be SCHED_NO_MEMORY, with an empty slot and all memory given back. Then each event is taken
+ * while all growths are refused. Linked with -Wl,--wrap=malloc,--wrap=realloc,--wrap=free. */
+#include "sched.h"
+
+#include <inttypes.h>
+#include <stdio.h>
+#include <stdlib.h>
+
+enum { MOST_PLAN = 1048576, EVENTS = 1000000 };
+
+void *__real_malloc(size_t size);
+void *__real_realloc(void *block, size_t size);
+void __real_free(void *block);
+
+static long refused; /* which growth is refused, counted from now; 0: none, -1: all */
+static long live;    /* how many blocks are in use */
+static bool met;
+
+static bool refuses(void) {
+    bool now = refused == -1 || refused == 1;
+    met = met || now;
+    if (refused > 0) refused -= 1;
+    return now;
+}
+
+void *__wrap_malloc(size_t size) {
+    if (refuses()) return NULL;
+    void *block = __real_malloc(size);
+    live += block != NULL;
+    return block;
+}
+
+void *__wrap_realloc(void *block, size_t size) {
+    if (refuses()) return NULL;
+    void *grown = __real_realloc(block, size);
+    live += block == NULL && grown != NULL;
+    return grown;
+}
+
+void __wrap_free(void *block) {
+    live -= block != NULL;
+    __real_free(block);
+}
+
+static void demand(bool holds, const char *what) {
+    if (holds) return;
+    refused = 0;
+    fprintf(stderr, "%s\n", what);
+    exit(1);
+}
+
+static sched_status take(sched_slot *slot, const char *line) {
+    uint64_t number;
+    uint32_t code;
+    unsigned worker;
+    if (sscanf(line, "clock %" SCNu64, &number) == 1) return sched_clock(slot, number);
+    if (sscanf(line, "start %u", &worker) == 1) return sched_start(slot, (uint8_t)worker);
+    if (sscanf(line, "finish %u ok %" SCNu64, &worker, &number) == 2) return sched_finish(slot, (uint8_t)worker, number);
+    if (sscanf(line, "finish %u fail %" SCNu32, &worker, &code) == 2) return sched_fail(slot, (uint8_t)worker, code);
+    if (sscanf(line, "cancel %" SCNu32, &code) == 1) return sched_cancel(slot, code);
+    demand(false, "no event line");
+    return 0;
+}
+
+int main(int count, char **words) {
+    static uint8_t plan[MOST_PLAN + 1];
+    FILE *file = count == 3 ? fopen(words[1], "rb") : NULL;
+    demand(file != NULL, "refuse PLAN WORKERS < EVENTS");
+    size_t length = fread(plan, 1, sizeof plan, file);
+    fclose(file);
+    uint8_t workers = (uint8_t)atoi(words[2]);
+    sched_slot slot = SCHED_EMPTY;
+    sched_fault fault;
+    long growths = 0;
+    for (met = true; met; growths += 1) {
+        met = false;
+        refused = growths + 1;
+        sched_status status = sched_new(&slot, plan, length, workers, EVENTS, &fault);
+        refused = 0;
+        demand(status == (met ? SCHED_NO_MEMORY : SCHED_DONE), "a growth was refused, and the status is another one");
+        demand(!met || (!slot.full && fault.kind == 0), "there was no memory, and the slot is not empty");
+        demand(!met || live == 0, "there was no memory, and a block was kept");
+    }
+    char line[128];
+    while (fgets(line, sizeof line, stdin)) {
+        sched_state state;
+        uint8_t text[SCHED_LINE_ROOM];
+        sched_copied copied;
+        refused = -1;
+        sched_status status = take(&slot, line);
+        sched_state_of(&slot, &state);
+        sched_text(&slot, 0, text, sizeof text, &copied);
+        refused = 0;
+        demand(status == SCHED_DONE && !met, "an event took memory");
+    }
+    demand(live > 0 && sched_free(&slot) == SCHED_DONE && live == 0, "a block was kept");
+    printf("%ld growths refused\n", growths - 1);
+    return 0;
+}

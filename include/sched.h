@@ -1,0 +1,242 @@
+/* A scheduled executor that is told what happens, and answers in lines of text.
+ *
+ * An executor is made of a plan's text, and takes events: the clock shows a moment, a worker asks for work, a worker's run has
+ * ended, a task is to be cancelled. It reads no clock, runs no task, starts no thread, and does no input or output: the
+ * program around it does, and tells it. Moments are nanoseconds, from 0 to 2^62; what moment 0 is, the program says.
+ *
+ *     sched_slot slot = SCHED_EMPTY;
+ *     sched_copied copied;
+ *     if (sched_new(&slot, plan, length, 1, 1000, &fault) != SCHED_DONE) return 1;
+ *     sched_clock(&slot, 10);
+ *     sched_text(&slot, 0, text, sizeof text, &copied);
+ *     fwrite(text, 1, copied.bytes, stdout);  "0 submit 0 rate due 10\n10 clock\n"
+ *     sched_free(&slot);
+ *
+ * Answers. Each call answers a sched_status. Where it is not SCHED_DONE, the executor is as it was, and so are its lines.
+ * SCHED_NULL comes before all other answers, and nothing is written then; SCHED_NO_EXECUTOR comes next, and what a call
+ * writes through a pointer is zeros then.
+ *
+ * Memory. sched_new takes all memory that an executor ever needs; no other call answers SCHED_NO_MEMORY. Text goes into the
+ * caller's buffer: so the library keeps none, and hands out no pointer that could be used too late.
+ *
+ * What is proved: each function of the library, named sched_ref_.. below, meets its contract (crates/sched_c), which says for
+ * each answer exactly when it comes, what is written and what becomes of the executor; touches no memory but what it is
+ * handed and what the executor took; and ends. The lines that answer an event are those that the executor's equations give,
+ * in their order, and the text that is copied is the text of these lines. What follows of the equations, as that no run starts
+ * before it is due and that no two runs of a task overlap, is proved in crates/executor_laws. What is not proved: that
+ * sched_free gives all memory back, and that a sched_new does that answers SCHED_NO_MEMORY (tools/embed tries both), the inline
+ * functions of this file, which test for NULL and are tested, and the C library's heap.
+ *
+ * What a caller owes, since nothing can check it:
+ * - a slot is SCHED_EMPTY, or all zeros, before the first call, and only these calls read or write its members after that;
+ * - a slot is not copied: of two copies only one may be used again, and the other is set to SCHED_EMPTY;
+ * - a slot is used by one thread at a time, also for calls that only look; it may be used by one thread after another, which
+ *   a lock, or the start or join of a thread, puts in order;
+ * - a pointer that is not NULL points to an object of its type, or to as many bytes as the length beside it says, which
+ *   nothing else uses during the call and which do not overlap each other;
+ * - no call is made from a signal handler, or from the forked child of a process with threads;
+ * - malloc, realloc and free come from one allocator, and align as C asks.
+ *
+ * Cost: a plan takes some 80 bytes for each task, 12 for each worker, and 48 for each line that one event may have: one, one
+ * for each call of the plan, and one for each task. An event costs what the calls cost that it reaches, and else what the
+ * queue of waiting tasks does.
+ */
+#ifndef SCHED_H
+#define SCHED_H
+
+#include <stdbool.h>
+#include <stddef.h>
+#include <stdint.h>
+
+#ifdef __cplusplus
+extern "C" {
+#endif
+
+/* How a call ended. The numbers stay as they are. */
+typedef uint32_t sched_status;
+
+enum {
+    SCHED_DONE = 0,         /* the call did what it says */
+    SCHED_NO_MEMORY = 1,    /* malloc refused */
+    SCHED_NO_EXECUTOR = 2,  /* the slot is empty */
+    SCHED_HAS_EXECUTOR = 3, /* the slot has an executor already */
+    SCHED_NO_PLAN = 4,      /* the text is no plan: the fault says why */
+    SCHED_WORKERS = 5,      /* the number of workers is not 1 to 64 */
+    SCHED_LIMIT = 6,        /* the limit on events is 0 */
+    SCHED_FULL = 7,         /* as many events were taken as the limit allows */
+    SCHED_UNKNOWN_TASK = 8, /* the plan has no task of this number */
+    SCHED_NULL = 9          /* a pointer is NULL */
+};
+
+/* Room for an executor, with one or without. Its members are the library's. */
+typedef struct sched_slot {
+    void *hidden;
+    bool full;
+} sched_slot;
+
+/* A slot without an executor. */
+#ifdef __cplusplus
+#define SCHED_EMPTY sched_slot{nullptr, false}
+#else
+#define SCHED_EMPTY {NULL, false}
+#endif
+
+/* What is wrong with a plan's text. */
+enum {
+    SCHED_FAULT_NONE = 0,
+    SCHED_FAULT_TOO_LONG = 1,       /* more than 1,048,576 bytes */
+    SCHED_FAULT_TOML = 2,           /* no UTF-8, or no TOML document */
+    SCHED_FAULT_VERSION = 3,        /* `version` is missing, or neither 1 nor 2 */
+    SCHED_FAULT_UNKNOWN_KEY = 4,    /* a table has a key that does not belong there */
+    SCHED_FAULT_MISSING = 5,        /* a key is missing */
+    SCHED_FAULT_WRONG_TYPE = 6,     /* a value is not what its key wants */
+    SCHED_FAULT_BAD_UNIT = 7,       /* a unit is none */
+    SCHED_FAULT_BAD_TIMES = 8,      /* a `times` is not 1 to 65,536 */
+    SCHED_FAULT_NEGATIVE = 9,       /* a moment, an offset or an `every` is below 0 */
+    SCHED_FAULT_BAD_NAME = 10,      /* a name is not 1 to 32 ASCII letters, digits, `-` and `_` */
+    SCHED_FAULT_DUPLICATE_NAME = 11,/* a submission has the name of one before it */
+    SCHED_FAULT_UNKNOWN_NAME = 12,  /* a cancel names no submission that stands before it */
+    SCHED_FAULT_AMBIGUOUS = 13,     /* a cancel names a submission of an earlier block that is repeated */
+    SCHED_FAULT_OUT_OF_ORDER = 14,  /* a call comes before the one that stands before it */
+    SCHED_FAULT_TOO_LARGE = 15,     /* a time is above 2^62 nanoseconds */
+    SCHED_FAULT_TOO_MANY = 16       /* more blocks or calls than a plan may have */
+};
+
+/* What is wrong with a plan's text, and where. */
+typedef struct sched_fault {
+    uint32_t kind;  /* SCHED_FAULT_.. */
+    uint32_t block; /* the block, counted from 1; 0: in no block */
+    uint32_t call;  /* the call in its block, counted from 1; 0: in no call */
+} sched_fault;
+
+/* How many bytes are enough for any line, with its newline. */
+#define SCHED_LINE_ROOM 128
+
+/* What of a text was copied. */
+typedef struct sched_copied {
+    size_t lines; /* how many whole lines */
+    size_t bytes; /* how many bytes, with the newline of each line */
+} sched_copied;
+
+/* How far an executor is. */
+typedef struct sched_state {
+    uint64_t now;   /* the moment, in nanoseconds: the greatest of the accepted clocks and the calls made */
+    size_t lines;   /* how many lines the last event was answered */
+    size_t tasks;   /* how many tasks the plan has */
+    uint32_t taken; /* how many events were taken */
+    uint32_t ripe;  /* 1: the due moment of some task is reached, so that a start may get a task; 0: none is */
+} sched_state;
+
+/* How far a task has come. */
+enum {
+    SCHED_TASK_VACANT = 0,  /* not submitted */
+    SCHED_TASK_NEW = 1,     /* waits for its run */
+    SCHED_TASK_RUNNING = 2, /* is run */
+    SCHED_TASK_DONE = 3,    /* its last run is done */
+    SCHED_TASK_FAILED = 4   /* its last run failed */
+};
+
+/* How far a task is. A cancelled task stands still, also once the run that was under way has ended. */
+typedef struct sched_task {
+    uint32_t phase;     /* SCHED_TASK_.. */
+    uint32_t run;       /* the number of the run, from 0 */
+    uint32_t cancelled; /* 1: it was cancelled; 0: it was not */
+} sched_task;
+
+/* The functions of the library. They are as those without `ref` in their names, but for NULL: no pointer may be NULL, and
+ * each is aligned as its type. */
+sched_status sched_ref_new(sched_slot *slot, const uint8_t *plan, size_t length, uint8_t workers, uint32_t limit, sched_fault *fault);
+sched_status sched_ref_free(sched_slot *slot);
+sched_status sched_ref_clock(sched_slot *slot, uint64_t moment);
+sched_status sched_ref_start(sched_slot *slot, uint8_t worker);
+sched_status sched_ref_finish(sched_slot *slot, uint8_t worker, uint64_t value);
+sched_status sched_ref_fail(sched_slot *slot, uint8_t worker, uint32_t code);
+sched_status sched_ref_cancel(sched_slot *slot, uint32_t task);
+sched_status sched_ref_text(sched_slot *slot, size_t from, uint8_t *out, size_t room, sched_copied *copied);
+sched_status sched_ref_state_of(sched_slot *slot, sched_state *state);
+sched_status sched_ref_task_of(sched_slot *slot, uint32_t task, sched_task *state);
+
+/* Makes an executor of a plan's text, `length` bytes of TOML, at most 1,048,576, in an empty slot, before anything happened.
+ * `workers` is the number of workers, 1 to 64: events name them from 0. `limit` is how many events the executor takes, 1 to
+ * 4,294,967,295.
+ * SCHED_HAS_EXECUTOR: the slot is full. Then SCHED_NO_PLAN: the text is no plan, and `fault` says what is wrong with it, and
+ * where; on all other answers `fault` is zeros. Then SCHED_WORKERS, then SCHED_LIMIT. SCHED_NO_MEMORY: malloc refused, and
+ * nothing is said of the text; it may come in place of each of the last three. The slot is as it was on each of these, and no
+ * memory is kept. `plan` may be NULL where length is 0. */
+static inline sched_status sched_new(sched_slot *slot, const uint8_t *plan, size_t length, uint8_t workers, uint32_t limit, sched_fault *fault) {
+    static const uint8_t none = 0;
+    if (slot == NULL || fault == NULL || (plan == NULL && length != 0)) return SCHED_NULL;
+    return sched_ref_new(slot, plan == NULL ? &none : plan, length, workers, limit, fault);
+}
+
+/* Frees the executor, and leaves the slot empty. SCHED_NO_EXECUTOR: it was empty. */
+static inline sched_status sched_free(sched_slot *slot) {
+    return slot == NULL ? (sched_status)SCHED_NULL : sched_ref_free(slot);
+}
+
+/* The five events. Each is taken where the answer is SCHED_DONE: the calls of the plan that are due with it are made, and then it
+ * is answered itself; the lines are those that answer all that. SCHED_NO_EXECUTOR. SCHED_FULL: as many events were taken as the
+ * limit allows.
+ *
+ * An event that makes no sense is taken too: a clock that goes back or passes 2^62, a worker that is none, one that starts while
+ * it has a run or finishes without one, a task that is none. Its one line says what is wrong, and nothing else changes. */
+
+/* The clock shows a moment, in nanoseconds. */
+static inline sched_status sched_clock(sched_slot *slot, uint64_t moment) {
+    return slot == NULL ? (sched_status)SCHED_NULL : sched_ref_clock(slot, moment);
+}
+
+/* A worker asks for work. The line names the task, its run and the due moment, or says that the worker is idle. */
+static inline sched_status sched_start(sched_slot *slot, uint8_t worker) {
+    return slot == NULL ? (sched_status)SCHED_NULL : sched_ref_start(slot, worker);
+}
+
+/* The run of a worker has ended with a value. */
+static inline sched_status sched_finish(sched_slot *slot, uint8_t worker, uint64_t value) {
+    return slot == NULL ? (sched_status)SCHED_NULL : sched_ref_finish(slot, worker, value);
+}
+
+/* The run of a worker has failed, with a code of the program's own. It is the last run of its task. */
+static inline sched_status sched_fail(sched_slot *slot, uint8_t worker, uint32_t code) {
+    return slot == NULL ? (sched_status)SCHED_NULL : sched_ref_fail(slot, worker, code);
+}
+
+/* A task is to be cancelled, by its number: the submissions of the plan are counted from 0. */
+static inline sched_status sched_cancel(sched_slot *slot, uint32_t task) {
+    return slot == NULL ? (sched_status)SCHED_NULL : sched_ref_cancel(slot, task);
+}
+
+/* Copies the text of the lines that answer the last event that was taken into a buffer of `room` bytes, from line `from` on,
+ * counted from 0, and writes to `copied` how much: whole lines, as long as SCHED_LINE_ROOM bytes of room are left. The line to go
+ * on with is `from + copied->lines`; no line is left where `copied->lines` is 0 and there was room for one. What stands in the
+ * buffer behind the text is lost. SCHED_NO_EXECUTOR. `out` may be NULL where room is 0. */
+static inline sched_status sched_text(sched_slot *slot, size_t from, uint8_t *out, size_t room, sched_copied *copied) {
+    uint8_t none = 0;
+    if (slot == NULL || copied == NULL || (out == NULL && room != 0)) return SCHED_NULL;
+    return sched_ref_text(slot, from, out == NULL ? &none : out, room, copied);
+}
+
+/* Writes how far the executor is. SCHED_NO_EXECUTOR. */
+static inline sched_status sched_state_of(sched_slot *slot, sched_state *state) {
+    return slot == NULL || state == NULL ? (sched_status)SCHED_NULL : sched_ref_state_of(slot, state);
+}
+
+/* Writes how far a task is, by its number. SCHED_NO_EXECUTOR. SCHED_UNKNOWN_TASK: the plan has no task of this number, and zeros
+ * are written. */
+static inline sched_status sched_task_of(sched_slot *slot, uint32_t task, sched_task *state) {
+    return slot == NULL || state == NULL ? (sched_status)SCHED_NULL : sched_ref_task_of(slot, task, state);
+}
+
+/* What a status means, in words. */
+static inline const char *sched_status_text(sched_status status) {
+    static const char *const texts[] = {"done", "out of memory", "the slot is empty", "the slot has an executor already",
+        "the text is no plan", "the number of workers is not 1 to 64", "the limit on events is 0",
+        "the limit on events is reached", "no such task", "a pointer is NULL"};
+    return status <= SCHED_NULL ? texts[status] : "no such status";
+}
+
+#ifdef __cplusplus
+}
+#endif
+
+#endif
