@@ -56,8 +56,8 @@ row_name glyph.Policy = codes "executor"
 row_name glyph.Shutdown = codes "executor"
 row_name glyph.Ask = codes "executor"
 row_name glyph.Clock = codes "clock"
-row_name glyph.Idle = codes "no work"
-row_name glyph.Error = codes "no work"
+row_name glyph.Idle = codes "idle, errors"
+row_name glyph.Error = codes "idle, errors"
 
 -- a row: its name, and a line
 abbrev pub row_text : Glyph → List ℕ

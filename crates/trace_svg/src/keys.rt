@@ -161,7 +161,7 @@ fn row_name(glyph: Glyph) -> &'static str
         Glyph::End => "ends",
         Glyph::Policy | Glyph::Shutdown | Glyph::Ask => "executor",
         Glyph::Clock => "clock",
-        Glyph::Idle | Glyph::Error => "no work",
+        Glyph::Idle | Glyph::Error => "idle, errors",
     }
 }
 
