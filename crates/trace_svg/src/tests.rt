@@ -9,6 +9,7 @@ use std::io::ErrorKind;
 use std::process::Abort;
 use std::test::Fail;
 use task_list::names_of_tasks;
+use trace_check::MOST_BYTES;
 use trace_draw::{lines_of, picture, whole_window};
 
 /// A plan of two tasks.
@@ -54,15 +55,9 @@ fn plan(alloc: Global) -> Result<Plan<Global>, Fail> {
 
 /// What a drawing answered, in words, and what it wrote.
 fn drawn(alloc: Global, workers: u8, trace: &str, view: View) -> Result<(String, Vec<u8>), Fail> {
+    let front = &trace.as_bytes()[..trace.len().min(MOST_BYTES)];
     let mut writer = Writing::new(Vec::new(alloc));
-    let answer = match draw(
-        alloc,
-        &plan(alloc)?,
-        workers,
-        trace.as_bytes(),
-        view,
-        &mut writer,
-    ) {
+    let answer = match draw(alloc, &plan(alloc)?, workers, front, view, &mut writer) {
         Ok(Drawn::Drawn) => String::from_str(alloc, "drawn")?,
         Ok(Drawn::Breaks(line)) => format!(in alloc; "breaks {line}")?,
         Err(error) => format!(in alloc; "{error}")?,
