@@ -1,0 +1,59 @@
+//! The elements of a picture of a trace, as SVG.
+//!
+//! # Usage
+//!
+//! Each element is a small value that prints itself:
+//!
+//! ```rust
+//! format!(in alloc; "{}", Opening { width: 200, height: 100 })?;    // "<svg .. width=\"200\" height=\"100\" ..>", the style, the shapes
+//! let bar = Rectangle { fill: Fill::Done, left: 1, top: 2, width: 30, height: 4, tip: "a & b" };
+//! format!(in alloc; "{bar}")?;
+//! // <rect class="done" x="1" y="2" width="30" height="4"><title>a &amp; b</title></rect>
+//! format!(in alloc; "{}", Closing)?;                                // "</svg>\n"
+//! ```
+//!
+//! # Behaviour
+//!
+//! | Value | Element |
+//! |---|---|
+//! | [`Opening`] | `svg` with a size, the style sheet [`STYLE`], and `defs` with the shapes of marks, [`GLYPHS`] |
+//! | [`Rectangle`] | `rect` with a `title`, which is shown as its tooltip |
+//! | [`Mark`] | `use` of the shape of a [`Glyph`], with a `title` |
+//! | [`Segment`] | `line` |
+//! | [`Label`] | `text` |
+//! | [`Closing`] | the end of `svg` |
+//!
+//! Each ends with a newline. Its class is a word ([`Fill::word`], [`Glyph::word`], [`Stroke::word`], [`Face::word`]), by which
+//! the style sheet gives it its colour. Texts are escaped ([`Escaped`]): `&`, `<`, `>` and both quotes.
+//!
+//! Whole numbers of pixels say where a thing stands, from the left and from the top.
+//!
+//! The style sheet has colours for white, and for dark by `prefers-color-scheme`. Those of runs are the ones of Okabe and Ito,
+//! which the colour-blind can tell. Each kind of mark has a shape of its own.
+//!
+//! # Order and ties
+//!
+//! What is printed later stands above what was printed before.
+//!
+//! # Errors
+//!
+//! There are none but those of the writer.
+//!
+//! # Memory and cost
+//!
+//! An element takes no memory. A text is gone over character by character.
+//!
+//! The tests stand in `src/tests.rt`.
+#![tactic(auto)]
+
+mod document;
+mod escaped;
+mod shapes;
+#[cfg(test)]
+mod tests;
+mod words;
+
+pub use document::{Closing, GLYPHS, Opening, STYLE};
+pub use escaped::Escaped;
+pub use shapes::{Label, Mark, Rectangle, Segment};
+pub use words::{Face, Fill, Glyph, Stroke};

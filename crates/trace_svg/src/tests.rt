@@ -1,0 +1,165 @@
+//! Pictures of a small trace.
+use crate::{DrawError, Drawn, View, draw, picture_text};
+use linked_list_allocator::LocalHeap;
+use plan_read::{Plan, read_plan};
+use sched_engine::Writing;
+use scripted_ends::{Script, Taking, Trouble};
+use std::alloc::Global;
+use std::io::ErrorKind;
+use std::process::Abort;
+use std::test::Fail;
+use task_list::names_of_tasks;
+use trace_check::MOST_BYTES;
+use trace_draw::{lines_of, picture, whole_window};
+
+/// A plan of two tasks.
+const PLAN: &str =
+    "version = 1\n[[block]]\ncall = [ { op = \"schedule\", name = \"a\", delay = 5 }, { op = \"execute\", name = \"bee\" } ]\n";
+
+/// A trace of it: one task is run to its end, and the other is still run at the end.
+const TRACE: &str = "\
+0 submit 0 schedule due 5
+0 submit 1 schedule due 0
+0 clock
+0 start 1 task 1 run 0 due 0
+5 clock
+5 start 0 task 0 run 0 due 5
+9 clock
+9 finish 0 task 0 run 0 done 7
+10 clock
+";
+
+/// What stands in its picture, in this order.
+const PARTS: [&str; 8] = [
+    "<svg xmlns=\"http://www.w3.org/2000/svg\" width=\"1200\" height=\"260\" viewBox=\"0 0 1200 260\">\n",
+    "<text class=\"row\" x=\"100\" y=\"215\">worker 1</text>\n",
+    "<text class=\"tick\" x=\"640\" y=\"246\">5 ns</text>\n",
+    "<rect class=\"open\" x=\"110\" y=\"200\" width=\"1060\" height=\"22\"><title>bee\n0 start 1 task 1 run 0 due 0\n</title></rect>\n<text class=\"run\" x=\"114\" y=\"215\">bee #0</text>\n",
+    "<rect class=\"done\" x=\"640\" y=\"172\" width=\"424\" height=\"22\"><title>a\n5 start 0 task 0 run 0 due 5\n9 finish 0 task 0 run 0 done 7\n</title></rect>\n<text class=\"run\" x=\"644\" y=\"187\">a #0</text>\n",
+    "<use class=\"submit\" href=\"#submit\" x=\"110\" y=\"62\"><title>0 submit 0 schedule due 5\n</title></use>\n",
+    "<use class=\"clock\" href=\"#clock\" x=\"1170\" y=\"134\"><title>10 clock\n</title></use>\n",
+    "</svg>\n",
+];
+
+/// All of it.
+const WHOLE: View = View {
+    from: None,
+    to: None,
+    marks: 6,
+};
+
+/// The plan.
+fn plan(alloc: Global) -> Result<Plan<Global>, Fail> {
+    Ok(read_plan(alloc, PLAN.as_bytes())?)
+}
+
+/// What a drawing answered, in words, and what it wrote.
+fn drawn(alloc: Global, workers: u8, trace: &str, view: View) -> Result<(String, Vec<u8>), Fail> {
+    let front = &trace.as_bytes()[..trace.len().min(MOST_BYTES)];
+    let mut writer = Writing::new(Vec::new(alloc));
+    let answer = match draw(alloc, &plan(alloc)?, workers, front, view, &mut writer) {
+        Ok(Drawn::Drawn) => String::from_str(alloc, "drawn")?,
+        Ok(Drawn::Breaks(line)) => format!(in alloc; "breaks {line}")?,
+        Err(error) => format!(in alloc; "{error}")?,
+    };
+    Ok((answer, writer.into_inner()))
+}
+
+#[test]
+fn a_trace_is_drawn(rt: HostRuntime) -> Result<(), Fail> {
+    let alloc = rt.alloc();
+    let (answer, text) = drawn(alloc, 2, TRACE, WHOLE)?;
+    assert_eq!(rt; answer.as_str(), "drawn");
+    let mut rest = std::str::from_utf8(&text)?;
+    for part in PARTS {
+        let (_, behind) = rest.split_once(part).ok_or(part)?;
+        rest = behind;
+    }
+    assert!(rt; rest.is_empty());
+    let lines = lines_of(alloc, TRACE.as_bytes())?;
+    let shown = picture(alloc, &lines, 2, whole_window(&lines), 6)?;
+    let plan = plan(alloc)?;
+    let names = names_of_tasks(alloc, &plan)?;
+    assert!(rt; picture_text(alloc, &shown, &names)?.as_bytes() == text.as_slice());
+    Ok(())
+}
+
+#[test]
+fn each_fault_is_told_with_nothing_written(rt: HostRuntime) -> Result<(), Fail> {
+    let alloc = rt.alloc();
+    let late = View {
+        from: Some(6),
+        to: Some(5),
+        ..WHOLE
+    };
+    let few = View { marks: 5, ..WHOLE };
+    for (workers, trace, view, told) in [
+        (0u8, TRACE, WHOLE, "the number of workers is not 1 to 64"),
+        (1, TRACE, WHOLE, "breaks 4"),
+        (2, "0 clock\n", WHOLE, "breaks 1"),
+        (2, TRACE, late, "the picture ends before it begins"),
+        (2, TRACE, few, "6 marks or bars are too many"),
+    ] {
+        let (answer, text) = drawn(alloc, workers, trace, view)?;
+        assert!(rt; answer.as_str() == told, "{told}: {answer}");
+        assert!(rt; text.is_empty());
+    }
+    Ok(())
+}
+
+#[test]
+fn a_part_of_a_trace_is_drawn(rt: HostRuntime) -> Result<(), Fail> {
+    let part = View {
+        from: Some(5),
+        to: Some(9),
+        marks: 2,
+    };
+    let (answer, text) = drawn(rt.alloc(), 2, TRACE, part)?;
+    assert_eq!(rt; answer.as_str(), "drawn");
+    let text = std::str::from_utf8(&text)?;
+    assert!(rt; text.contains("<rect class=\"done\" x=\"110\" y=\"172\" width=\"1060\""));
+    assert!(rt; !text.contains("10 clock"));
+    Ok(())
+}
+
+#[test]
+fn a_front_is_written_where_the_writer_is_at_fault(rt: HostRuntime) -> Result<(), Fail> {
+    let alloc = rt.alloc();
+    let (_, whole) = drawn(alloc, 2, TRACE, WHOLE)?;
+    let script = Script {
+        trouble_at: 2,
+        trouble: Trouble::Fails(ErrorKind::BrokenPipe),
+        most: 100,
+        interrupts: 0,
+    };
+    let mut writer = Writing::new(Taking::new(alloc, script));
+    let answer = draw(
+        alloc,
+        &plan(alloc)?,
+        2,
+        TRACE.as_bytes(),
+        WHOLE,
+        &mut writer,
+    );
+    assert!(rt; matches!(&answer, Err(DrawError::Write)));
+    assert!(rt; whole.as_slice().starts_with(writer.into_inner().taken()));
+    Ok(())
+}
+
+#[test]
+fn a_drawing_without_memory_is_none(rt: HostRuntime) -> Result<(), Fail> {
+    let heap = LocalHeap::new(rt.alloc(), 64)?;
+    let mut writer = Writing::new(Vec::new(rt.alloc()));
+    let answer = draw(
+        &heap,
+        &plan(rt.alloc())?,
+        2,
+        TRACE.as_bytes(),
+        WHOLE,
+        &mut writer,
+    );
+    assert!(rt; matches!(&answer, Err(DrawError::Memory)));
+    assert!(rt; writer.into_inner().is_empty());
+    assert_eq!(rt; heap.used(), 0);
+    Ok(())
+}
