@@ -134,7 +134,9 @@ fn one_too_many_is_refused(rt: HostRuntime) -> Result<(), Fail> {
 fn errors_are_told(rt: HostRuntime) -> Result<(), Fail> {
     let alloc = rt.alloc();
     let crowded = PictureError::Crowded { marks: 2001 };
-    assert!(rt; format!(in alloc; "{crowded}")?.as_str() == "2001 marks or bars in the window are too many");
+    assert!(rt;
+        format!(in alloc; "{crowded}")?.as_str() == "2001 marks or bars in the window are too many"
+    );
     let memory = PictureError::Memory;
     assert!(rt; format!(in alloc; "{memory}")?.as_str() == "out of memory");
     Ok(())
