@@ -13,9 +13,10 @@ import os
 from pathlib import Path
 
 LIBRARY = os.environ.get("SCHED", str(Path(__file__).resolve().parent / "out" / "libsched.so"))
-DONE, NO_MEMORY, NO_EXECUTOR, HAS_EXECUTOR, NO_PLAN, WORKERS, LIMIT, FULL, UNKNOWN_TASK = range(9)
+DONE, NO_MEMORY, NO_EXECUTOR, HAS_EXECUTOR, NO_PLAN, WORKERS, LIMIT, FULL, UNKNOWN_TASK, NULL, NO_WORKER, NOT_STARTED = range(12)
 TEXTS = ["done", "out of memory", "the slot is empty", "the slot has an executor already", "the text is no plan",
-         "the number of workers is not 1 to 64", "the limit on events is 0", "the limit on events is reached", "no such task"]
+         "the number of workers is not 1 to 64", "the limit on events is not 1 to 4,294,967,295", "the limit on events is reached",
+         "no such task", "a pointer is NULL", "the worker is above 255", "no run was started"]
 ROOM = 65536
 
 
@@ -45,6 +46,11 @@ class Task(ctypes.Structure):
     _fields_ = [("phase", ctypes.c_uint32), ("run", ctypes.c_uint32), ("cancelled", ctypes.c_uint32)]
 
 
+class Run(ctypes.Structure):
+    """A run that was started: its number, its due moment, its task and its worker."""
+    _fields_ = [("run", ctypes.c_uint64), ("due", ctypes.c_uint64), ("task", ctypes.c_uint32), ("worker", ctypes.c_uint32)]
+
+
 class ExecutorError(Exception):
     """A call that was refused. `fault` says what is wrong with the plan's text, where that is why."""
 
@@ -57,13 +63,13 @@ class ExecutorError(Exception):
 
 def _load():
     library = ctypes.CDLL(LIBRARY)
-    byte, number, moment, size = ctypes.c_uint8, ctypes.c_uint32, ctypes.c_uint64, ctypes.c_size_t
+    number, moment, size = ctypes.c_uint32, ctypes.c_uint64, ctypes.c_size_t
     pointer = ctypes.POINTER
     calls = {
-        "new": [ctypes.c_char_p, size, byte, number, pointer(Fault)], "free": [],
-        "clock": [moment], "start": [byte], "finish": [byte, moment], "fail": [byte, number], "cancel": [number],
+        "new": [ctypes.c_char_p, size, number, moment, pointer(Fault)], "free": [],
+        "clock": [moment], "start": [number], "finish": [number, moment], "fail": [number, number], "cancel": [number],
         "text": [size, ctypes.c_char_p, size, pointer(Copied)],
-        "state_of": [pointer(State)], "task_of": [number, pointer(Task)],
+        "state_of": [pointer(State)], "task_of": [number, pointer(Task)], "started": [pointer(Run)],
     }
     for name, types in calls.items():
         call = getattr(library, "sched_ref_" + name)
@@ -79,7 +85,7 @@ class Executor:
         self._slot = Slot()
         self._room = ctypes.create_string_buffer(ROOM)
         fault = Fault()
-        status = self._calls.sched_ref_new(self._slot, plan, len(plan), _fits(workers, 8), _fits(limit, 32), fault)
+        status = self._calls.sched_ref_new(self._slot, plan, len(plan), _fits(workers, 32), _fits(limit, 64), fault)
         if status != DONE:
             raise ExecutorError(status, fault)
 
@@ -98,16 +104,22 @@ class Executor:
         self._tell(self._calls.sched_ref_clock(self._slot, _fits(moment, 64)))
 
     def start(self, worker):
-        """A worker asks for work."""
-        self._tell(self._calls.sched_ref_start(self._slot, _fits(worker, 8)))
+        """A worker asks for work: the run that it gets, or None where it is idle, or the line is an error."""
+        self._tell(self._calls.sched_ref_start(self._slot, _fits(worker, 32)))
+        run = Run()
+        status = self._calls.sched_ref_started(self._slot, run)
+        if status == NOT_STARTED:
+            return None
+        self._tell(status)
+        return run
 
     def finish(self, worker, value):
         """The run of a worker has ended with a value."""
-        self._tell(self._calls.sched_ref_finish(self._slot, _fits(worker, 8), _fits(value, 64)))
+        self._tell(self._calls.sched_ref_finish(self._slot, _fits(worker, 32), _fits(value, 64)))
 
     def fail(self, worker, code):
         """The run of a worker has failed, with a code."""
-        self._tell(self._calls.sched_ref_fail(self._slot, _fits(worker, 8), _fits(code, 32)))
+        self._tell(self._calls.sched_ref_fail(self._slot, _fits(worker, 32), _fits(code, 32)))
 
     def cancel(self, task):
         """A task is to be cancelled, by its number."""

@@ -16,8 +16,8 @@
 
 mod calls;
 
-pub use calls::Fault;
 use calls::{Copied, Slot};
+pub use calls::{Fault, Run};
 use std::fmt;
 
 /// How many bytes are enough for any line, with its newline.
@@ -30,10 +30,12 @@ pub enum Error {
     Plan(Fault),
     /// The number of workers is not 1 to 64.
     Workers,
-    /// The limit on events is 0.
+    /// The limit on events is not 1 to 4,294,967,295.
     Limit,
     /// As many events were taken as the limit allows.
     Full,
+    /// The worker is above 255, so that no event names it.
+    Worker,
     /// Memory ran out.
     Memory,
 }
@@ -47,6 +49,7 @@ impl Error {
             5 => Error::Workers,
             6 => Error::Limit,
             7 => Error::Full,
+            10 => Error::Worker,
             _ => unreachable!("no call of this module is answered by status {status}"),
         }
     }
@@ -63,8 +66,9 @@ impl fmt::Display for Error {
                 )
             }
             Error::Workers => write!(f, "the number of workers is not 1 to 64"),
-            Error::Limit => write!(f, "the limit on events is 0"),
+            Error::Limit => write!(f, "the limit on events is not 1 to 4,294,967,295"),
             Error::Full => write!(f, "the limit on events is reached"),
+            Error::Worker => write!(f, "the worker is above 255"),
             Error::Memory => write!(f, "out of memory"),
         }
     }
@@ -78,11 +82,11 @@ pub enum Event {
     /// The clock shows this moment, in nanoseconds.
     Clock(u64),
     /// This worker asks for work.
-    Start(u8),
+    Start(u32),
     /// The run of this worker ended with a value.
-    Finish(u8, u64),
+    Finish(u32, u64),
     /// The run of this worker failed, with a code.
-    Fail(u8, u32),
+    Fail(u32, u32),
     /// This task is to be cancelled.
     Cancel(u32),
 }
@@ -122,8 +126,8 @@ pub struct Executor {
 unsafe impl Send for Executor {}
 
 impl Executor {
-    /// An executor of a plan's text with 1 to 64 workers, which takes `limit` events, at least 1.
-    pub fn new(plan: &[u8], workers: u8, limit: u32) -> Result<Executor, Error> {
+    /// An executor of a plan's text with 1 to 64 workers, which takes `limit` events, 1 to 4,294,967,295.
+    pub fn new(plan: &[u8], workers: u32, limit: u64) -> Result<Executor, Error> {
         let mut slot = Slot {
             hidden: std::ptr::null_mut(),
             full: false,
@@ -164,6 +168,14 @@ impl Executor {
         }
     }
 
+    /// The run that the last event started. `None` where it was no start that got a task.
+    pub fn started(&mut self) -> Option<Run> {
+        let mut run = Run::default();
+        // SAFETY: as in `take`.
+        let status = unsafe { calls::sched_ref_started(&mut self.slot, &mut run) };
+        (status == 0).then_some(run)
+    }
+
     /// The lines that answer the last event, without their newlines.
     pub fn lines(&mut self) -> Lines<'_> {
         Lines {
@@ -187,7 +199,7 @@ impl Executor {
         self.state().tasks
     }
 
-    /// Whether the due moment of some task is reached, so that a start may get a task.
+    /// Whether the due moment of some task in the queue is reached: where it is not, a start gets no task.
     pub fn ripe(&mut self) -> bool {
         self.state().ripe == 1
     }
