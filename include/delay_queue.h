@@ -11,18 +11,22 @@
  *     while (dq_poll(&slot, now, &entry) == DQ_DONE) fire(entry.task);
  *     dq_free(&slot);
  *
+ * This file is C11 and C++11. docs/EMBEDDING.md says what a program is linked with.
+ *
  * Answers. Each call but dq_insert_unchecked answers a dq_status. Where it is not DQ_DONE, the queue is as it was, and
  * nothing was written to what `out`, `due`, `count` or `touched` point to; dq_insert_many and dq_poll_many say what stands
- * after them. DQ_NULL comes before all other answers, then DQ_NO_QUEUE.
+ * after them. DQ_NULL comes before all other answers: nothing at all changed then, and nothing was written. DQ_NO_QUEUE
+ * comes next.
  *
  * What is proved: each function of the library, named dq_ref_.. below, and dq_insert_unchecked meet their contracts
  * (crates/delay_queue_c), which say the answer, what is written and what becomes of the queue in each case, touch no memory
- * but what they are handed and what the queue took, and end. What is not: that dq_free gives the memory back (tools/embed
- * tries it), the inline functions of this file, which test for NULL and are tested, and the C library's heap.
+ * but what they are handed and what the queue took, and end. What is not: when dq_new answers DQ_NO_MEMORY, since no contract
+ * says what malloc grants; that it keeps no memory then, and that dq_free gives all of it back (tools/embed tries both); the
+ * inline functions of this file, which test for NULL and are tested; and the C library's heap.
  *
  * What a caller owes, since nothing can check it:
  * - a slot is DQ_EMPTY, or all zeros, before the first call, and only these calls read or write its members after that;
- * - a slot is not copied: of two copies only one may be used again, and the other is set to DQ_EMPTY;
+ * - a slot is not copied: of two copies only one may be used again, and the other is filled with zeros, as by memset;
  * - a slot is used by one thread at a time, also for calls that only look. It may be used by one thread after another, where
  *   a lock, or the start or the end of a thread, stands between the two (that the queue may cross is proved);
  * - a pointer that is not NULL points to an object of its type, or to as many as the count beside it says, which nothing
@@ -65,7 +69,7 @@ typedef struct dq_slot {
     bool full;
 } dq_slot;
 
-/* A slot without a queue. */
+/* A slot without a queue, to begin one with: `dq_slot slot = DQ_EMPTY;`. It is no expression in C. */
 #ifdef __cplusplus
 #define DQ_EMPTY dq_slot{nullptr, 0, false}
 #else
@@ -125,17 +129,18 @@ static inline dq_status dq_peek(dq_slot *slot, dq_entry *out) {
     return slot == NULL || out == NULL ? (dq_status)DQ_NULL : dq_ref_peek(slot, out);
 }
 
-/* Takes out the entry of a task. DQ_NO_QUEUE. DQ_NO_ENTRY: the task has none, as a task past the count. */
+/* Takes out the entry of a task. DQ_NO_QUEUE. DQ_NO_ENTRY: the task has none, as each task that is not below the count. */
 static inline dq_status dq_remove(dq_slot *slot, uint32_t task) {
     return slot == NULL ? (dq_status)DQ_NULL : dq_ref_remove(slot, task);
 }
 
-/* Writes the moment at which a task is due to `due`. DQ_NO_QUEUE. DQ_NO_ENTRY: the task has no entry. */
+/* Writes the moment at which a task is due to `due`. DQ_NO_QUEUE. DQ_NO_ENTRY: the task has no entry, as each task that is not
+ * below the count. */
 static inline dq_status dq_due_of(dq_slot *slot, uint32_t task, uint64_t *due) {
     return slot == NULL || due == NULL ? (dq_status)DQ_NULL : dq_ref_due_of(slot, task, due);
 }
 
-/* Whether a task has an entry: DQ_DONE, or DQ_NO_ENTRY. DQ_NO_QUEUE. */
+/* Whether a task has an entry: DQ_DONE, or DQ_NO_ENTRY, also for each task that is not below the count. DQ_NO_QUEUE. */
 static inline dq_status dq_contains(dq_slot *slot, uint32_t task) {
     return slot == NULL ? (dq_status)DQ_NULL : dq_ref_contains(slot, task);
 }
@@ -152,8 +157,9 @@ static inline dq_status dq_touched(dq_slot *slot, uint64_t *touched) {
 }
 
 /* Adds `length` entries in turn, up to the first that is refused, and writes to `inserted` how many were added. The answer
- * is that of the first that is refused, which stands at entries[*inserted], else DQ_DONE. Those before it stay in the queue.
- * DQ_NO_QUEUE: `inserted` is 0 then. `entries` may be NULL where length is 0. */
+ * is that of the first that is refused, which stands at entries[*inserted], else DQ_DONE. Those before it stay in the queue,
+ * and those behind it are not looked at. DQ_NO_QUEUE: `inserted` is 0 then. DQ_NULL: `inserted` is as it was, and none was
+ * added. `entries` may be NULL where length is 0. */
 static inline dq_status dq_insert_many(dq_slot *slot, const dq_entry *entries, size_t length, size_t *inserted) {
     static const dq_entry none = {0, 0};
     if (slot == NULL || inserted == NULL || (entries == NULL && length != 0)) return DQ_NULL;
@@ -162,7 +168,8 @@ static inline dq_status dq_insert_many(dq_slot *slot, const dq_entry *entries, s
 
 /* Takes out entries that are due at the moment `now`, the least first, as many as `out` has room for, writes them there in
  * this order, and writes to `polled` how many. Fewer than `room` say that no more are due. What stands in `out` behind them
- * is as it was. DQ_DONE also for none. DQ_NO_QUEUE: `polled` is 0 then. `out` may be NULL where room is 0. */
+ * is as it was. DQ_DONE also for none. DQ_NO_QUEUE: `polled` is 0 then. DQ_NULL: `polled` and `out` are as they were, and none
+ * was taken out. `out` may be NULL where room is 0. */
 static inline dq_status dq_poll_many(dq_slot *slot, uint64_t now, dq_entry *out, size_t room, size_t *polled) {
     dq_entry none = {0, 0};
     if (slot == NULL || polled == NULL || (out == NULL && room != 0)) return DQ_NULL;

@@ -5,26 +5,17 @@
 
 enum { CONNECTIONS = 8, MILLISECOND = 1000000 };
 
-static int fault(const char *call, dq_status status) {
-    fprintf(stderr, "%s: %s\n", call, dq_status_text(status));
-    return 1;
-}
-
 int main(void) {
     dq_slot wheel = DQ_EMPTY;
+    dq_entry timeout;
     dq_status status = dq_new(&wheel, CONNECTIONS);
-    if (status != DQ_DONE) return fault("dq_new", status);
-    for (uint32_t connection = 0; connection < CONNECTIONS; connection++) {
+    for (uint32_t connection = 0; status == DQ_DONE && connection < CONNECTIONS; connection++)
         status = dq_try_insert(&wheel, (uint64_t)(CONNECTIONS - connection) * MILLISECOND, connection);
-        if (status != DQ_DONE) return fault("dq_try_insert", status);
-    }
-    dq_remove(&wheel, 5); /* a reply came */
-    dq_entry out[CONNECTIONS];
-    for (uint64_t now = 0; now <= CONNECTIONS * (uint64_t)MILLISECOND; now += 2 * MILLISECOND) {
-        size_t fired = 0;
-        dq_poll_many(&wheel, now, out, CONNECTIONS, &fired);
-        for (size_t place = 0; place < fired; place++)
-            printf("%" PRIu64 " ms: connection %" PRIu32 " timed out\n", now / MILLISECOND, out[place].task);
-    }
-    return dq_free(&wheel) == DQ_DONE ? 0 : 1;
+    if (status == DQ_DONE) status = dq_remove(&wheel, 5); /* a reply came */
+    for (uint64_t now = 0; status == DQ_DONE && now <= CONNECTIONS; now += 2)
+        while (dq_poll(&wheel, now * MILLISECOND, &timeout) == DQ_DONE)
+            printf("%" PRIu64 " ms: connection %" PRIu32 " timed out\n", now, timeout.task);
+    if (status != DQ_DONE) fprintf(stderr, "timeout wheel: %s\n", dq_status_text(status));
+    dq_free(&wheel);
+    return status == DQ_DONE ? 0 : 1;
 }

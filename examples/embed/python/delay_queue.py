@@ -5,15 +5,19 @@
     queue.poll(4000)   # [(3000, 2)]
     queue.close()
 
-Moments are nanoseconds from 0 to 2**64 - 1, tasks are numbers below the count that the queue was made for. A queue is used by
-one thread at a time. `LIBRARY` is the shared library, which `examples/embed/python/run` builds.
+Moments are nanoseconds from 0 to 2**64 - 1, tasks are numbers below the count that the queue was made for. A number that does
+not fit is a ValueError, and the queue is then as it was. A queue that is not closed is freed with its last name, or at the end
+of the program. Threads may share one: the library is called as PyDLL, which holds the interpreter's lock during a call (it needs
+an interpreter that has one). `LIBRARY` is the shared library, which `examples/embed/python/run` builds.
 """
 
 import ctypes
+import functools
 import os
+import struct
+import weakref
 from itertools import starmap
 from pathlib import Path
-from struct import Struct
 
 LIBRARY = os.environ.get("DELAY_QUEUE", str(Path(__file__).resolve().parent / "out" / "libdelay_queue.so"))
 DONE, NO_ENTRY, NO_MEMORY, NO_QUEUE, HAS_QUEUE, UNKNOWN_TASK, HAS_ENTRY = range(7)
@@ -32,7 +36,7 @@ class Entry(ctypes.Structure):
 
 
 # The same entry as bytes, which `struct` makes of many pairs much faster than ctypes, and refuses where a number does not fit.
-ENTRY = Struct("=QI4x")
+ENTRY = struct.Struct(f"=QI{ctypes.sizeof(Entry) - 12}x")
 
 
 class QueueError(Exception):
@@ -44,35 +48,46 @@ class QueueError(Exception):
         self.place = place
 
 
-def _load():
-    library = ctypes.CDLL(LIBRARY)
-    slot, entry, size = ctypes.POINTER(Slot), ctypes.POINTER(Entry), ctypes.c_size_t
-    number, moment = ctypes.c_uint32, ctypes.c_uint64
-    calls = {
-        "new": [slot, number], "free": [slot], "remove": [slot, number], "contains": [slot, number],
-        "peek": [slot, entry], "due_of": [slot, number, ctypes.POINTER(moment)], "len": [slot, ctypes.POINTER(size)],
-        "insert_many": [slot, entry, size, ctypes.POINTER(size)],
-        "poll_many": [slot, moment, entry, size, ctypes.POINTER(size)],
+class Whole:
+    """An argument that is a whole number of this type: ctypes alone would cut off what does not fit."""
+
+    def __init__(self, kind):
+        self._kind, self._end = kind, 1 << 8 * ctypes.sizeof(kind)
+
+    def from_param(self, number):
+        """The number as the library takes it."""
+        if not 0 <= number < self._end:
+            raise ValueError(f"{number} is not 0 to {self._end - 1}")
+        return self._kind(number)
+
+
+@functools.cache
+def _calls():
+    """The calls of the library, by their names."""
+    library = ctypes.PyDLL(LIBRARY)
+    number, moment, size = Whole(ctypes.c_uint32), Whole(ctypes.c_uint64), Whole(ctypes.c_size_t)
+    entry, count, due = ctypes.POINTER(Entry), ctypes.POINTER(ctypes.c_size_t), ctypes.POINTER(ctypes.c_uint64)
+    types = {
+        "new": [number], "free": [], "remove": [number], "contains": [number], "peek": [entry], "due_of": [number, due],
+        "len": [count], "touched": [due], "insert_many": [entry, size, count], "poll_many": [moment, entry, size, count],
     }
-    for name, types in calls.items():
-        call = getattr(library, "dq_ref_" + name)
-        call.argtypes, call.restype = types, number
-    return library
+    calls = {name: getattr(library, "dq_ref_" + name) for name in types}
+    for name, call in calls.items():
+        call.argtypes, call.restype = [ctypes.POINTER(Slot), *types[name]], ctypes.c_uint32
+    return calls
 
 
 class DelayQueue:
     """A queue for the tasks from 0 to `tasks - 1`, each with at most one entry."""
 
     def __init__(self, tasks):
-        self._calls = _load()
         self._slot = Slot()
-        if not 0 <= tasks < 2 ** 32:
-            raise ValueError("a count of tasks is below 2**32")
-        self._tell(self._calls.dq_ref_new(self._slot, tasks))
+        self._tell(self._call("new", tasks))
+        self._free = weakref.finalize(self, _calls()["free"], self._slot)
 
     def close(self):
-        """Frees the queue. A second call does nothing."""
-        self._calls.dq_ref_free(self._slot)
+        """Frees the queue. A second call does nothing, and any other is refused."""
+        self._free()
 
     def __enter__(self):
         return self
@@ -81,58 +96,66 @@ class DelayQueue:
         self.close()
 
     def insert(self, entries):
-        """Adds pairs of a moment and a task, in turn, up to the first that is refused. A number that does not fit is a
-        `struct.error`, and none is added then."""
-        packed = b"".join(starmap(ENTRY.pack, entries))
+        """Adds pairs of a moment and a task, in turn, up to the first that is refused. Where a number does not fit, none is
+        added."""
+        try:
+            packed = b"".join(starmap(ENTRY.pack, entries))
+        except struct.error as unfit:
+            raise ValueError("an entry is a moment below 2**64 and a task below 2**32") from unfit
         count, inserted = len(packed) // ENTRY.size, ctypes.c_size_t()
-        array = (Entry * max(1, count)).from_buffer_copy(packed or bytes(ENTRY.size))
-        status = self._calls.dq_ref_insert_many(self._slot, array, count, inserted)
-        if status != DONE:
-            raise QueueError(status, inserted.value)
+        status = self._call("insert_many", (Entry * count).from_buffer_copy(packed), count, inserted)
+        self._tell(status, inserted.value)
 
     def poll(self, now, room=1024):
         """The entries that are due at `now`, the least first, at most `room`. They leave the queue."""
-        array, polled = (Entry * max(1, room))(), ctypes.c_size_t()
-        self._tell(self._calls.dq_ref_poll_many(self._slot, _checked(now, 0)[0], array, room, polled))
-        return list(ENTRY.iter_unpack(memoryview(array).cast("B")[:polled.value * ENTRY.size]))
+        room, polled = min(room, len(self)), ctypes.c_size_t()
+        out = (Entry * room)()
+        self._tell(self._call("poll_many", now, out, room, polled))
+        return list(ENTRY.iter_unpack(bytes(out)[:polled.value * ENTRY.size]))
 
     def peek(self):
         """The least entry, due or not, or None."""
         out = Entry()
-        found = self._found(self._calls.dq_ref_peek(self._slot, out))
-        return (out.due, out.task) if found else None
+        return (out.due, out.task) if self._found("peek", out) else None
 
     def remove(self, task):
         """Takes out the entry of a task, and says whether there was one."""
-        return self._found(self._calls.dq_ref_remove(self._slot, _checked(0, task)[1]))
+        return self._found("remove", task)
 
     def due_of(self, task):
         """When a task is due, or None where it has no entry."""
         due = ctypes.c_uint64()
-        found = self._found(self._calls.dq_ref_due_of(self._slot, _checked(0, task)[1], due))
-        return due.value if found else None
+        return due.value if self._found("due_of", task, due) else None
+
+    def touched(self):
+        """How often the calls so far compared two entries, or changed the place of an entry that stays."""
+        touched = ctypes.c_uint64()
+        self._tell(self._call("touched", touched))
+        return touched.value
 
     def __contains__(self, task):
-        return self._found(self._calls.dq_ref_contains(self._slot, _checked(0, task)[1]))
+        return self._found("contains", task)
 
     def __len__(self):
         count = ctypes.c_size_t()
-        self._tell(self._calls.dq_ref_len(self._slot, count))
+        self._tell(self._call("len", count))
         return count.value
 
-    @staticmethod
-    def _tell(status):
-        if status != DONE:
-            raise QueueError(status)
+    def _call(self, name, *words):
+        """What a call on the slot answers."""
+        try:
+            return _calls()[name](self._slot, *words)
+        except ctypes.ArgumentError as unfit:
+            raise ValueError(str(unfit)) from unfit
 
-    def _found(self, status):
+    def _found(self, name, *words):
+        """Whether a call found what it looks for."""
+        status = self._call(name, *words)
         if status != NO_ENTRY:
             self._tell(status)
         return status == DONE
 
-
-def _checked(due, task):
-    """The pair, since ctypes cuts off what does not fit."""
-    if not (0 <= due < 2 ** 64 and 0 <= task < 2 ** 32):
-        raise ValueError("a moment is below 2**64, and a task below 2**32")
-    return due, task
+    @staticmethod
+    def _tell(status, place=0):
+        if status != DONE:
+            raise QueueError(status, place)

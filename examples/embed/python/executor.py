@@ -4,12 +4,17 @@
         executor.clock(10)
         executor.lines()   # ["0 submit 0 rate due 10", "10 clock"]
 
-Moments are nanoseconds from 0 to 2**62. An executor is used by one thread at a time. `LIBRARY` is the shared library, which
-`examples/embed/python/run_heartbeat` builds.
+Moments are nanoseconds from 0 to 2**62. A number that does not fit is a ValueError, and the executor is then as it was. One that
+is not closed is freed with its last name, or at the end of the program. The library is called as PyDLL, which holds the
+interpreter's lock during a call (it needs an interpreter that has one), so that no two threads are in it at a time. An event and
+the lines that answer it are several calls: threads that share an executor hold a lock of their own around them. `LIBRARY` is the
+shared library, which `examples/embed/python/run_heartbeat` builds.
 """
 
 import ctypes
+import functools
 import os
+import weakref
 from pathlib import Path
 
 LIBRARY = os.environ.get("SCHED", str(Path(__file__).resolve().parent / "out" / "libsched.so"))
@@ -61,77 +66,94 @@ class ExecutorError(Exception):
         self.fault = fault
 
 
-def _load():
-    library = ctypes.CDLL(LIBRARY)
-    number, moment, size = ctypes.c_uint32, ctypes.c_uint64, ctypes.c_size_t
+class Whole:
+    """An argument that is a whole number of this type: ctypes alone would cut off what does not fit."""
+
+    def __init__(self, kind):
+        self._kind, self._end = kind, 1 << 8 * ctypes.sizeof(kind)
+
+    def from_param(self, number):
+        """The number as the library takes it."""
+        if not 0 <= number < self._end:
+            raise ValueError(f"{number} is not 0 to {self._end - 1}")
+        return self._kind(number)
+
+
+@functools.cache
+def _calls():
+    """The calls of the library, by their names."""
+    library = ctypes.PyDLL(LIBRARY)
+    number, moment, size = map(Whole, [ctypes.c_uint32, ctypes.c_uint64, ctypes.c_size_t])
     pointer = ctypes.POINTER
-    calls = {
+    types = {
         "new": [ctypes.c_char_p, size, number, moment, pointer(Fault)], "free": [],
         "clock": [moment], "start": [number], "finish": [number, moment], "fail": [number, number], "cancel": [number],
-        "text": [size, ctypes.c_char_p, size, pointer(Copied)],
+        "text": [size, pointer(ctypes.c_char), size, pointer(Copied)],
         "state_of": [pointer(State)], "task_of": [number, pointer(Task)], "started": [pointer(Run)],
     }
-    for name, types in calls.items():
-        call = getattr(library, "sched_ref_" + name)
-        call.argtypes, call.restype = [pointer(Slot), *types], number
-    return library
+    calls = {name: getattr(library, "sched_ref_" + name) for name in types}
+    for name, call in calls.items():
+        call.argtypes, call.restype = [pointer(Slot), *types[name]], ctypes.c_uint32
+    return calls
 
 
 class Executor:
     """An executor of a plan's text, bytes of TOML, with 1 to 64 workers, which takes `limit` events."""
 
     def __init__(self, plan, workers, limit):
-        self._calls = _load()
         self._slot = Slot()
-        self._room = ctypes.create_string_buffer(ROOM)
         fault = Fault()
-        status = self._calls.sched_ref_new(self._slot, plan, len(plan), _fits(workers, 32), _fits(limit, 64), fault)
+        status = self._call("new", bytes(plan), len(plan), workers, limit, fault)
         if status != DONE:
             raise ExecutorError(status, fault)
+        self._free = weakref.finalize(self, _calls()["free"], self._slot)
 
     def close(self):
         """Frees the executor. A second call does nothing, and any other is refused."""
-        self._calls.sched_ref_free(self._slot)
+        self._free()
 
     def __enter__(self):
         return self
 
-    def __exit__(self, *error):
+    def __exit__(self, *_):
         self.close()
 
     def clock(self, moment):
         """The clock shows a moment."""
-        self._tell(self._calls.sched_ref_clock(self._slot, _fits(moment, 64)))
+        self._tell("clock", moment)
 
     def start(self, worker):
         """A worker asks for work: the run that it gets, or None where it is idle, or the line is an error."""
-        self._tell(self._calls.sched_ref_start(self._slot, _fits(worker, 32)))
+        self._tell("start", worker)
+        return self.started()
+
+    def started(self):
+        """The run that the last event started, or None where it was no start that got a task."""
         run = Run()
-        status = self._calls.sched_ref_started(self._slot, run)
-        if status == NOT_STARTED:
-            return None
-        self._tell(status)
-        return run
+        status = self._call("started", run)
+        if status not in (DONE, NOT_STARTED):
+            raise ExecutorError(status)
+        return run if status == DONE else None
 
     def finish(self, worker, value):
         """The run of a worker has ended with a value."""
-        self._tell(self._calls.sched_ref_finish(self._slot, _fits(worker, 32), _fits(value, 64)))
+        self._tell("finish", worker, value)
 
     def fail(self, worker, code):
         """The run of a worker has failed, with a code."""
-        self._tell(self._calls.sched_ref_fail(self._slot, _fits(worker, 32), _fits(code, 32)))
+        self._tell("fail", worker, code)
 
     def cancel(self, task):
         """A task is to be cancelled, by its number."""
-        self._tell(self._calls.sched_ref_cancel(self._slot, _fits(task, 32)))
+        self._tell("cancel", task)
 
     def text(self):
         """The text of the lines that answer the last event, as bytes."""
-        parts, next_line = [], 0
+        room, parts, next_line = (ctypes.c_char * ROOM)(), [], 0
         copied = Copied(1, 0)
         while copied.lines > 0:
-            self._tell(self._calls.sched_ref_text(self._slot, next_line, self._room, ROOM, copied))
-            parts.append(ctypes.string_at(self._room, copied.bytes))
+            self._tell("text", next_line, room, ROOM, copied)
+            parts.append(ctypes.string_at(room, copied.bytes))
             next_line += copied.lines
         return b"".join(parts)
 
@@ -142,22 +164,24 @@ class Executor:
     def state(self):
         """How far the executor is."""
         state = State()
-        self._tell(self._calls.sched_ref_state_of(self._slot, state))
+        self._tell("state_of", state)
         return state
 
     def task(self, task):
         """How far a task is, by its number."""
         state = Task()
-        self._tell(self._calls.sched_ref_task_of(self._slot, _fits(task, 32), state))
+        self._tell("task_of", task, state)
         return state
 
-    def _tell(self, status):
+    def _call(self, name, *words):
+        """What a call on the slot answers."""
+        try:
+            return _calls()[name](self._slot, *words)
+        except ctypes.ArgumentError as unfit:
+            raise ValueError(str(unfit)) from unfit
+
+    def _tell(self, name, *words):
+        """A call that has to be done."""
+        status = self._call(name, *words)
         if status != DONE:
             raise ExecutorError(status)
-
-
-def _fits(number, bits):
-    """A number that fits: ctypes would cut it."""
-    if not 0 <= number < 1 << bits:
-        raise ValueError(f"{number} has more than {bits} bits")
-    return number

@@ -76,8 +76,10 @@ static void with_null(void) {
     WANT(dq_insert_many(&slot, NULL, 1, &count) == DQ_NULL && count == 7);
     WANT(dq_insert_many(&slot, NULL, 0, &count) == DQ_DONE && count == 0);
     WANT(dq_poll_many(NULL, 1, &entry, 1, &count) == DQ_NULL && dq_poll_many(&slot, 1, &entry, 1, NULL) == DQ_NULL);
-    WANT(dq_poll_many(&slot, 1, NULL, 1, &count) == DQ_NULL);
+    count = 7;
+    WANT(dq_poll_many(&slot, 1, NULL, 1, &count) == DQ_NULL && count == 7);
     WANT(dq_poll_many(&slot, 1, NULL, 0, &count) == DQ_DONE && count == 0);
+    WANT(dq_len(&slot, &count) == DQ_DONE && count == 0);
     WANT(dq_free(&slot) == DQ_DONE);
 }
 
@@ -89,21 +91,41 @@ static void with_a_queue(void) {
     WANT(dq_new(&slot, 3) == DQ_DONE && dq_new(&slot, 9) == DQ_HAS_QUEUE);
     WANT(dq_peek(&slot, &entry) == DQ_NO_ENTRY && dq_poll(&slot, UINT64_MAX, &entry) == DQ_NO_ENTRY);
     WANT(dq_insert_many(&slot, many, 3, &count) == DQ_UNKNOWN_TASK && count == 2);
+    WANT(dq_insert_many(&slot, many + 1, 2, &count) == DQ_HAS_ENTRY && count == 0);
+    WANT(dq_contains(&slot, 2) == DQ_NO_ENTRY && dq_due_of(&slot, 2, &number) == DQ_NO_ENTRY && number == 0);
     WANT(dq_try_insert(&slot, 5, 1) == DQ_HAS_ENTRY && dq_try_insert(&slot, 5, UINT32_MAX) == DQ_UNKNOWN_TASK);
     WANT(dq_try_insert(&slot, 4, 2) == DQ_DONE && dq_len(&slot, &count) == DQ_DONE && count == 3);
     WANT(dq_due_of(&slot, 1, &number) == DQ_DONE && number == UINT64_MAX);
     WANT(dq_due_of(&slot, 3, &number) == DQ_NO_ENTRY && number == UINT64_MAX);
     WANT(dq_contains(&slot, 2) == DQ_DONE && dq_contains(&slot, 3) == DQ_NO_ENTRY);
     WANT(dq_peek(&slot, &entry) == DQ_DONE && entry.due == 4 && entry.task == 0);
-    WANT(dq_poll(&slot, 3, &entry) == DQ_NO_ENTRY && entry.task == 0);
+    entry.due = 9;
+    WANT(dq_poll(&slot, 3, &entry) == DQ_NO_ENTRY && entry.due == 9 && entry.task == 0);
     memset(out, 9, sizeof out);
     WANT(dq_poll_many(&slot, 4, out, 4, &count) == DQ_DONE && count == 2 && out[0].task == 0 && out[1].task == 2);
     WANT(out[2].task == 0x09090909 && out[3].task == 0x09090909);
-    WANT(dq_remove(&slot, 1) == DQ_DONE && dq_remove(&slot, 1) == DQ_NO_ENTRY);
+    WANT(dq_remove(&slot, 1) == DQ_DONE && dq_remove(&slot, 1) == DQ_NO_ENTRY && dq_remove(&slot, 3) == DQ_NO_ENTRY);
     dq_insert_unchecked(&slot, 6, 1);
     WANT(dq_poll(&slot, 6, &entry) == DQ_DONE && entry.due == 6 && entry.task == 1);
     WANT(dq_touched(&slot, &number) == DQ_DONE && number > 0);
     WANT(dq_free(&slot) == DQ_DONE && dq_free(&slot) == DQ_NO_QUEUE);
+}
+
+/* A queue for no task. */
+static void without_tasks(void) {
+    dq_slot slot = DQ_EMPTY;
+    dq_entry entry = {7, 7};
+    WANT(dq_new(&slot, 0) == DQ_DONE && dq_try_insert(&slot, 1, 0) == DQ_UNKNOWN_TASK);
+    WANT(dq_poll(&slot, UINT64_MAX, &entry) == DQ_NO_ENTRY && entry.due == 7 && entry.task == 7);
+    WANT(dq_free(&slot) == DQ_DONE);
+}
+
+/* The words of each status. */
+static void in_words(void) {
+    for (dq_status one = DQ_DONE; one <= DQ_NULL; one++)
+        for (dq_status other = DQ_DONE; other < one; other++) WANT(strcmp(dq_status_text(one), dq_status_text(other)) != 0);
+    WANT(strcmp(dq_status_text(DQ_HAS_ENTRY), "the task has an entry already") == 0);
+    WANT(strcmp(dq_status_text(DQ_NULL + 1), "no such status") == 0 && strcmp(dq_status_text(UINT32_MAX), "no such status") == 0);
 }
 
 /* A thousand tasks in mixed order: they leave by moment, and at one moment by number. */
@@ -145,6 +167,8 @@ int main(void) {
     without_a_queue();
     with_null();
     with_a_queue();
+    without_tasks();
+    in_words();
     in_order();
     WANT(blocks == 0);
     printf("%lu growths refused\n", with_growths_refused());

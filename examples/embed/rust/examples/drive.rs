@@ -1,5 +1,5 @@
 //! Runs a plan over event lines, and writes its trace: drive PLAN WORKERS < EVENTS.
-use executor::{Event, Executor};
+use sched::{Event, Executor};
 use std::error::Error;
 use std::io::{self, BufRead, Write};
 

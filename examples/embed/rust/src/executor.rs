@@ -1,18 +1,4 @@
-//! A safe wrapper of the proved executor: it is told what happens, and answers in lines of text.
-//!
-//! ```no_run
-//! # fn main() -> Result<(), executor::Error> {
-//! # let plan = b"version = 1";
-//! let mut executor = executor::Executor::new(plan, 1, 1_000)?;
-//! executor.take(executor::Event::Clock(10))?;
-//! for line in executor.lines() {
-//!     println!("{line}");
-//! }
-//! # Ok(())
-//! # }
-//! ```
-//!
-//! The calls that only look take `&mut self` too, since the library hands the executor from its slot to the call and back.
+//! The executor.
 
 mod calls;
 
@@ -20,12 +6,9 @@ use calls::{Copied, Slot};
 pub use calls::{Fault, Run};
 use std::fmt;
 
-/// How many bytes are enough for any line, with its newline.
-const LINE_ROOM: usize = 128;
-
 /// Why there is no executor, or why it did not take an event.
 #[derive(Clone, Copy, Debug, PartialEq, Eq)]
-pub enum Error {
+pub enum ExecutorError {
     /// The text is no plan.
     Plan(Fault),
     /// The number of workers is not 1 to 64.
@@ -40,41 +23,41 @@ pub enum Error {
     Memory,
 }
 
-impl Error {
+impl ExecutorError {
     /// What a status other than 0 says.
-    fn of(status: u32, fault: Fault) -> Error {
+    fn of(status: u32, fault: Fault) -> ExecutorError {
         match status {
-            1 => Error::Memory,
-            4 => Error::Plan(fault),
-            5 => Error::Workers,
-            6 => Error::Limit,
-            7 => Error::Full,
-            10 => Error::Worker,
+            calls::NO_MEMORY => ExecutorError::Memory,
+            calls::NO_PLAN => ExecutorError::Plan(fault),
+            calls::WORKERS => ExecutorError::Workers,
+            calls::LIMIT => ExecutorError::Limit,
+            calls::FULL => ExecutorError::Full,
+            calls::NO_WORKER => ExecutorError::Worker,
             _ => unreachable!("no call of this module is answered by status {status}"),
         }
     }
 }
 
-impl fmt::Display for Error {
+impl fmt::Display for ExecutorError {
     fn fmt(&self, f: &mut fmt::Formatter) -> fmt::Result {
         match self {
-            Error::Plan(fault) => {
+            ExecutorError::Plan(fault) => {
                 write!(
                     f,
                     "the text is no plan: fault {} block {} call {}",
                     fault.kind, fault.block, fault.call
                 )
             }
-            Error::Workers => write!(f, "the number of workers is not 1 to 64"),
-            Error::Limit => write!(f, "the limit on events is not 1 to 4,294,967,295"),
-            Error::Full => write!(f, "the limit on events is reached"),
-            Error::Worker => write!(f, "the worker is above 255"),
-            Error::Memory => write!(f, "out of memory"),
+            ExecutorError::Workers => write!(f, "the number of workers is not 1 to 64"),
+            ExecutorError::Limit => write!(f, "the limit on events is not 1 to 4,294,967,295"),
+            ExecutorError::Full => write!(f, "the limit on events is reached"),
+            ExecutorError::Worker => write!(f, "the worker is above 255"),
+            ExecutorError::Memory => write!(f, "out of memory"),
         }
     }
 }
 
-impl std::error::Error for Error {}
+impl std::error::Error for ExecutorError {}
 
 /// What the program tells the executor.
 #[derive(Clone, Copy, Debug, PartialEq, Eq)]
@@ -115,6 +98,24 @@ pub struct Task {
     pub cancelled: bool,
 }
 
+impl Task {
+    /// The task that the library writes as numbers.
+    fn of(raw: calls::Task) -> Task {
+        let phases = [
+            Phase::Vacant,
+            Phase::New,
+            Phase::Running,
+            Phase::Done,
+            Phase::Failed,
+        ];
+        Task {
+            phase: phases[raw.phase as usize],
+            run: raw.run,
+            cancelled: raw.cancelled == 1,
+        }
+    }
+}
+
 /// An executor of the calls of a plan.
 ///
 /// All its memory is taken when it is made, and given back when it is dropped. It may move to another thread.
@@ -127,7 +128,7 @@ unsafe impl Send for Executor {}
 
 impl Executor {
     /// An executor of a plan's text with 1 to 64 workers, which takes `limit` events, 1 to 4,294,967,295.
-    pub fn new(plan: &[u8], workers: u32, limit: u64) -> Result<Executor, Error> {
+    pub fn new(plan: &[u8], workers: u32, limit: u64) -> Result<Executor, ExecutorError> {
         let mut slot = Slot {
             hidden: std::ptr::null_mut(),
             full: false,
@@ -144,13 +145,13 @@ impl Executor {
                 &mut fault,
             )
         } {
-            0 => Ok(Executor { slot }),
-            status => Err(Error::of(status, fault)),
+            calls::DONE => Ok(Executor { slot }),
+            status => Err(ExecutorError::of(status, fault)),
         }
     }
 
     /// Takes an event: the lines are then those that answer it. After an error nothing changed.
-    pub fn take(&mut self, event: Event) -> Result<(), Error> {
+    pub fn take(&mut self, event: Event) -> Result<(), ExecutorError> {
         let slot = &mut self.slot;
         // SAFETY: the slot has its executor until `drop`, and is in one call at a time.
         let status = unsafe {
@@ -163,8 +164,8 @@ impl Executor {
             }
         };
         match status {
-            0 => Ok(()),
-            _ => Err(Error::of(status, Fault::default())),
+            calls::DONE => Ok(()),
+            _ => Err(ExecutorError::of(status, Fault::default())),
         }
     }
 
@@ -172,8 +173,11 @@ impl Executor {
     pub fn started(&mut self) -> Option<Run> {
         let mut run = Run::default();
         // SAFETY: as in `take`.
-        let status = unsafe { calls::sched_ref_started(&mut self.slot, &mut run) };
-        (status == 0).then_some(run)
+        match unsafe { calls::sched_ref_started(&mut self.slot, &mut run) } {
+            calls::DONE => Some(run),
+            calls::NOT_STARTED => None,
+            other => unreachable!("status {other} of a full slot"),
+        }
     }
 
     /// The lines that answer the last event, without their newlines.
@@ -208,19 +212,11 @@ impl Executor {
     pub fn task(&mut self, task: u32) -> Option<Task> {
         let mut raw = calls::Task::default();
         // SAFETY: as in `take`.
-        let status = unsafe { calls::sched_ref_task_of(&mut self.slot, task, &mut raw) };
-        let phases = [
-            Phase::Vacant,
-            Phase::New,
-            Phase::Running,
-            Phase::Done,
-            Phase::Failed,
-        ];
-        (status == 0).then(|| Task {
-            phase: phases[raw.phase as usize],
-            run: raw.run,
-            cancelled: raw.cancelled == 1,
-        })
+        match unsafe { calls::sched_ref_task_of(&mut self.slot, task, &mut raw) } {
+            calls::DONE => Some(Task::of(raw)),
+            calls::UNKNOWN_TASK => None,
+            other => unreachable!("status {other} of a full slot"),
+        }
     }
 
     fn state(&mut self) -> calls::State {
@@ -248,7 +244,7 @@ impl Iterator for Lines<'_> {
     type Item = String;
 
     fn next(&mut self) -> Option<String> {
-        let mut line = [0; LINE_ROOM];
+        let mut line = [0; calls::LINE_ROOM];
         let mut copied = Copied::default();
         // SAFETY: as in `Executor::take`.
         unsafe {

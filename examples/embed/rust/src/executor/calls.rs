@@ -1,6 +1,19 @@
-//! The functions and structs of `include/sched.h`. None of the pointers is null.
+//! The functions, structs and numbers of `include/sched.h`. None of the pointers is null.
 
 use std::ffi::c_void;
+
+pub const DONE: u32 = 0;
+pub const NO_MEMORY: u32 = 1;
+pub const NO_PLAN: u32 = 4;
+pub const WORKERS: u32 = 5;
+pub const LIMIT: u32 = 6;
+pub const FULL: u32 = 7;
+pub const UNKNOWN_TASK: u32 = 8;
+pub const NO_WORKER: u32 = 10;
+pub const NOT_STARTED: u32 = 11;
+
+/// How many bytes are enough for any line, with its newline.
+pub const LINE_ROOM: usize = 128;
 
 /// Room for an executor, with one or without.
 #[repr(C)]

@@ -1,5 +1,5 @@
 //! A heartbeat: a task at a fixed rate, every 10 nanoseconds, that runs five times over a clock of the program's own.
-use executor::{Error, Event, Executor};
+use sched::{Event, Executor, ExecutorError};
 
 const PLAN: &str = "version = 1
 [[block]]
@@ -11,7 +11,7 @@ period = 10
 ";
 
 /// Takes an event, and writes the lines that answer it.
-fn tell(executor: &mut Executor, event: Event) -> Result<(), Error> {
+fn tell(executor: &mut Executor, event: Event) -> Result<(), ExecutorError> {
     executor.take(event)?;
     for line in executor.lines() {
         println!("{line}");
@@ -19,7 +19,7 @@ fn tell(executor: &mut Executor, event: Event) -> Result<(), Error> {
     Ok(())
 }
 
-fn main() -> Result<(), Error> {
+fn main() -> Result<(), ExecutorError> {
     let mut executor = Executor::new(PLAN.as_bytes(), 1, 1_000)?;
     let mut beats = 0;
     for moment in (0..).step_by(5) {
