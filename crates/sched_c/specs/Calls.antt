@@ -1,12 +1,17 @@
 -- What the calls of the library do.
 -- All of it is this project's rule.
-use Rattle.std.specs.Prelude.{◌≡◌, ℕ, ◌+◌, ◌<◌, ◌≤◌, ◌↔◌, ◌⊎◌, Bool, true, false, List, [], Option, Some, None, length, take, drop, map, slice_get}
+use Rattle.std.specs.Prelude.{◌≡◌, ℕ, ◌+◌, ◌-◌, ◌^◌, ◌<◌, ◌≤◌, ◌↔◌, ◌⊎◌, Bool, true, false, List, [], Option, Some, None, length, take, drop, map, slice_get, option_and_then}
 use Rattle.task_word.specs.Words.{Parts}
 use Rattle.queue_code.specs.Calls.{task_count}
 use Rattle.plan_read.specs.declared.faults.PlanFault.{PlanFault}
-use Rattle.plan_read.specs.Texts.{TextFails}
+use Rattle.plan_read.specs.Plans.{PlanTree}
+use Rattle.plan_read.specs.Texts.{TextFails, TextWrites}
 use Rattle.executor_core.specs.declared.types.Event.{Event}
+use Rattle.executor_core.specs.declared.types.Answer.TheVariants as a
 use Rattle.executor_core.specs.declared.types.Line.{Line}
+use Rattle.executor_core.specs.declared.types.Message.{Message}
+use Rattle.executor_core.specs.declared.types.Message.TheVariants as m
+use Rattle.executor_core.specs.Counts.{IsWorkerCount}
 use Rattle.executor_core.specs.CoreView.{workers_of, state_of, Steps, Stands, Continues, ErrorOnlyCounts}
 use Rattle.executor_core.specs.Flows.{part_of}
 use Rattle.executor_core.specs.Histories.{HistoryEntry, IsHistoryOf}
@@ -17,10 +22,12 @@ use Rattle.trace_text.specs.Spelling.{lines_text}
 use Rattle.trace_text.specs.Writing.{line_room}
 use Rattle.sched_engine.specs.Cores.{Opens}
 use Rattle.sched_engine.specs.Running.{RefusesToRun}
+use Rattle.sched_engine.specs.declared.report.RunError.{RunError}
 use Rattle.sched_engine.specs.declared.report.RunError.TheVariants as x
 use Rattle.sched_c.specs.declared.fault.Fault.{Fault}
 use Rattle.sched_c.specs.declared.status.Status.{Status}
 use Rattle.sched_c.specs.declared.status.Status.TheVariants as s
+use Rattle.sched_c.specs.declared.started.Started.{Started}
 use Rattle.sched_c.specs.declared.state.State.{State}
 use Rattle.sched_c.specs.declared.state.TaskState.{TaskState}
 use Rattle.sched_c.specs.declared.text.Copied.{Copied}
@@ -39,14 +46,23 @@ Answers answer Holds = (status : Status) × (answer ≡ number_of_status status)
 
 -- ---- making and freeing
 
+-- no executor takes so many events
+abbrev pub IsNoLimit : ℕ → Type 0
+IsNoLimit limit = (limit ≡ 0) ⊎ (2 ^ 32 ≤ limit)
+
+-- why there is no executor for a text and these numbers, the plan first, then the workers, then the limit
+abbrev pub Refuses : RunError → List ℕ → ℕ → ℕ → Type 0
+Refuses x.Limit text workers limit = (plan : PlanTree) × TextWrites text plan × IsWorkerCount workers × IsNoLimit limit
+Refuses error text workers limit = RefusesToRun error text workers limit
+
 -- what the making of an executor of a plan's text came to, with the fault that it gave and what the slot held before and after.
 -- Want of memory says nothing of the text. The plan is looked at before the workers, and these before the limit
 abbrev pub Makes : Status → List ℕ → ℕ → ℕ → Fault → Option Seen → Option Seen → Type 0
 Makes s.Done text workers limit fault None (Some new) = Opens new.core text workers limit × (new.lines ≡ []) × (fault ≡ no_fault)
 Makes s.HasExecutor text workers limit fault (Some old) (Some new) = (new ≡ old) × (fault ≡ no_fault)
 Makes s.NoPlan text workers limit fault None None = (found : PlanFault) × TextFails text found × (fault ≡ fault_of found)
-Makes s.Workers text workers limit fault None None = RefusesToRun x.Workers text workers limit × (fault ≡ no_fault)
-Makes s.Limit text workers limit fault None None = RefusesToRun x.Limit text workers limit × (fault ≡ no_fault)
+Makes s.Workers text workers limit fault None None = Refuses x.Workers text workers limit × (fault ≡ no_fault)
+Makes s.Limit text workers limit fault None None = Refuses x.Limit text workers limit × (fault ≡ no_fault)
 Makes s.NoMemory text workers limit fault None None = fault ≡ no_fault
 Makes _ text workers limit fault old new = ⊥
 
@@ -74,6 +90,17 @@ TakesEvent s.Full event (Some old) (Some new) = (old.core.taken ≡ old.core.lim
 TakesEvent s.NoExecutor event None None = Unit {0}
 TakesEvent _ event old new = ⊥
 
+-- what an event that names a worker which no event can name came to
+abbrev pub RefusesWorker : Status → Option Seen → Option Seen → Type 0
+RefusesWorker s.NoWorker (Some old) (Some new) = new ≡ old
+RefusesWorker s.NoExecutor None None = Unit {0}
+RefusesWorker _ old new = ⊥
+
+-- what an event of a worker came to: events name workers below 256
+abbrev pub TakesEventOf : ℕ → Status → Event → Option Seen → Option Seen → Type 0
+TakesEventOf worker status event old new =
+    ((worker < 256) × TakesEvent status event old new) ⊎ ((256 ≤ worker) × RefusesWorker status old new)
+
 -- ---- reading
 
 -- of the text of some lines this much was copied into a buffer: that of the first ones, as long as there was room for any line
@@ -81,6 +108,9 @@ pub record IsCopied (all : List Line) (before after : List ℕ) (copied : Copied
   pub lines : copied.lines ≤ length all
   pub text : take copied.bytes after ≡ lines_text (take copied.lines all)
   pub bytes : copied.bytes ≤ length before
+  -- each line began where there was room for any line
+  pub room : (n : ℕ) → n < copied.lines → length (lines_text (take n all)) + line_room ≤ length before
+  -- and where one more would begin there is none, or no line is left
   pub most : (copied.lines ≡ length all) ⊎ (length before < copied.bytes + line_room)
 
 -- what the copying of the text of the lines came to, from the one of this number on, counted from 0
@@ -120,3 +150,23 @@ ReadsTask s.Done task state (Some old) (Some new) =
 ReadsTask s.UnknownTask task state (Some old) (Some new) = (new ≡ old) × (task_count old.core.calls ≤ task) × (state ≡ no_task)
 ReadsTask s.NoExecutor task state None None = state ≡ no_task
 ReadsTask _ task state old new = ⊥
+
+-- the run that a message says was started
+abbrev pub start_in : Message → Option Started
+start_in (m.Answer (a.Start worker task run due)) = Some (record { run = run; due = due; task = task; worker = worker })
+start_in _ = None
+
+-- the run that the last of some lines says was started
+abbrev pub last_start : List Line → Option Started
+last_start lines = option_and_then (λ (line : Line). start_in line.message) (slice_get lines (length lines - 1))
+
+-- no run
+abbrev pub no_start : Started
+no_start = record { run = 0; due = 0; task = 0; worker = 0 }
+
+-- what the asking which run the last event started came to
+abbrev pub ReadsStart : Status → Started → Option Seen → Option Seen → Type 0
+ReadsStart s.Done started (Some old) (Some new) = (new ≡ old) × (last_start old.lines ≡ Some started)
+ReadsStart s.NotStarted started (Some old) (Some new) = (new ≡ old) × (last_start old.lines ≡ None) × (started ≡ no_start)
+ReadsStart s.NoExecutor started None None = started ≡ no_start
+ReadsStart _ started old new = ⊥

@@ -7,7 +7,7 @@ use Rattle.task_word.specs.declared.phases.Phase.TheVariants as p
 use Rattle.sched_c.specs.declared.status.Status.{Status}
 use Rattle.sched_c.specs.declared.status.Status.TheVariants as s
 
--- how a call ended
+-- how a call ended; 9 is the header's own, for a pointer that is NULL
 abbrev pub number_of_status : Status → ℕ
 number_of_status s.Done = 0
 number_of_status s.NoMemory = 1
@@ -18,6 +18,8 @@ number_of_status s.Workers = 5
 number_of_status s.Limit = 6
 number_of_status s.Full = 7
 number_of_status s.UnknownTask = 8
+number_of_status s.NoWorker = 10
+number_of_status s.NotStarted = 11
 
 -- what is wrong with a plan's text; want of memory says nothing of it
 abbrev pub number_of_kind : PlanFaultKind → ℕ

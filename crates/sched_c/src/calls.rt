@@ -1,17 +1,19 @@
 //! The calls, with the status of each.
 ghost use Rattle.std.specs.Prelude.{◌≡◌, ℕ, List, None};
-ghost use Rattle.sched_engine.specs.Running.{RefusesToRun};
-ghost use Rattle.sched_c.specs.Calls.{holding, Makes, Frees, TakesEvent, Copies, Reads, ReadsTask};
+ghost use Rattle.executor_core.specs.declared.types.Event.TheVariants as events;
+ghost use Rattle.sched_c.specs.Calls.{holding, Refuses, Makes, Frees, TakesEvent, RefusesWorker, TakesEventOf, Copies, Reads, ReadsTask, ReadsStart};
 
 use crate::fault::Fault;
 use crate::session::Session;
 use crate::slot::Slot;
+use crate::started::Started;
 use crate::state::{State, TaskState};
 use crate::status::Status;
 use crate::text::{Copied, put_lines};
 use executor_core::Event;
 use plan_read::PlanFaultKind;
 use sched_engine::RunError;
+use sched_time::Ending;
 use std::alloc::Global;
 
 /// Makes an executor of a plan's text in an empty slot.
@@ -19,8 +21,8 @@ pub fn new(
     alloc: Global,
     slot: &mut Slot,
     plan: &[u8],
-    workers: u8,
-    limit: u32,
+    workers: u32,
+    limit: u64,
     fault: &mut Fault,
 ) -> Status
     ensures { Makes result plan.now workers limit fault.new (holding slot.old.full slot.old.held.value) (holding slot.new.full slot.new.held.value) }
@@ -46,7 +48,7 @@ pub fn new(
 
 /// The status of an error at the making of an executor, and the fault of the text where it is one.
 fn refusal(error: RunError) -> (Status, Fault)
-    ensures { (text : List ℕ) (workers limit : ℕ) → RefusesToRun error text workers limit → Makes result.0 text workers limit result.1 None None }
+    ensures { (text : List ℕ) (workers limit : ℕ) → Refuses error text workers limit → Makes result.0 text workers limit result.1 None None }
 {
     match error {
         RunError::Plan(fault) if fault.kind != PlanFaultKind::Memory => {
@@ -79,6 +81,37 @@ pub fn tell(alloc: Global, slot: &mut Slot, event: Event) -> Status
     let taken = session.take(event);
     *slot = Slot::of(session);
     if taken { Status::Done } else { Status::Full }
+}
+
+/// Takes the start of a worker.
+pub fn start(alloc: Global, slot: &mut Slot, worker: u32) -> Status
+    ensures { TakesEventOf worker result (events.Start worker) (holding slot.old.full slot.old.held.value) (holding slot.new.full slot.new.held.value) }
+{
+    if worker >= 256 {
+        return refuse_worker(slot);
+    }
+    tell(alloc, slot, Event::Start(worker as u8))
+}
+
+/// Takes the end of a worker's run.
+pub fn finish(alloc: Global, slot: &mut Slot, worker: u32, ending: Ending) -> Status
+    ensures { TakesEventOf worker result (events.Finish worker ending) (holding slot.old.full slot.old.held.value) (holding slot.new.full slot.new.held.value) }
+{
+    if worker >= 256 {
+        return refuse_worker(slot);
+    }
+    tell(alloc, slot, Event::Finish(worker as u8, ending))
+}
+
+/// Refuses an event of a worker that no event can name.
+fn refuse_worker(slot: &Slot) -> Status
+    ensures { RefusesWorker result (holding slot.now.full slot.now.held.value) (holding slot.now.full slot.now.held.value) }
+{
+    if slot.full {
+        Status::NoWorker
+    } else {
+        Status::NoExecutor
+    }
 }
 
 /// Copies the text of lines.
@@ -130,5 +163,24 @@ pub fn read_task(alloc: Global, slot: &mut Slot, task: u32, state: &mut TaskStat
             Status::Done
         }
         None => Status::UnknownTask,
+    }
+}
+
+/// The run that the last event started.
+pub fn read_start(alloc: Global, slot: &mut Slot, started: &mut Started) -> Status
+    ensures { ReadsStart result started.new (holding slot.old.full slot.old.held.value) (holding slot.new.full slot.new.held.value) }
+{
+    *started = Started::none();
+    let Some(session) = slot.take(alloc) else {
+        return Status::NoExecutor;
+    };
+    let last = Started::last_of(session.lines());
+    *slot = Slot::of(session);
+    match last {
+        Some(run) => {
+            *started = run;
+            Status::Done
+        }
+        None => Status::NotStarted,
     }
 }

@@ -2,11 +2,12 @@
 ghost use Rattle.std.specs.Prelude.{◌≡◌};
 ghost use Rattle.executor_core.specs.declared.types.Event.TheVariants as events;
 ghost use Rattle.sched_time.specs.declared.timing.Ending.TheVariants as endings;
-ghost use Rattle.sched_c.specs.Calls.{holding, Answers, Makes, Frees, TakesEvent, Copies, Reads, ReadsTask};
+ghost use Rattle.sched_c.specs.Calls.{holding, Answers, Makes, Frees, TakesEvent, TakesEventOf, Copies, Reads, ReadsTask, ReadsStart};
 
 use crate::calls;
 use crate::fault::Fault;
 use crate::slot::Slot;
+use crate::started::Started;
 use crate::state::{State, TaskState};
 use crate::text::Copied;
 use executor_core::Event;
@@ -19,8 +20,8 @@ pub extern "C" fn sched_ref_new(
     alloc: Global,
     slot: &mut Slot,
     plan: &[u8],
-    workers: u8,
-    limit: u32,
+    workers: u32,
+    limit: u64,
     fault: &mut Fault,
 ) -> u32
     ensures { Answers result (λ status. Makes status plan.now workers limit fault.new (holding slot.old.full slot.old.held.value) (holding slot.new.full slot.new.held.value)) }
@@ -46,26 +47,26 @@ pub extern "C" fn sched_ref_clock(alloc: Global, slot: &mut Slot, moment: u64) -
 
 /// A worker asks for work.
 #[unsafe(no_mangle)]
-pub extern "C" fn sched_ref_start(alloc: Global, slot: &mut Slot, worker: u8) -> u32
-    ensures { Answers result (λ status. TakesEvent status (events.Start worker) (holding slot.old.full slot.old.held.value) (holding slot.new.full slot.new.held.value)) }
+pub extern "C" fn sched_ref_start(alloc: Global, slot: &mut Slot, worker: u32) -> u32
+    ensures { Answers result (λ status. TakesEventOf worker status (events.Start worker) (holding slot.old.full slot.old.held.value) (holding slot.new.full slot.new.held.value)) }
 {
-    calls::tell(alloc, slot, Event::Start(worker)).number()
+    calls::start(alloc, slot, worker).number()
 }
 
 /// The run of a worker ended with a value.
 #[unsafe(no_mangle)]
-pub extern "C" fn sched_ref_finish(alloc: Global, slot: &mut Slot, worker: u8, value: u64) -> u32
-    ensures { Answers result (λ status. TakesEvent status (events.Finish worker (endings.Value value)) (holding slot.old.full slot.old.held.value) (holding slot.new.full slot.new.held.value)) }
+pub extern "C" fn sched_ref_finish(alloc: Global, slot: &mut Slot, worker: u32, value: u64) -> u32
+    ensures { Answers result (λ status. TakesEventOf worker status (events.Finish worker (endings.Value value)) (holding slot.old.full slot.old.held.value) (holding slot.new.full slot.new.held.value)) }
 {
-    calls::tell(alloc, slot, Event::Finish(worker, Ending::Value(value))).number()
+    calls::finish(alloc, slot, worker, Ending::Value(value)).number()
 }
 
 /// The run of a worker failed, with a code.
 #[unsafe(no_mangle)]
-pub extern "C" fn sched_ref_fail(alloc: Global, slot: &mut Slot, worker: u8, code: u32) -> u32
-    ensures { Answers result (λ status. TakesEvent status (events.Finish worker (endings.Fault code)) (holding slot.old.full slot.old.held.value) (holding slot.new.full slot.new.held.value)) }
+pub extern "C" fn sched_ref_fail(alloc: Global, slot: &mut Slot, worker: u32, code: u32) -> u32
+    ensures { Answers result (λ status. TakesEventOf worker status (events.Finish worker (endings.Fault code)) (holding slot.old.full slot.old.held.value) (holding slot.new.full slot.new.held.value)) }
 {
-    calls::tell(alloc, slot, Event::Finish(worker, Ending::Fault(code))).number()
+    calls::finish(alloc, slot, worker, Ending::Fault(code)).number()
 }
 
 /// A cancel of a task is asked for from outside the plan.
@@ -110,4 +111,12 @@ pub extern "C" fn sched_ref_task_of(
     ensures { Answers result (λ status. ReadsTask status task state.new (holding slot.old.full slot.old.held.value) (holding slot.new.full slot.new.held.value)) }
 {
     calls::read_task(alloc, slot, task, state).number()
+}
+
+/// The run that the last event started: which task, its run and due moment, and by which worker.
+#[unsafe(no_mangle)]
+pub extern "C" fn sched_ref_started(alloc: Global, slot: &mut Slot, started: &mut Started) -> u32
+    ensures { Answers result (λ status. ReadsStart status started.new (holding slot.old.full slot.old.held.value) (holding slot.new.full slot.new.held.value)) }
+{
+    calls::read_start(alloc, slot, started).number()
 }

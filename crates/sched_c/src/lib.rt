@@ -42,6 +42,7 @@ mod fault;
 mod held;
 mod session;
 mod slot;
+mod started;
 mod state;
 mod status;
 #[cfg(test)]

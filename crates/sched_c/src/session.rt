@@ -1,12 +1,13 @@
 //! What stands on the heap for C: an executor, and the lines that its last event was answered.
-ghost use Rattle.std.specs.Prelude.{◌≡◌, ◌+◌, ◌<◌, ◌≤◌, ◌↔◌, List, [], IfOk, IfErr, IsNone, IsTrue, false, map, slice_get};
+ghost use Rattle.std.specs.Prelude.{◌≡◌, ◌+◌, ◌^◌, ◌<◌, ◌≤◌, ◌↔◌, List, [], IfOk, IfErr, IsNone, IsTrue, false, map, slice_get};
 ghost use Rattle.executor_core.specs.CoreView.{workers_of, Steps, Stands, Continues, ErrorOnlyCounts};
 ghost use Rattle.queue_code.specs.Calls.{task_count};
 ghost use Rattle.executor_core.specs.Tasks.{word_of_task};
 ghost use Rattle.executor_core.specs.Flows.{part_of};
 ghost use Rattle.executor_core.specs.Histories.{HistoryEntry, IsHistoryOf};
 ghost use Rattle.sched_engine.specs.Cores.{Opens};
-ghost use Rattle.sched_engine.specs.Running.{RefusesToRun};
+ghost use Rattle.sched_c.specs.Calls.{Refuses};
+ghost use Rattle.sched_c.specs.Told.{IsToldAs};
 
 use executor_core::{Core, Event, Line};
 use sched_engine::{RunError, core_of};
@@ -39,14 +40,14 @@ impl Session {
     pub fn open(
         alloc: Global,
         plan_text: &[u8],
-        workers: u8,
-        limit: u32,
+        workers: u32,
+        limit: u64,
     ) -> Result<Session, RunError>
         ensures opens { IfOk result (λ session. Opens session.core plan_text.now workers limit) }
         ensures lines { IfOk result (λ session. session.lines ≡ []) }
-        ensures refuses { IfErr result (λ e. RefusesToRun e plan_text.now workers limit) }
+        ensures refuses { IfErr result (λ e. Refuses e plan_text.now workers limit) }
     {
-        let core = core_of(alloc, plan_text, workers, limit)?;
+        let core = core_of(alloc, plan_text, told_workers(workers), told_limit(limit))?;
         let lines = Vec::with_capacity(alloc, core.room())?;
         Ok(Session { core, lines })
     }
@@ -94,4 +95,18 @@ impl Session {
     {
         self.core.words().get(task as usize).copied()
     }
+}
+
+/// The number of workers for a core, which refuses 0 as it would one that is too large.
+fn told_workers(workers: u32) -> u8
+    ensures { IsToldAs 256 workers result }
+{
+    if workers < 256 { workers as u8 } else { 0 }
+}
+
+/// The limit on events for a core, which refuses 0 as it would one that is too large.
+fn told_limit(limit: u64) -> u32
+    ensures { IsToldAs (2 ^ 32) limit result }
+{
+    if limit < 1 << 32 { limit as u32 } else { 0 }
 }

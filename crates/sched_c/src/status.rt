@@ -17,12 +17,16 @@ pub enum Status {
     NoPlan,
     /// The number of workers is not 1 to 64.
     Workers,
-    /// The limit on events is 0.
+    /// The limit on events is 0, or above 4,294,967,295.
     Limit,
     /// As many events were taken as the limit allows.
     Full,
     /// The plan has no task of this number.
     UnknownTask,
+    /// The worker is above 255, so that no event names it.
+    NoWorker,
+    /// The last event was no start that got a task.
+    NotStarted,
 }
 
 impl Status {
@@ -40,6 +44,8 @@ impl Status {
             Status::Limit => 6,
             Status::Full => 7,
             Status::UnknownTask => 8,
+            Status::NoWorker => 10,
+            Status::NotStarted => 11,
         }
     }
 }

@@ -2,10 +2,12 @@
 
 use crate::exports::{
     sched_ref_cancel, sched_ref_clock, sched_ref_fail, sched_ref_finish, sched_ref_free,
-    sched_ref_new, sched_ref_start, sched_ref_state_of, sched_ref_task_of, sched_ref_text,
+    sched_ref_new, sched_ref_start, sched_ref_started, sched_ref_state_of, sched_ref_task_of,
+    sched_ref_text,
 };
 use crate::fault::Fault;
 use crate::slot::Slot;
+use crate::started::Started;
 use crate::state::{State, TaskState};
 use crate::status::Status;
 use crate::text::Copied;
@@ -27,7 +29,7 @@ period = 10
 ";
 
 /// A slot with an executor of the plan.
-fn executor(rt: &impl Abort, alloc: Global, limit: u32) -> Slot {
+fn executor(rt: &impl Abort, alloc: Global, limit: u64) -> Slot {
     let mut slot = Slot::empty(alloc);
     let mut fault = Fault::none();
     let status = sched_ref_new(alloc, &mut slot, PLAN.as_bytes(), 2, limit, &mut fault);
@@ -156,12 +158,57 @@ fn what_is_refused_is_told(rt: HostRuntime) {
     let plan = PLAN.as_bytes();
     let status = sched_ref_new(alloc, &mut slot, plan, 65, 1, &mut fault);
     assert_eq!(rt; status, Status::Workers.number());
+    let status = sched_ref_new(alloc, &mut slot, plan, 257, 1, &mut fault);
+    assert_eq!(rt; status, Status::Workers.number());
     let status = sched_ref_new(alloc, &mut slot, plan, 64, 0, &mut fault);
+    assert_eq!(rt; status, Status::Limit.number());
+    let status = sched_ref_new(alloc, &mut slot, plan, 64, (1 << 32) + 1, &mut fault);
     assert_eq!(rt; status, Status::Limit.number());
     let mut slot = executor(&rt, alloc, 1);
     let status = sched_ref_new(alloc, &mut slot, plan, 1, 1, &mut fault);
     assert_eq!(rt; status, Status::HasExecutor.number());
     assert_eq!(rt; sched_ref_clock(alloc, &mut slot, 1), 0);
     assert_eq!(rt; sched_ref_clock(alloc, &mut slot, 2), Status::Full.number());
+    assert_eq!(rt; sched_ref_free(alloc, &mut slot), 0);
+}
+
+#[test]
+fn a_start_is_told(rt: HostRuntime) {
+    let alloc = rt.alloc();
+    let mut slot = executor(&rt, alloc, 10);
+    let mut started = Started::none();
+    assert_eq!(rt; sched_ref_clock(alloc, &mut slot, 7), 0);
+    assert_eq!(rt;
+        sched_ref_started(alloc, &mut slot, &mut started),
+        Status::NotStarted.number()
+    );
+    assert_eq!(rt; sched_ref_start(alloc, &mut slot, 1), 0);
+    assert_eq!(rt; sched_ref_started(alloc, &mut slot, &mut started), 0);
+    let run = Started {
+        run: 0,
+        due: 5,
+        task: 0,
+        worker: 1,
+    };
+    assert_eq!(rt; started, run);
+    assert_eq!(rt; sched_ref_free(alloc, &mut slot), 0);
+    assert_eq!(rt;
+        sched_ref_started(alloc, &mut slot, &mut started),
+        Status::NoExecutor.number()
+    );
+    assert_eq!(rt; started, Started::none());
+}
+
+#[test]
+fn a_worker_that_no_event_names_is_refused(rt: HostRuntime) {
+    let alloc = rt.alloc();
+    let mut slot = executor(&rt, alloc, 10);
+    assert_eq!(rt; sched_ref_start(alloc, &mut slot, 255), 0);
+    says(&rt, alloc, &mut slot, "0 error no worker\n");
+    let refused = Status::NoWorker.number();
+    assert_eq!(rt; sched_ref_start(alloc, &mut slot, 256), refused);
+    assert_eq!(rt; sched_ref_finish(alloc, &mut slot, 257, 1), refused);
+    assert_eq!(rt; sched_ref_fail(alloc, &mut slot, 4_294_967_295, 1), refused);
+    says(&rt, alloc, &mut slot, "0 error no worker\n");
     assert_eq!(rt; sched_ref_free(alloc, &mut slot), 0);
 }

@@ -1,5 +1,5 @@
 //! The text of lines, put into a buffer.
-ghost use Rattle.std.specs.Prelude.{◌≡◌, ◌+◌, ◌<◌, ◌≤◌, ◌⊎◌, length, take, drop};
+ghost use Rattle.std.specs.Prelude.{◌≡◌, ℕ, ◌+◌, ◌<◌, ◌≤◌, ◌⊎◌, length, take, drop};
 ghost use Rattle.trace_text.specs.Spelling.{lines_text};
 ghost use Rattle.trace_text.specs.declared.line_text.TheConstants.{LINE_ROOM};
 
@@ -31,6 +31,7 @@ pub fn put_lines(lines: &[Line], out: &mut [u8]) -> Copied
     ensures lines { result.lines ≤ length lines.now }
     ensures text { take result.bytes out.new ≡ lines_text (take result.lines lines.now) }
     ensures bytes { result.bytes ≤ length out.old }
+    ensures room { (n : ℕ) → n < result.lines → length (lines_text (take n lines.now)) + LINE_ROOM ≤ length out.old }
     ensures most { (result.lines ≡ length lines.now) ⊎ (length out.old < result.bytes + LINE_ROOM) }
 {
     let mut stamp = Stamp::new(0);

@@ -18,9 +18,10 @@ import weakref
 from pathlib import Path
 
 LIBRARY = os.environ.get("SCHED", str(Path(__file__).resolve().parent / "out" / "libsched.so"))
-DONE, NO_MEMORY, NO_EXECUTOR, HAS_EXECUTOR, NO_PLAN, WORKERS, LIMIT, FULL, UNKNOWN_TASK = range(9)
+DONE, NO_MEMORY, NO_EXECUTOR, HAS_EXECUTOR, NO_PLAN, WORKERS, LIMIT, FULL, UNKNOWN_TASK, NULL, NO_WORKER, NOT_STARTED = range(12)
 TEXTS = ["done", "out of memory", "the slot is empty", "the slot has an executor already", "the text is no plan",
-         "the number of workers is not 1 to 64", "the limit on events is 0", "the limit on events is reached", "no such task"]
+         "the number of workers is not 1 to 64", "the limit on events is not 1 to 4,294,967,295", "the limit on events is reached",
+         "no such task", "a pointer is NULL", "the worker is above 255", "no run was started"]
 ROOM = 65536
 
 
@@ -50,6 +51,11 @@ class Task(ctypes.Structure):
     _fields_ = [("phase", ctypes.c_uint32), ("run", ctypes.c_uint32), ("cancelled", ctypes.c_uint32)]
 
 
+class Run(ctypes.Structure):
+    """A run that was started: its number, its due moment, its task and its worker."""
+    _fields_ = [("run", ctypes.c_uint64), ("due", ctypes.c_uint64), ("task", ctypes.c_uint32), ("worker", ctypes.c_uint32)]
+
+
 class ExecutorError(Exception):
     """A call that was refused. `fault` says what is wrong with the plan's text, where that is why."""
 
@@ -77,13 +83,13 @@ class Whole:
 def _calls():
     """The calls of the library, by their names."""
     library = ctypes.PyDLL(LIBRARY)
-    worker, number, moment, size = map(Whole, [ctypes.c_uint8, ctypes.c_uint32, ctypes.c_uint64, ctypes.c_size_t])
+    number, moment, size = Whole(ctypes.c_uint32), Whole(ctypes.c_uint64), Whole(ctypes.c_size_t)
     pointer = ctypes.POINTER
     types = {
-        "new": [ctypes.c_char_p, size, worker, number, pointer(Fault)], "free": [],
-        "clock": [moment], "start": [worker], "finish": [worker, moment], "fail": [worker, number], "cancel": [number],
+        "new": [ctypes.c_char_p, size, number, moment, pointer(Fault)], "free": [],
+        "clock": [moment], "start": [number], "finish": [number, moment], "fail": [number, number], "cancel": [number],
         "text": [size, pointer(ctypes.c_char), size, pointer(Copied)],
-        "state_of": [pointer(State)], "task_of": [number, pointer(Task)],
+        "state_of": [pointer(State)], "task_of": [number, pointer(Task)], "started": [pointer(Run)],
     }
     calls = {name: getattr(library, "sched_ref_" + name) for name in types}
     for name, call in calls.items():
@@ -117,8 +123,10 @@ class Executor:
         self._tell("clock", moment)
 
     def start(self, worker):
-        """A worker asks for work."""
+        """A worker asks for work: the run that it gets, or None where it is idle, or the line is an error."""
         self._tell("start", worker)
+        run = Run()
+        return run if self._call("started", run) == DONE else None
 
     def finish(self, worker, value):
         """The run of a worker has ended with a value."""

@@ -21,10 +21,12 @@ def beat(executor, beats):
         executor.clock(moment)
         yield from executor.lines()
         while executor.state().ripe:
-            executor.start(0)
+            run = executor.start(0)
             yield from executor.lines()
-            beat += 1  # the work of the task stands here
-            executor.finish(0, beat)
+            if run is None:
+                break
+            beat += 1  # the work of run.task stands here
+            executor.finish(run.worker, beat)
             yield from executor.lines()
             if beat == beats:
                 return

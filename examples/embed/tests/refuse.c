@@ -53,11 +53,11 @@ static void demand(bool holds, const char *what) {
 static sched_status take(sched_slot *slot, const char *line) {
     uint64_t number;
     uint32_t code;
-    unsigned worker;
+    uint32_t worker;
     if (sscanf(line, "clock %" SCNu64, &number) == 1) return sched_clock(slot, number);
-    if (sscanf(line, "start %u", &worker) == 1) return sched_start(slot, (uint8_t)worker);
-    if (sscanf(line, "finish %u ok %" SCNu64, &worker, &number) == 2) return sched_finish(slot, (uint8_t)worker, number);
-    if (sscanf(line, "finish %u fail %" SCNu32, &worker, &code) == 2) return sched_fail(slot, (uint8_t)worker, code);
+    if (sscanf(line, "start %" SCNu32, &worker) == 1) return sched_start(slot, worker);
+    if (sscanf(line, "finish %" SCNu32 " ok %" SCNu64, &worker, &number) == 2) return sched_finish(slot, worker, number);
+    if (sscanf(line, "finish %" SCNu32 " fail %" SCNu32, &worker, &code) == 2) return sched_fail(slot, worker, code);
     if (sscanf(line, "cancel %" SCNu32, &code) == 1) return sched_cancel(slot, code);
     demand(false, "no event line");
     return 0;
@@ -69,7 +69,7 @@ int main(int count, char **words) {
     demand(file != NULL, "refuse PLAN WORKERS < EVENTS");
     size_t length = fread(plan, 1, sizeof plan, file);
     fclose(file);
-    uint8_t workers = (uint8_t)atoi(words[2]);
+    uint32_t workers = (uint32_t)strtoul(words[2], NULL, 10);
     sched_slot slot = SCHED_EMPTY;
     sched_fault fault;
     long growths = 0;
@@ -87,9 +87,11 @@ int main(int count, char **words) {
         sched_state state;
         uint8_t text[SCHED_LINE_ROOM];
         sched_copied copied;
+        sched_run run;
         refused = -1;
         sched_status status = take(&slot, line);
         sched_state_of(&slot, &state);
+        sched_started(&slot, &run);
         sched_text(&slot, 0, text, sizeof text, &copied);
         refused = 0;
         demand(status == SCHED_DONE && !met, "an event took memory");

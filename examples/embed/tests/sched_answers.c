@@ -16,7 +16,7 @@ static const char no_plan[] = "version = 1\n[[block]]\ncall = [{ op = \"rate\", 
         }                                                          \
     } while (0)
 
-static sched_status make(sched_slot *slot, const char *text, uint8_t workers, uint32_t limit, sched_fault *fault) {
+static sched_status make(sched_slot *slot, const char *text, uint32_t workers, uint64_t limit, sched_fault *fault) {
     return sched_new(slot, (const uint8_t *)text, strlen(text), workers, limit, fault);
 }
 
@@ -34,6 +34,7 @@ static void nothing(void) {
     sched_copied copied = {7, 7};
     sched_state state = {7, 7, 7, 7, 7};
     sched_task task = {7, 7, 7};
+    sched_run run = {7, 7, 7, 7};
     uint8_t out[SCHED_LINE_ROOM];
     DEMAND(sched_new(NULL, NULL, 0, 1, 1, &fault) == SCHED_NULL && sched_new(&slot, NULL, 1, 1, 1, &fault) == SCHED_NULL);
     DEMAND(make(&slot, plan, 1, 1, NULL) == SCHED_NULL && !slot.full);
@@ -43,9 +44,14 @@ static void nothing(void) {
     DEMAND(sched_fail(NULL, 0, 1) == SCHED_NULL && sched_fail(&slot, 0, 1) == SCHED_NO_EXECUTOR);
     DEMAND(sched_cancel(NULL, 0) == SCHED_NULL && sched_cancel(&slot, 0) == SCHED_NO_EXECUTOR);
     DEMAND(sched_text(&slot, 0, NULL, 1, &copied) == SCHED_NULL && copied.lines == 7);
+    DEMAND(sched_text(NULL, 0, out, sizeof out, &copied) == SCHED_NULL && sched_text(&slot, 0, out, sizeof out, NULL) == SCHED_NULL);
+    DEMAND(sched_state_of(NULL, &state) == SCHED_NULL && state.now == 7 && sched_task_of(NULL, 0, &task) == SCHED_NULL && task.run == 7);
     DEMAND(sched_text(&slot, 0, out, sizeof out, &copied) == SCHED_NO_EXECUTOR && copied.lines == 0 && copied.bytes == 0);
     DEMAND(sched_state_of(&slot, NULL) == SCHED_NULL && sched_state_of(&slot, &state) == SCHED_NO_EXECUTOR && state.now == 0);
     DEMAND(sched_task_of(&slot, 0, NULL) == SCHED_NULL && sched_task_of(&slot, 0, &task) == SCHED_NO_EXECUTOR && task.phase == 0);
+    DEMAND(sched_started(&slot, NULL) == SCHED_NULL && sched_started(NULL, &run) == SCHED_NULL && run.due == 7);
+    DEMAND(sched_started(&slot, &run) == SCHED_NO_EXECUTOR && run.run == 0 && run.due == 0 && run.task == 0 && run.worker == 0);
+    DEMAND(sched_start(&slot, 256) == SCHED_NO_EXECUTOR);
     DEMAND(sched_free(NULL) == SCHED_NULL && sched_free(&slot) == SCHED_NO_EXECUTOR);
 }
 
@@ -56,8 +62,24 @@ static void refused(sched_slot *slot) {
     DEMAND(fault.kind == SCHED_FAULT_BAD_NAME && fault.block == 1 && fault.call == 1);
     DEMAND(make(slot, plan, 0, 0, &fault) == SCHED_WORKERS && fault.kind == SCHED_FAULT_NONE && !slot->full);
     DEMAND(make(slot, plan, 65, 1, &fault) == SCHED_WORKERS && make(slot, plan, 64, 0, &fault) == SCHED_LIMIT && !slot->full);
+    DEMAND(make(slot, no_plan, 257, 1, &fault) == SCHED_NO_PLAN && make(slot, plan, 257, 0, &fault) == SCHED_WORKERS);
+    DEMAND(make(slot, plan, UINT32_MAX, 1, &fault) == SCHED_WORKERS && make(slot, plan, 1, (UINT64_C(1) << 32) + 1, &fault) == SCHED_LIMIT);
+    DEMAND(make(slot, plan, 1, UINT64_MAX, &fault) == SCHED_LIMIT && !slot->full);
+    DEMAND(make(slot, plan, 1, UINT32_MAX, &fault) == SCHED_DONE && sched_free(slot) == SCHED_DONE);
     DEMAND(make(slot, plan, 64, 7, &fault) == SCHED_DONE && slot->full);
     DEMAND(make(slot, no_plan, 0, 0, &fault) == SCHED_HAS_EXECUTOR && fault.kind == SCHED_FAULT_NONE);
+}
+
+/* Which run the last event started. */
+static void starts(sched_slot *slot) {
+    sched_run run = {7, 7, 7, 7};
+    DEMAND(sched_started(slot, &run) == SCHED_NOT_STARTED && run.due == 0 && run.worker == 0);
+    DEMAND(sched_start(slot, 63) == SCHED_DONE && says(slot, "5 start 63 task 0 run 0 due 5\n"));
+    DEMAND(sched_started(slot, &run) == SCHED_DONE && run.run == 0 && run.due == 5 && run.task == 0 && run.worker == 63);
+    run.due = 7;
+    DEMAND(sched_start(slot, 256) == SCHED_NO_WORKER && sched_finish(slot, 319, 1) == SCHED_NO_WORKER);
+    DEMAND(sched_fail(slot, UINT32_MAX, 1) == SCHED_NO_WORKER && says(slot, "5 start 63 task 0 run 0 due 5\n"));
+    DEMAND(sched_started(slot, &run) == SCHED_DONE && run.due == 5);
 }
 
 int main(void) {
@@ -72,7 +94,7 @@ int main(void) {
     DEMAND(sched_state_of(&slot, &state) == SCHED_DONE && state.now == 5 && state.lines == 2 && state.ripe == 1);
     DEMAND(sched_text(&slot, 0, NULL, 0, &copied) == SCHED_DONE && copied.lines == 0);
     DEMAND(sched_clock(&slot, 4) == SCHED_DONE && says(&slot, "5 error backward\n"));
-    DEMAND(sched_start(&slot, 63) == SCHED_DONE && says(&slot, "5 start 63 task 0 run 0 due 5\n"));
+    starts(&slot);
     DEMAND(sched_task_of(&slot, 0, &task) == SCHED_DONE && task.phase == SCHED_TASK_RUNNING && task.run == 0 && !task.cancelled);
     DEMAND(sched_finish(&slot, 63, 1) == SCHED_DONE && says(&slot, "5 finish 63 task 0 run 0 again due 15\n"));
     DEMAND(sched_task_of(&slot, 0, &task) == SCHED_DONE && task.phase == SCHED_TASK_NEW && task.run == 1);
@@ -81,8 +103,11 @@ int main(void) {
     DEMAND(sched_task_of(&slot, 0, &task) == SCHED_DONE && task.cancelled == 1);
     DEMAND(sched_fail(&slot, 0, 3) == SCHED_DONE && says(&slot, "5 error not running\n"));
     DEMAND(sched_start(&slot, 64) == SCHED_DONE && says(&slot, "5 error no worker\n"));
+    DEMAND(sched_start(&slot, 0) == SCHED_FULL && sched_start(&slot, 256) == SCHED_NO_WORKER);
     DEMAND(sched_clock(&slot, 6) == SCHED_FULL && says(&slot, "5 error no worker\n"));
     DEMAND(sched_state_of(&slot, &state) == SCHED_DONE && state.taken == 7 && state.now == 5);
+    DEMAND(strcmp(sched_status_text(SCHED_NOT_STARTED), "no run was started") == 0);
+    DEMAND(strcmp(sched_status_text(12), "no such status") == 0);
     DEMAND(strcmp(sched_status_text(SCHED_FULL), "the limit on events is reached") == 0);
     DEMAND(sched_free(&slot) == SCHED_DONE && !slot.full && sched_free(&slot) == SCHED_NO_EXECUTOR);
     printf("each answer came\n");

@@ -11,5 +11,7 @@ int main() {
     bool made = sched_new(&slot, reinterpret_cast<const uint8_t *>(plan), sizeof plan - 1, 1, 1, &fault) == SCHED_DONE;
     bool told = sched_clock(&slot, 5) == SCHED_DONE && sched_clock(&slot, 6) == SCHED_FULL;
     bool looked = sched_state_of(&slot, &state) == SCHED_DONE && state.now == 5 && state.lines == 1;
-    return none && wrong && made && told && looked && sched_free(&slot) == SCHED_DONE ? 0 : 1;
+    sched_run run = {0, 0, 0, 0};
+    bool started = sched_started(&slot, &run) == SCHED_NOT_STARTED && sched_start(&slot, 256) == SCHED_NO_WORKER;
+    return started && none && wrong && made && told && looked && sched_free(&slot) == SCHED_DONE ? 0 : 1;
 }

@@ -9,7 +9,7 @@ from pathlib import Path
 sys.path.insert(0, str(Path(__file__).resolve().parent.parent / "python"))
 
 from delay_queue import HAS_ENTRY, NO_QUEUE, UNKNOWN_TASK, DelayQueue, QueueError
-from executor import FULL, LIMIT, NO_EXECUTOR, NO_PLAN, UNKNOWN_TASK as NO_TASK, WORKERS, Executor, ExecutorError
+from executor import FULL, LIMIT, NO_EXECUTOR, NO_PLAN, NO_WORKER, UNKNOWN_TASK as NO_TASK, WORKERS, Executor, ExecutorError
 
 PLAN = b'version = 1\n[[block]]\ncall = [{ op = "rate", name = "a", first = 5, period = 10 }]\n'
 NO_NAME = PLAN.replace(b'"a"', b'""')
@@ -63,9 +63,10 @@ def executor_answers():
     refuses(TypeError, Executor, PLAN.decode(), 1, 1)
     refuses(TypeError, Executor, None, 1, 1)
     assert refuses(ExecutorError, Executor, NO_NAME, 0, 0, status=NO_PLAN).fault.kind == 10
-    for workers in (0, 65):
+    for workers in (0, 65, 257):
         refuses(ExecutorError, Executor, PLAN, workers, 0, status=WORKERS)
-    refuses(ExecutorError, Executor, PLAN, 64, 0, status=LIMIT)
+    for limit in (0, 1 << 32):
+        refuses(ExecutorError, Executor, PLAN, 64, limit, status=LIMIT)
     executor = Executor(bytearray(PLAN), 1, 2)
     for call, *words in [(executor.clock, -1), (executor.clock, 1 << 64), (executor.start, -1), (executor.start, 1 << 32),
                          (executor.finish, 0, -1), (executor.finish, 0, 1 << 64), (executor.fail, 0, 1 << 32),
@@ -75,7 +76,9 @@ def executor_answers():
     executor.clock(5)
     assert executor.text() == b"0 submit 0 rate due 5\n5 clock\n" and executor.state().ripe == 1
     refuses(ExecutorError, executor.task, 1, status=NO_TASK)
-    executor.start(0)
+    refuses(ExecutorError, executor.start, 256, status=NO_WORKER)
+    run = executor.start(0)
+    assert (run.task, run.run, run.due, run.worker) == (0, 0, 5, 0)
     assert executor.lines() == ["5 start 0 task 0 run 0 due 5"] and executor.task(0).phase == 2
     refuses(ExecutorError, executor.clock, 6, status=FULL)
     executor.close()

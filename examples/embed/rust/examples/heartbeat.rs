@@ -26,8 +26,11 @@ fn main() -> Result<(), ExecutorError> {
         tell(&mut executor, Event::Clock(moment))?;
         while executor.ripe() {
             tell(&mut executor, Event::Start(0))?;
-            beats += 1; // the work of the task stands here
-            tell(&mut executor, Event::Finish(0, beats))?;
+            let Some(run) = executor.started() else {
+                break;
+            };
+            beats += 1; // the work of `run.task` stands here
+            tell(&mut executor, Event::Finish(run.worker, beats))?;
             if beats == 5 {
                 return Ok(());
             }

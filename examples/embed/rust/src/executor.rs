@@ -2,8 +2,8 @@
 
 mod calls;
 
-pub use calls::Fault;
 use calls::{Copied, Slot};
+pub use calls::{Fault, Run};
 use std::fmt;
 
 /// Why there is no executor, or why it did not take an event.
@@ -13,10 +13,12 @@ pub enum ExecutorError {
     Plan(Fault),
     /// The number of workers is not 1 to 64.
     Workers,
-    /// The limit on events is 0.
+    /// The limit on events is not 1 to 4,294,967,295.
     Limit,
     /// As many events were taken as the limit allows.
     Full,
+    /// The worker is above 255, so that no event names it.
+    Worker,
     /// Memory ran out.
     Memory,
 }
@@ -30,6 +32,7 @@ impl ExecutorError {
             calls::WORKERS => ExecutorError::Workers,
             calls::LIMIT => ExecutorError::Limit,
             calls::FULL => ExecutorError::Full,
+            calls::NO_WORKER => ExecutorError::Worker,
             _ => unreachable!("no call of this module is answered by status {status}"),
         }
     }
@@ -46,8 +49,9 @@ impl fmt::Display for ExecutorError {
                 )
             }
             ExecutorError::Workers => write!(f, "the number of workers is not 1 to 64"),
-            ExecutorError::Limit => write!(f, "the limit on events is 0"),
+            ExecutorError::Limit => write!(f, "the limit on events is not 1 to 4,294,967,295"),
             ExecutorError::Full => write!(f, "the limit on events is reached"),
+            ExecutorError::Worker => write!(f, "the worker is above 255"),
             ExecutorError::Memory => write!(f, "out of memory"),
         }
     }
@@ -61,11 +65,11 @@ pub enum Event {
     /// The clock shows this moment, in nanoseconds.
     Clock(u64),
     /// This worker asks for work.
-    Start(u8),
+    Start(u32),
     /// The run of this worker ended with a value.
-    Finish(u8, u64),
+    Finish(u32, u64),
     /// The run of this worker failed, with a code.
-    Fail(u8, u32),
+    Fail(u32, u32),
     /// This task is to be cancelled.
     Cancel(u32),
 }
@@ -123,8 +127,8 @@ pub struct Executor {
 unsafe impl Send for Executor {}
 
 impl Executor {
-    /// An executor of a plan's text with 1 to 64 workers, which takes `limit` events, at least 1.
-    pub fn new(plan: &[u8], workers: u8, limit: u32) -> Result<Executor, ExecutorError> {
+    /// An executor of a plan's text with 1 to 64 workers, which takes `limit` events, 1 to 4,294,967,295.
+    pub fn new(plan: &[u8], workers: u32, limit: u64) -> Result<Executor, ExecutorError> {
         let mut slot = Slot {
             hidden: std::ptr::null_mut(),
             full: false,
@@ -165,6 +169,17 @@ impl Executor {
         }
     }
 
+    /// The run that the last event started. `None` where it was no start that got a task.
+    pub fn started(&mut self) -> Option<Run> {
+        let mut run = Run::default();
+        // SAFETY: as in `take`.
+        match unsafe { calls::sched_ref_started(&mut self.slot, &mut run) } {
+            calls::DONE => Some(run),
+            calls::NOT_STARTED => None,
+            other => unreachable!("status {other} of a full slot"),
+        }
+    }
+
     /// The lines that answer the last event, without their newlines.
     pub fn lines(&mut self) -> Lines<'_> {
         Lines {
@@ -188,7 +203,7 @@ impl Executor {
         self.state().tasks
     }
 
-    /// Whether the due moment of some task is reached, so that a start may get a task.
+    /// Whether the due moment of some task in the queue is reached: where it is not, a start gets no task.
     pub fn ripe(&mut self) -> bool {
         self.state().ripe == 1
     }

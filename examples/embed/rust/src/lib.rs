@@ -29,4 +29,4 @@ mod delay_queue;
 mod executor;
 
 pub use delay_queue::{DelayQueue, Due, Entry, InsertManyError, QueueError};
-pub use executor::{Event, Executor, ExecutorError, Fault, Lines, Phase, Task};
+pub use executor::{Event, Executor, ExecutorError, Fault, Lines, Phase, Run, Task};

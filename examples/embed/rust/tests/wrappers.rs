@@ -1,7 +1,7 @@
 //! Each answer of the wrappers.
 use sched::{
     DelayQueue, Entry, Event, Executor, ExecutorError, Fault, InsertManyError, Phase, QueueError,
-    Task,
+    Run, Task,
 };
 
 const PLAN: &[u8] =
@@ -64,7 +64,16 @@ fn an_executor_answers_in_lines() {
     let lines: Vec<String> = executor.lines().collect();
     assert_eq!(lines, ["0 submit 0 rate due 5", "5 clock"]);
     assert!(executor.ripe() && executor.tasks() == 1);
+    assert_eq!(executor.started(), None);
+    assert_eq!(executor.take(Event::Start(256)), Err(ExecutorError::Worker));
     assert_eq!(executor.take(Event::Start(0)), Ok(()));
+    let run = Run {
+        run: 0,
+        due: 5,
+        task: 0,
+        worker: 0,
+    };
+    assert_eq!(executor.started(), Some(run));
     let running = Task {
         phase: Phase::Running,
         run: 0,
@@ -88,5 +97,7 @@ fn an_executor_is_refused() {
     };
     assert_eq!(refusal(b"", 0, 0), Some(ExecutorError::Plan(fault)));
     assert_eq!(refusal(PLAN, 65, 0), Some(ExecutorError::Workers));
+    assert_eq!(refusal(PLAN, 257, 0), Some(ExecutorError::Workers));
     assert_eq!(refusal(PLAN, 64, 0), Some(ExecutorError::Limit));
+    assert_eq!(refusal(PLAN, 64, 1 + (1 << 32)), Some(ExecutorError::Limit));
 }

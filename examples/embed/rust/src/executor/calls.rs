@@ -9,6 +9,8 @@ pub const WORKERS: u32 = 5;
 pub const LIMIT: u32 = 6;
 pub const FULL: u32 = 7;
 pub const UNKNOWN_TASK: u32 = 8;
+pub const NO_WORKER: u32 = 10;
+pub const NOT_STARTED: u32 = 11;
 
 /// How many bytes are enough for any line, with its newline.
 pub const LINE_ROOM: usize = 128;
@@ -62,20 +64,34 @@ pub struct Task {
     pub cancelled: u32,
 }
 
+/// A run that was started.
+#[repr(C)]
+#[derive(Clone, Copy, Debug, Default, PartialEq, Eq)]
+pub struct Run {
+    /// The number of the run, from 0.
+    pub run: u64,
+    /// The due moment of the run, in nanoseconds.
+    pub due: u64,
+    /// The task: the submissions of the plan are counted from 0.
+    pub task: u32,
+    /// The worker that runs it.
+    pub worker: u32,
+}
+
 unsafe extern "C" {
     pub fn sched_ref_new(
         slot: *mut Slot,
         plan: *const u8,
         length: usize,
-        workers: u8,
-        limit: u32,
+        workers: u32,
+        limit: u64,
         fault: *mut Fault,
     ) -> u32;
     pub fn sched_ref_free(slot: *mut Slot) -> u32;
     pub fn sched_ref_clock(slot: *mut Slot, moment: u64) -> u32;
-    pub fn sched_ref_start(slot: *mut Slot, worker: u8) -> u32;
-    pub fn sched_ref_finish(slot: *mut Slot, worker: u8, value: u64) -> u32;
-    pub fn sched_ref_fail(slot: *mut Slot, worker: u8, code: u32) -> u32;
+    pub fn sched_ref_start(slot: *mut Slot, worker: u32) -> u32;
+    pub fn sched_ref_finish(slot: *mut Slot, worker: u32, value: u64) -> u32;
+    pub fn sched_ref_fail(slot: *mut Slot, worker: u32, code: u32) -> u32;
     pub fn sched_ref_cancel(slot: *mut Slot, task: u32) -> u32;
     pub fn sched_ref_text(
         slot: *mut Slot,
@@ -86,4 +102,5 @@ unsafe extern "C" {
     ) -> u32;
     pub fn sched_ref_state_of(slot: *mut Slot, state: *mut State) -> u32;
     pub fn sched_ref_task_of(slot: *mut Slot, task: u32, state: *mut Task) -> u32;
+    pub fn sched_ref_started(slot: *mut Slot, run: *mut Run) -> u32;
 }
