@@ -106,8 +106,15 @@ class Executor:
     def start(self, worker):
         """A worker asks for work: the run that it gets, or None where it is idle, or the line is an error."""
         self._tell("start", worker)
+        return self.started()
+
+    def started(self):
+        """The run that the last event started, or None where it was no start that got a task."""
         run = Run()
-        return run if self._call("started", run) == DONE else None
+        status = self._call("started", run)
+        if status not in (DONE, NOT_STARTED):
+            raise ExecutorError(status)
+        return run if status == DONE else None
 
     def finish(self, worker, value):
         """The run of a worker has ended with a value."""

@@ -65,7 +65,7 @@ def executor_answers():
     assert refuses(ExecutorError, Executor, NO_NAME, 0, 0, status=NO_PLAN).fault.kind == 10
     for workers in (0, 65, 257):
         refuses(ExecutorError, Executor, PLAN, workers, 0, status=WORKERS)
-    for limit in (0, 1 << 32):
+    for limit in (0, (1 << 32) + 1):
         refuses(ExecutorError, Executor, PLAN, 64, limit, status=LIMIT)
     executor = Executor(bytearray(PLAN), 1, 2)
     for call, *words in [(executor.clock, -1), (executor.clock, 1 << 64), (executor.start, -1), (executor.start, 1 << 32),
@@ -76,9 +76,11 @@ def executor_answers():
     executor.clock(5)
     assert executor.text() == b"0 submit 0 rate due 5\n5 clock\n" and executor.state().ripe == 1
     refuses(ExecutorError, executor.task, 1, status=NO_TASK)
-    refuses(ExecutorError, executor.start, 256, status=NO_WORKER)
+    for call, *words in [(executor.start, 256), (executor.finish, 257, 1), (executor.fail, 256, 1)]:
+        refuses(ExecutorError, call, *words, status=NO_WORKER)
+    assert executor.started() is None
     run = executor.start(0)
-    assert (run.task, run.run, run.due, run.worker) == (0, 0, 5, 0)
+    assert (run.run, run.due, run.task, run.worker) == (0, 5, 0, 0)
     assert executor.lines() == ["5 start 0 task 0 run 0 due 5"] and executor.task(0).phase == 2
     refuses(ExecutorError, executor.clock, 6, status=FULL)
     executor.close()

@@ -65,7 +65,6 @@ fn an_executor_answers_in_lines() {
     assert_eq!(lines, ["0 submit 0 rate due 5", "5 clock"]);
     assert!(executor.ripe() && executor.tasks() == 1);
     assert_eq!(executor.started(), None);
-    assert_eq!(executor.take(Event::Start(256)), Err(ExecutorError::Worker));
     assert_eq!(executor.take(Event::Start(0)), Ok(()));
     let run = Run {
         run: 0,
@@ -74,6 +73,14 @@ fn an_executor_answers_in_lines() {
         worker: 0,
     };
     assert_eq!(executor.started(), Some(run));
+    let no_worker = [
+        Event::Start(256),
+        Event::Finish(257, 1),
+        Event::Fail(u32::MAX, 1),
+    ];
+    for event in no_worker {
+        assert_eq!(executor.take(event), Err(ExecutorError::Worker));
+    }
     let running = Task {
         phase: Phase::Running,
         run: 0,
@@ -99,5 +106,5 @@ fn an_executor_is_refused() {
     assert_eq!(refusal(PLAN, 65, 0), Some(ExecutorError::Workers));
     assert_eq!(refusal(PLAN, 257, 0), Some(ExecutorError::Workers));
     assert_eq!(refusal(PLAN, 64, 0), Some(ExecutorError::Limit));
-    assert_eq!(refusal(PLAN, 64, 1 + (1 << 32)), Some(ExecutorError::Limit));
+    assert_eq!(refusal(PLAN, 64, (1 << 32) + 1), Some(ExecutorError::Limit));
 }
