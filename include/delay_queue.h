@@ -102,7 +102,7 @@ dq_status dq_ref_poll_many(dq_slot *slot, uint64_t now, dq_entry *out, size_t ro
 void dq_insert_unchecked(dq_slot *slot, uint64_t due, uint32_t task);
 
 /* Puts a new queue, for the tasks from 0 to tasks - 1, into an empty slot. It has no entry.
- * DQ_HAS_QUEUE: the slot is full. DQ_NO_MEMORY: malloc refused; the slot is empty then, and no memory is kept. */
+ * DQ_HAS_QUEUE: the slot is full. DQ_NO_MEMORY: malloc refused; the slot is empty then. That no memory is kept then is tested. */
 static inline dq_status dq_new(dq_slot *slot, uint32_t tasks) {
     return slot == NULL ? (dq_status)DQ_NULL : dq_ref_new(slot, tasks);
 }

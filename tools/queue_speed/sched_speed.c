@@ -55,9 +55,9 @@ static void tell_all(sched_slot *slot, bool with_text, double *took) {
     took[START] = took[FINISH] = 0;
     for (int turn = 0; turn < TASKS / WORKERS; turn++) {
         double t1 = now_ns();
-        for (uint8_t worker = 0; worker < WORKERS; worker++) end_event(slot, sched_start(slot, worker), with_text, 1);
+        for (uint32_t worker = 0; worker < WORKERS; worker++) end_event(slot, sched_start(slot, worker), with_text, 1);
         double t2 = now_ns();
-        for (uint8_t worker = 0; worker < WORKERS; worker++) end_event(slot, sched_finish(slot, worker, 7), with_text, 1);
+        for (uint32_t worker = 0; worker < WORKERS; worker++) end_event(slot, sched_finish(slot, worker, 7), with_text, 1);
         took[START] += t2 - t1;
         took[FINISH] += now_ns() - t2;
     }

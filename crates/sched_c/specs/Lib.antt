@@ -9,4 +9,4 @@ pub mod Faults
 pub mod Numbers
 pub mod Seen
 pub mod Slots
-pub mod Told
+pub mod own

@@ -7,7 +7,7 @@ ghost use Rattle.executor_core.specs.Flows.{part_of};
 ghost use Rattle.executor_core.specs.Histories.{HistoryEntry, IsHistoryOf};
 ghost use Rattle.sched_engine.specs.Cores.{Opens};
 ghost use Rattle.sched_c.specs.Calls.{Refuses};
-ghost use Rattle.sched_c.specs.Told.{IsToldAs};
+ghost use Rattle.sched_c.specs.own.Told.{IsToldAs};
 
 use executor_core::{Core, Event, Line};
 use sched_engine::{RunError, core_of};

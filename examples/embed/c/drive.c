@@ -97,14 +97,21 @@ int main(int count, char **words) {
         return 1;
     }
     size_t length = fread(plan, 1, sizeof plan, file);
-    bool read = !ferror(file);
+    bool good = !ferror(file);
     fclose(file);
+    if (!good) {
+        fprintf(stderr, "drive: %s cannot be read\n", words[1]);
+        return 1;
+    }
     sched_slot slot = SCHED_EMPTY;
-    sched_fault fault = {0, 0, 0};
-    sched_status status = read ? sched_new(&slot, plan, length, (uint32_t)workers, EVENTS, &fault) : SCHED_NO_PLAN;
+    sched_fault fault;
+    sched_status status = sched_new(&slot, plan, length, (uint32_t)workers, EVENTS, &fault);
+    if (status == SCHED_NO_PLAN) {
+        fprintf(stderr, "drive: plan: fault %" PRIu32 " block %" PRIu32 " call %" PRIu32 "\n", fault.kind, fault.block, fault.call);
+        return 1;
+    }
     if (status != SCHED_DONE) {
-        fprintf(stderr, "drive: %s: fault %" PRIu32 " block %" PRIu32 " call %" PRIu32 "\n", sched_status_text(status), fault.kind,
-                fault.block, fault.call);
+        fprintf(stderr, "drive: %s\n", sched_status_text(status));
         return status == SCHED_WORKERS ? 2 : 1;
     }
     int end = run(&slot);

@@ -7,8 +7,8 @@
 
 Moments are nanoseconds from 0 to 2**64 - 1, tasks are numbers below the count that the queue was made for. A number that does
 not fit is a ValueError, and the queue is then as it was. A queue that is not closed is freed with its last name, or at the end
-of the program. Threads may share one: the library is called as PyDLL, which holds the interpreter's lock during a call (it needs
-an interpreter that has one). `LIBRARY` is the shared library, which `examples/embed/python/run` builds.
+of the program. Threads may share one: a call holds the interpreter's lock. `LIBRARY` is the shared library, which
+`examples/embed/python/run` builds.
 """
 
 import ctypes
@@ -18,6 +18,8 @@ import struct
 import weakref
 from itertools import starmap
 from pathlib import Path
+
+from library import MOMENT, NUMBER, SIZE, Library
 
 LIBRARY = os.environ.get("DELAY_QUEUE", str(Path(__file__).resolve().parent / "out" / "libdelay_queue.so"))
 DONE, NO_ENTRY, NO_MEMORY, NO_QUEUE, HAS_QUEUE, UNKNOWN_TASK, HAS_ENTRY = range(7)
@@ -48,33 +50,13 @@ class QueueError(Exception):
         self.place = place
 
 
-class Whole:
-    """An argument that is a whole number of this type: ctypes alone would cut off what does not fit."""
-
-    def __init__(self, kind):
-        self._kind, self._end = kind, 1 << 8 * ctypes.sizeof(kind)
-
-    def from_param(self, number):
-        """The number as the library takes it."""
-        if not 0 <= number < self._end:
-            raise ValueError(f"{number} is not 0 to {self._end - 1}")
-        return self._kind(number)
-
-
 @functools.cache
-def _calls():
-    """The calls of the library, by their names."""
-    library = ctypes.PyDLL(LIBRARY)
-    number, moment, size = Whole(ctypes.c_uint32), Whole(ctypes.c_uint64), Whole(ctypes.c_size_t)
+def _library():
     entry, count, due = ctypes.POINTER(Entry), ctypes.POINTER(ctypes.c_size_t), ctypes.POINTER(ctypes.c_uint64)
-    types = {
-        "new": [number], "free": [], "remove": [number], "contains": [number], "peek": [entry], "due_of": [number, due],
-        "len": [count], "touched": [due], "insert_many": [entry, size, count], "poll_many": [moment, entry, size, count],
-    }
-    calls = {name: getattr(library, "dq_ref_" + name) for name in types}
-    for name, call in calls.items():
-        call.argtypes, call.restype = [ctypes.POINTER(Slot), *types[name]], ctypes.c_uint32
-    return calls
+    return Library(LIBRARY, "dq_ref_", Slot, {
+        "new": [NUMBER], "free": [], "remove": [NUMBER], "contains": [NUMBER], "peek": [entry], "due_of": [NUMBER, due],
+        "len": [count], "touched": [due], "insert_many": [entry, SIZE, count], "poll_many": [MOMENT, entry, SIZE, count],
+    })
 
 
 class DelayQueue:
@@ -83,7 +65,7 @@ class DelayQueue:
     def __init__(self, tasks):
         self._slot = Slot()
         self._tell(self._call("new", tasks))
-        self._free = weakref.finalize(self, _calls()["free"], self._slot)
+        self._free = weakref.finalize(self, _library()["free"], self._slot)
 
     def close(self):
         """Frees the queue. A second call does nothing, and any other is refused."""
@@ -143,10 +125,7 @@ class DelayQueue:
 
     def _call(self, name, *words):
         """What a call on the slot answers."""
-        try:
-            return _calls()[name](self._slot, *words)
-        except ctypes.ArgumentError as unfit:
-            raise ValueError(str(unfit)) from unfit
+        return _library().call(name, self._slot, *words)
 
     def _found(self, name, *words):
         """Whether a call found what it looks for."""

@@ -5,10 +5,9 @@
         executor.lines()   # ["0 submit 0 rate due 10", "10 clock"]
 
 Moments are nanoseconds from 0 to 2**62. A number that does not fit is a ValueError, and the executor is then as it was. One that
-is not closed is freed with its last name, or at the end of the program. The library is called as PyDLL, which holds the
-interpreter's lock during a call (it needs an interpreter that has one), so that no two threads are in it at a time. An event and
-the lines that answer it are several calls: threads that share an executor hold a lock of their own around them. `LIBRARY` is the
-shared library, which `examples/embed/python/run_heartbeat` builds.
+is not closed is freed with its last name, or at the end of the program. A call holds the interpreter's lock, so that no two
+threads are in one at a time. An event and the lines that answer it are several calls: threads that share an executor hold a lock
+of their own around them. `LIBRARY` is the shared library, which `examples/embed/python/run_heartbeat` builds.
 """
 
 import ctypes
@@ -16,6 +15,8 @@ import functools
 import os
 import weakref
 from pathlib import Path
+
+from library import MOMENT, NUMBER, SIZE, Library
 
 LIBRARY = os.environ.get("SCHED", str(Path(__file__).resolve().parent / "out" / "libsched.so"))
 DONE, NO_MEMORY, NO_EXECUTOR, HAS_EXECUTOR, NO_PLAN, WORKERS, LIMIT, FULL, UNKNOWN_TASK, NULL, NO_WORKER, NOT_STARTED = range(12)
@@ -66,35 +67,15 @@ class ExecutorError(Exception):
         self.fault = fault
 
 
-class Whole:
-    """An argument that is a whole number of this type: ctypes alone would cut off what does not fit."""
-
-    def __init__(self, kind):
-        self._kind, self._end = kind, 1 << 8 * ctypes.sizeof(kind)
-
-    def from_param(self, number):
-        """The number as the library takes it."""
-        if not 0 <= number < self._end:
-            raise ValueError(f"{number} is not 0 to {self._end - 1}")
-        return self._kind(number)
-
-
 @functools.cache
-def _calls():
-    """The calls of the library, by their names."""
-    library = ctypes.PyDLL(LIBRARY)
-    number, moment, size = map(Whole, [ctypes.c_uint32, ctypes.c_uint64, ctypes.c_size_t])
+def _library():
     pointer = ctypes.POINTER
-    types = {
-        "new": [ctypes.c_char_p, size, number, moment, pointer(Fault)], "free": [],
-        "clock": [moment], "start": [number], "finish": [number, moment], "fail": [number, number], "cancel": [number],
-        "text": [size, pointer(ctypes.c_char), size, pointer(Copied)],
-        "state_of": [pointer(State)], "task_of": [number, pointer(Task)], "started": [pointer(Run)],
-    }
-    calls = {name: getattr(library, "sched_ref_" + name) for name in types}
-    for name, call in calls.items():
-        call.argtypes, call.restype = [pointer(Slot), *types[name]], ctypes.c_uint32
-    return calls
+    return Library(LIBRARY, "sched_ref_", Slot, {
+        "new": [ctypes.c_char_p, SIZE, NUMBER, MOMENT, pointer(Fault)], "free": [],
+        "clock": [MOMENT], "start": [NUMBER], "finish": [NUMBER, MOMENT], "fail": [NUMBER, NUMBER], "cancel": [NUMBER],
+        "text": [SIZE, pointer(ctypes.c_char), SIZE, pointer(Copied)],
+        "state_of": [pointer(State)], "task_of": [NUMBER, pointer(Task)], "started": [pointer(Run)],
+    })
 
 
 class Executor:
@@ -106,7 +87,7 @@ class Executor:
         status = self._call("new", bytes(plan), len(plan), workers, limit, fault)
         if status != DONE:
             raise ExecutorError(status, fault)
-        self._free = weakref.finalize(self, _calls()["free"], self._slot)
+        self._free = weakref.finalize(self, _library()["free"], self._slot)
 
     def close(self):
         """Frees the executor. A second call does nothing, and any other is refused."""
@@ -175,10 +156,7 @@ class Executor:
 
     def _call(self, name, *words):
         """What a call on the slot answers."""
-        try:
-            return _calls()[name](self._slot, *words)
-        except ctypes.ArgumentError as unfit:
-            raise ValueError(str(unfit)) from unfit
+        return _library().call(name, self._slot, *words)
 
     def _tell(self, name, *words):
         """A call that has to be done."""

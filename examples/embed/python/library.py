@@ -1,0 +1,43 @@
+"""A shared library whose calls take a slot and whole numbers, and answer a status."""
+
+import ctypes
+
+
+class Whole:
+    """An argument that is a whole number of this type: ctypes alone would cut off what does not fit."""
+
+    def __init__(self, kind):
+        self._kind, self._end = kind, 1 << 8 * ctypes.sizeof(kind)
+
+    def from_param(self, number):
+        """The number as the library takes it."""
+        if not 0 <= number < self._end:
+            raise ValueError(f"{number} is not 0 to {self._end - 1}")
+        return self._kind(number)
+
+
+NUMBER, MOMENT, SIZE = Whole(ctypes.c_uint32), Whole(ctypes.c_uint64), Whole(ctypes.c_size_t)
+
+
+class Library:
+    """The calls of a library, by their names without `front`, each with the types of what follows the slot.
+
+    The library is loaded as PyDLL, which holds the interpreter's lock during a call, so that no two threads are in one at a
+    time. It needs an interpreter that has such a lock.
+    """
+
+    def __init__(self, path, front, slot, types):
+        library = ctypes.PyDLL(path)
+        self._calls = {name: getattr(library, front + name) for name in types}
+        for name, call in self._calls.items():
+            call.argtypes, call.restype = [ctypes.POINTER(slot), *types[name]], ctypes.c_uint32
+
+    def __getitem__(self, name):
+        return self._calls[name]
+
+    def call(self, name, *words):
+        """The status that a call answers. Where a number does not fit, none is made."""
+        try:
+            return self._calls[name](*words)
+        except ctypes.ArgumentError as unfit:
+            raise ValueError(str(unfit)) from unfit
