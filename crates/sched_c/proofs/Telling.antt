@@ -1,7 +1,7 @@
 -- A core that was told numbers opens, or is refused, for the numbers themselves.
-use Rattle.std.proofs.Common.{◌≡◌, ℕ, ◌^◌, ◌<◌, ◌≤◌, ◌⊎◌, inl, inr, List, subst, sym, arith}
+use Rattle.std.proofs.Common.{◌≡◌, ℕ, ◌^◌, ◌<◌, inl, inr, List, subst, sym, arith}
 use Rattle.executor_core.specs.CoreView.{CoreView}
-use Rattle.executor_core.specs.Counts.{IsWorkerCount, most_workers}
+use Rattle.executor_core.specs.Counts.{IsWorkerCount}
 use Rattle.sched_engine.specs.Cores.{Opens}
 use Rattle.sched_engine.specs.Running.{RefusesToRun}
 use Rattle.sched_engine.specs.declared.report.RunError.{RunError}
