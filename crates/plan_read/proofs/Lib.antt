@@ -12,12 +12,10 @@ pub mod CallLaw
 pub mod TreeLaw
 pub mod TextLaw
 pub mod NameLaw
-pub mod NameText
 pub mod Found
 pub mod OrderLaw
 pub mod Words
 pub mod RowLaw
-pub mod NameBytes
 pub mod KeyCounts
 pub mod KeyTable
 pub mod Passing

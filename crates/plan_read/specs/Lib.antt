@@ -1,6 +1,6 @@
 pub use Rattle.sched_time.specs.Times
 pub use Rattle.toml.specs.Data
-pub mod Names
+pub use Rattle.task_name.specs.Names
 pub mod Keys
 pub mod Plans
 pub mod Checks

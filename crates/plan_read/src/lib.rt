@@ -119,7 +119,6 @@ mod keys;
 mod laws;
 mod limits;
 mod migrating;
-mod names;
 mod plans;
 mod reading;
 mod rows;
@@ -137,6 +136,6 @@ pub use laws::{
 };
 pub use limits::LONGEST_TEXT;
 pub use migrating::migrate;
-pub use names::Name;
 pub use plans::{Block, Call, Op, Plan, Target};
 pub use reading::read_plan;
+pub use task_name::Name;

@@ -9,13 +9,13 @@ ghost use Rattle.plan_read.specs.own.Subjects.{AreGiven, subject_of};
 
 use crate::faults::{Place, PlanFaultKind, ReadError};
 use crate::key_names::KeyName;
-use crate::names::{Name, is_name};
 use crate::plans::Target;
 use crate::rows::Row;
 use crate::sites::{Site, add, find};
 use crate::verbs::Verb;
 use std::alloc::Allocator;
 use std::collections::BTreeMap;
+use task_name::{Name, is_name};
 
 /// The operation of a call: with the name of its submission where it submits, and with its target where
 /// it cancels.

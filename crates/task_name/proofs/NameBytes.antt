@@ -1,7 +1,7 @@
 -- A table of the bytes of names tells what their definition tells.
 use Rattle.std.proofs.Common.{◌≡◌, ◌<◌, ℕ, zero, suc, Bool, true, false, ◌&&◌, not, List, slice_index_or, refl, sym, inl, inr, arith}
 use Rattle.std.proofs.lemmas.Bool.Decides.{eqb_tells}
-use Rattle.plan_read.specs.Names.{is_name_byte}
+use Rattle.task_name.specs.Names.{is_name_byte}
 
 -- whether two truth values are the same
 abbrev pub same : Bool → Bool → Bool

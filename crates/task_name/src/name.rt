@@ -1,8 +1,8 @@
-//! Names of submissions.
+//! Names of tasks.
 
 ghost use Rattle.std.specs.Prelude.{◌≡◌, true};
 ghost use Rattle.std.specs.List.{list_all};
-ghost use Rattle.plan_read.specs.Names.{is_name_byte, is_name};
+ghost use Rattle.task_name.specs.Names.{is_name_byte, is_name};
 
 use std::marker::Model;
 use std::str;
@@ -32,7 +32,7 @@ const NAME_BYTES: [bool; 256] = [
     NO, NO, NO, NO, NO, NO, NO, NO, NO, NO, NO, NO, NO, NO, NO, NO,
 ];
 
-/// The name of a submission: 1 to 32 ASCII letters, digits, `-` and `_`.
+/// The name of a task: 1 to 32 ASCII letters, digits, `-` and `_`.
 ///
 /// It holds its bytes itself, so it takes no memory.
 #[derive(Debug, Drop)]
@@ -43,7 +43,7 @@ pub struct Name {
 
 impl Model for Name {
     ghost use Rattle.std.specs.Prelude.{◌≡◌, ◌≤◌, ℕ, List, take, true};
-    ghost use Rattle.plan_read.specs.Names.{is_name};
+    ghost use Rattle.task_name.specs.Names.{is_name};
 
     ghost Value = { List ℕ };
 
@@ -65,7 +65,7 @@ impl Name {
     }
 
     /// A name of this text.
-    pub(crate) fn new(text: &str) -> Name
+    pub fn new(text: &str) -> Name
         requires { is_name text.now ≡ true }
         ensures { result ≡ text.now }
     {

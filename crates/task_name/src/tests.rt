@@ -1,0 +1,25 @@
+//! Which texts are names, and what a name tells.
+
+use crate::{Name, is_name};
+
+#[test]
+fn a_name_keeps_its_text(rt: HostRuntime) {
+    for text in ["a", "Z", "back-up_7", "0123456789abcdefghijklmnopqrstuv"] {
+        assert!(rt; is_name(text));
+        assert_eq!(rt; Name::new(text).as_str(), text);
+    }
+}
+
+#[test]
+fn other_texts_are_no_names(rt: HostRuntime) {
+    for text in [
+        "",
+        " ",
+        "a b",
+        "a.b",
+        "\u{e9}",
+        "0123456789abcdefghijklmnopqrstuvw",
+    ] {
+        assert!(rt; !is_name(text));
+    }
+}
