@@ -19,7 +19,7 @@ import weakref
 from itertools import starmap
 from pathlib import Path
 
-from library import MOMENT, NUMBER, SIZE, Library
+from library import MOMENT, NUMBER, SIZE, Closes, Library
 
 LIBRARY = os.environ.get("DELAY_QUEUE", str(Path(__file__).resolve().parent / "out" / "libdelay_queue.so"))
 DONE, NO_ENTRY, NO_MEMORY, NO_QUEUE, HAS_QUEUE, UNKNOWN_TASK, HAS_ENTRY = range(7)
@@ -59,23 +59,13 @@ def _library():
     })
 
 
-class DelayQueue:
+class DelayQueue(Closes):
     """A queue for the tasks from 0 to `tasks - 1`, each with at most one entry."""
 
     def __init__(self, tasks):
         self._slot = Slot()
         self._tell(self._call("new", tasks))
         self._free = weakref.finalize(self, _library()["free"], self._slot)
-
-    def close(self):
-        """Frees the queue. A second call does nothing, and any other is refused."""
-        self._free()
-
-    def __enter__(self):
-        return self
-
-    def __exit__(self, *_):
-        self.close()
 
     def insert(self, entries):
         """Adds pairs of a moment and a task, in turn, up to the first that is refused. Where a number does not fit, none is

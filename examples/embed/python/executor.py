@@ -16,7 +16,7 @@ import os
 import weakref
 from pathlib import Path
 
-from library import MOMENT, NUMBER, SIZE, Library
+from library import MOMENT, NUMBER, SIZE, Closes, Library
 
 LIBRARY = os.environ.get("SCHED", str(Path(__file__).resolve().parent / "out" / "libsched.so"))
 DONE, NO_MEMORY, NO_EXECUTOR, HAS_EXECUTOR, NO_PLAN, WORKERS, LIMIT, FULL, UNKNOWN_TASK, NULL, NO_WORKER, NOT_STARTED = range(12)
@@ -78,7 +78,7 @@ def _library():
     })
 
 
-class Executor:
+class Executor(Closes):
     """An executor of a plan's text, bytes of TOML, with 1 to 64 workers, which takes `limit` events."""
 
     def __init__(self, plan, workers, limit):
@@ -88,16 +88,6 @@ class Executor:
         if status != DONE:
             raise ExecutorError(status, fault)
         self._free = weakref.finalize(self, _library()["free"], self._slot)
-
-    def close(self):
-        """Frees the executor. A second call does nothing, and any other is refused."""
-        self._free()
-
-    def __enter__(self):
-        return self
-
-    def __exit__(self, *_):
-        self.close()
 
     def clock(self, moment):
         """The clock shows a moment."""

@@ -41,3 +41,18 @@ class Library:
             return self._calls[name](*words)
         except ctypes.ArgumentError as unfit:
             raise ValueError(str(unfit)) from unfit
+
+
+class Closes:
+    """What holds memory of a library, and gives it back by its finalizer `_free`: at `close`, at the end of a `with`, or else with
+    its last name or at the end of the program."""
+
+    def close(self):
+        """Frees it. A second call does nothing, and any other is refused."""
+        self._free()
+
+    def __enter__(self):
+        return self
+
+    def __exit__(self, *_):
+        self.close()

@@ -1,40 +1,12 @@
-/* Each answer of each call, and each growth refused in turn. It is linked with --wrap for malloc, realloc and free, so that it
- * counts the blocks that the library has, and refuses the one whose number `refused` says. tools/embed builds and runs it. */
+/* Each answer of each call, and each growth refused in turn. tools/embed builds and runs it. */
 #include "delay_queue.h"
+#include "growths.h"
 #include <inttypes.h>
 #include <stdio.h>
 #include <stdlib.h>
 #include <string.h>
 
-void *__real_malloc(size_t size);
-void *__real_realloc(void *block, size_t size);
-void __real_free(void *block);
-void *__wrap_malloc(size_t size);
-void *__wrap_realloc(void *block, size_t size);
-void __wrap_free(void *block);
-
-static unsigned long growths, refused;
-static long blocks;
 static int faults;
-
-void *__wrap_malloc(size_t size) {
-    if (++growths == refused) return NULL;
-    void *block = __real_malloc(size);
-    blocks += block != NULL;
-    return block;
-}
-
-void *__wrap_realloc(void *block, size_t size) {
-    if (++growths == refused) return NULL;
-    void *moved = __real_realloc(block, size);
-    blocks += block == NULL && moved != NULL;
-    return moved;
-}
-
-void __wrap_free(void *block) {
-    blocks -= block != NULL;
-    __real_free(block);
-}
 
 #define WANT(test) do { if (!(test)) { fprintf(stderr, "line %d: not so: %s\n", __LINE__, #test); faults++; } } while (0)
 
@@ -144,20 +116,22 @@ static void in_order(void) {
 }
 
 /* Makes a queue with each growth refused in turn, until one asks for fewer. Answers how many were refused. */
-static unsigned long with_growths_refused(void) {
-    for (unsigned long number = 1;; number++) {
+static long with_growths_refused(void) {
+    for (long number = 1;; number++) {
         dq_slot slot = DQ_EMPTY;
-        growths = 0;
+        met = false;
         refused = number;
         dq_status status = dq_new(&slot, 64);
         refused = 0;
+        WANT(status == (met ? DQ_NO_MEMORY : DQ_DONE));
         if (status == DQ_DONE) {
-            WANT(growths < number);
+            refused = -1;
             for (uint32_t task = 0; task < 64; task++) WANT(dq_try_insert(&slot, 64 - task, task) == DQ_DONE);
-            WANT(growths < number && dq_free(&slot) == DQ_DONE && blocks == 0);
+            refused = 0;
+            WANT(!met && dq_free(&slot) == DQ_DONE && blocks == 0);
             return number - 1;
         }
-        WANT(status == DQ_NO_MEMORY && slot.hidden == NULL && !slot.full && blocks == 0);
+        WANT(slot.hidden == NULL && !slot.full && blocks == 0);
         WANT(dq_free(&slot) == DQ_NO_QUEUE);
         WANT(dq_new(&slot, 64) == DQ_DONE && dq_free(&slot) == DQ_DONE && blocks == 0);
     }
@@ -171,6 +145,6 @@ int main(void) {
     in_words();
     in_order();
     WANT(blocks == 0);
-    printf("%lu growths refused\n", with_growths_refused());
+    printf("%ld growths refused\n", with_growths_refused());
     return faults != 0;
 }

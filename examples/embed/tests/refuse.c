@@ -1,6 +1,7 @@
 /* Refuses memory: refuse PLAN WORKERS < EVENTS. The first growth of sched_new is refused, then the second, and so on until none
  * is met; each time the answer has to be SCHED_NO_MEMORY, with an empty slot and all memory given back. Then each event is taken
- * while all growths are refused. Linked with -Wl,--wrap=malloc,--wrap=realloc,--wrap=free. */
+ * while all growths are refused. */
+#include "growths.h"
 #include "sched.h"
 
 #include <inttypes.h>
@@ -8,40 +9,6 @@
 #include <stdlib.h>
 
 enum { MOST_PLAN = 1048576, EVENTS = 1000000 };
-
-void *__real_malloc(size_t size);
-void *__real_realloc(void *block, size_t size);
-void __real_free(void *block);
-
-static long refused; /* which growth is refused, counted from now; 0: none, -1: all */
-static long live;    /* how many blocks are in use */
-static bool met;
-
-static bool refuses(void) {
-    bool now = refused == -1 || refused == 1;
-    met = met || now;
-    if (refused > 0) refused -= 1;
-    return now;
-}
-
-void *__wrap_malloc(size_t size) {
-    if (refuses()) return NULL;
-    void *block = __real_malloc(size);
-    live += block != NULL;
-    return block;
-}
-
-void *__wrap_realloc(void *block, size_t size) {
-    if (refuses()) return NULL;
-    void *grown = __real_realloc(block, size);
-    live += block == NULL && grown != NULL;
-    return grown;
-}
-
-void __wrap_free(void *block) {
-    live -= block != NULL;
-    __real_free(block);
-}
 
 static void demand(bool holds, const char *what) {
     if (holds) return;
@@ -80,7 +47,7 @@ int main(int count, char **words) {
         refused = 0;
         demand(status == (met ? SCHED_NO_MEMORY : SCHED_DONE), "a growth was refused, and the status is another one");
         demand(!met || (!slot.full && fault.kind == 0), "there was no memory, and the slot is not empty");
-        demand(!met || live == 0, "there was no memory, and a block was kept");
+        demand(!met || blocks == 0, "there was no memory, and a block was kept");
     }
     char line[128];
     while (fgets(line, sizeof line, stdin)) {
@@ -96,7 +63,7 @@ int main(int count, char **words) {
         refused = 0;
         demand(status == SCHED_DONE && !met, "an event took memory");
     }
-    demand(live > 0 && sched_free(&slot) == SCHED_DONE && live == 0, "a block was kept");
+    demand(blocks > 0 && sched_free(&slot) == SCHED_DONE && blocks == 0, "a block was kept");
     printf("%ld growths refused\n", growths - 1);
     return 0;
 }
