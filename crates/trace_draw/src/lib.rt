@@ -88,8 +88,9 @@ pub use equality::{
 };
 pub use error::{LinesError, PictureError};
 pub use laws::{
-    bars_are_in_lanes, bars_do_not_overlap, bars_start, conforming_texts_are_traces,
-    finishes_are_counted, finishes_are_their_own, lines_are_counted, moments_do_not_fall,
+    bars_are_in_lanes, bars_do_not_overlap, bars_meet_the_window, bars_start,
+    conforming_texts_are_traces, finishes_are_counted, finishes_are_their_own, lines_are_counted,
+    moments_do_not_fall, no_run_has_two_bars, starts_have_bars,
 };
 pub use lines::lines_of;
 pub use scale::place;
