@@ -40,7 +40,7 @@ record Behind (line : Line) (later : List Line) (i : ℕ) (bar : Bar) : Type 0 w
   pub j : ℕ
   pub at : slice_get (bars_of later) j ≡ Some bar
 
-bar_at : (b : Option Bar) (bars : List Bar) (i : ℕ) (bar : Bar) → slice_get (cons_option b bars) i ≡ Some bar → (b ≡ Some bar) ⊎ ((j : ℕ) × (slice_get bars j ≡ Some bar))
+pub bar_at : (b : Option Bar) (bars : List Bar) (i : ℕ) (bar : Bar) → slice_get (cons_option b bars) i ≡ Some bar → (b ≡ Some bar) ⊎ ((j : ℕ) × (slice_get bars j ≡ Some bar))
 bar_at None bars i bar is = inr (i, is)
 bar_at (Some first) bars zero bar is = inl is
 bar_at (Some first) bars (suc i) bar is = inr (i, is)
@@ -236,7 +236,7 @@ finished_first w k n now (line ∷ later) j bar turn is of =
 run_started : (w : ℕ) (q : Option (ℕ × ℕ)) (line : Line) (bar : Bar) → line.message ≡ m.Answer (a.Start bar.worker bar.task bar.run bar.due) → bar.worker ≡ w → run_said w line.message q ≡ Some (bar.task, bar.run)
 run_started w q line bar said of = ap (λ s. run_said w s q) said ∙ ap (λ b. cond b (Some (bar.task, bar.run)) q) (eq-eqb bar.worker w of)
 
-start_said : (line : Line) (later : List Line) (bar : Bar) → bar_in line.moment line.message later ≡ Some bar → line.message ≡ m.Answer (a.Start bar.worker bar.task bar.run bar.due)
+pub start_said : (line : Line) (later : List Line) (bar : Bar) → bar_in line.moment line.message later ≡ Some bar → line.message ≡ m.Answer (a.Start bar.worker bar.task bar.run bar.due)
 start_said line later bar is = ap (λ (l : Line). l.message) (starts line.moment line.message later bar is).0
 
 -- ---- the laws
@@ -270,7 +270,7 @@ pub finishes_are_their_own : FinishesAreTheirOwn
 finishes_are_their_own calls workers lines i bar finish trace is has = finishes_in bar.worker None 0 lines i bar finish (turn_of calls workers lines bar.worker trace) is refl has
 
 -- of two places in a list, both are behind its first element, or the first of them is the first
-two_at : (b : Option Bar) (bars : List Bar) (i j : ℕ) (one other : Bar) → i < j → slice_get (cons_option b bars) i ≡ Some one → slice_get (cons_option b bars) j ≡ Some other →
+pub two_at : (b : Option Bar) (bars : List Bar) (i j : ℕ) (one other : Bar) → i < j → slice_get (cons_option b bars) i ≡ Some one → slice_get (cons_option b bars) j ≡ Some other →
     ((b ≡ Some one) × ((l : ℕ) × (slice_get bars l ≡ Some other))) ⊎ ((k : ℕ) × ((l : ℕ) × (k < l) × (slice_get bars k ≡ Some one) × (slice_get bars l ≡ Some other)))
 two_at None bars i j one other low is at = inr (i, (j, low, is, at))
 two_at (Some first) bars zero zero one other low is at = absurd (omega (arith, low))

@@ -3,6 +3,8 @@ pub mod Spelled
 pub mod Multiples
 pub mod Turns
 pub mod Lanes
+pub mod Within
+pub mod Runs
 pub mod Counts
 pub mod SameWindows
 pub mod WindowLaws

@@ -14,8 +14,10 @@ use Rattle.executor_laws.specs.Positions.{finishes_by}
 use Rattle.trace_check.specs.Findings.{Conforms}
 use Rattle.trace_draw.specs.declared.bars.Bar.{Bar}
 use Rattle.trace_draw.specs.declared.bars.Finish.{Finish}
-use Rattle.trace_draw.specs.Bars.{finish_of, bars_of}
+use Rattle.trace_draw.specs.declared.window.Window.{Window}
+use Rattle.trace_draw.specs.Bars.{finish_of, bars_of, shows_bar}
 use Rattle.trace_draw.specs.Marks.{marks_of}
+use Rattle.trace_draw.specs.Pictures.{picture_of}
 use Rattle.trace_draw.specs.Texts.{AreSpelled}
 
 -- these are the lines of a history that means the calls
@@ -57,7 +59,22 @@ pub record StartsIn (lines : List Line) (bar : Bar) : Type 0 where
 abbrev pub BarsStart : Type 0
 BarsStart = (lines : List Line) (i : ℕ) (bar : Bar) → slice_get (bars_of lines) i ≡ Some bar → StartsIn lines bar
 
--- its worker is one of the workers
+-- each start of a run has its bar in each picture whose window shows a part of the run
+abbrev pub StartsHaveBars : Type 0
+StartsHaveBars = (lines : List Line) (workers : ℕ) (window : Window) (bar : Bar) → StartsIn lines bar → shows_bar window bar ≡ true
+    → (i : ℕ) × (slice_get (picture_of lines workers window).bars i ≡ Some bar)
+
+-- a picture has no other bars
+abbrev pub BarsMeetTheWindow : Type 0
+BarsMeetTheWindow = (lines : List Line) (workers : ℕ) (window : Window) (i : ℕ) (bar : Bar)
+    → slice_get (picture_of lines workers window).bars i ≡ Some bar → StartsIn lines bar × (shows_bar window bar ≡ true)
+
+-- of two bars not both the task and the run are the same
+abbrev pub NoRunHasTwoBars : Type 0
+NoRunHasTwoBars = (calls : List Planned) (workers : ℕ) (lines : List Line) (i j : ℕ) (one other : Bar) → IsTraceOf calls workers lines
+    → i < j → slice_get (bars_of lines) i ≡ Some one → slice_get (bars_of lines) j ≡ Some other → one.task ≡ other.task → one.run ≡ other.run → ⊥
+
+-- the worker of a bar is one of the workers
 abbrev pub BarsAreInLanes : Type 0
 BarsAreInLanes = (calls : List Planned) (workers : ℕ) (lines : List Line) (i : ℕ) (bar : Bar) → IsOrderly calls → IsTraceOf calls workers lines
     → slice_get (bars_of lines) i ≡ Some bar → bar.worker < workers

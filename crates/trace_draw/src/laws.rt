@@ -1,5 +1,5 @@
 //! Laws of the pictures of traces. The functions do nothing: what they ensure is the law.
-ghost use Rattle.trace_draw.specs.Laws.{ConformingTextsAreTraces, MomentsDoNotFall, BarsStart, BarsAreInLanes, FinishesAreTheirOwn, BarsDoNotOverlap, LinesAreCounted, FinishesAreCounted};
+ghost use Rattle.trace_draw.specs.Laws.{ConformingTextsAreTraces, MomentsDoNotFall, BarsStart, StartsHaveBars, BarsMeetTheWindow, NoRunHasTwoBars, BarsAreInLanes, FinishesAreTheirOwn, BarsDoNotOverlap, LinesAreCounted, FinishesAreCounted};
 
 /// The lines that a text spells are those of a history, where it conforms.
 pub fn conforming_texts_are_traces()
@@ -14,6 +14,22 @@ pub fn moments_do_not_fall()
 /// Each bar stands for a line that starts a run, and its finish is the first by its worker behind that line.
 pub fn bars_start()
     ensures { BarsStart }
+{}
+
+/// A picture has a bar for each line that starts a run of which its window shows a part: with the worker, the task, the run, the
+/// due moment, the moment of the start, and the first finish by the worker behind it.
+pub fn starts_have_bars()
+    ensures { StartsHaveBars }
+{}
+
+/// Each bar of a picture stands for a line that starts a run, and the window shows a part of that run.
+pub fn bars_meet_the_window()
+    ensures { BarsMeetTheWindow }
+{}
+
+/// No two bars of a trace are of the same run of the same task.
+pub fn no_run_has_two_bars()
+    ensures { NoRunHasTwoBars }
 {}
 
 /// The worker of a bar of a trace is one of the workers.

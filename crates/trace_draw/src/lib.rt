@@ -21,12 +21,13 @@
 //! A [`Bar`] stands for each line that starts a run: from its moment to the first finish by the same worker behind it, or open,
 //! where there is none. Each other line is a mark, unless it finishes a run: a submission, a refusal, a cancel, the end of a
 //! task, a policy, a shutdown, an `ask`, a clock, a worker that is idle, an error. A picture shows the bars of which its
-//! [`Window`] has a part, also where they reach over an end of it, and the marks within it. Both ends of a window are shown.
+//! [`Window`] has a part, also where they reach over an end of it ([`starts_have_bars`]), and no others
+//! ([`bars_meet_the_window`]); and the marks within it. Both ends of a window are shown.
 //!
 //! The lines may be any. Of those of a trace that conforms more is so: their moments do not fall ([`moments_do_not_fall`]), the
 //! finish of a bar is that of its own task and run ([`finishes_are_their_own`]), bars in one lane do not overlap
-//! ([`bars_do_not_overlap`]), and each worker has as many finishes as bars that have one ([`finishes_are_counted`]). So each of
-//! their lines is shown once: [`lines_are_counted`].
+//! ([`bars_do_not_overlap`]), no run has two bars ([`no_run_has_two_bars`]), and each worker has as many finishes as bars that
+//! have one ([`finishes_are_counted`]). So each of their lines is shown once: [`lines_are_counted`].
 //!
 //! [`Tick`]s stand at each multiple of a step that the window shows: the first step of 1, 2, 5, 10, 20, 50, 100, 200, 500 ns, the
 //! same of us and ms, 1, 2, 5, 10, 15, 30 s and min, 1, 2, 3, 6, 12 h, and 1, 2, 5 d and so on to 50,000 d, of which ten reach over
@@ -88,8 +89,9 @@ pub use equality::{
 };
 pub use error::{LinesError, PictureError};
 pub use laws::{
-    bars_are_in_lanes, bars_do_not_overlap, bars_start, conforming_texts_are_traces,
-    finishes_are_counted, finishes_are_their_own, lines_are_counted, moments_do_not_fall,
+    bars_are_in_lanes, bars_do_not_overlap, bars_meet_the_window, bars_start,
+    conforming_texts_are_traces, finishes_are_counted, finishes_are_their_own, lines_are_counted,
+    moments_do_not_fall, no_run_has_two_bars, starts_have_bars,
 };
 pub use lines::lines_of;
 pub use scale::place;
