@@ -26,6 +26,9 @@ returns-in-Some-subcommand_matches-3-clause-fails c = no_fault _ _ c.in_ok-comma
 pub returns-in-Some-subcommand_matches-4-clause-fails : goal.returns-in-Some-subcommand_matches-4-clause-fails
 returns-in-Some-subcommand_matches-4-clause-fails c = no_fault _ _ c.in_ok-command.ensures.app c.in_ok-matches.ensures.kinds
 
+pub returns-in-Some-subcommand_matches-5-clause-fails : goal.returns-in-Some-subcommand_matches-5-clause-fails
+returns-in-Some-subcommand_matches-5-clause-fails c = no_fault _ _ c.in_ok-command.ensures.app c.in_ok-matches.ensures.kinds
+
 pub returns-clause-fails : goal.returns-clause-fails
 returns-clause-fails c = no_fault _ _ c.in_ok-command.ensures.app c.in_ok-matches.ensures.kinds
 
@@ -63,6 +66,7 @@ returns-clause-asked c =
       λ q. none_found _ c.in_default-subcommand_matches-2.is (c.subcommand_matches-3.ensures.found.1 (sym name ∙ ap Some q)),
       λ q. none_found _ c.in_default-subcommand_matches-3.is (c.subcommand_matches-4.ensures.found.1 (sym name ∙ ap Some q)),
       λ q. none_found _ c.in_default-subcommand_matches-4.is (c.subcommand_matches-5.ensures.found.1 (sym name ∙ ap Some q)),
+      λ q. none_found _ c.in_default-subcommand_matches-5.is (c.subcommand_matches-6.ensures.found.1 (sym name ∙ ap Some q)),
       c.of_matches-in-Some-subcommand.ensures,
     )
 
