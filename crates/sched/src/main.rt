@@ -52,8 +52,8 @@
 //!
 //! # Tests
 //!
-//! `tests/` has a file for the command line, its help, the files, the lines of errors and whole programs, in the world of
-//! `world.rt`. `tools/sizes` runs the built program at the greatest sizes.
+//! `tests/` has a file for the command line, its help, the files, the lines of errors, whole programs and pictures, in the world
+//! of `world.rt`. `tools/sizes` runs the built program at the greatest sizes.
 #![tactic(auto)]
 
 mod arguments;
