@@ -2,3 +2,4 @@ pub mod Getters
 pub mod KnownCommand
 pub mod Orders
 pub mod EndCounts
+pub mod Drawings

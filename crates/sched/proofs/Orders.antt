@@ -24,11 +24,13 @@ use Rattle.sched.specs.declared.error.ProgramError.{ProgramError}
 use Rattle.sched.specs.declared.error.ProgramError.TheVariants.{PlanFile, TraceFile, TraceTooLong, Run}
 use Rattle.sched.specs.declared.arguments.RunArguments.{RunArguments}
 use Rattle.sched.specs.Answers.{ListedAsAsked, MigratedAsAsked, PooledAsAsked, RanAsAsked, TellsEnd, ToldTasksAsAsked}
-use Rattle.sched.specs.Commands.{IsEndOf, NamesCheck}
+use Rattle.sched.specs.Commands.{IsEndOf, NamesTrace}
+use Rattle.sched.specs.Drawings.{IsDrawnAsAsked}
 use Rattle.sched.specs.Errors.{IsToldAs, status_of}
 use Rattle.sched.specs.Findings.{IsCheckedAsAsked}
 use Rattle.trace_check.specs.Standing.{most_bytes}
-use Rattle.sched.specs.Order.{◌barring◌, AnswersCheck, AnswersCode, AnswersMigrate, AnswersPool, AnswersRun, AnswersTasks, AnswersToPlan, NoneTold, PlanFails, code_faults, is_worker_count, migrate_faults, run_faults}
+use Rattle.trace_svg.specs.declared.view.View.{View}
+use Rattle.sched.specs.Order.{◌barring◌, AnswersCheck, AnswersCode, AnswersDraw, AnswersMigrate, AnswersPool, AnswersRun, AnswersTasks, AnswersToBoth, AnswersToPlan, NoneTold, PlanFails, code_faults, is_worker_count, migrate_faults, run_faults}
 
 -- what stays is kept
 pub kept : (contents : Option (List ℕ)) → Keeps contents contents
@@ -102,13 +104,13 @@ not_too_long n short = grind (arith, nat_tests)
 too_long : (n : ℕ) → most_bytes < n → nat_le n most_bytes ≡ false
 too_long n long = grind (arith, nat_tests)
 
--- ---- a check
+-- ---- a command that reads a plan's file and a trace's
 
 -- the plan has a fault
-pub check_wrong_plan : (text : List ℕ) (fault : PlanFault) (told : ProgramError) (IsPlan IsTrace : Option (List ℕ) → Type 0) (workers : ℕ) (contents : Option (List ℕ))
+pub both_wrong_plan : (text : List ℕ) (fault : PlanFault) (told : ProgramError) (IsPlan IsTrace : Option (List ℕ) → Type 0) (workers : ℕ) (contents : Option (List ℕ)) (Done : PlanTree → List ℕ → Type 0)
     → TextFails text fault ⊎ (fault ≡ out_of_memory) → IsToldAs (x.Plan fault) told → IsPlan (Some text)
-    → AnswersCheck (Err told) IsPlan IsTrace workers contents contents
-check_wrong_plan text fault told IsPlan IsTrace workers contents why is read = elim (told_plan text fault told why is) [
+    → AnswersToBoth (Err told) IsPlan IsTrace workers contents contents Done
+both_wrong_plan text fault told IsPlan IsTrace workers contents Done why is read = elim (told_plan text fault told why is) [
   | inl memory ↦ inl (ap Err memory, kept contents)
   | inr first ↦ inr (record {
     plan = Some text;
@@ -120,12 +122,12 @@ check_wrong_plan text fault told IsPlan IsTrace workers contents why is read = e
 ]
 
 -- the trace's file was not read, or is too long
-pub check_no_trace : (text : List ℕ) (plan : PlanTree) (fault : ProgramError) (IsPlan IsFront IsTrace : Option (List ℕ) → Type 0) (workers : ℕ) (contents : Option (List ℕ))
+pub both_no_trace : (text : List ℕ) (plan : PlanTree) (fault : ProgramError) (IsPlan IsFront IsTrace : Option (List ℕ) → Type 0) (workers : ℕ) (contents : Option (List ℕ)) (Done : PlanTree → List ℕ → Type 0)
     → TextWrites text plan → IsPlan (Some text) → ((trace : Option (List ℕ)) → IsFront trace → IsTrace trace)
     → (fault ≡ TraceTooLong) ⊎ (fault ≡ Run x.Memory) ⊎ ((fault ≡ TraceFile) × IsFront None)
     → (fault ≡ TraceTooLong → (trace : List ℕ) × IsFront (Some trace) × (most_bytes < length trace))
-    → AnswersCheck (Err fault) IsPlan IsTrace workers contents contents
-check_no_trace text plan fault IsPlan IsFront IsTrace workers contents writes read gives (inl long) is_long =
+    → AnswersToBoth (Err fault) IsPlan IsTrace workers contents contents Done
+both_no_trace text plan fault IsPlan IsFront IsTrace workers contents Done writes read gives (inl long) is_long =
     let found = is_long long in
     let none = no_plan_fault text plan writes in
     inr (record {
@@ -135,8 +137,8 @@ check_no_trace text plan fault IsPlan IsFront IsTrace workers contents writes re
       trace_read = λ q. gives (Some found.0) found.1;
       told = inl (fault, inr (plan_there text, inr (none, inr (silent TraceFile true refl, inl (too_long (length found.0) found.2, long)))), refl, kept contents);
     })
-check_no_trace text plan fault IsPlan IsFront IsTrace workers contents writes read gives (inr (inl memory)) is_long = inl (ap Err memory, kept contents)
-check_no_trace text plan fault IsPlan IsFront IsTrace workers contents writes read gives (inr (inr file)) is_long =
+both_no_trace text plan fault IsPlan IsFront IsTrace workers contents Done writes read gives (inr (inl memory)) is_long = inl (ap Err memory, kept contents)
+both_no_trace text plan fault IsPlan IsFront IsTrace workers contents Done writes read gives (inr (inr file)) is_long =
     inr (record {
       plan = Some text;
       trace = None;
@@ -145,22 +147,13 @@ check_no_trace text plan fault IsPlan IsFront IsTrace workers contents writes re
       told = inl (fault, inr (plan_there text, inr (no_plan_fault text plan writes, inl (refl, file.0))), refl, kept contents);
     })
 
--- where the number of workers is out of range that is told
-told_workers : (answer : Result ℕ ProgramError) (plan : PlanTree) (workers : ℕ) (trace : List ℕ) (old new : Option (List ℕ)) → is_worker_count workers ≡ false
-    → (¬ IsWorkerCount workers → answer ≡ Err (Run x.Workers)) → IsCheckedAsAsked answer plan workers trace old new
-    → (answer ≡ Err (Run x.Workers)) × Keeps old new
-told_workers answer plan workers trace old new few wrong checked =
-    let is = wrong (λ w. let e = counted workers w in cc) in
-    let c = rw is at checked in
-    (is, c.1)
-
--- both files were read
-pub check_both : (text : List ℕ) (plan : PlanTree) (trace : List ℕ) (answer : Result ℕ ProgramError) (IsPlan IsTrace : Option (List ℕ) → Type 0) (workers : ℕ) (old new : Option (List ℕ))
+-- both files were read. Where the number of workers is out of range that is told
+both_read : (text : List ℕ) (plan : PlanTree) (trace : List ℕ) (answer : Result ℕ ProgramError) (IsPlan IsTrace : Option (List ℕ) → Type 0) (workers : ℕ) (old new : Option (List ℕ)) (Done : PlanTree → List ℕ → Type 0)
     → TextWrites text plan → IsPlan (Some text) → IsTrace (Some trace) → length trace ≤ most_bytes
-    → (¬ IsWorkerCount workers → answer ≡ Err (Run x.Workers))
-    → IsCheckedAsAsked answer plan workers trace old new
-    → AnswersCheck answer IsPlan IsTrace workers old new
-check_both text plan trace answer IsPlan IsTrace workers old new writes read trace_read short wrong checked =
+    → (¬ IsWorkerCount workers → (answer ≡ Err (Run x.Workers)) × Keeps old new)
+    → Done plan trace
+    → AnswersToBoth answer IsPlan IsTrace workers old new Done
+both_read text plan trace answer IsPlan IsTrace workers old new Done writes read trace_read short wrong done =
     let none = no_plan_fault text plan writes in
     let fits = silent TraceTooLong (nat_le (length trace) most_bytes) (not_too_long (length trace) short) in
     inr (record {
@@ -169,12 +162,34 @@ check_both text plan trace answer IsPlan IsTrace workers old new writes read tra
       plan_read = read;
       trace_read = λ q. trace_read;
       told = elim (cases_Bool (is_worker_count workers)) [
-        | inl all ↦ inr ((plan_there text, (none, (silent TraceFile true refl, (fits, (silent (Run x.Workers) (is_worker_count workers) all, tt))))), (plan, writes, checked))
+        | inl all ↦ inr ((plan_there text, (none, (silent TraceFile true refl, (fits, (silent (Run x.Workers) (is_worker_count workers) all, tt))))), (plan, writes, done))
         | inr few ↦ (
-            let told = told_workers answer plan workers trace old new few wrong checked in
+            let told = wrong (λ w. let e = counted workers w in cc) in
             inl (Run x.Workers, inr (plan_there text, inr (none, inr (silent TraceFile true refl, inr (fits, inl (few, refl))))), told.0, told.1))
       ];
     })
+
+-- a check of both
+pub check_both : (text : List ℕ) (plan : PlanTree) (trace : List ℕ) (answer : Result ℕ ProgramError) (IsPlan IsTrace : Option (List ℕ) → Type 0) (workers : ℕ) (old new : Option (List ℕ))
+    → TextWrites text plan → IsPlan (Some text) → IsTrace (Some trace) → length trace ≤ most_bytes
+    → (¬ IsWorkerCount workers → answer ≡ Err (Run x.Workers))
+    → IsCheckedAsAsked answer plan workers trace old new
+    → AnswersCheck answer IsPlan IsTrace workers old new
+check_both text plan trace answer IsPlan IsTrace workers old new writes read trace_read short wrong checked =
+    both_read text plan trace answer IsPlan IsTrace workers old new (λ p t. IsCheckedAsAsked answer p workers t old new) writes read trace_read short
+    (λ few. let is = wrong few in let told = rw is at checked in (is, told.1))
+    checked
+
+-- a drawing of both
+pub draw_both : (text : List ℕ) (plan : PlanTree) (trace : List ℕ) (answer : Result ℕ ProgramError) (IsPlan IsTrace : Option (List ℕ) → Type 0) (workers : ℕ) (view : View) (old new : Option (List ℕ))
+    → TextWrites text plan → IsPlan (Some text) → IsTrace (Some trace) → length trace ≤ most_bytes
+    → (¬ IsWorkerCount workers → answer ≡ Err (Run x.Workers))
+    → IsDrawnAsAsked answer plan workers trace view old new
+    → AnswersDraw answer IsPlan IsTrace workers view old new
+draw_both text plan trace answer IsPlan IsTrace workers view old new writes read trace_read short wrong drawn =
+    both_read text plan trace answer IsPlan IsTrace workers old new (λ p t. IsDrawnAsAsked answer p workers t view old new) writes read trace_read short
+    (λ few. let is = wrong few in let told = rw is at drawn in (is, told.1))
+    drawn
 
 -- ---- a listing
 
@@ -343,14 +358,14 @@ pool_read text answer IsPlan asked input left old new read all = go all.ended al
     go (Err x.Write) ran told = over ran.0 ran.1
     go (Err x.Lost) ran told = over ran.0 ran.1
 
--- ---- the end of a check
+-- ---- the end of a check or of a drawing
 
 one_or_none : (s : ℕ) → s ≤ 1 → (s ≡ 0) ⊎ (s ≡ 1)
 one_or_none zero h = inl refl
 one_or_none (suc zero) h = inr refl
 one_or_none (suc (suc s)) h = absurd (omega arith)
 
--- a check ends as a command may end
-pub end_of_check : (arguments : List (List ℕ)) (result : Result ℕ ProgramError) → MatchResult result (λ s. s ≤ 1) (λ e. status_of e ≡ 1) → NamesCheck arguments → IsEndOf arguments result
-end_of_check arguments (Ok s) h names = elim (one_or_none s h) [ inl none ↦ inl none | inr one ↦ inr (one, names) ]
-end_of_check arguments (Err e) h names = h
+-- a command that reads a trace ends as a command may end
+pub end_with_trace : (arguments : List (List ℕ)) (result : Result ℕ ProgramError) → MatchResult result (λ s. s ≤ 1) (λ e. status_of e ≡ 1) → NamesTrace arguments → IsEndOf arguments result
+end_with_trace arguments (Ok s) h names = elim (one_or_none s h) [ inl none ↦ inl none | inr one ↦ inr (one, names) ]
+end_with_trace arguments (Err e) h names = h

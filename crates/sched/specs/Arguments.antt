@@ -3,12 +3,14 @@
 use Rattle.std.specs.Prelude.{◌≡◌, ◌≢◌, ℕ, ◌^◌, ◌<◌, List, [], Option, Some, None, unwrap_or, codes}
 use Rattle.std.specs.Str.Parse.{IsNumeral, digits_value, without_leading_plus}
 use Rattle.clap.specs.Words.{Row, Text, first_of, one_of, subcommand_of}
+use Rattle.trace_svg.specs.declared.view.View.{View}
 use Rattle.sched.specs.Commands.{sched_app}
 use Rattle.sched.specs.declared.arguments.RunArguments.{RunArguments}
 use Rattle.sched.specs.declared.arguments.PlanArguments.{PlanArguments}
 use Rattle.sched.specs.declared.arguments.CheckArguments.{CheckArguments}
+use Rattle.sched.specs.declared.arguments.DrawArguments.{DrawArguments}
 use Rattle.sched.specs.declared.arguments.Asked.{Asked}
-use Rattle.sched.specs.declared.arguments.Asked.TheVariants.{Run, Pool, Code, Tasks, Check, Migrate}
+use Rattle.sched.specs.declared.arguments.Asked.TheVariants.{Run, Pool, Code, Tasks, Check, Migrate, Draw}
 
 -- a text writes, in decimal digits, a number that fits `bits` bits
 abbrev pub WritesNumber : ℕ → Text → Type 0
@@ -20,6 +22,12 @@ IsNumberOf bits None n = n ≡ 0
 IsNumberOf bits (Some text) n =
     (WritesNumber bits text → n ≡ digits_value 10 (without_leading_plus text)) × (¬ (WritesNumber bits text) → n ≡ 0)
 
+-- the number that the text of an argument writes; none where it has none, or none that fits `bits` bits
+abbrev pub IsMaybeNumberOf : ℕ → Option Text → Option ℕ → Type 0
+IsMaybeNumberOf bits None n = n ≡ None
+IsMaybeNumberOf bits (Some text) n =
+    (WritesNumber bits text → n ≡ Some (digits_value 10 (without_leading_plus text))) × (¬ (WritesNumber bits text) → n ≡ None)
+
 -- the name and the two numbers are the values of the arguments of `run` or `pool`
 pub record AsksForRun (rows : List Row) (asked : RunArguments) : Type 0 where
   pub plan : asked.path.now ≡ unwrap_or (first_of (codes "plan") rows) []
@@ -30,21 +38,34 @@ pub record AsksForRun (rows : List Row) (asked : RunArguments) : Type 0 where
 abbrev pub AsksForPlan : List Row → PlanArguments → Type 0
 AsksForPlan rows asked = asked.path.now ≡ unwrap_or (first_of (codes "plan") rows) []
 
--- the two names and the number are the values of `check`'s arguments
+-- the two names and the number are the values of the arguments of `check`, or of `draw`
 pub record AsksForCheck (rows : List Row) (asked : CheckArguments) : Type 0 where
   pub plan : asked.path.now ≡ unwrap_or (first_of (codes "plan") rows) []
   pub trace : asked.trace.now ≡ unwrap_or (first_of (codes "trace") rows) []
   pub workers : IsNumberOf 8 (one_of (codes "workers") rows) asked.workers
 
+-- the three numbers are the values of `draw`'s options
+pub record AsksForView (rows : List Row) (view : View) : Type 0 where
+  pub from : IsMaybeNumberOf 64 (one_of (codes "from") rows) view.from
+  pub to : IsMaybeNumberOf 64 (one_of (codes "to") rows) view.to
+  pub marks : IsNumberOf 64 (one_of (codes "marks") rows) view.marks
+
+-- the names and the numbers are the values of `draw`'s arguments
+pub record AsksForDraw (rows : List Row) (asked : DrawArguments) : Type 0 where
+  pub check : AsksForCheck rows asked.check
+  pub view : AsksForView rows asked.view
+
 -- what is asked for, by the command that is named, with what a command line holds for its arguments: a listing by `code`, the tasks
--- by `tasks`, a check by `check`, a migration by `migrate`, a run by a pool by `pool`, and a run by any other one, which is `run`
+-- by `tasks`, a check by `check`, a migration by `migrate`, a picture by `draw`, a run by a pool by `pool`, and a run by any other
+-- one, which is `run`
 abbrev pub AsksIn : Option (Text × List Row) → Asked → Type 0
 AsksIn named (Code c) = (rows : List Row) × (named ≡ Some (codes "code", rows)) × AsksForPlan rows c
 AsksIn named (Tasks t) = (rows : List Row) × (named ≡ Some (codes "tasks", rows)) × AsksForPlan rows t
 AsksIn named (Check c) = (rows : List Row) × (named ≡ Some (codes "check", rows)) × AsksForCheck rows c
 AsksIn named (Migrate m) = (rows : List Row) × (named ≡ Some (codes "migrate", rows)) × AsksForPlan rows m
+AsksIn named (Draw d) = (rows : List Row) × (named ≡ Some (codes "draw", rows)) × AsksForDraw rows d
 AsksIn named (Pool p) = (rows : List Row) × (named ≡ Some (codes "pool", rows)) × AsksForRun rows p
-AsksIn named (Run r) = (name : Text) × (rows : List Row) × (named ≡ Some (name, rows)) × (name ≢ codes "code") × (name ≢ codes "tasks") × (name ≢ codes "check") × (name ≢ codes "pool") × (name ≢ codes "migrate") × AsksForRun rows r
+AsksIn named (Run r) = (name : Text) × (rows : List Row) × (named ≡ Some (name, rows)) × (name ≢ codes "code") × (name ≢ codes "tasks") × (name ≢ codes "check") × (name ≢ codes "pool") × (name ≢ codes "migrate") × (name ≢ codes "draw") × AsksForRun rows r
 
 -- what the arguments of a command line ask for
 abbrev pub Asks : List Text → Asked → Type 0

@@ -1,11 +1,12 @@
 -- Commands: the command lines that the program takes: `sched run PLAN --workers N [--limit N]`, `sched pool` with the same
--- arguments, `sched code PLAN`, `sched tasks PLAN`, `sched check PLAN TRACE --workers N` and `sched migrate PLAN`.
+-- arguments, `sched code PLAN`, `sched tasks PLAN`, `sched check PLAN TRACE --workers N`, `sched migrate PLAN` and
+-- `sched draw PLAN TRACE --workers N [--from T] [--to T] [--marks M]`.
 -- All of it is this project's rule, in the words that clap has for arguments and commands. The texts of help are no part of it.
 use Rattle.std.specs.Prelude.{◌≡◌, ◌≢◌, ◌⊎◌, ℕ, List, [], ◌∷◌, Some, Ok, Err, Result, MatchResult, true, false, pos, codes}
-use Rattle.clap.specs.Words.{App, Row, Rule, IsAmong, fault_of, new_rule, subcommand_of}
+use Rattle.clap.specs.Words.{App, Row, Rule, Text, IsAmong, fault_of, new_rule, subcommand_of}
 use Rattle.clap.specs.Simple.{new_shape}
 use Rattle.clap.specs.declared.builder.action.ArgAction.TheVariants.{Set}
-use Rattle.clap.specs.declared.builder.value_parser.ValueParser.TheVariants.{Signed}
+use Rattle.clap.specs.declared.builder.value_parser.ValueParser.TheVariants.{Signed, Unsigned}
 use Rattle.clap.specs.declared.error.kind.ErrorKind.{ErrorKind}
 use Rattle.clap.specs.declared.error.kind.ErrorKind.TheVariants as k
 use Rattle.sched.specs.declared.error.ProgramError.{ProgramError}
@@ -40,6 +41,33 @@ limit_rule = record (new_rule (codes "limit")) {
   action = Some Set;
   defaults = codes "1000000" ∷ [];
   parser = Some (Signed (pos 1) (pos 4294967295));
+}
+
+-- a moment: a text of a number of 64 bits, which may be left out
+abbrev pub moment_rule : Text → Rule
+moment_rule name = record (new_rule name) {
+  long = Some name;
+  value_names = 1;
+  action = Some Set;
+  parser = Some (Unsigned 0 18446744073709551615);
+}
+
+-- --from T
+abbrev pub from_rule : Rule
+from_rule = moment_rule (codes "from")
+
+-- --to T
+abbrev pub to_rule : Rule
+to_rule = moment_rule (codes "to")
+
+-- --marks M: a number of 64 bits, and 2000 where it is left out
+abbrev pub marks_rule : Rule
+marks_rule = record (new_rule (codes "marks")) {
+  long = Some (codes "marks");
+  value_names = 1;
+  action = Some Set;
+  defaults = codes "2000" ∷ [];
+  parser = Some (Unsigned 0 18446744073709551615);
 }
 
 -- `run` with its three arguments
@@ -84,11 +112,18 @@ migrate_app = record {
   subs = [];
 }
 
+-- `draw` with its six arguments
+abbrev pub draw_app : App
+draw_app = record {
+  top = record (new_shape (codes "draw")) { rules = plan_rule ∷ trace_rule ∷ workers_rule ∷ from_rule ∷ to_rule ∷ marks_rule ∷ [] };
+  subs = [];
+}
+
 -- the program, of which a command has to be named, beside clap's own `help`
 abbrev pub sched_app : App
 sched_app = record {
   top = record (new_shape (codes "sched")) { is_leaf = false; subcommand_required = true };
-  subs = run_app.top ∷ pool_app.top ∷ code_app.top ∷ tasks_app.top ∷ check_app.top ∷ migrate_app.top ∷ [];
+  subs = run_app.top ∷ pool_app.top ∷ code_app.top ∷ tasks_app.top ∷ check_app.top ∷ migrate_app.top ∷ draw_app.top ∷ [];
 }
 
 -- ---- what the program answers to the arguments of a command line
@@ -108,13 +143,17 @@ abbrev pub IsRefusal : List (List ℕ) → Result ℕ ProgramError → Type 0
 IsRefusal arguments result = fault_of sched_app arguments ≢ []
     → (kind : ErrorKind) × ((kind ≡ k.OutOfMemory) ⊎ IsAmong kind (fault_of sched_app arguments)) × IsShown kind result
 
--- the arguments name the command `check`
-abbrev pub NamesCheck : List (List ℕ) → Type 0
-NamesCheck arguments = (rows : List Row) × (subcommand_of sched_app arguments ≡ Some (codes "check", rows))
+-- the arguments name this command
+abbrev pub NamesCommand : Text → List (List ℕ) → Type 0
+NamesCommand name arguments = (rows : List Row) × (subcommand_of sched_app arguments ≡ Some (name, rows))
 
--- what was asked for ends with 0, with 1 where a check found that a trace breaks, or with an error whose exit status is 1
+-- they name one that reads a trace
+abbrev pub NamesTrace : List (List ℕ) → Type 0
+NamesTrace arguments = NamesCommand (codes "check") arguments ⊎ NamesCommand (codes "draw") arguments
+
+-- what was asked for ends with 0, with 1 where a check or a drawing found that a trace breaks, or with an error whose exit status is 1
 abbrev pub IsEndOf : List (List ℕ) → Result ℕ ProgramError → Type 0
-IsEndOf arguments result = MatchResult result (λ s. (s ≡ 0) ⊎ ((s ≡ 1) × NamesCheck arguments)) (λ e. status_of e ≡ 1)
+IsEndOf arguments result = MatchResult result (λ s. (s ≡ 0) ⊎ ((s ≡ 1) × NamesTrace arguments)) (λ e. status_of e ≡ 1)
 
 -- arguments that it takes end so
 abbrev pub IsTaken : List (List ℕ) → Result ℕ ProgramError → Type 0

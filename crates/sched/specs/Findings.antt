@@ -23,6 +23,14 @@ abbrev pub finding_status : Finding → ℕ
 finding_status Conforms = 0
 finding_status (Breaks line) = 1
 
+-- how a finding is told: it is written, and told by the status. Where the writer is at fault a front of it was written, and nothing
+-- where memory ran out
+abbrev pub IsFindingTold : Result ℕ ProgramError → Finding → Option (List ℕ) → Option (List ℕ) → Type 0
+IsFindingTold (Ok status) finding old new = (status ≡ finding_status finding) × Appends old new (finding_text finding)
+IsFindingTold (Err (Run x.Write)) finding old new = (n : ℕ) × Appends old new (take n (finding_text finding))
+IsFindingTold (Err (Run x.Memory)) finding old new = Keeps old new
+IsFindingTold (Err fault) finding old new = ⊥
+
 -- how a check of a trace against a plan is told: what is found is written, and told by the status. Where the writer is at fault a front
 -- of it was written, and nothing where the number of workers is out of range or memory ran out
 abbrev pub IsCheckedAsAsked : Result ℕ ProgramError → PlanTree → ℕ → List ℕ → Option (List ℕ) → Option (List ℕ) → Type 0

@@ -8,5 +8,6 @@ pub mod Arguments
 pub mod Fronts
 pub mod Answers
 pub mod Findings
+pub mod Drawings
 pub mod Order
 pub mod Serving

@@ -47,6 +47,8 @@ reason_text f.Arguments = codes "command line not UTF-8"
 reason_text f.PlanFile = codes "plan file not read"
 reason_text f.TraceFile = codes "trace file not read"
 reason_text f.TraceTooLong = codes "trace file too long"
+reason_text f.EndsFirst = codes "the picture ends before it begins"
+reason_text (f.Crowded marks) = decimal marks ++ codes " marks or bars are too many: --from and --to narrow the picture"
 reason_text (f.Run error) = run_error_text error
 
 -- the line that tells it, with its newline

@@ -13,8 +13,10 @@ use Rattle.sched.specs.declared.arguments.RunArguments.{RunArguments}
 use Rattle.sched.specs.declared.error.ProgramError.{ProgramError}
 use Rattle.sched.specs.declared.error.ProgramError.TheVariants.{PlanFile, TraceFile, TraceTooLong, Run}
 use Rattle.sched.specs.Answers.{ListedAsAsked, MigratedAsAsked, PooledAsAsked, RanAsAsked, ToldTasksAsAsked}
+use Rattle.sched.specs.Drawings.{IsDrawnAsAsked}
 use Rattle.sched.specs.Findings.{IsCheckedAsAsked}
 use Rattle.trace_check.specs.Standing.{most_bytes}
+use Rattle.trace_svg.specs.declared.view.View.{View}
 
 -- ---- the steps of a command, each as the faults that it may tell. What was read of a file is its bytes, or nothing where it can't be
 -- read
@@ -67,7 +69,7 @@ run_faults plan workers limit =
     ∷ (Run x.Limit barring nat_lt 0 limit)
     ∷ []
 
--- the faults of `sched check`, before a line of the trace is looked at
+-- the faults of `sched check` and of `sched draw`, before a line of the trace is looked at
 abbrev pub check_faults : Option (List ℕ) → Option (List ℕ) → ℕ → List Step
 check_faults plan trace workers =
     (PlanFile barring is_some plan)
@@ -135,21 +137,27 @@ abbrev pub AnswersPool : Result ℕ ProgramError → (Option (List ℕ) → Type
 AnswersPool answer IsPlan asked input left old new =
     AnswersToPlan answer IsPlan asked (IsUntouched input left old new) (λ text. PooledAsAsked answer asked text input left old new)
 
--- the trace was checked against the plan that the text writes
-abbrev pub ChecksBoth : Result ℕ ProgramError → List ℕ → ℕ → List ℕ → Option (List ℕ) → Option (List ℕ) → Type 0
-ChecksBoth answer text workers trace old new = (plan : PlanTree) × TextWrites text plan × IsCheckedAsAsked answer plan workers trace old new
-
 -- what was read of the plan's file and of the trace's, which is read only where the plan has no fault, and the first fault, or
--- what is found
-pub record ChecksFiles (answer : Result ℕ ProgramError) (IsPlan IsTrace : Option (List ℕ) → Type 0) (workers : ℕ) (old new : Option (List ℕ)) : Type 0 where
+-- what was done with the plan that its text writes and with the trace's text
+pub record ReadsBoth (answer : Result ℕ ProgramError) (IsPlan IsTrace : Option (List ℕ) → Type 0) (workers : ℕ) (old new : Option (List ℕ)) (Done : PlanTree → List ℕ → Type 0) : Type 0 where
   pub plan : Option (List ℕ)
   pub trace : Option (List ℕ)
   pub plan_read : IsPlan plan
   pub trace_read : NoneTold (code_faults plan) → IsTrace trace
-  pub told : ToldOr (check_faults plan trace workers) answer (Keeps old new) (ChecksBoth answer (bytes_of plan) workers (bytes_of trace) old new)
+  pub told : ToldOr (check_faults plan trace workers) answer (Keeps old new) ((tree : PlanTree) × TextWrites (bytes_of plan) tree × Done tree (bytes_of trace))
 
--- what `sched check` answers to what was read of its two files. Want of memory may come in place of each answer, with nothing
--- written
+-- what a command answers to what was read of a plan's file and of a trace's. Want of memory may come in place of each answer, with
+-- nothing written
+abbrev pub AnswersToBoth : Result ℕ ProgramError → (Option (List ℕ) → Type 0) → (Option (List ℕ) → Type 0) → ℕ → Option (List ℕ) → Option (List ℕ) → (PlanTree → List ℕ → Type 0) → Type 0
+AnswersToBoth answer IsPlan IsTrace workers old new Done =
+    ((answer ≡ Err (Run x.Memory)) × Keeps old new) ⊎ ReadsBoth answer IsPlan IsTrace workers old new Done
+
+-- what `sched check` answers to what was read of its two files
 abbrev pub AnswersCheck : Result ℕ ProgramError → (Option (List ℕ) → Type 0) → (Option (List ℕ) → Type 0) → ℕ → Option (List ℕ) → Option (List ℕ) → Type 0
 AnswersCheck answer IsPlan IsTrace workers old new =
-    ((answer ≡ Err (Run x.Memory)) × Keeps old new) ⊎ ChecksFiles answer IsPlan IsTrace workers old new
+    AnswersToBoth answer IsPlan IsTrace workers old new (λ plan trace. IsCheckedAsAsked answer plan workers trace old new)
+
+-- what `sched draw` answers to what was read of its two files
+abbrev pub AnswersDraw : Result ℕ ProgramError → (Option (List ℕ) → Type 0) → (Option (List ℕ) → Type 0) → ℕ → View → Option (List ℕ) → Option (List ℕ) → Type 0
+AnswersDraw answer IsPlan IsTrace workers view old new =
+    AnswersToBoth answer IsPlan IsTrace workers old new (λ plan trace. IsDrawnAsAsked answer plan workers trace view old new)

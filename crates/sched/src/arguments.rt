@@ -3,11 +3,12 @@
 ghost use Rattle.std.specs.Prelude.{◌≡◌, map, string_bytes, IfOk};
 ghost use Rattle.clap.specs.Words.{FailsBy, fault_of, found_of, rows_of};
 ghost use Rattle.sched.specs.Commands.{sched_app};
-ghost use Rattle.sched.specs.Arguments.{Asks, AsksForCheck, AsksForPlan, AsksForRun};
+ghost use Rattle.sched.specs.Arguments.{Asks, AsksForCheck, AsksForDraw, AsksForPlan, AsksForRun, AsksForView};
 
 use crate::command::command;
 use clap::{ArgMatches, Error};
 use std::alloc::Global;
+use trace_svg::View;
 
 /// What a command line asks for.
 #[derive(Clone, Copy, Debug)]
@@ -24,6 +25,8 @@ pub enum Asked<'a> {
     Check(CheckArguments<'a>),
     /// The migration of a plan's text.
     Migrate(PlanArguments<'a>),
+    /// The picture of a trace of a plan.
+    Draw(DrawArguments<'a>),
 }
 
 /// What `sched run` or `sched pool` is asked for.
@@ -55,6 +58,15 @@ pub struct CheckArguments<'a> {
     pub workers: u8,
 }
 
+/// What `sched draw` is asked for.
+#[derive(Clone, Copy, Debug)]
+pub struct DrawArguments<'a> {
+    /// The files and the workers, as `sched check` has them.
+    pub check: CheckArguments<'a>,
+    /// What of the trace is shown.
+    pub view: View,
+}
+
 impl<'a> Asked<'a> {
     /// What the arguments of a command line ask for, the program's name first. `Err` is help, a
     /// fault of the command line, or want of memory.
@@ -77,6 +89,9 @@ impl<'a> Asked<'a> {
         }
         if let Some(migrate) = matches.subcommand_matches("migrate") {
             return Ok(Asked::Migrate(PlanArguments::of_matches(migrate)));
+        }
+        if let Some(draw) = matches.subcommand_matches("draw") {
+            return Ok(Asked::Draw(DrawArguments::of_matches(draw)));
         }
         match matches.subcommand() {
             Some((_, run)) => Ok(Asked::Run(RunArguments::of_matches(run))),
@@ -111,7 +126,7 @@ impl<'a> PlanArguments<'a> {
 }
 
 impl<'a> CheckArguments<'a> {
-    /// What was found for the arguments of `check`, as [`RunArguments`] has it.
+    /// What was found for the arguments of `check`, or for those of `draw` that it has too, as [`RunArguments`] has it.
     fn of_matches(check: &ArgMatches<'a>) -> CheckArguments<'a>
         ensures { AsksForCheck (rows_of (found_of check.now)) result }
     {
@@ -120,5 +135,29 @@ impl<'a> CheckArguments<'a> {
             trace: check.get_str("trace").unwrap_or(""),
             workers: check.get_one::<u8>("workers").unwrap_or(0),
         }
+    }
+}
+
+impl<'a> DrawArguments<'a> {
+    /// What was found for the arguments of `draw`.
+    fn of_matches(draw: &ArgMatches<'a>) -> DrawArguments<'a>
+        ensures { AsksForDraw (rows_of (found_of draw.now)) result }
+    {
+        DrawArguments {
+            check: CheckArguments::of_matches(draw),
+            view: view_of_matches(draw),
+        }
+    }
+}
+
+/// What was found for the options of `draw` that say what is shown. Where the number of marks is missing, which the command line does
+/// not let through, there may be none.
+fn view_of_matches(draw: &ArgMatches<'_>) -> View
+    ensures { AsksForView (rows_of (found_of draw.now)) result }
+{
+    View {
+        from: draw.get_one::<u64>("from"),
+        to: draw.get_one::<u64>("to"),
+        marks: draw.get_one::<u64>("marks").unwrap_or(0),
     }
 }

@@ -2,7 +2,7 @@
 
 ghost use Rattle.std.specs.Prelude.{◌≡◌, false, IfOk};
 ghost use Rattle.clap.specs.Words.{app_of, rule_of};
-ghost use Rattle.sched.specs.Commands.{check_app, code_app, limit_rule, migrate_app, plan_rule, pool_app, run_app, sched_app, tasks_app, trace_rule, workers_rule};
+ghost use Rattle.sched.specs.Commands.{check_app, code_app, draw_app, from_rule, limit_rule, marks_rule, migrate_app, plan_rule, pool_app, run_app, sched_app, tasks_app, to_rule, trace_rule, workers_rule};
 
 use clap::{Arg, ArgAction, Command, value_parser};
 use executor_core::MOST_WORKERS;
@@ -238,9 +238,41 @@ Exit status:
      Nothing was printed, but for a front of the plan at a write fault.
   2  a fault of the command line";
 
+/// What the help of `draw` says below the options: what the picture shows, and the exit statuses.
+const DRAWING: &str = "\
+The picture is one in SVG. Time goes from left to right: from T to T, both in
+nanoseconds, and where one of the two is left out from the least or to the
+greatest moment of the trace. There is
+  a bar   for each run, in the lane of its worker, from its start to its finish,
+          or to the end of the picture where it has none; its colour tells what
+          the run led to
+  a mark  for each other line of the trace, above the lanes
+and their tooltips are the lines themselves. Bars are shown that have a part of
+the time, and marks within it.
+A trace that is none of the plan is not drawn. As 'sched check' does, 'draw'
+prints
+  breaks N  lines 1 to N - 1 may begin a trace of the plan, and with line N they
+            may not, or the trace ends before line N, which has to come
+
+Exit status:
+  0  the picture was printed
+  1  the trace breaks, or there was a fault, told by one of these lines on
+     standard error:
+       sched: plan file not read
+       sched: plan: KIND block B call C   no plan; KIND tells what is wrong
+       sched: trace file not read
+       sched: trace file too long
+       sched: the picture ends before it begins
+       sched: N marks or bars are too many: --from and --to narrow the picture
+       sched: write fault
+       sched: out of memory
+     Nothing was printed at a fault, but for a front of the text at a write
+     fault.
+  2  a fault of the command line";
+
 /// The command lines of the program: `sched run PLAN --workers N [--limit N]`, `sched pool` with the same arguments,
-/// `sched code PLAN`, `sched tasks PLAN`, `sched check PLAN TRACE --workers N` and `sched migrate PLAN`. `Err` where memory ran
-/// out.
+/// `sched code PLAN`, `sched tasks PLAN`, `sched check PLAN TRACE --workers N`, `sched migrate PLAN` and
+/// `sched draw PLAN TRACE --workers N [--from T] [--to T] [--marks M]`. `Err` where memory ran out.
 pub fn command<'a>(alloc: Global) -> Result<Command<'a>, AllocError>
     ensures app { IfOk result (λ c. app_of c ≡ sched_app) }
 {
@@ -255,7 +287,8 @@ pub fn command<'a>(alloc: Global) -> Result<Command<'a>, AllocError>
             .subcommand(code_command(alloc)?)?
             .subcommand(tasks_command(alloc)?)?
             .subcommand(check_command(alloc)?)?
-            .subcommand(migrate_command(alloc)?)?,
+            .subcommand(migrate_command(alloc)?)?
+            .subcommand(draw_command(alloc)?)?,
     )
 }
 
@@ -343,6 +376,23 @@ fn migrate_command<'a>(alloc: Global) -> Result<Command<'a>, AllocError>
     )
 }
 
+/// `draw`, with its six arguments. `Err` where memory ran out.
+fn draw_command<'a>(alloc: Global) -> Result<Command<'a>, AllocError>
+    ensures app { IfOk result (λ c. app_of c ≡ draw_app) }
+{
+    Ok(
+        Command::new(alloc, "draw")
+            .about("Prints a picture of a trace of a plan, as SVG, to standard output.")
+            .after_help(DRAWING)
+            .arg(plan(alloc))?
+            .arg(trace(alloc))?
+            .arg(workers(alloc))?
+            .arg(from(alloc))?
+            .arg(to(alloc))?
+            .arg(marks(alloc))?,
+    )
+}
+
 /// `PLAN`, which has to be there.
 fn plan<'a>(alloc: Global) -> Arg<'a>
     ensures rule { rule_of result ≡ plan_rule }
@@ -393,4 +443,48 @@ fn limit<'a>(alloc: Global) -> Arg<'a>
         .action(ArgAction::Set)
         .default_value("1000000")
         .value_parser(value_parser!(u32).range(1..))
+}
+
+/// `--from T`, a number of 64 bits, which may be left out.
+fn from<'a>(alloc: Global) -> Arg<'a>
+    ensures rule { rule_of result ≡ from_rule }
+    ensures local { result.global ≡ false }
+{
+    Arg::new(alloc, "from")
+        .long("from")
+        .value_name("T")
+        .help(
+            "The first moment of the picture, in nanoseconds; the least of the trace where it is left out",
+        )
+        .action(ArgAction::Set)
+        .value_parser(value_parser!(u64))
+}
+
+/// `--to T`, a number of 64 bits, which may be left out.
+fn to<'a>(alloc: Global) -> Arg<'a>
+    ensures rule { rule_of result ≡ to_rule }
+    ensures local { result.global ≡ false }
+{
+    Arg::new(alloc, "to")
+        .long("to")
+        .value_name("T")
+        .help(
+            "The last moment of the picture, in nanoseconds; the greatest of the trace where it is left out",
+        )
+        .action(ArgAction::Set)
+        .value_parser(value_parser!(u64))
+}
+
+/// `--marks M`, a number of 64 bits, and 2,000 where it is left out.
+fn marks<'a>(alloc: Global) -> Arg<'a>
+    ensures rule { rule_of result ≡ marks_rule }
+    ensures local { result.global ≡ false }
+{
+    Arg::new(alloc, "marks")
+        .long("marks")
+        .value_name("M")
+        .help("How many marks the picture may have, and how many bars")
+        .action(ArgAction::Set)
+        .default_value("2000")
+        .value_parser(value_parser!(u64))
 }

@@ -1,7 +1,7 @@
 //! Why the program gives up, and the exit status that goes with it.
 
 ghost use Rattle.std.specs.Prelude.{◌≡◌};
-ghost use Rattle.sched.specs.Errors.{status_of, IsToldAs, IsOfSystem, IsOrMemory};
+ghost use Rattle.sched.specs.Errors.{of_drawing, status_of, IsToldAs, IsOfSystem, IsOrMemory};
 ghost use Rattle.sched.specs.declared.error.ProgramError.TheVariants.{Run};
 ghost use Rattle.sched_engine.specs.declared.report.RunError.TheVariants.{Memory};
 
@@ -10,6 +10,7 @@ use sched_engine::RunError;
 use std::alloc::AllocError;
 use std::io;
 use std::io::ErrorKind;
+use trace_svg::DrawError;
 
 /// Why the program gives up.
 #[derive(Clone, Copy, Debug, PartialEq, Eq)]
@@ -22,6 +23,10 @@ pub enum ProgramError {
     TraceFile,
     /// The trace file is over 67,108,864 bytes.
     TraceTooLong,
+    /// The picture ends before it begins.
+    EndsFirst,
+    /// The picture would show so many marks, or else bars, which is more than it may.
+    Crowded(u64),
     /// The run, or what the program did besides, ended so.
     Run(RunError),
 }
@@ -36,6 +41,8 @@ impl ProgramError {
             ProgramError::PlanFile
             | ProgramError::TraceFile
             | ProgramError::TraceTooLong
+            | ProgramError::EndsFirst
+            | ProgramError::Crowded(_)
             | ProgramError::Run(_) => 1,
         }
     }
@@ -74,6 +81,20 @@ impl From<RunError> for ProgramError {
                 },
             ) => ProgramError::Run(RunError::Memory),
             other => ProgramError::Run(other),
+        }
+    }
+}
+
+impl From<DrawError> for ProgramError {
+    ghost from_gives = { λ fault told. told ≡ of_drawing fault };
+
+    fn from(fault: DrawError) -> ProgramError {
+        match fault {
+            DrawError::Workers => ProgramError::Run(RunError::Workers),
+            DrawError::Window => ProgramError::EndsFirst,
+            DrawError::Crowded { marks } => ProgramError::Crowded(marks),
+            DrawError::Write => ProgramError::Run(RunError::Write),
+            DrawError::Memory => ProgramError::Run(RunError::Memory),
         }
     }
 }

@@ -33,6 +33,11 @@ impl fmt::Display for ProgramError {
             ProgramError::PlanFile => write!(f, "plan file not read"),
             ProgramError::TraceFile => write!(f, "trace file not read"),
             ProgramError::TraceTooLong => write!(f, "trace file too long"),
+            ProgramError::EndsFirst => write!(f, "the picture ends before it begins"),
+            ProgramError::Crowded(marks) => write!(
+                f,
+                "{marks} marks or bars are too many: --from and --to narrow the picture"
+            ),
             ProgramError::Run(RunError::Plan(fault)) => {
                 let kind = kind_name(fault.kind);
                 let block = fault.block;

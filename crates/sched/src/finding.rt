@@ -1,10 +1,10 @@
-//! What a check of a trace finds, as a line and as an exit status.
+//! What is found of a trace, as a line and as an exit status.
 
 ghost use Rattle.std.specs.Prelude.{◌≡◌, ◌≤◌, ◌↔◌, IfOk, IsErrOf, MatchResult, length, string_bytes};
 ghost use Rattle.executor_core.specs.Counts.{IsWorkerCount};
 ghost use Rattle.sched.specs.EndCounts.{CountsOutput};
 ghost use Rattle.sched.specs.Errors.{status_of as fault_status};
-ghost use Rattle.sched.specs.Findings.{IsCheckedAsAsked, finding_text, finding_status};
+ghost use Rattle.sched.specs.Findings.{IsCheckedAsAsked, IsFindingTold, finding_text, finding_status};
 ghost use Rattle.trace_check.specs.Standing.{most_bytes};
 
 use crate::error::ProgramError;
@@ -30,11 +30,26 @@ pub fn write_finding<A: Allocator + Copy, B: Allocator, W: Sink>(
     ensures workers { IsErrOf result (ProgramError.Run RunError.Workers) ↔ ¬ IsWorkerCount workers }
     ensures status { MatchResult result (λ s. s ≤ 1) (λ e. fault_status e ≡ 1) }
 {
-    let finding = match check(alloc, plan, workers, trace) {
-        Ok(finding) => finding,
-        Err(CheckError::Workers) => return Err(ProgramError::Run(RunError::Workers)),
-        Err(CheckError::Memory) => return Err(ProgramError::Run(RunError::Memory)),
-    };
+    match check(alloc, plan, workers, trace) {
+        Ok(finding) => tell_finding(alloc, finding, writer),
+        Err(CheckError::Workers) => Err(ProgramError::Run(RunError::Workers)),
+        Err(CheckError::Memory) => Err(ProgramError::Run(RunError::Memory)),
+    }
+}
+
+/// Writes a finding: `conforms` or `breaks N`. `Ok` is the exit status that tells it. Nothing is written but at
+/// `Ok` and where the writer is at fault.
+pub fn tell_finding<A: Allocator, W: Sink>(
+    alloc: A,
+    finding: Finding,
+    writer: &mut W,
+) -> Result<u8, ProgramError>
+    ensures told { IsFindingTold result finding (W.contents writer.old) (W.contents writer.new) }
+    ensures write { CountsOutput result (W.failed writer.old) (W.fruitless writer.old) (W.failed writer.new) (W.fruitless writer.new) }
+    ensures unread { IsErrOf result (ProgramError.Run RunError.Read) → ⊥ }
+    ensures workers { IsErrOf result (ProgramError.Run RunError.Workers) → ⊥ }
+    ensures status { MatchResult result (λ s. s ≤ 1) (λ e. fault_status e ≡ 1) }
+{
     let line = line_of(alloc, finding)?;
     if !write_text(writer, line.as_bytes()) {
         return Err(ProgramError::Run(RunError::Write));

@@ -1,5 +1,5 @@
-//! Runs a plan of scheduled tasks over lines of events or by a pool of threads, prints its code and its tasks, checks traces of
-//! it, and migrates it to the next version of plans.
+//! Runs a plan of scheduled tasks over lines of events or by a pool of threads, prints its code and its tasks, checks and draws
+//! traces of it, and migrates it to the next version of plans.
 //!
 //! # Usage
 //!
@@ -10,12 +10,14 @@
 //! sched tasks PLAN
 //! sched check PLAN TRACE --workers N
 //! sched migrate PLAN
+//! sched draw PLAN TRACE --workers N [--from T] [--to T] [--marks M]
 //! ```
 //!
 //! PLAN is the file of the plan, and TRACE that of a trace. There are 1 to 64 workers, and a run takes at most 1 to
 //! 4,294,967,295 events, 1,000,000 where the limit is left out. Events come on standard input, and the trace goes to
 //! standard output. `sched run --help` has the forms of all three, `sched code --help` that of a listing, `sched tasks --help` that of the tasks,
-//! `sched check --help` what a check finds, and `sched migrate --help` which plans are migrated.
+//! `sched check --help` what a check finds, `sched migrate --help` which plans are migrated, and `sched draw --help` what a picture
+//! shows.
 //!
 //! # Behaviour
 //!
@@ -26,7 +28,8 @@
 //! `pool` does it by [`run_pool`](pool_engine::run_pool): standard input has clocks alone, all of which are read first, and a run's
 //! value is its number. `check` reads the plan, then at most 67,108,865 bytes of the trace file, and writes `conforms`, or `breaks N` with the
 //! number of a line from 1 ([`check`](trace_check::check)). `migrate` writes the plan of a text of version 1 as one of version 2
-//! ([`migrate`](plan_read::migrate)). No clock of the machine is read.
+//! ([`migrate`](plan_read::migrate)). `draw` reads what `check` does, and writes the picture of the trace ([`draw`](trace_svg::draw))
+//! or, where it is none of the plan, `breaks N`. No clock of the machine is read.
 //!
 //! # Order and ties
 //!
@@ -36,7 +39,7 @@
 //! # Errors
 //!
 //! The first fault ends the program: one of the command line, with status 2, then one of the plan file, of the plan, of
-//! the trace file, and of the run or the writing, each with status 1 and told by one line on standard error. What was
+//! the trace file, and of the run, the picture or the writing, each with status 1 and told by one line on standard error. What was
 //! answered before is written. A trace that breaks is status 1 too, with nothing on standard error. Where standard error
 //! is closed, the status alone tells the fault.
 //!
@@ -44,16 +47,18 @@
 //!
 //! A run takes what [`sched_engine::run`] takes, the text of the plan, and while the plan is read its tree. Its memory does not
 //! grow with the number of events, nor with the calls that a repeated block makes, but for the tables of its tasks and for room
-//! for a line for each call that one clock reaches. A check takes the text of the trace, and what a core takes.
+//! for a line for each call that one clock reaches. A check takes the text of the trace, and what a core takes; a drawing its lines and
+//! the text of the picture too.
 //!
 //! # Tests
 //!
-//! `tests/` has a file for the command line, its help, the files, the lines of errors and whole programs, in the world of
-//! `world.rt`. `tools/sizes` runs the built program at the greatest sizes.
+//! `tests/` has a file for the command line, its help, the files, the lines of errors, whole programs and pictures, in the world
+//! of `world.rt`. `tools/sizes` runs the built program at the greatest sizes.
 #![tactic(auto)]
 
 mod arguments;
 mod command;
+mod drawing;
 mod error;
 mod error_line;
 mod files;

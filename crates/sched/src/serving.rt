@@ -9,6 +9,7 @@ ghost use Rattle.sched_engine.specs.Ends.{NoneFailed};
 ghost use Rattle.sched_engine.specs.Running.{IsUntouched};
 
 use crate::arguments::Asked;
+use crate::drawing::draw_files;
 use crate::error::ProgramError;
 use crate::work::{check_files, list_file, migrate_file, pool_file, run_file, tasks_file};
 use clap::Error;
@@ -63,5 +64,9 @@ pub fn serve<
             Ok(check_files(alloc, &asked, plan, open_file, writer))
         }
         Asked::Migrate(asked) => Ok(migrate_file(alloc, open_file(asked.path), writer)),
+        Asked::Draw(asked) => {
+            let plan = open_file(asked.check.path);
+            Ok(draw_files(alloc, &asked, plan, open_file, writer))
+        }
     }
 }

@@ -1,9 +1,10 @@
 //! What the command line takes.
 
-use crate::arguments::{Asked, CheckArguments, PlanArguments, RunArguments};
+use crate::arguments::{Asked, CheckArguments, DrawArguments, PlanArguments, RunArguments};
 use std::alloc::Global;
 use std::process::Abort;
 use std::test::Fail;
+use trace_svg::View;
 
 /// What the arguments of a command line ask for, in words, or the status with which they end the program.
 fn in_words(alloc: Global, arguments: &[String]) -> Result<String, Fail> {
@@ -20,6 +21,15 @@ fn in_words(alloc: Global, arguments: &[String]) -> Result<String, Fail> {
         }
         Ok(Asked::Migrate(asked)) => format!(in alloc; "migrate {}", asked.path)?,
         Ok(Asked::Tasks(asked)) => format!(in alloc; "tasks {}", asked.path)?,
+        Ok(Asked::Draw(asked)) => {
+            let CheckArguments {
+                path,
+                trace,
+                workers,
+            } = asked.check;
+            let View { from, to, marks } = asked.view;
+            format!(in alloc; "draw {path} {trace} {workers} {from:?} {to:?} {marks}")?
+        }
         Err(error) => format!(in alloc; "status {}", error.exit_code())?,
     };
     Ok(words)
@@ -82,6 +92,18 @@ fn takes_a_name_for_a_migration(rt: HostRuntime) -> Result<(), Fail> {
     )
 }
 
+/// Pictures: the names of the files, how many workers there are, from where to where time goes, and how many marks there may be.
+const PICTURES: &str = "draw p t 64 None None 2000 | sched draw --workers 64 p t
+draw p t 1 Some(3) None 2000 | sched draw p t --workers 1 --from 3
+draw p t 1 None Some(18446744073709551615) 2000 | sched draw p t --to 18446744073709551615 --workers 1
+draw p t 2 Some(18446744073709551615) Some(0) 18446744073709551615 | sched draw p --from=18446744073709551615 t --marks=18446744073709551615 --to=0 --workers=2
+draw p -t 1 None None 0 | sched draw --marks 0 --workers 1 -- p -t";
+
+#[test]
+fn takes_two_names_and_four_numbers_for_a_picture(rt: HostRuntime) -> Result<(), Fail> {
+    tells_each(&rt, PICTURES)
+}
+
 /// Command lines that the program ends at.
 const REFUSED: &str = "status 2 | sched check p --workers 1
 status 2 | sched check p t
@@ -108,7 +130,21 @@ status 2 | sched pool p
 status 2 | sched pool p --workers 0
 status 2 | sched pool p --workers 65
 status 2 | sched pool p --workers 1 --limit 0
-status 2 | sched pool p q --workers 1";
+status 2 | sched pool p q --workers 1
+status 2 | sched draw p --workers 1
+status 2 | sched draw p t
+status 2 | sched draw p t u --workers 1
+status 2 | sched draw p t --workers 0
+status 2 | sched draw p t --workers 65
+status 2 | sched draw p t --workers 1 --from
+status 2 | sched draw p t --workers 1 --from 18446744073709551616
+status 2 | sched draw p t --workers 1 --to=-1
+status 2 | sched draw p t --workers 1 --to 1s
+status 2 | sched draw p t --workers 1 --marks many
+status 2 | sched draw p t --workers 1 --marks 18446744073709551616
+status 2 | sched draw p t --workers 1 --marks 1 --marks 2
+status 2 | sched draw p t --workers 1 --limit 3
+status 2 | sched check p t --workers 1 --marks 3";
 
 #[test]
 fn refuses_what_is_missing_too_much_or_out_of_range(rt: HostRuntime) -> Result<(), Fail> {
@@ -128,6 +164,11 @@ fn shows_what_is_asked_for_to_programmers(rt: HostRuntime) -> Result<(), Fail> {
         trace: "t",
         workers: 2,
     };
+    let view = View {
+        from: None,
+        to: Some(3),
+        marks: 4,
+    };
     for (asked, text) in [
         (
             Asked::Run(run),
@@ -144,6 +185,11 @@ fn shows_what_is_asked_for_to_programmers(rt: HostRuntime) -> Result<(), Fail> {
         (
             Asked::Check(check),
             "Check(CheckArguments { path: \"p\", trace: \"t\", workers: 2 })",
+        ),
+        (
+            Asked::Draw(DrawArguments { check, view }),
+            "Draw(DrawArguments { check: CheckArguments { path: \"p\", trace: \"t\", workers: 2 }, \
+view: View { from: None, to: Some(3), marks: 4 } })",
         ),
         (
             Asked::Migrate(PlanArguments { path: "p" }),

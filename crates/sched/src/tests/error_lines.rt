@@ -8,6 +8,7 @@ use plan_read::{PlanFault, PlanFaultKind};
 use sched_engine::RunError;
 use std::process::Abort;
 use std::test::Fail;
+use trace_svg::DrawError;
 
 /// Checks that a fault is told by just this line on standard error, and this status.
 fn is_told(rt: &(impl AllocGlobal + Abort), fault: ProgramError, status: u8, line: &str) {
@@ -80,6 +81,28 @@ fn tells_each_end_of_a_run(rt: HostRuntime) {
 }
 
 #[test]
+fn tells_why_there_is_no_picture(rt: HostRuntime) {
+    for (error, line) in [
+        (
+            DrawError::Workers,
+            "sched: the number of workers is not 1 to 64\n",
+        ),
+        (
+            DrawError::Window,
+            "sched: the picture ends before it begins\n",
+        ),
+        (
+            DrawError::Crowded { marks: 2_001 },
+            "sched: 2001 marks or bars are too many: --from and --to narrow the picture\n",
+        ),
+        (DrawError::Write, "sched: write fault\n"),
+        (DrawError::Memory, "sched: out of memory\n"),
+    ] {
+        is_told(&rt, ProgramError::from(error), 1, line);
+    }
+}
+
+#[test]
 fn tells_faults_of_the_plan_file_and_of_the_arguments(rt: HostRuntime) {
     is_told(
         &rt,
@@ -121,6 +144,8 @@ fn tells_a_status_by_no_line(rt: HostRuntime) {
 fn shows_errors_to_programmers(rt: HostRuntime) -> Result<(), Fail> {
     for (error, text) in [
         (ProgramError::TraceTooLong, "ErrorLine(TraceTooLong)"),
+        (ProgramError::EndsFirst, "ErrorLine(EndsFirst)"),
+        (ProgramError::Crowded(3), "ErrorLine(Crowded(3))"),
         (
             ProgramError::Run(RunError::EventLine(9)),
             "ErrorLine(Run(EventLine(9)))",

@@ -46,6 +46,7 @@ fn help_names_the_command_and_the_statuses(rt: HostRuntime) {
             "  tasks    Prints the tasks of a plan, with their numbers and names, to standard output",
             "  check    Checks that a trace is one that a plan allows",
             "  migrate  Prints a plan of version 1, the older form, as one of version 2 to standard output",
+            "  draw     Prints a picture of a trace of a plan, as SVG, to standard output",
             "'sched run --help' tells what a plan, an event and a trace look like.\n",
             "  0  done\n",
             "  1  a fault, told by a line on standard error, or a trace that breaks\n",
@@ -141,6 +142,38 @@ fn help_of_check_names_what_is_found(rt: HostRuntime) {
             "  breaks N  it is none",
             "sched: trace file not read",
             "sched: trace file too long",
+        ],
+    );
+}
+
+#[test]
+fn help_of_draw_names_what_is_shown_and_its_faults(rt: HostRuntime) {
+    shows(
+        &rt,
+        &[b"sched", b"draw", b"--help"],
+        0,
+        &[
+            "Usage: sched draw [OPTIONS] --workers <N> <PLAN> <TRACE>\n",
+            "How many workers there are, 1 to 64",
+            "The first moment of the picture, in nanoseconds",
+            "The last moment of the picture, in nanoseconds",
+            "How many marks the picture may have, and how many bars",
+            "[default: 2000]",
+            "The picture is one in SVG.",
+            "  a bar   for each run, in the lane of its worker",
+            "  a mark  for each other line of the trace",
+            "  breaks N  lines 1 to N - 1 may begin a trace of the plan",
+            "  0  the picture was printed\n",
+            "  1  the trace breaks, or there was a fault",
+            "sched: plan file not read\n",
+            "sched: plan: KIND block B call C",
+            "sched: trace file not read\n",
+            "sched: trace file too long\n",
+            "sched: the picture ends before it begins\n",
+            "sched: N marks or bars are too many: --from and --to narrow the picture\n",
+            "sched: write fault\n",
+            "sched: out of memory\n",
+            "  2  a fault of the command line\n",
         ],
     );
 }

@@ -1,11 +1,11 @@
 use Rattle.std.proofs.Common.{ap, ◌≡◌, ℕ, Result, Err, rules}
 use Rattle.sched.specs.declared.error.ProgramError.{ProgramError}
-use Rattle.sched.proofs.Orders.{check_both, check_no_trace, check_wrong_plan}
+use Rattle.sched.proofs.Orders.{both_no_trace, both_wrong_plan, check_both}
 use Rattle.sched.proofs.work.check_files.Goals as goal
 
 pub returns-in-Err-clause-answers : goal.returns-in-Err-clause-answers
 returns-in-Err-clause-answers g c =
-    check_wrong_plan c.in_ok-text.text.items c.in-Err.fault c.from.result _ _ c.args.asked.now.workers (g.W.Sink.contents c.args.writer.now)
+    both_wrong_plan c.in_ok-text.text.items c.in-Err.fault c.from.result _ _ c.args.asked.now.workers (g.W.Sink.contents c.args.writer.now) _
     (rw c.deref.ensures.value at c.in-Err.ensures.fault) c.from.ensures c.in_ok-text.ensures.text
 
 pub returns-in_err-trace-clause-answers : goal.returns-in_err-trace-clause-answers
@@ -13,7 +13,7 @@ returns-in_err-trace-clause-answers g c =
     let e = c.in_err-trace.field-0.0 in
     let fault : Result ℕ ProgramError = Err e in
     let told : fault ≡ c.from_residual-in_err-trace.result = search rules in
-    rw (← told) (check_no_trace c.in_ok-text.text.items _ e _ _ _ c.args.asked.now.workers _ (rw c.deref.ensures.value at c.in-Ok.ensures.plan) c.in_ok-text.ensures.text
+    rw (← told) (both_no_trace c.in_ok-text.text.items _ e _ _ _ c.args.asked.now.workers _ _ (rw c.deref.ensures.value at c.in-Ok.ensures.plan) c.in_ok-text.ensures.text
     (λ trace r. (c.open_file.result, c.open_file.ensures, r)) c.in_err-trace.ensures.fault (λ q. c.in_err-trace.ensures.long (ap Err q)))
 
 pub returns-clause-answers : goal.returns-clause-answers

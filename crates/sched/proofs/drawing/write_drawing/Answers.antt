@@ -1,0 +1,11 @@
+use Rattle.sched.proofs.Drawings.{drawn_as_refused, drawn_as_told}
+use Rattle.sched.proofs.drawing.write_drawing.Goals as goal
+
+pub returns-in-Ok-Breaks-clause-drawn : goal.returns-in-Ok-Breaks-clause-drawn
+returns-in-Ok-Breaks-clause-drawn g c =
+    drawn_as_told c.tell_finding.result c.args.plan.now c.args.asked.now.check.workers c.args.trace.now c.args.asked.now.view c.in-Ok-Breaks.line _ _ _
+    c.in-Ok-Breaks.ensures.draws.0 c.in-Ok-Breaks.ensures.draws.1 c.tell_finding.ensures.told
+
+pub returns-in-Err-clause-drawn : goal.returns-in-Err-clause-drawn
+returns-in-Err-clause-drawn g c =
+    rw c.from.ensures (drawn_as_refused c.in-Err.fault c.args.plan.now c.args.asked.now.check.workers c.args.trace.now c.args.asked.now.view _ _ c.in-Err.ensures.draws)
