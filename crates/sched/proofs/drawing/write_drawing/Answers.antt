@@ -1,10 +1,14 @@
+use Rattle.std.proofs.Common.{rules, ◌≡◌}
+use Rattle.trace_svg.specs.declared.report.Drawn.TheVariants as drawn
 use Rattle.sched.proofs.Drawings.{drawn_as_refused, drawn_as_told}
 use Rattle.sched.proofs.drawing.write_drawing.Goals as goal
 
 pub returns-in-Ok-Breaks-clause-drawn : goal.returns-in-Ok-Breaks-clause-drawn
 returns-in-Ok-Breaks-clause-drawn g c =
-    drawn_as_told c.tell_finding.result c.args.plan.now c.args.asked.now.check.workers c.args.trace.now c.args.asked.now.view c.in-Ok-Breaks.line _ _ _
-    c.in-Ok-Breaks.ensures.draws.0 c.in-Ok-Breaks.ensures.draws.1 c.tell_finding.ensures.told
+    let is : c.in-Ok-Breaks.field-0 ≡ drawn.Breaks c.in-Ok-Breaks.line = search rules in
+    let draws = rw is at c.in-Ok-Breaks.ensures.draws in
+    drawn_as_told c.tell_finding.result c.args.plan.now c.args.asked.now.check.workers c.args.trace.now c.args.asked.now.view c.in-Ok-Breaks.line
+    (g.W.Sink.contents c.args.writer.now) (g.W.Sink.contents c.draw.new.writer) (g.W.Sink.contents c.tell_finding.new.writer) draws.0 draws.1 c.tell_finding.ensures.told
 
 pub returns-in-Err-clause-drawn : goal.returns-in-Err-clause-drawn
 returns-in-Err-clause-drawn g c =
