@@ -55,6 +55,14 @@ fn with_trace<'a>(arguments: &'a [&'a [u8]]) -> Given<'a> {
     }
 }
 
+/// What is given to a command line that reads a trace whose third line has a worker that is not there.
+fn with_broken_trace<'a>(arguments: &'a [&'a [u8]]) -> Given<'a> {
+    Given {
+        trace: file(b"0 submit 0 schedule due 5\n5 clock\n5 start 1 task 0 run 0 due 5\n"),
+        ..given(arguments, "")
+    }
+}
+
 /// A picture of the trace with an option and its value.
 fn with_option<'a>(option: &'a [u8], value: &'a [u8]) -> [&'a [u8]; 8] {
     let [sched, draw, plan, trace, workers, one] = DRAW;
@@ -95,17 +103,12 @@ fn draws_the_window_that_is_asked_for(rt: HostRuntime) -> Result<(), Fail> {
 
 #[test]
 fn tells_where_a_trace_that_is_to_be_drawn_breaks(rt: HostRuntime) {
-    let mut draw = Given {
-        trace: file(b"0 submit 0 schedule due 5\n5 clock\n5 start 1 task 0 run 0 due 5\n"),
-        ..given(&DRAW, "")
-    };
-    ends_given(&rt, draw, 1, "breaks 3\n", "");
-    draw.is_closed = true;
-    ends_given(&rt, draw, 1, "", "sched: write fault\n");
+    ends_given(&rt, with_broken_trace(&DRAW), 1, "breaks 3\n", "");
+    let mut closed = with_broken_trace(&DRAW);
+    closed.is_closed = true;
+    ends_given(&rt, closed, 1, "", "sched: write fault\n");
     let none = with_option(b"--marks", b"0");
-    draw.arguments = &none;
-    draw.is_closed = false;
-    ends_given(&rt, draw, 1, "breaks 3\n", "");
+    ends_given(&rt, with_broken_trace(&none), 1, "breaks 3\n", "");
 }
 
 #[test]
