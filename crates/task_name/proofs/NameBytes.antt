@@ -1,5 +1,6 @@
 -- A table of the bytes of names tells what their definition tells.
 use Rattle.std.proofs.Common.{◌≡◌, ◌<◌, ℕ, zero, suc, Bool, true, false, ◌&&◌, not, List, slice_index_or, refl, sym, inl, inr, arith}
+use Rattle.std.proofs.lemmas.Bool.{and_parts}
 use Rattle.std.proofs.lemmas.Bool.Decides.{eqb_tells}
 use Rattle.task_name.specs.Names.{is_name_byte}
 
@@ -18,20 +19,12 @@ abbrev pub all_below : ℕ → (ℕ → Bool) → Bool
 all_below zero p = true
 all_below (suc n) p = p n && all_below n p
 
-left : (a b : Bool) → (a && b) ≡ true → a ≡ true
-left true b h = refl
-left false b h = absurd (cc)
-
-right : (a b : Bool) → (a && b) ≡ true → b ≡ true
-right true b h = h
-right false b h = absurd (cc)
-
 passes : (n : ℕ) (p : ℕ → Bool) → all_below n p ≡ true → (b : ℕ) → b < n → p b ≡ true
 passes zero p h b lt = absurd (omega (arith, lt))
 passes (suc n) p h b lt =
     elim (eqb_tells b n) [
-      | inl t ↦ rw t.1 (left (p n) (all_below n p) h)
-      | inr f ↦ passes n p (right (p n) (all_below n p) h) b (omega (arith, lt, f.1))
+      | inl t ↦ rw t.1 (and_parts (p n) (all_below n p) h).0
+      | inr f ↦ passes n p (and_parts (p n) (all_below n p) h).1 b (omega (arith, lt, f.1))
     ]
 
 -- a table that tells it of each number below the first that it has not
