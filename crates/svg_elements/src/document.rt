@@ -21,7 +21,7 @@ rect { stroke: #ffffff; stroke-width: 0.5; }
 .ended { fill: #cc79a7; }
 .open { fill: #bbbbbb; stroke: #222222; stroke-dasharray: 3 2; }
 use { fill: #222222; stroke: #222222; stroke-width: 1.5; }
-.outside, .ask { fill: none; }
+.outside, .ask { fill: none; pointer-events: all; }
 .refuse, .error { fill: #d55e00; stroke: #d55e00; }
 @media (prefers-color-scheme: dark) {
 svg { background: #111111; }

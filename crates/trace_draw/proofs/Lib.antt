@@ -4,6 +4,7 @@ pub mod Multiples
 pub mod Turns
 pub mod Lanes
 pub mod Within
+pub mod MarksWithin
 pub mod Runs
 pub mod Counts
 pub mod SameWindows

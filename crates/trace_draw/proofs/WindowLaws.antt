@@ -40,23 +40,23 @@ found_has p q (y ∷ xs) x all is =
     by (p y) is
 
 pub steps_reach : StepsReach
-steps_reach length fits = by (find (λ step. nat_le length (10 * step_nanos step)) steps) refl
+steps_reach length fits = by (find (λ step. nat_le length (7 * step_nanos step)) steps) refl
   where
-    by : (found : Option (ℕ × Unit)) → find (λ step. nat_le length (10 * step_nanos step)) steps ≡ found → length ≤ 10 * step_nanos (unwrap_or found (50000, Day))
+    by : (found : Option (ℕ × Unit)) → find (λ step. nat_le length (7 * step_nanos step)) steps ≡ found → length ≤ 7 * step_nanos (unwrap_or found (50000, Day))
     by None is = omega arith
-    by (Some step) is = leb-true length (10 * step_nanos step) (found_passes (λ step. nat_le length (10 * step_nanos step)) steps step is)
+    by (Some step) is = leb-true length (7 * step_nanos step) (found_passes (λ step. nat_le length (7 * step_nanos step)) steps step is)
 
 all_some : list_all (λ step. nat_le 1 (step_nanos step)) steps ≡ true
 unfolding steps
 all_some = refl
 
 pub step_some : (length : ℕ) → 0 < step_nanos (step_of length)
-step_some length = by (find (λ step. nat_le length (10 * step_nanos step)) steps) refl
+step_some length = by (find (λ step. nat_le length (7 * step_nanos step)) steps) refl
   where
-    by : (found : Option (ℕ × Unit)) → find (λ step. nat_le length (10 * step_nanos step)) steps ≡ found → 0 < step_nanos (unwrap_or found (50000, Day))
+    by : (found : Option (ℕ × Unit)) → find (λ step. nat_le length (7 * step_nanos step)) steps ≡ found → 0 < step_nanos (unwrap_or found (50000, Day))
     by None is = omega arith
     by (Some step) is =
-        let some = leb-true 1 (step_nanos step) (found_has (λ step. nat_le length (10 * step_nanos step)) (λ step. nat_le 1 (step_nanos step)) steps step all_some is) in
+        let some = leb-true 1 (step_nanos step) (found_has (λ step. nat_le length (7 * step_nanos step)) (λ step. nat_le 1 (step_nanos step)) steps step all_some is) in
         omega (arith, some)
 
 -- ---- ticks
@@ -151,11 +151,11 @@ ticks_ascend window i j one other low is at =
     let next : first_in window + i + 1 ≤ first_in window + j = omega (arith, low) in
     omega (arith, mul-le-mul_left step next, some, ap (λ (t : Tick). t.moment) got.1, ap (λ (t : Tick). t.moment) too.1)
 
--- a window that ten steps reach over has eleven multiples at most
-few_between : (from to step : ℕ) → 0 < step → to - from ≤ 10 * step → to / step + 1 - div_ceil from step ≤ 11
+-- a window that seven steps reach over has eight multiples at most
+few_between : (from to step : ℕ) → 0 < step → to - from ≤ 7 * step → to / step + 1 - div_ceil from step ≤ 8
 few_between from to step some short =
     let first = from_first from step (div_ceil from step) some (omega arith) in
-    let last = div-le_of_le-mul step {m = to} {n = div_ceil from step + 10} (omega (arith, first, short)) in
+    let last = div-le_of_le-mul step {m = to} {n = div_ceil from step + 7} (omega (arith, first, short)) in
     omega (arith, last)
 
 pub ticks_are_few : TicksAreFew

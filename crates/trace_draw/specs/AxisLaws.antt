@@ -12,9 +12,9 @@ use Rattle.trace_draw.specs.Whole.{least_moment, greatest_moment}
 
 -- ---- the axis
 
--- ten steps reach over each window
+-- seven steps reach over each window
 abbrev pub StepsReach : Type 0
-StepsReach = (length : ℕ) → length < 2 ^ 64 → length ≤ 10 * step_nanos (step_of length)
+StepsReach = (length : ℕ) → length < 2 ^ 64 → length ≤ 7 * step_nanos (step_of length)
 
 -- a tick stands in a window, at a multiple of its step, and says which moment it is
 pub record IsTickOf (window : Window) (tick : Tick) : Type 0 where
@@ -37,9 +37,9 @@ MultiplesHaveTicks = (window : Window) (n : ℕ) → window.from ≤ n * step_na
 abbrev pub TicksAscend : Type 0
 TicksAscend = (window : Window) (i j : ℕ) (one other : Tick) → i < j → slice_get (ticks_of window) i ≡ Some one → slice_get (ticks_of window) j ≡ Some other → one.moment < other.moment
 
--- a window has eleven ticks at most
+-- a window has eight ticks at most
 abbrev pub TicksAreFew : Type 0
-TicksAreFew = (window : Window) → window.to < 2 ^ 64 → length (ticks_of window) ≤ 11
+TicksAreFew = (window : Window) → window.to < 2 ^ 64 → length (ticks_of window) ≤ 8
 
 -- ---- the scale
 

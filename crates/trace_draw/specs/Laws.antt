@@ -16,8 +16,8 @@ use Rattle.trace_draw.specs.declared.bars.Bar.{Bar}
 use Rattle.trace_draw.specs.declared.bars.Finish.{Finish}
 use Rattle.trace_draw.specs.declared.window.Window.{Window}
 use Rattle.trace_draw.specs.Bars.{finish_of, bars_of, shows_bar}
-use Rattle.trace_draw.specs.Marks.{marks_of}
-use Rattle.trace_draw.specs.Pictures.{picture_of}
+use Rattle.trace_draw.specs.Marks.{is_mark, marks_of, shows_line}
+use Rattle.trace_draw.specs.Pictures.{marks_within, picture_of}
 use Rattle.trace_draw.specs.Texts.{AreSpelled}
 
 -- these are the lines of a history that means the calls
@@ -102,6 +102,28 @@ pub record IsOverBefore (one other : Bar) : Type 0 where
 abbrev pub BarsDoNotOverlap : Type 0
 BarsDoNotOverlap = (calls : List Planned) (workers : ℕ) (lines : List Line) (i j : ℕ) (one other : Bar) → IsTraceOf calls workers lines
     → i < j → slice_get (bars_of lines) i ≡ Some one → slice_get (bars_of lines) j ≡ Some other → one.worker ≡ other.worker → IsOverBefore one other
+
+-- ---- marks
+
+-- a line is a mark, and as many lines before it are marks that the window shows as the index says: it starts no run and finishes
+-- none, and the window shows it
+pub record IsMarkAt (lines : List Line) (window : Window) (i : ℕ) (line : Line) : Type 0 where
+  pub before : List Line
+  pub later : List Line
+  pub parts : lines ≡ before ++ line ∷ later
+  pub mark : is_mark line.message ≡ true
+  pub shown : shows_line window line ≡ true
+  pub index : i ≡ length (marks_within window before)
+
+-- each such line has its mark in a picture, there
+abbrev pub LinesHaveMarks : Type 0
+LinesHaveMarks = (lines : List Line) (workers : ℕ) (window : Window) (i : ℕ) (line : Line) → IsMarkAt lines window i line
+    → slice_get (picture_of lines workers window).marks i ≡ Some line
+
+-- a picture has no other marks
+abbrev pub MarksAreLines : Type 0
+MarksAreLines = (lines : List Line) (workers : ℕ) (window : Window) (i : ℕ) (line : Line) → slice_get (picture_of lines workers window).marks i ≡ Some line
+    → IsMarkAt lines window i line
 
 -- ---- each line is shown once
 

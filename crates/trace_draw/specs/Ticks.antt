@@ -26,10 +26,10 @@ steps =
 abbrev pub step_nanos : ℕ × Unit → ℕ
 step_nanos step = step.0 * nanos_of step.1
 
--- the step for a window of this length: the first of which ten reach over it, and the last one where there is none
+-- the step for a window of this length: the first of which seven reach over it, and the last one where there is none
 -- (the law `steps_reach` says that there is one for each length below 2^64)
 abbrev pub step_of : ℕ → ℕ × Unit
-step_of length = unwrap_or (find (λ step. nat_le length (10 * step_nanos step)) steps) (50000, Day)
+step_of length = unwrap_or (find (λ step. nat_le length (7 * step_nanos step)) steps) (50000, Day)
 
 -- the tick at so many steps
 abbrev pub tick_at : ℕ × Unit → ℕ → Tick

@@ -1,7 +1,7 @@
 //! Laws of the axis, of the scale and of the window of a whole trace. The functions do nothing: what they ensure is the law.
 ghost use Rattle.trace_draw.specs.AxisLaws.{StepsReach, TicksStand, MultiplesHaveTicks, TicksAscend, TicksAreFew, PlacesRise, PlacesAreWithin, PlacesReachTheEnds, PlacesAreExact, WholeShowsAll, WholeIsFirstToLast};
 
-/// Ten steps of a window reach over it.
+/// Seven steps of a window reach over it.
 pub fn steps_reach()
     ensures { StepsReach }
 {}
@@ -21,7 +21,7 @@ pub fn ticks_ascend()
     ensures { TicksAscend }
 {}
 
-/// A window has eleven ticks at most.
+/// A window has eight ticks at most.
 pub fn ticks_are_few()
     ensures { TicksAreFew }
 {}

@@ -1,5 +1,5 @@
 //! Laws of the pictures of traces. The functions do nothing: what they ensure is the law.
-ghost use Rattle.trace_draw.specs.Laws.{ConformingTextsAreTraces, MomentsDoNotFall, BarsStart, StartsHaveBars, BarsMeetTheWindow, NoRunHasTwoBars, BarsAreInLanes, FinishesAreTheirOwn, BarsDoNotOverlap, LinesAreCounted, FinishesAreCounted};
+ghost use Rattle.trace_draw.specs.Laws.{ConformingTextsAreTraces, MomentsDoNotFall, BarsStart, StartsHaveBars, BarsMeetTheWindow, NoRunHasTwoBars, BarsAreInLanes, FinishesAreTheirOwn, BarsDoNotOverlap, LinesHaveMarks, MarksAreLines, LinesAreCounted, FinishesAreCounted};
 
 /// The lines that a text spells are those of a history, where it conforms.
 pub fn conforming_texts_are_traces()
@@ -45,6 +45,17 @@ pub fn finishes_are_their_own()
 /// Of two bars of a trace in one lane the one that stands first is over before the other begins.
 pub fn bars_do_not_overlap()
     ensures { BarsDoNotOverlap }
+{}
+
+/// A picture has a mark for each line that starts no run, finishes none and that its window shows: the marks stand in the order of
+/// these lines.
+pub fn lines_have_marks()
+    ensures { LinesHaveMarks }
+{}
+
+/// Each mark of a picture is such a line.
+pub fn marks_are_lines()
+    ensures { MarksAreLines }
 {}
 
 /// Lines are as many as their bars, their finishes and their marks.

@@ -12,7 +12,7 @@
 //! let shown = picture(alloc, &lines, 1, window, 2_000)?;
 //! shown.bars();     // one: worker 0, task 0, run 0, due at 5, from 5 to its finish at 9, done with 7
 //! shown.marks();    // three: the submission, and two clocks
-//! shown.ticks();    // ten: 0 ns, 1 ns, and so on to 9 ns
+//! shown.ticks();    // five: 0 ns, 2 ns, and so on to 8 ns
 //! place(window, 900, 5);                             // 500
 //! ```
 //!
@@ -22,7 +22,8 @@
 //! where there is none. Each other line is a mark, unless it finishes a run: a submission, a refusal, a cancel, the end of a
 //! task, a policy, a shutdown, an `ask`, a clock, a worker that is idle, an error. A picture shows the bars of which its
 //! [`Window`] has a part, also where they reach over an end of it ([`starts_have_bars`]), and no others
-//! ([`bars_meet_the_window`]); and the marks within it. Both ends of a window are shown.
+//! ([`bars_meet_the_window`]); and a mark for each other line within it
+//! ([`lines_have_marks`]), and no others ([`marks_are_lines`]). Both ends of a window are shown.
 //!
 //! The lines may be any. Of those of a trace that conforms more is so: their moments do not fall ([`moments_do_not_fall`]), the
 //! finish of a bar is that of its own task and run ([`finishes_are_their_own`]), bars in one lane do not overlap
@@ -30,8 +31,8 @@
 //! have one ([`finishes_are_counted`]). So each of their lines is shown once: [`lines_are_counted`].
 //!
 //! [`Tick`]s stand at each multiple of a step that the window shows: the first step of 1, 2, 5, 10, 20, 50, 100, 200, 500 ns, the
-//! same of us and ms, 1, 2, 5, 10, 15, 30 s and min, 1, 2, 3, 6, 12 h, and 1, 2, 5 d and so on to 50,000 d, of which ten reach over
-//! it. So there are eleven at most ([`ticks_are_few`]), and each says its moment exactly ([`ticks_stand`]).
+//! same of us and ms, 1, 2, 5, 10, 15, 30 s and min, 1, 2, 3, 6, 12 h, and 1, 2, 5 d and so on to 50,000 d, of which seven reach over
+//! it. So there are eight at most ([`ticks_are_few`]), and each says its moment exactly ([`ticks_stand`]).
 //!
 //! [`place`] rounds down, never lets a later moment stand before an earlier one ([`places_rise`]), and puts the ends of a window at
 //! 0 and at the width ([`places_reach_the_ends`]).
@@ -91,7 +92,7 @@ pub use error::{LinesError, PictureError};
 pub use laws::{
     bars_are_in_lanes, bars_do_not_overlap, bars_meet_the_window, bars_start,
     conforming_texts_are_traces, finishes_are_counted, finishes_are_their_own, lines_are_counted,
-    moments_do_not_fall, no_run_has_two_bars, starts_have_bars,
+    lines_have_marks, marks_are_lines, moments_do_not_fall, no_run_has_two_bars, starts_have_bars,
 };
 pub use lines::lines_of;
 pub use scale::place;

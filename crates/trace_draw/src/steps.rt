@@ -69,7 +69,7 @@ const STEPS: [(u64, Unit); 59] = [
 ];
 
 /// How far two ticks of an axis stand apart, some of a unit, where a window has this length in nanoseconds: the first of the steps
-/// of which ten reach over it.
+/// of which seven reach over it.
 pub fn step_over(length: u64) -> (u64, Unit)
     ensures step { result ≡ step_of length }
     ensures some { 0 < step_nanos result }
@@ -78,17 +78,17 @@ pub fn step_over(length: u64) -> (u64, Unit)
     first_over(&STEPS, length).unwrap_or((50_000, Unit::Day))
 }
 
-/// The first of some steps of which ten reach over a length.
+/// The first of some steps of which seven reach over a length.
 fn first_over(steps: &[(u64, Unit)], length: u64) -> Option<(u64, Unit)>
-    ensures { result ≡ find (λ step. nat_le length (10 * step_nanos step)) steps.now }
+    ensures { result ≡ find (λ step. nat_le length (7 * step_nanos step)) steps.now }
 {
     steps.iter().copied().find(|step| reaches(*step, length))
 }
 
-/// Whether ten of a step reach over a length.
+/// Whether seven of a step reach over a length.
 fn reaches(step: (u64, Unit), length: u64) -> bool
-    ensures { result ≡ nat_le length (10 * step_nanos step) }
+    ensures { result ≡ nat_le length (7 * step_nanos step) }
 {
     let (count, unit) = step;
-    length as u128 <= 10 * (count as u128 * unit.nanos() as u128)
+    length as u128 <= 7 * (count as u128 * unit.nanos() as u128)
 }

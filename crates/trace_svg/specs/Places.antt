@@ -15,7 +15,7 @@ use Rattle.trace_draw.specs.Scale.{place_of}
 
 -- a picture is so wide, and its part for time begins and ends here
 abbrev pub wide : ℕ
-wide = 1200
+wide = 1240
 
 abbrev pub time_begins : ℕ
 time_begins = 110

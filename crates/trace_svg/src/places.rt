@@ -8,7 +8,7 @@ use svg_elements::Glyph;
 use trace_draw::{Bar, Finish, Window, place};
 
 /// How wide a picture is.
-pub const WIDTH: u32 = 1200;
+pub const WIDTH: u32 = 1240;
 
 /// Where its part for time begins.
 pub const TIME_BEGINS: u32 = 110;

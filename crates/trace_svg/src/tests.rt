@@ -31,9 +31,9 @@ const TRACE: &str = "\
 
 /// What stands in its picture, in this order.
 const PARTS: [&str; 8] = [
-    "<svg xmlns=\"http://www.w3.org/2000/svg\" width=\"1200\" height=\"260\" viewBox=\"0 0 1200 260\">\n",
+    "<svg xmlns=\"http://www.w3.org/2000/svg\" width=\"1240\" height=\"260\" viewBox=\"0 0 1240 260\">\n",
     "<text class=\"row\" x=\"100\" y=\"215\">worker 1</text>\n",
-    "<text class=\"tick\" x=\"640\" y=\"246\">5 ns</text>\n",
+    "<text class=\"tick\" x=\"534\" y=\"246\">4 ns</text>\n",
     "<rect class=\"open\" x=\"110\" y=\"200\" width=\"1060\" height=\"22\"><title>bee\n0 start 1 task 1 run 0 due 0\n</title></rect>\n<text class=\"run\" x=\"114\" y=\"215\">bee #0</text>\n",
     "<rect class=\"done\" x=\"640\" y=\"172\" width=\"424\" height=\"22\"><title>a\n5 start 0 task 0 run 0 due 5\n9 finish 0 task 0 run 0 done 7\n</title></rect>\n<text class=\"run\" x=\"644\" y=\"187\">a #0</text>\n",
     "<use class=\"submit\" href=\"#submit\" x=\"110\" y=\"62\"><title>0 submit 0 schedule due 5\n</title></use>\n",

@@ -11,7 +11,7 @@ const TRACE: &str = "0 submit 0 schedule due 5\n5 clock\n5 start 0 task 0 run 0 
 
 /// What stands in its picture, in this order.
 const PARTS: [&str; 8] = [
-    "<svg xmlns=\"http://www.w3.org/2000/svg\" width=\"1200\" height=\"232\" viewBox=\"0 0 1200 232\">\n",
+    "<svg xmlns=\"http://www.w3.org/2000/svg\" width=\"1240\" height=\"232\" viewBox=\"0 0 1240 232\">\n",
     "<text class=\"row\" x=\"100\" y=\"187\">worker 0</text>\n",
     "<text class=\"tick\" x=\"867\" y=\"218\">5 ns</text>\n",
     "<text class=\"tick\" x=\"1170\" y=\"218\">7 ns</text>\n",

@@ -49,7 +49,7 @@ fn the_page_shows_this(rt: HostRuntime) -> Result<(), Fail> {
     assert_eq!(rt; whole, window(0, 9)?);
     assert_eq!(rt; shown.bars().len(), 1);
     assert_eq!(rt; shown.marks().len(), 3);
-    assert_eq!(rt; shown.ticks().len(), 10);
+    assert_eq!(rt; shown.ticks().len(), 5);
     assert_eq!(rt; place(whole, 900, 5), 500);
     Ok(())
 }
