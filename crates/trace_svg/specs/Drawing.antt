@@ -1,5 +1,5 @@
 -- What the drawing of a trace did. All of it is this project's rule.
-use Rattle.std.specs.Prelude.{◌≡◌, ℕ, ◌<◌, ◌⊎◌, List, map, Option, Some, None, unwrap_or, Result, Ok, Err, take}
+use Rattle.std.specs.Prelude.{◌≡◌, ℕ, ◌<◌, List, map, Option, Some, None, unwrap_or, Result, Ok, Err, take}
 use Rattle.std.specs.Io.KnownBytes.{Appends, Keeps}
 use Rattle.plan_read.specs.Plans.{PlanTree}
 use Rattle.plan_compile.specs.PlanCalls.{calls_of_plan}

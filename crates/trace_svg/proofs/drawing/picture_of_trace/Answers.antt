@@ -1,4 +1,4 @@
-use Rattle.std.proofs.Common.{ap₂, map, sym, ◌≡◌, ◌∙◌}
+use Rattle.std.proofs.Common.{ap₂, map, ◌≡◌, ◌∙◌}
 use Rattle.trace_draw.specs.Pictures.{picture_of}
 use Rattle.trace_svg.specs.Drawing.{IsTrace, RefusesPicture, task_names}
 use Rattle.trace_svg.specs.Shown.{svg_text}

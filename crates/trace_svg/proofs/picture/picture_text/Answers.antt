@@ -1,4 +1,3 @@
-use Rattle.std.proofs.Common.{rules, ◌≡◌}
 use Rattle.trace_svg.specs.Shown.{svg_text}
 use Rattle.trace_svg.proofs.Appended.{seven}
 use Rattle.trace_svg.proofs.picture.picture_text.Goals as goal

@@ -1,6 +1,5 @@
-use Rattle.std.proofs.Common.{rules, ◌+◌, ◌-◌, arith}
+use Rattle.std.proofs.Common.{arith}
 use Rattle.trace_draw.proofs.WindowLaws.{places_are_within}
-use Rattle.trace_svg.specs.Places.{time_begins, time_ends}
 use Rattle.trace_svg.proofs.places.across.Goals as goal
 
 pub overflow_add-result : goal.overflow_add-result
