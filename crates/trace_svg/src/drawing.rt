@@ -24,9 +24,9 @@ use trace_draw::{LinesError, lines_of, picture};
 /// The text has at most [`MOST_BYTES`](trace_check::MOST_BYTES) bytes. Where it is no trace of the plan, the answer is the line at
 /// which it breaks, as [`check`] finds it, and nothing is written. The errors come in this order: [`DrawError::Workers`] exactly
 /// where the number of workers is not 1 to 64; for a trace of the plan [`DrawError::Window`] where the view ends before it begins, and
-/// [`DrawError::Crowded`] where it would show more marks, or else more bars, than it may. At each of them, and at
-/// [`DrawError::Memory`], nothing is written; at [`DrawError::Write`] a front of the picture. A write is tried again as by
-/// [`run`](sched_engine::run). Nothing is flushed.
+/// [`DrawError::Crowded`] where it would show more marks, or else more bars, than it may. [`DrawError::Memory`] may come in place of
+/// any answer but the first. At each of them, and at that, nothing is written; at [`DrawError::Write`] a front of the picture. A
+/// write is tried again as by [`run`](sched_engine::run). Nothing is flushed.
 pub fn draw<A: Allocator + Copy, B: Allocator, W: Sink>(
     alloc: A,
     plan: &Plan<B>,

@@ -81,6 +81,8 @@ fn a_trace_is_drawn(rt: HostRuntime) -> Result<(), Fail> {
     let plan = plan(alloc)?;
     let names = names_of_tasks(alloc, &plan)?;
     assert!(rt; picture_text(alloc, &shown, &names)?.as_bytes() == text.as_slice());
+    let without_one = picture_text(alloc, &shown, &names[..1])?;
+    assert!(rt; without_one.contains("<title>?\n0 start 1 task 1 run 0 due 0\n</title>"));
     Ok(())
 }
 
@@ -93,12 +95,14 @@ fn each_fault_is_told_with_nothing_written(rt: HostRuntime) -> Result<(), Fail> 
         ..WHOLE
     };
     let few = View { marks: 5, ..WHOLE };
+    let none = View { marks: 0, ..WHOLE };
     for (workers, trace, view, told) in [
         (0u8, TRACE, WHOLE, "the number of workers is not 1 to 64"),
         (1, TRACE, WHOLE, "breaks 4"),
         (2, "0 clock\n", WHOLE, "breaks 1"),
         (2, TRACE, late, "the picture ends before it begins"),
         (2, TRACE, few, "6 marks or bars are too many"),
+        (2, TRACE, none, "6 marks or bars are too many"),
     ] {
         let (answer, text) = drawn(alloc, workers, trace, view)?;
         assert!(rt; answer.as_str() == told, "{told}: {answer}");
@@ -161,5 +165,17 @@ fn a_drawing_without_memory_is_none(rt: HostRuntime) -> Result<(), Fail> {
     assert!(rt; matches!(&answer, Err(DrawError::Memory)));
     assert!(rt; writer.into_inner().is_empty());
     assert_eq!(rt; heap.used(), 0);
+    Ok(())
+}
+
+#[test]
+fn a_fault_of_the_ends_has_its_text(rt: HostRuntime) -> Result<(), Fail> {
+    for (error, told) in [
+        (DrawError::Write, "write fault"),
+        (DrawError::Memory, "out of memory"),
+    ] {
+        let text = format!(in rt.alloc(); "{error}")?;
+        assert!(rt; text.as_str() == told, "{told}: {text}");
+    }
     Ok(())
 }
