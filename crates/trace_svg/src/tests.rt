@@ -81,8 +81,8 @@ fn a_trace_is_drawn(rt: HostRuntime) -> Result<(), Fail> {
     let plan = plan(alloc)?;
     let names = names_of_tasks(alloc, &plan)?;
     assert!(rt; picture_text(alloc, &shown, &names)?.as_bytes() == text.as_slice());
-    let without_one = picture_text(alloc, &shown, &names[..1])?;
-    assert!(rt; without_one.contains("<title>?\n0 start 1 task 1 run 0 due 0\n</title>"));
+    let without_names = picture_text(alloc, &shown, &[])?;
+    assert!(rt; without_names.contains("<title>?\n0 start 1 task 1 run 0 due 0\n</title>"));
     Ok(())
 }
 
