@@ -21,7 +21,8 @@
 //!
 //! A growth is a call of `allocate`. [`refuse`](Refusing::refuse) says which one is refused, counted from then on; a call that
 //! asks for fewer meets no refusal, and [`has_refused`](Refusing::has_refused) says whether the one was met. So a test refuses a
-//! call its first growth, then its second and so on, until it meets none.
+//! call its first growth, then its second and so on, until it meets none. Where threads share it, growths are numbered as they
+//! come.
 //!
 //! Where the inner allocator is the heap, a `&` is a [`HeapAllocator`](heap_allocator::HeapAllocator) that leads to it: what is asked of the
 //! heap itself is neither refused nor counted.
@@ -32,8 +33,8 @@
 //!
 //! # Memory and cost
 //!
-//! Three numbers beside the inner allocator, in a cell, so that it is lent within one thread. No contract says what a
-//! cell holds, so none says which growth is refused, or what is counted.
+//! Three numbers beside the inner allocator, each an atomic, so that it is lent to several threads. No contract says what an
+//! atomic holds, so none says which growth is refused, or what is counted.
 //!
 //! # Tests
 //!

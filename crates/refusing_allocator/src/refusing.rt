@@ -2,23 +2,23 @@
 
 use heap_allocator::HeapAllocator;
 use std::alloc::{AllocError, Allocator, Global};
-use std::cell::Cell;
+use std::sync::atomic::{AtomicU64, Ordering};
 
 /// What was asked of an allocator so far, and what it will refuse.
-#[derive(Clone, Copy)]
+#[derive(Drop)]
 struct Growths {
     /// How many growths were asked for.
-    asked: u64,
+    asked: AtomicU64,
     /// Which of them is refused, counted from 1: none where it is 0.
-    refused: u64,
+    refused: AtomicU64,
     /// How many bytes are in use.
-    used: usize,
+    used: AtomicU64,
 }
 
-/// An allocator that refuses at most one growth. It is lent: a `&` to it is the allocator of what a test makes.
+/// An allocator that refuses at most one growth. It is lent: a `&` to it is the allocator of what a test makes, on any thread.
 pub struct Refusing<B: Allocator> {
     inner: B,
-    growths: Cell<Growths>,
+    growths: Growths,
 }
 
 impl<B: Allocator> Refusing<B> {
@@ -26,32 +26,33 @@ impl<B: Allocator> Refusing<B> {
     pub fn new(inner: B) -> Refusing<B> {
         Refusing {
             inner,
-            growths: Cell::new(Growths {
-                asked: 0,
-                refused: 0,
-                used: 0,
-            }),
+            growths: Growths {
+                asked: AtomicU64::new(0),
+                refused: AtomicU64::new(0),
+                used: AtomicU64::new(0),
+            },
         }
     }
 
     /// From now on refuses the growth of this number, counted from 1, and grants all before and behind it.
+    ///
+    /// Where other threads ask for growths meanwhile, from when on is left open.
     pub fn refuse(&self, number: u64) {
-        let growths = self.growths.get();
-        self.growths.set(Growths {
-            refused: growths.asked.wrapping_add(number),
-            ..growths
-        });
+        let asked = self.growths.asked.load(Ordering::SeqCst);
+        self.growths
+            .refused
+            .store(asked.wrapping_add(number), Ordering::SeqCst);
     }
 
     /// Whether the growth to be refused was asked for.
     pub fn has_refused(&self) -> bool {
-        let growths = self.growths.get();
-        growths.asked >= growths.refused
+        let refused = self.growths.refused.load(Ordering::SeqCst);
+        self.growths.asked.load(Ordering::SeqCst) >= refused
     }
 
     /// How many bytes are in use.
     pub fn used(&self) -> usize {
-        self.growths.get().used
+        self.growths.used.load(Ordering::SeqCst) as usize
     }
 }
 
@@ -71,40 +72,18 @@ impl<'a> HeapAllocator for &'a Refusing<Global> {
 }
 
 /// Counts a growth of this many bytes, and tells whether it is refused.
-fn refuses(growths: &Cell<Growths>, size: usize) -> bool {
-    let Growths {
-        asked,
-        refused,
-        used,
-    } = growths.get();
-    let asked = asked.wrapping_add(1);
-    let refuses = asked == refused;
-    let used = if refuses {
-        used
-    } else {
-        used.wrapping_add(size)
-    };
-    growths.set(Growths {
-        asked,
-        refused,
-        used,
-    });
-    refuses
+fn refuses(growths: &Growths, size: usize) -> bool {
+    let asked = growths.asked.fetch_add(1, Ordering::SeqCst).wrapping_add(1);
+    if asked == growths.refused.load(Ordering::SeqCst) {
+        return true;
+    }
+    growths.used.fetch_add(size as u64, Ordering::SeqCst);
+    false
 }
 
 /// Counts that this many bytes came back.
-fn gives_back(growths: &Cell<Growths>, size: usize) {
-    let Growths {
-        asked,
-        refused,
-        used,
-    } = growths.get();
-    let used = used.wrapping_sub(size);
-    growths.set(Growths {
-        asked,
-        refused,
-        used,
-    });
+fn gives_back(growths: &Growths, size: usize) {
+    growths.used.fetch_sub(size as u64, Ordering::SeqCst);
 }
 
 unsafe impl<B: Allocator> Allocator for Refusing<B> {

@@ -14,7 +14,7 @@ use contract.BorrowLft.{◌⊑◌, ⊑_trans}
 use contract.Monad.{Fun, fact}
 use contract.Running.{tables, tables_of}
 use sound.WpLaws.{fm_of, WpFn-mono}
-use types.Run.{stop, fld, addr, lit, no_more, and_then, of_opd, first, skips, branches, exec, returns, returns_within, enter}
+use types.Run.{stop, fld, addr, lit, no_more, and_then, first, skips, branches, exec, returns, returns_within, enter}
 use types.Part.{agg}
 use denote.Exit.{yes}
 use denote.RattleType.{owns}
@@ -29,7 +29,7 @@ use denote.Triple.Spec.{triple_of}
 use denote.Triple.Statement.{Triple}
 use denote.Triple.Table.{entered, cited}
 use denote.Triple.Walked.{Stays, stay_dropped, walk_of, ends_at, walked, Goes-dropped, walk_Meets}
-use types.Kit.{‵, raw, ◌⊛◌, some, later, given, at_ret, pick, learn, ◌$◌, ◌∵◌, !, qed, move, keep, drop, use0, use1, use2, split, split3, join, fsplit, fjoin, suffices, await, done, feq_i, feq_l, flt_i, check, updating, now as at_once, show}
+use types.Kit.{‵, raw, ◌⊛◌, some, later, given, at_ret, pick, learn, ◌$◌, ◌∵◌, !, qed, move, keep, use0, use1, use2, split, join, fsplit, fjoin, suffices, await, done, feq_i, feq_l, flt_i, check, updating, now as at_once, show}
 use types.ByLocal.{env, alloc_all, pass_all, free_all, look_at, get, through, sets, lands_as}
 use denote.RawPtr.{block_ptr}
 use Rattle.std.proofs.Shapes.{after}
@@ -48,26 +48,25 @@ use denote.Memory.{hidden_shr}
 use denote.Builtin.{bool}
 use denote.Steps.{only}
 use denote.Triple.Statement.{Contract}
-use Rattle.std.specs.contracts.cell.Cell as CE
 use Rattle.refusing_allocator.specs.contracts.refusing.Growths as GR
 use Rattle.refusing_allocator.specs.contracts.refusing.refuses as RF
 
 abbrev Counts : RattleType
-Counts = CE.the_row GR.the_row
+Counts = GR.the_row
 
 module _ {M : Type 1} {𝓤 : Ura M} (𝓛 : Logic 𝓤) (at_mem : Memory → SProp 𝓤) (run : Routine → Fun 𝓤) where
   abbrev Refuses : Contract 𝓤
   Refuses = triple_of 𝓛 RF.signature (RF.spec 𝓛 at_mem run)
 
   abbrev at_refuses : Lft → Share → ℕ × ℕ → ℕ → Refuses.Ghost
-  at_refuses κ q c n = (((κ, tt), (q, tt), tt, (record { ref_ptr = c; now = record { value = tt } }, (n, tt)), (vptr c.0 c.1 ∷ [], (vint w64 n ∷ [], tt))), tt)
+  at_refuses κ q c n = (((κ, tt), (q, tt), tt, (record { ref_ptr = c; now = record { asked = tt; refused = tt; used = tt } }, (n, tt)), (vptr c.0 c.1 ∷ [], (vint w64 n ∷ [], tt))), tt)
 
 module _ {M : Type 1} {𝓤 : Ura M} (𝓛 : Logic 𝓤) (at_mem : Memory → SProp 𝓤) (run : Routine → Fun 𝓤) (κ : Lft) (q : Share) (c : ℕ × ℕ) (n : ℕ) where
   open 𝓛 use {H, A}
 
-  Refuses-goes : n < 2 ^ 64 → ent 𝓤 (sep 𝓤 (sem 𝓛 (hidden_shr Counts κ (record { value = tt }) c.0 c.1)) (A.lft κ q)) ((Refuses 𝓛 at_mem run).pre (at_refuses 𝓛 at_mem run κ q c n))
+  Refuses-goes : n < 2 ^ 64 → ent 𝓤 (sep 𝓤 (sem 𝓛 (hidden_shr Counts κ (record { asked = tt; refused = tt; used = tt }) c.0 c.1)) (A.lft κ q)) ((Refuses 𝓛 at_mem run).pre (at_refuses 𝓛 at_mem run κ q c n))
   Refuses-goes fn =
-      qed 𝓛 (‵ (hidden_shr Counts κ (record { value = tt }) c.0 c.1) ∷ ‵ (flft κ q) ∷ []) ∵
+      qed 𝓛 (‵ (hidden_shr Counts κ (record { asked = tt; refused = tt; used = tt }) c.0 c.1) ∷ ‵ (flft κ q) ∷ []) ∵
       nothing ! $ flt_i ! n (2 ^ 64) fn $ feq_i ! (List Val) (vint w64 n ∷ []) (vint w64 n ∷ []) refl $ fjoin ! $ fjoin ! $ move ! (1 ∷ []) $
       feq_i ! (List Val) (vptr c.0 c.1 ∷ []) (vptr c.0 c.1 ∷ []) refl $ fjoin ! $ fjoin ! $
       nothing ! $ move ! (2 ∷ []) $ join ! $ join ! $ nothing ! $ move ! (1 ∷ []) $ done !

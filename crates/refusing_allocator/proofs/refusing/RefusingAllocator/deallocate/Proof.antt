@@ -1,5 +1,5 @@
 -- It counts what comes back, and gives the block back to the inner allocator. Assumes `Logic`.
-use Rattle.std.proofs.Common.{◌≡◌, ℕ, ◌+◌, ◌^◌, ◌<◌, true, false, List, [], ◌∷◌, refl, w64, Bor, ap}
+use Rattle.std.proofs.Common.{◌≡◌, ℕ, ◌+◌, ◌^◌, ◌<◌, List, [], ◌∷◌, refl, w64, Bor, ap}
 use seplogic.Ra.Ura.{Ura}
 use mir.Syntax.{Ty, Args, Fn, a_type, dnil, dcons}
 use mir.Val.{Val, vint, vptr}
@@ -31,7 +31,7 @@ use denote.Triple.Walked.{Stays, stay_dropped, walk_of, ends_at, walked, Goes-dr
 use mir.Val.{vunit}
 use base.Logic.{never_e}
 use base.Fml.{ffalse, fsep, froom}
-use types.Kit.{Item, ‵, raw, ◌⊛◌, later, given, ◌$◌, ◌∵◌, !, qed, by, move, keep, drop, use1, use2, split, split3, join, learn, fsplit, fjoin, feq_i, suffices, await, done, some, pick, feq_l, flt_i, check, updating, now as at_once}
+use types.Kit.{Item, ‵, raw, ◌⊛◌, later, given, ◌$◌, ◌∵◌, !, qed, by, move, keep, use1, use2, split, split3, join, learn, fsplit, fjoin, feq_i, suffices, await, done, some, pick, feq_l, flt_i, check, updating, now as at_once}
 use types.Run.{unit_lit}
 use types.ByLocal.{alloc_all, pass_all, free_all, look_at, get, through, sets, lands_as}
 use denote.RawPtr.{Ptr, block_ptr, null_ptr, ptr_val, rawptr_vals, rawptr_Tells}
@@ -50,26 +50,25 @@ use denote.Memory.{hidden_shr}
 use denote.Builtin.{unit}
 use denote.Steps.{only}
 use denote.Triple.Statement.{Contract}
-use Rattle.std.specs.contracts.cell.Cell as CE
 use Rattle.refusing_allocator.specs.contracts.refusing.Growths as GR
 use Rattle.refusing_allocator.specs.contracts.refusing.gives_back as GB
 
 abbrev Counts : RattleType
-Counts = CE.the_row GR.the_row
+Counts = GR.the_row
 
 module _ {M : Type 1} {𝓤 : Ura M} (𝓛 : Logic 𝓤) (at_mem : Memory → SProp 𝓤) (run : Routine → Fun 𝓤) where
   abbrev GivesBack : Contract 𝓤
   GivesBack = triple_of 𝓛 GB.signature (GB.spec 𝓛 at_mem run)
 
   abbrev at_gives_back : Lft → Share → ℕ × ℕ → ℕ → GivesBack.Ghost
-  at_gives_back κ q c n = (((κ, tt), (q, tt), tt, (record { ref_ptr = c; now = record { value = tt } }, (n, tt)), (vptr c.0 c.1 ∷ [], (vint w64 n ∷ [], tt))), tt)
+  at_gives_back κ q c n = (((κ, tt), (q, tt), tt, (record { ref_ptr = c; now = record { asked = tt; refused = tt; used = tt } }, (n, tt)), (vptr c.0 c.1 ∷ [], (vint w64 n ∷ [], tt))), tt)
 
 module _ {M : Type 1} {𝓤 : Ura M} (𝓛 : Logic 𝓤) (at_mem : Memory → SProp 𝓤) (run : Routine → Fun 𝓤) (κ : Lft) (q : Share) (c : ℕ × ℕ) (n : ℕ) where
   open 𝓛 use {H, A}
 
-  GivesBack-goes : n < 2 ^ 64 → ent 𝓤 (sep 𝓤 (sem 𝓛 (hidden_shr Counts κ (record { value = tt }) c.0 c.1)) (A.lft κ q)) ((GivesBack 𝓛 at_mem run).pre (at_gives_back 𝓛 at_mem run κ q c n))
+  GivesBack-goes : n < 2 ^ 64 → ent 𝓤 (sep 𝓤 (sem 𝓛 (hidden_shr Counts κ (record { asked = tt; refused = tt; used = tt }) c.0 c.1)) (A.lft κ q)) ((GivesBack 𝓛 at_mem run).pre (at_gives_back 𝓛 at_mem run κ q c n))
   GivesBack-goes fn =
-      qed 𝓛 (‵ (hidden_shr Counts κ (record { value = tt }) c.0 c.1) ∷ ‵ (flft κ q) ∷ []) ∵
+      qed 𝓛 (‵ (hidden_shr Counts κ (record { asked = tt; refused = tt; used = tt }) c.0 c.1) ∷ ‵ (flft κ q) ∷ []) ∵
       nothing ! $ flt_i ! n (2 ^ 64) fn $ feq_i ! (List Val) (vint w64 n ∷ []) (vint w64 n ∷ []) refl $ fjoin ! $ fjoin ! $ move ! (1 ∷ []) $
       feq_i ! (List Val) (vptr c.0 c.1 ∷ []) (vptr c.0 c.1 ∷ []) refl $ fjoin ! $ fjoin ! $
       nothing ! $ move ! (2 ∷ []) $ join ! $ join ! $ nothing ! $ move ! (1 ∷ []) $ done !
