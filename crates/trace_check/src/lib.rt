@@ -25,7 +25,7 @@
 //!
 //! | Line, behind its moment M | Representative |
 //! |---|---|
-//! | of a submission, a refusal, `cancel`, `policy`, `shutdown`, `shutdown again`, `ask` | the next call of the plan |
+//! | of a submission, a refusal, `cancel`, `policy`, `shutdown`, `shutdown again`, `shutdown now`, `ask` | the next call of the plan |
 //! | `clock` | the clock shows M |
 //! | `start W ..` | worker W asks for work |
 //! | `finish W ..` | worker W has run its task: with the value of `done`, the code of `failed`, and else the value 0 |

@@ -1,5 +1,6 @@
 //! Plans as large as plans may be.
 use super::*;
+use refusing_allocator::Refusing;
 
 /// Writes this number of calls, whose names are those of no other block.
 fn write_calls(text: &mut String, block: u32, calls: u32) -> Result<(), Fail> {
@@ -78,6 +79,20 @@ fn migrates_to_1048576_bytes_at_most(rt: HostRuntime) -> Result<(), Fail> {
     tells(&rt, text.as_str(), "plan")?;
     let text = with_letters(&rt, letters.saturating_add(1))?;
     tells(&rt, text.as_str(), "plan TooLong block 0 call 0")
+}
+
+#[test]
+fn a_migration_that_is_too_long_keeps_no_plan(rt: HostRuntime) -> Result<(), Fail> {
+    let text = with_letters(&rt, 26 * 11_264)?;
+    let heap = Refusing::new(rt.alloc());
+    let fault = migrate(&heap, text.as_bytes()).err();
+    let too_long = PlanFault {
+        kind: PlanFaultKind::TooLong,
+        block: 0,
+        call: 0,
+    };
+    assert_eq!(rt; (fault, heap.used()), (Some(too_long), 0));
+    Ok(())
 }
 
 /// What a plan of 65,536 calls asks in each but the last.
