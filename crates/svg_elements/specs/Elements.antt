@@ -6,8 +6,8 @@ use Rattle.svg_elements.specs.declared.words.Fill.{Fill}
 use Rattle.svg_elements.specs.declared.words.Glyph.{Glyph}
 use Rattle.svg_elements.specs.declared.words.Stroke.{Stroke}
 use Rattle.svg_elements.specs.declared.words.Face.{Face}
-use Rattle.svg_elements.specs.declared.document.TheConstants.{STYLE, GLYPHS}
 use Rattle.svg_elements.specs.Escapes.{escaped}
+use Rattle.svg_elements.specs.Sheets.{style_text, glyphs_text}
 use Rattle.svg_elements.specs.Words.{face_word, fill_word, glyph_word, stroke_word}
 
 -- a filled rectangle: its left and upper side, its width and height, and its tooltip
@@ -36,7 +36,7 @@ label_text face x y text =
 abbrev pub opening_text : ℕ → ℕ → List ℕ
 opening_text width height =
     codes "<svg xmlns=\"http://www.w3.org/2000/svg\" width=\"" ++ (decimal width ++ (codes "\" height=\"" ++ (decimal height ++ (codes "\" viewBox=\"0 0 " ++ (decimal width ++ (codes " " ++ (decimal height
-    ++ (codes "\">\n" ++ (STYLE.now ++ GLYPHS.now)))))))))
+    ++ (codes "\">\n" ++ (style_text ++ glyphs_text)))))))))
 
 -- how it ends
 abbrev pub closing_text : List ℕ

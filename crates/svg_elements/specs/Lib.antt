@@ -1,3 +1,5 @@
 pub mod Escapes
 pub mod Words
+pub mod Looks
+pub mod Sheets
 pub mod Elements

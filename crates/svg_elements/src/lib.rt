@@ -29,7 +29,11 @@
 //! Whole numbers of pixels say where a thing stands, from the left and from the top.
 //!
 //! The style sheet has colours for white, and for dark by `prefers-color-scheme`. Those of runs are the ones of Okabe and Ito,
-//! which the colour-blind can tell. Each kind of mark has a shape of its own.
+//! which the colour-blind can tell. Two kinds of marks are outlines of two others, and all others differ in their
+//! shapes, so that marks are told without colours ([`marks_are_told_by_shapes`]).
+//! `specs/Looks.antt` is the table of all colours and shapes. The two constants are proved to be the texts that are made of it
+//! ([`style_is_the_table`], [`glyphs_are_the_table`]), and the style sheet to give each thing its colours
+//! ([`style_shows_the_table`]).
 //!
 //! # Order and ties
 //!
@@ -48,6 +52,7 @@
 
 mod document;
 mod escaped;
+mod laws;
 mod shapes;
 #[cfg(test)]
 mod tests;
@@ -55,5 +60,8 @@ mod words;
 
 pub use document::{Closing, GLYPHS, Opening, STYLE};
 pub use escaped::Escaped;
+pub use laws::{
+    glyphs_are_the_table, marks_are_told_by_shapes, style_is_the_table, style_shows_the_table,
+};
 pub use shapes::{Label, Mark, Rectangle, Segment};
 pub use words::{Face, Fill, Glyph, Stroke};

@@ -5,46 +5,6 @@ use crate::{
 use std::fmt::Display;
 use std::test::Fail;
 
-/// The shape of each mark.
-const SHAPES: [(Glyph, &str); 11] = [
-    (Glyph::Submit, "<circle id=\"submit\" r=\"4\"/>\n"),
-    (
-        Glyph::Refuse,
-        "<path id=\"refuse\" d=\"M-4-4 4 4M4-4-4 4\"/>\n",
-    ),
-    (Glyph::Cancel, "<path id=\"cancel\" d=\"M-4-4H4V4H-4Z\"/>\n"),
-    (
-        Glyph::Outside,
-        "<path id=\"outside\" d=\"M-4-4H4V4H-4Z\"/>\n",
-    ),
-    (Glyph::End, "<path id=\"end\" d=\"M-5-4H5L0 5Z\"/>\n"),
-    (
-        Glyph::Policy,
-        "<path id=\"policy\" d=\"M0-5 5 0 0 5-5 0Z\"/>\n",
-    ),
-    (
-        Glyph::Shutdown,
-        "<path id=\"shutdown\" d=\"M-5 0H5M0-5V5\"/>\n",
-    ),
-    (Glyph::Ask, "<circle id=\"ask\" r=\"4\"/>\n"),
-    (Glyph::Clock, "<path id=\"clock\" d=\"M0-5V5\"/>\n"),
-    (Glyph::Idle, "<path id=\"idle\" d=\"M-4 0H4\"/>\n"),
-    (Glyph::Error, "<path id=\"error\" d=\"M-5 4H5L0-5Z\"/>\n"),
-];
-
-/// The colour of each way in which a run ends.
-const COLOURS: [(Fill, &str); 6] = [
-    (Fill::Done, "\n.done { fill: #009e73; }\n"),
-    (Fill::Failed, "\n.failed { fill: #d55e00; }\n"),
-    (Fill::Again, "\n.again { fill: #56b4e9; }\n"),
-    (Fill::Dropped, "\n.dropped { fill: #e69f00; }\n"),
-    (Fill::Ended, "\n.ended { fill: #cc79a7; }\n"),
-    (
-        Fill::Open,
-        "\n.open { fill: #bbbbbb; stroke: #222222; stroke-dasharray: 3 2; }\n",
-    ),
-];
-
 /// Whether a value is printed so.
 fn prints<T: Display>(rt: &HostRuntime, value: &T, wanted: &str) -> Result<bool, Fail> {
     let text = format!(in rt.alloc(); "{value}")?;
@@ -145,23 +105,5 @@ fn each_thing_has_its_word(rt: HostRuntime) -> Result<(), Fail> {
     assert_eq!(rt; Glyph::Shutdown.word(), "shutdown");
     assert_eq!(rt; Stroke::Axis.word(), "axis");
     assert_eq!(rt; Face::Key.word(), "key");
-    Ok(())
-}
-
-#[test]
-fn each_mark_has_its_shape(rt: HostRuntime) -> Result<(), Fail> {
-    for (glyph, shape) in SHAPES {
-        assert!(rt; GLYPHS.contains(shape), "{shape}");
-        assert!(rt; shape.contains(glyph.word()), "{shape}");
-    }
-    Ok(())
-}
-
-#[test]
-fn each_way_to_end_has_its_colour(rt: HostRuntime) -> Result<(), Fail> {
-    for (fill, rule) in COLOURS {
-        assert!(rt; STYLE.contains(rule), "{rule}");
-        assert!(rt; rule.contains(fill.word()), "{rule}");
-    }
     Ok(())
 }

@@ -169,6 +169,28 @@ fn a_drawing_without_memory_is_none(rt: HostRuntime) -> Result<(), Fail> {
 }
 
 #[test]
+fn a_drawing_gives_all_memory_back(rt: HostRuntime) -> Result<(), Fail> {
+    let alloc = rt.alloc();
+    let plan = plan(alloc)?;
+    let heap = LocalHeap::new(alloc, 1 << 16)?;
+    let mut writer = Writing::new(Vec::new(alloc));
+    let answer = draw(&heap, &plan, 2, TRACE.as_bytes(), WHOLE, &mut writer);
+    assert!(rt; matches!(&answer, Ok(Drawn::Drawn)));
+    assert_eq!(rt; heap.used(), 0);
+    let script = Script {
+        trouble_at: 1,
+        trouble: Trouble::Fails(ErrorKind::BrokenPipe),
+        most: 100,
+        interrupts: 0,
+    };
+    let mut writer = Writing::new(Taking::new(alloc, script));
+    let answer = draw(&heap, &plan, 2, TRACE.as_bytes(), WHOLE, &mut writer);
+    assert!(rt; matches!(&answer, Err(DrawError::Write)));
+    assert_eq!(rt; heap.used(), 0);
+    Ok(())
+}
+
+#[test]
 fn a_fault_of_the_ends_has_its_text(rt: HostRuntime) -> Result<(), Fail> {
     for (error, told) in [
         (DrawError::Write, "write fault"),

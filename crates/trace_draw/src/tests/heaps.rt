@@ -54,3 +54,12 @@ fn lines_without_memory_are_none(rt: HostRuntime) -> Result<(), Fail> {
     assert_eq!(rt; answer, Err(LinesError::Memory));
     Ok(())
 }
+
+#[test]
+fn lines_before_one_that_is_none_are_given_back(rt: HostRuntime) -> Result<(), Fail> {
+    let heap = LocalHeap::new(rt.alloc(), 1 << 12)?;
+    let answer = lines_of(&heap, b"5 clock\n6 clock\n6 nothing\n").map(|lines| lines.len());
+    assert_eq!(rt; answer, Err(LinesError::NotATrace { line: 3 }));
+    assert_eq!(rt; heap.used(), 0);
+    Ok(())
+}
