@@ -36,18 +36,18 @@ pub record Took (old : BookView) (core : CoreView) (seat : CoreSeatView) (happen
   pub workers : workers_of core ≡ workers_of old.core
   pub taken : core.taken ≡ old.core.taken + 1
   pub handles : OnlyOwnGrows old.seat seat
-  pub took : Completes old.seat.own seat.own (past_of old) (past_in core happened) (part_in old.core event)
+  pub took : Completes old.core.calls (workers_of old.core) old.seat.own seat.own (past_of old) (past_in core happened) (part_in old.core event)
 
 -- it was counted before
 pub took_counted : (old : BookView) (counted core : CoreView) (seat : CoreSeatView) (happened : List Happening) (lines : List Line) (event : Event) → Counts old.core counted → SamePlan counted core → OnlyOwnGrows old.seat seat → IsKept core seat happened lines →
-    Completes old.seat.own seat.own (past_in counted old.happened) (past_in core happened) (part_in counted event) → Took old core seat happened lines event
+    Completes counted.calls (workers_of counted) old.seat.own seat.own (past_in counted old.happened) (past_in core happened) (part_in counted event) → Took old core seat happened lines event
 took_counted old counted core seat happened lines event counts same handles kept took = record {
   kept = kept;
   calls = same.calls ∙ ap (λ (m : CoreView). m.calls) counts;
   workers = same.workers ∙ ap workers_of counts;
   taken = same.taken ∙ ap (λ (m : CoreView). m.taken) counts;
   handles = handles;
-  took = subst (λ (m : CoreView). Completes old.seat.own seat.own (past_in m old.happened) (past_in core happened) (part_in m event)) counts took;
+  took = subst (λ (m : CoreView). Completes m.calls (workers_of m) old.seat.own seat.own (past_in m old.happened) (past_in core happened) (part_in m event)) counts took;
 }
 
 -- the history is that of the old calls and workers too
@@ -126,6 +126,7 @@ took_applies cells old table core seat happened lines notes event book t go =
         between = t.took.between;
         past = t.took.past;
         each = takes_noted calls workers (past_of old) (past_in core happened) old.seat seat (part_in old.core event) (history_same old core seat happened lines event t) (book_kept cells old book).agrees agrees t.took;
+        way = t.took.way;
         part = t.took.part;
         own = t.took.own;
         grows = (t.handles.these, t.handles.grows);
@@ -140,11 +141,11 @@ took_applies cells old table core seat happened lines notes event book t go =
 
 -- the book's desk had room made, and the event was counted
 pub took_room : (old : BookView) (roomy counted core : CoreView) (met seat : CoreSeatView) (before happened : List Happening) (lines : List Line) (event : Event) → roomy ≡ old.core → met ≡ old.seat → before ≡ old.happened → Counts roomy counted →
-    SamePlan counted core → OnlyOwnGrows met seat → IsKept core seat happened lines → Completes met.own seat.own (past_in counted before) (past_in core happened) (part_in counted event) → Took old core seat happened lines event
+    SamePlan counted core → OnlyOwnGrows met seat → IsKept core seat happened lines → Completes counted.calls (workers_of counted) met.own seat.own (past_in counted before) (past_in core happened) (part_in counted event) → Took old core seat happened lines event
 took_room old roomy counted core met seat before happened lines event r s b counts same handles kept took =
     took_counted old counted core seat happened lines event (subst (λ m. Counts m counted) r counts) same (subst (λ v. OnlyOwnGrows v seat) s handles) kept
-    (subst (λ (v : CoreSeatView). Completes v.own seat.own (past_in counted old.happened) (past_in core happened) (part_in counted event)) s
-    (subst (λ hs. Completes met.own seat.own (past_in counted hs) (past_in core happened) (part_in counted event)) b took))
+    (subst (λ (v : CoreSeatView). Completes counted.calls (workers_of counted) v.own seat.own (past_in counted old.happened) (past_in core happened) (part_in counted event)) s
+    (subst (λ hs. Completes counted.calls (workers_of counted) met.own seat.own (past_in counted hs) (past_in core happened) (part_in counted event)) b took))
 
 -- the verdict that the answer tells was put
 pub settled : (cells : List ℕ) (old : BookView) (core : CoreView) (seat : CoreSeatView) (happened : List Happening) (lines : List Line) (event : Event) (answer : Option Answer) (notes : List (Option (Note Verdict))) → IsBook cells old → (t : Took old core seat happened lines event) →

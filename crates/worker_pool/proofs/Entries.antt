@@ -132,7 +132,7 @@ each_noted v (e ∷ entries) all facts =
     (each_noted v entries (All-tail IsPassed e entries all) (λ k q. facts k (or_true (not (is_call e.happening) && is_outside k e.answer) (was_noted k entries) q)))
 
 pub takes_noted : (calls : List Planned) (workers : ℕ) (past new_past : List HistoryEntry) (v next_v : CoreSeatView) (part : List Happening) → IsHistoryOf calls workers new_past → Agrees calls workers past v → Agrees calls workers new_past next_v →
-    (took : Completes v.own next_v.own past new_past part) → All (λ e. IsTrue (is_call e.happening) ⊎ IsNoted next_v e) took.between
+    (took : Completes calls workers v.own next_v.own past new_past part) → All (λ e. IsTrue (is_call e.happening) ⊎ IsNoted next_v e) took.between
 takes_noted calls workers past new_past v next_v part means agrees new_agrees took = each_noted next_v took.between took.each facts
   where
     whole : IsHistoryOf calls workers (took.last ∷ (took.between ++ past))

@@ -1,5 +1,5 @@
 -- What a book keeps, as one happening more comes.
-use Rattle.std.proofs.Common.{◌≡◌, ◌≢◌, ℕ, ◌+◌, ◌<◌, ◌^◌, ◌==◌, ◌&&◌, Bool, true, false, not, List, [], ◌∷◌, ◌++◌, length, reverse, refl, sym, ap, ◌∙◌, subst, arith}
+use Rattle.std.proofs.Common.{◌≡◌, ◌≢◌, ℕ, ◌+◌, ◌<◌, ◌^◌, ◌==◌, ◌&&◌, ◌||◌, Bool, true, false, not, List, [], ◌∷◌, ◌++◌, length, reverse, refl, sym, ap, ◌∙◌, subst, arith}
 use Rattle.std.specs.Prelude.{slice_index_or}
 use Rattle.std.specs.List.{list_any}
 use Rattle.std.proofs.lemmas.Bool.{false≢true}
@@ -24,13 +24,15 @@ use Rattle.executor_core.specs.Needs.{need_of}
 use Rattle.executor_core.proofs.Agree.{after_agrees}
 use Rattle.executor_core.proofs.Flowing.{step_continues}
 use Rattle.executor_laws.specs.NeedWrites.{writes_of}
+use Rattle.executor_laws.specs.Cancels.{is_needed}
 use Rattle.executor_laws.specs.TaskWords.{word_after}
 use Rattle.executor_laws.proofs.CancelSteps.{cancels_touch_one_task}
 use Rattle.executor_laws.proofs.CancelNeeds.{only_calls_sweep}
 use Rattle.worker_pool.specs.Books.{history_for}
-use Rattle.worker_pool.specs.Applies.{SaysYes}
+use Rattle.worker_pool.specs.Applies.{SaysYes, is_in_way}
 use Rattle.worker_pool.specs.own.Moves.{moves_made, CanMove, WasMet}
 use Rattle.worker_pool.specs.own.Steps.{Agrees, Keeps, IsKept, past_in, Comes, need_in, OnlyOwnGrows, Notes, MovesOn, ends_of}
+use Rattle.worker_pool.proofs.Bools.{or_true}
 use Rattle.worker_pool.proofs.Steps.{longer, state_at, needs, stepped, can_move, noted}
 
 -- what is so of some calls and workers is so of the same ones
@@ -102,6 +104,27 @@ kept_can_move m v happened lines y kept counted small =
     in
     subst (CanMove (task_count calls) v) (sym same) (can_move calls workers past y v kept.orderly kept.means kept.agrees (λ k q. runs k))
 
+-- ---- who stands in the way
+
+-- the task that a need names does
+pub needed_in_way : (m : CoreView) (v : CoreSeatView) (happened : List Happening) (lines : List Line) (y : Happening) (k : ℕ) → IsKept m v happened lines → is_needed k (need_in m y) ≡ true → is_in_way m.calls (workers_of m) (past_in m happened) y k ≡ true
+needed_in_way m v happened lines y k kept named =
+    let s = state_at m.calls (workers_of m) (past_in m happened) in
+    ap (λ b. b || is_end k (reply_of m.calls (workers_of m) s y).ends) (ap (is_needed k) (sym (need_after m v happened lines y kept)) ∙ named)
+
+-- a task that the next call ends does
+pub ended_in_way : (m : CoreView) (v : CoreSeatView) (happened : List Happening) (lines : List Line) (k : ℕ) → IsKept m v happened lines → is_end k (ends_of m) ≡ true → is_in_way m.calls (workers_of m) (past_in m happened) h.Call k ≡ true
+ended_in_way m v happened lines k kept ends =
+    or_true (is_needed k (needs m.calls (workers_of m) (past_in m happened) h.Call)) _ (ap (λ s. is_end k (reply_of m.calls (workers_of m) s h.Call).ends) (sym kept.stands) ∙ ends)
+
+-- cancels that are the same are of the same task
+same_cancel : (k j : ℕ) → h.Cancel k ≡ h.Cancel j → k ≡ j
+same_cancel k j is = ap task_of is
+  where
+    task_of : Happening → ℕ
+    task_of (h.Cancel i) = i
+    task_of _ = k
+
 -- a cancel that the seat met is noted
 pub notes_one : (m next_m : CoreView) (v next_v : CoreSeatView) (happened items : List Happening) (lines next_lines : List Line) (k : ℕ) → IsKept m v happened lines → WasMet (task_count m.calls) v next_v k → Steps m next_m lines next_lines (h.Cancel k ∷ []) →
     items ≡ happened ++ h.Cancel k ∷ [] → next_m.taken ≡ m.taken → (IsCounted m → IsCounted next_m) →
@@ -145,6 +168,7 @@ notes_one m next_m v next_v happened items lines next_lines k kept was steps mor
         };
         less = gives.less;
         ends = ends;
+        way = λ y stood. (λ j is. subst (λ i. is_in_way calls workers past y i ≡ true) (same_cancel k j is) stood, tt);
       },
       gives,
     )

@@ -1,6 +1,6 @@
 -- A verdict that was put into its cell, or was refused.
 use Rattle.std.proofs.Common.{◌≡◌, ◌≢◌, ◌⊎◌, ℕ, ◌==◌, Bool, true, false, inl, inr, List, Option, Some, None, cond, refl, sym, ap, ◌∙◌, subst}
-use Rattle.std.specs.Prelude.{IfNone, IfSome, IsSome, option_map, slice_index, slice_index_or}
+use Rattle.std.specs.Prelude.{IfNone, IfSome, option_map, slice_index_or}
 use Rattle.std.proofs.lemmas.Bool.{false≢true, eq-eqb, eqb-true}
 use Rattle.once_cell.specs.declared.race.note.Note.{Note}
 use Rattle.sched_time.specs.declared.timing.Ending.{Ending}

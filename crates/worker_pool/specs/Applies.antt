@@ -1,21 +1,25 @@
 -- What the calls of a book add to it. All of it is this project's rule.
-use Rattle.std.specs.Prelude.{◌≡◌, ℕ, ◌+◌, ◌<◌, ◌≤◌, ◌||◌, ◌&&◌, not, true, false, IsTrue, List, ◌∷◌, ◌++◌, length, Option, Some, None, ◌⊎◌, ◌-◌, IsSome, slice_index, slice_index_or}
+use Rattle.std.specs.Prelude.{◌≡◌, ℕ, ◌+◌, ◌<◌, ◌≤◌, ◌||◌, ◌&&◌, not, if◌then◌else◌, Bool, true, false, IsTrue, List, [], ◌∷◌, ◌++◌, length, Option, Some, None, ◌⊎◌, ◌-◌, IsSome, slice_index, slice_index_or}
 use Rattle.std.specs.List.{All, filter}
 use Rattle.task_word.specs.Words.{is_cancelled, rank}
 use Rattle.task_word.specs.Views.{MeetsEntry, entry, greater}
 use Rattle.task_word.specs.Steps.{CoreTells}
 use Rattle.task_word.specs.declared.views.CoreSeatView.{CoreSeatView}
 use Rattle.task_word.specs.declared.views.HandleSeatView.{HandleSeatView}
-use Rattle.queue_code.specs.Calls.{task_count}
+use Rattle.queue_code.specs.Calls.{Planned, task_count}
 use Rattle.executor_core.specs.declared.types.CancelEffect.TheVariants as f
 use Rattle.executor_core.specs.declared.types.Answer.{Answer}
 use Rattle.executor_core.specs.declared.types.Answer.TheVariants as a
 use Rattle.executor_core.specs.declared.types.Event.{Event}
+use Rattle.executor_core.specs.declared.types.Happening.{Happening}
 use Rattle.executor_core.specs.declared.types.Happening.TheVariants as h
-use Rattle.executor_core.specs.Histories.{HistoryEntry, happenings, is_call, was_cancelled}
+use Rattle.executor_core.specs.Histories.{HistoryEntry, happenings, is_call, is_end, was_cancelled}
 use Rattle.executor_core.specs.Flows.{part_of}
-use Rattle.executor_core.specs.State.{vacant}
+use Rattle.executor_core.specs.State.{vacant, after, reply_of}
 use Rattle.executor_core.specs.Tasks.{word_of_task}
+use Rattle.executor_core.specs.Needs.{need_of}
+use Rattle.executor_core.specs.CoreView.{workers_of}
+use Rattle.executor_laws.specs.Cancels.{is_needed}
 use Rattle.worker_pool.specs.declared.applied.Applied.{Applied}
 use Rattle.worker_pool.specs.declared.applied.Work.{Work}
 use Rattle.worker_pool.specs.Books.{BookView, ending_in, past_of, stands_in, was_outside}
@@ -71,6 +75,19 @@ AllAreLookedAt b = TellsUpTo b.seat (task_count b.core.calls)
 abbrev pub calls_in : List HistoryEntry → List HistoryEntry
 calls_in entries = filter (λ e. is_call e.happening) entries
 
+-- task k stands in the way of a happening that comes after a history: the need of the happening names it, or it is one of the tasks
+-- that the happening ends, as a sweep alone does
+abbrev pub is_in_way : List Planned → ℕ → List HistoryEntry → Happening → ℕ → Bool
+is_in_way calls workers past happening k =
+    let s = after calls workers (happenings past) in is_needed k (need_of calls workers s happening) || is_end k (reply_of calls workers s happening).ends
+
+-- these entries, the newest first, came after a history and before a happening: each cancel among them is of a task that stood, right
+-- before the cancel, in the way of what comes next behind it that is no cancel: a call among them, or else that happening
+abbrev pub WereInWay : List Planned → ℕ → List HistoryEntry → Happening → List HistoryEntry → Type 0
+WereInWay calls workers past happening [] = Unit {0}
+WereInWay calls workers past happening (e ∷ before) = ((k : ℕ) → e.happening ≡ h.Cancel k → is_in_way calls workers (before ++ past) happening k ≡ true)
+    × WereInWay calls workers past (if is_call e.happening then h.Call else happening) before
+
 -- an event was taken
 pub record Applies (old new : BookView) (event : Event) : Type 0 where
   -- the entry of the event, and what came before it, the newest first: calls, and cancels that were noted
@@ -78,6 +95,8 @@ pub record Applies (old new : BookView) (event : Event) : Type 0 where
   pub between : List HistoryEntry
   pub past : past_of new ≡ last ∷ (between ++ past_of old)
   pub each : All (λ e. IsTrue (is_call e.happening) ⊎ IsNoted new.seat e) between
+  -- each cancel was noted where its task stood in the way of the call that comes next, or of the event
+  pub way : WereInWay old.core.calls (workers_of old.core) (past_of old) last.happening between
   -- but for the cancels that were noted these are the event's part of the flow
   pub part : last.happening ∷ happenings (calls_in between) ≡ part_of old.core.calls old.core.made old.core.moment event
   -- the seat cancelled exactly those tasks that the event's part cancels

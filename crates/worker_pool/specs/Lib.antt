@@ -6,7 +6,9 @@ pub use Rattle.executor_core.specs.Histories
 pub use Rattle.executor_core.specs.Flows
 pub use Rattle.executor_core.specs.State
 pub use Rattle.executor_core.specs.Needs
+pub use Rattle.executor_laws.specs.Cancels
 pub mod Shares
 pub mod Books
 pub mod Applies
+pub mod Pools
 pub mod own

@@ -3,3 +3,4 @@ pub mod Moves
 pub mod Steps
 pub mod Results
 pub mod Shifts
+pub mod Seen

@@ -11,7 +11,7 @@ ghost use Rattle.executor_core.specs.Histories.{is_call};
 ghost use Rattle.task_word.specs.declared.views.CoreSeatView.{CoreSeatView};
 ghost use Rattle.worker_pool.specs.Applies.{OnlyMarks, TellsUpTo};
 ghost use Rattle.worker_pool.specs.own.Moves.{WasMet};
-ghost use Rattle.worker_pool.specs.own.Steps.{IsKept, past_in, Comes, need_in, HasRoom, SamePlan, OnlyOwnGrows, OnlyNoted, Notes, Passes, Completes, MovesOn, part_in, SweepsUpTo};
+ghost use Rattle.worker_pool.specs.own.Steps.{IsKept, past_in, Comes, need_in, HasRoom, SamePlan, OnlyOwnGrows, OnlyNoted, NotedFor, Notes, Passes, Completes, MovesOn, part_in, SweepsUpTo};
 
 use crate::moving::move_word;
 use executor_core::{Answer, Core, Event, Happening, Line, Message, Need, make_room};
@@ -67,9 +67,9 @@ impl<A: Allocator> Desk<A> {
         ensures kept { IsKept self.new.core self.new.seat.view self.new.happenings.items self.new.lines.items }
         ensures same { SamePlan self.old.core self.new.core }
         ensures handles { OnlyOwnGrows self.old.seat.view self.new.seat.view }
-        ensures done { IsTrue result → Completes self.old.seat.view.own self.new.seat.view.own (past_in self.old.core self.old.happenings.items) (past_in self.new.core self.new.happenings.items) (happening ∷ [])
+        ensures done { IsTrue result → Completes self.old.core.calls (workers_of self.old.core) self.old.seat.view.own self.new.seat.view.own (past_in self.old.core self.old.happenings.items) (past_in self.new.core self.new.happenings.items) (happening ∷ [])
             × MovesOn self.old.core self.new.core happening }
-        ensures noted { result ≡ false → OnlyNoted self.old.core self.new.core self.old.happenings.items self.new.happenings.items × (self.new.seat.view.own ≡ self.old.seat.view.own) }
+        ensures noted { result ≡ false → NotedFor self.old.core self.new.core self.old.happenings.items self.new.happenings.items happening × (self.new.seat.view.own ≡ self.old.seat.view.own) }
         ensures more { (result ≡ false) ⊎ (is_call happening ≡ true) → IsCounted self.new.core × (room_of self.new.core + 1 ≤ room_of self.old.core)
             × HasRoom self.new.core (vec_len self.new.lines) (vec_capacity self.new.lines) (vec_len self.new.happenings) (vec_capacity self.new.happenings) }
     {
@@ -101,7 +101,7 @@ impl<A: Allocator> Desk<A> {
         ensures upto { (own : List ℕ) → SweepsUpTo own self.old.core self.old.seat.view self.old.happenings.items self.old.lines.items task
             → SweepsUpTo own self.new.core self.new.seat.view self.new.happenings.items self.new.lines.items (task + 1) }
         ensures handles { OnlyOwnGrows self.old.seat.view self.new.seat.view }
-        ensures noted { OnlyNoted self.old.core self.new.core self.old.happenings.items self.new.happenings.items }
+        ensures noted { NotedFor self.old.core self.new.core self.old.happenings.items self.new.happenings.items h.Call }
         ensures room { HasRoom self.new.core (vec_len self.new.lines) (vec_capacity self.new.lines) (vec_len self.new.happenings) (vec_capacity self.new.happenings) }
     {
         if !self.core.sweeps(task) {
@@ -122,7 +122,7 @@ impl<A: Allocator> Desk<A> {
         ensures table { self.new.seat.table ≡ self.old.seat.table }
         ensures upto { SweepsUpTo self.old.seat.view.own self.new.core self.new.seat.view self.new.happenings.items self.new.lines.items words.now.tasks }
         ensures handles { OnlyOwnGrows self.old.seat.view self.new.seat.view }
-        ensures noted { OnlyNoted self.old.core self.new.core self.old.happenings.items self.new.happenings.items }
+        ensures noted { NotedFor self.old.core self.new.core self.old.happenings.items self.new.happenings.items h.Call }
         ensures room { HasRoom self.new.core (vec_len self.new.lines) (vec_capacity self.new.lines) (vec_len self.new.happenings) (vec_capacity self.new.happenings) }
     {
         let tasks = self.core.tasks();
@@ -144,7 +144,7 @@ impl<A: Allocator> Desk<A> {
         ensures kept { IsKept self.new.core self.new.seat.view self.new.happenings.items self.new.lines.items }
         ensures same { SamePlan self.old.core self.new.core }
         ensures handles { OnlyOwnGrows self.old.seat.view self.new.seat.view }
-        ensures done { Completes self.old.seat.view.own self.new.seat.view.own (past_in self.old.core self.old.happenings.items) (past_in self.new.core self.new.happenings.items) (h.Call ∷ []) }
+        ensures done { Completes self.old.core.calls (workers_of self.old.core) self.old.seat.view.own self.new.seat.view.own (past_in self.old.core self.old.happenings.items) (past_in self.new.core self.new.happenings.items) (h.Call ∷ []) }
         ensures on { MovesOn self.old.core self.new.core h.Call }
         ensures counted { IsCounted self.new.core }
         ensures less { room_of self.new.core + 1 ≤ room_of self.old.core }
@@ -172,7 +172,7 @@ impl<A: Allocator> Desk<A> {
         ensures counted { IsCounted self.new.core }
         ensures room { HasRoom self.new.core (vec_len self.new.lines) (vec_capacity self.new.lines) (vec_len self.new.happenings) (vec_capacity self.new.happenings) }
         ensures comes { EventComes self.new.core.calls self.new.core.made self.new.core.moment event }
-        ensures passed { (more : List OneHappening) × Passes self.old.seat.view.own self.new.seat.view.own (past_in self.old.core self.old.happenings.items) (past_in self.new.core self.new.happenings.items) more
+        ensures passed { (more : List OneHappening) × Passes self.old.core.calls (workers_of self.old.core) (happening_of event) self.old.seat.view.own self.new.seat.view.own (past_in self.old.core self.old.happenings.items) (past_in self.new.core self.new.happenings.items) more
             × (part_in self.old.core event ≡ part_in self.new.core event ++ more) }
     {
         while self.core.reaches_call(event) {
@@ -193,7 +193,7 @@ impl<A: Allocator> Desk<A> {
         ensures kept { IsKept self.new.core self.new.seat.view self.new.happenings.items self.new.lines.items }
         ensures same { SamePlan self.old.core self.new.core }
         ensures handles { OnlyOwnGrows self.old.seat.view self.new.seat.view }
-        ensures took { Completes self.old.seat.view.own self.new.seat.view.own (past_in self.old.core self.old.happenings.items) (past_in self.new.core self.new.happenings.items) (happening_of event ∷ []) }
+        ensures took { Completes self.old.core.calls (workers_of self.old.core) self.old.seat.view.own self.new.seat.view.own (past_in self.old.core self.old.happenings.items) (past_in self.new.core self.new.happenings.items) (happening_of event ∷ []) }
     {
         let happening = event.happening();
         while !self.attempt(words, happening) {}
@@ -212,7 +212,7 @@ impl<A: Allocator> Desk<A> {
         ensures kept { IsKept self.new.core self.new.seat.view self.new.happenings.items self.new.lines.items }
         ensures same { SamePlan self.old.core self.new.core }
         ensures handles { OnlyOwnGrows self.old.seat.view self.new.seat.view }
-        ensures took { Completes self.old.seat.view.own self.new.seat.view.own (past_in self.old.core self.old.happenings.items) (past_in self.new.core self.new.happenings.items) (part_in self.old.core event) }
+        ensures took { Completes self.old.core.calls (workers_of self.old.core) self.old.seat.view.own self.new.seat.view.own (past_in self.old.core self.old.happenings.items) (past_in self.new.core self.new.happenings.items) (part_in self.old.core event) }
     {
         self.make_calls(words, event);
         self.take_last(words, event);

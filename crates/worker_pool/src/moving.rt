@@ -1,5 +1,6 @@
 //! The moves of words that a need names.
-ghost use Rattle.std.specs.Prelude.{◌≡◌, None, IfSome};
+ghost use Rattle.std.specs.Prelude.{◌≡◌, true, None, IfSome};
+ghost use Rattle.executor_laws.specs.Cancels.{is_needed};
 ghost use Rattle.worker_pool.specs.own.Moves.{CanMove, WasMet, moves_made};
 
 use executor_core::Need;
@@ -7,7 +8,7 @@ use std::alloc::Allocator;
 use task_word::{CoreCancel, CoreSeat, Moved, TaskWords};
 
 /// Makes the moves of a need; those of a sweep are made one by one, and not here. Where the word was met cancelled nothing
-/// moved, and its task is answered.
+/// moved, and its task is answered, which the need names.
 #[inline(always)]
 pub fn move_word<A: Allocator>(
     seat: &mut CoreSeat<A>,
@@ -19,6 +20,7 @@ pub fn move_word<A: Allocator>(
     ensures table { seat.new.table ≡ seat.old.table }
     ensures moved { result ≡ None → seat.new.view ≡ moves_made seat.old.view need }
     ensures met { IfSome result (λ k. WasMet words.now.tasks seat.old.view seat.new.view k) }
+    ensures named { IfSome result (λ k. is_needed k need ≡ true) }
 {
     match need {
         Need::Nothing | Need::Sweep => None,

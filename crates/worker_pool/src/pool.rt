@@ -7,6 +7,11 @@
 //! *work* while the run is open and a task is ripe: then a start may be taken. All is *quiet* while nothing is ripe and no
 //! worker is in a job, and also while no run is open. Both are computed from what is under the lock.
 //!
+//! What a thread does in one hold of the lock is a function over what lies there: `Shift::hold` for a worker, `Shift::lead` for
+//! who leads, and `Shift::advance`. Its clauses say what it leaves there, and its answer says what the thread does once it lets
+//! go, or sleeps: the job that it does, whether it leaves, and whom it wakes. The functions of this page only call these, wait,
+//! and wake.
+//!
 //! | Who | Waits for | Where | Is woken by |
 //! |---|---|---|---|
 //! | a worker | work, or that all leave | `work` | who makes work, or sees more of it than it takes: one worker; who makes the run leave: all |
@@ -14,7 +19,8 @@
 //!
 //! Who waits looks under the lock, and goes to sleep and lets go of the lock in one step; it looks again when it is woken.
 //! Who makes true what another waits for does so under the lock, and wakes it afterwards. So a waiter either sees the change or
-//! is asleep when it is woken: no wake-up is lost. It is left to see that each such change wakes somebody.
+//! is asleep when it is woken: no wake-up is lost. It is left to see that each such change wakes somebody. Whom a hold wakes is
+//! in its answer, and clauses say when: a worker exactly where it leaves work behind, who leads exactly where all is quiet.
 //!
 //! **Work** comes into being in three ways.
 //! - A clock makes a task ripe, that of who leads or that of [`Pool::advance`]: each wakes one worker where there is work.
@@ -26,7 +32,8 @@
 //! or was woken and will, or all are in jobs; and each looks for work when its job is done.
 //!
 //! **Quiet** comes into being in four ways.
-//! - The last job is done, or a start finds only tasks that are cancelled: that worker, before it sleeps, wakes who leads.
+//! - The last job is done, or a start finds only tasks that are cancelled: that worker looks for more in the same hold, and
+//!   before it sleeps wakes who leads.
 //! - A clock of [`Pool::advance`] takes away what was ripe, as a sweep does: it wakes who leads.
 //! - A call of the run is refused, and the run is leaving: who sees that leaves, and wakes all others and who leads.
 //! - A clock of who leads, which looks itself.
@@ -35,12 +42,12 @@
 //!
 //! **The end of a run.** Who leads goes to the next moment when all is quiet. After the last one the run is leaving and all
 //! workers are woken; each is joined before [`Pool::run`] returns. The first call of the run that is refused, a clock, a start
-//! or a finish, or a thread that can't be made, makes the run leave too. A worker in its job then gives its finish to the book
-//! all the same, and leaves.
+//! or a finish, or a thread that can't be made, makes the run leave too, and is kept: nothing takes it back, and each later run
+//! is answered by it. A worker in its job then gives its finish to the book all the same, and leaves.
 //!
 //! No lock is held while a job runs. So a job may call the pool: [`Pool::advance`], [`Pool::handle`]; and [`Pool::run`], which
 //! answers that a run is under way.
-ghost use Rattle.std.specs.Prelude.{◌≡◌, ◌⊎◌, ◌↔◌, ℕ, None, IsErrOf, IfErr, IfOk, length};
+ghost use Rattle.std.specs.Prelude.{◌≡◌, ◌⊎◌, ◌↔◌, ◌≤◌, ℕ, None, IsErrOf, IfErr, IfOk, length};
 ghost use Rattle.queue_code.specs.Calls.{task_count};
 ghost use Rattle.queue_code.specs.Codes.{calls_of};
 ghost use Rattle.task_word.specs.Views.{new_core, new_handle};
@@ -50,7 +57,9 @@ ghost use Rattle.executor_core.specs.CoreView.{workers_of};
 ghost use Rattle.worker_pool.specs.Books.{IsBook};
 ghost use Rattle.worker_pool.specs.Shares.{known_to};
 
+mod limit;
 mod shift;
+mod stage;
 
 use crate::applied::{Applied, Work};
 use crate::book::Book;
@@ -59,9 +68,11 @@ use crate::handle::Handle;
 use crate::named::Named;
 use crate::shared::Shared;
 use heap_allocator::HeapAllocator;
+use limit::Limit;
 use queue_code::Code;
 use sched_time::Ending;
 use shift::Shift;
+use stage::{Lead, Next};
 use std::alloc::Allocator;
 use std::marker::Model;
 use std::sync::{Condvar, Mutex, Wait};
@@ -80,6 +91,8 @@ pub trait Job {
 pub struct Pool<'s, N: Named, A: Allocator> {
     shared: &'s Shared<A>,
     workers: u8,
+    /// How many events the book takes that is under the lock.
+    limit: Limit,
     shift: Mutex<Shift<N, A>>,
     /// Workers wait here for work.
     work: Condvar,
@@ -89,11 +102,11 @@ pub struct Pool<'s, N: Named, A: Allocator> {
 
 impl<'s, N: Named, A: Allocator> Model for Pool<'s, N, A> {
     ghost use Rattle.std.specs.Prelude.{◌≡◌};
-    ghost use Rattle.worker_pool.specs.Shares.{SharedView};
+    ghost use Rattle.worker_pool.specs.Pools.{PoolView};
 
-    ghost Value = { SharedView };
+    ghost Value = { PoolView };
 
-    ghost view = { λ p. p.shared.now };
+    ghost view = { λ p. record { shared = p.shared.now; limit = p.limit.events } };
 
     ghost invariant = { λ p. (p.shared.now.table ≡ N.table) × (p.shared.now.cells ≡ N.cells) × (p.workers ≡ N.workers) };
 }
@@ -117,16 +130,18 @@ impl<'s, N: Named, A: HeapAllocator> Pool<'s, N, A> {
         requires seat { (seat.table ≡ shared.now.table) × (seat.view ≡ new_core shared.now.tasks) }
         requires tasks { shared.now.tasks ≡ task_count (calls_of code) }
         requires named { (calls_of code ≡ N.calls) × (workers ≡ N.workers) }
-        ensures shared { IfOk result (λ p. p ≡ shared.now) }
+        ensures made { IfOk result (λ p. p ≡ record { shared = shared.now; limit = limit }) }
         ensures workers { IsErrOf result PoolError.Workers ↔ ¬ IsWorkerCount workers }
         ensures limit { IsErrOf result PoolError.Limit ↔ (IsWorkerCount workers × (limit ≡ 0)) }
         ensures others { (IsErrOf result PoolError.Full → ⊥) × (IsErrOf result PoolError.Seats → ⊥) × (IsErrOf result PoolError.Running → ⊥) }
     {
         let book = Book::new(alloc, shared, seat, code, workers, limit)?;
+        let (shift, limit) = Limit::lock(book, limit);
         Ok(Pool {
             shared,
             workers,
-            shift: Mutex::new(Shift::new(book)),
+            limit,
+            shift,
             work: Condvar::new(),
             quiet: Condvar::new(),
         })
@@ -169,15 +184,12 @@ impl<'s, N: Named, A: HeapAllocator> Pool<'s, N, A> {
     /// Moves the clock through the moments, and waits at each until all is quiet. Then all workers leave.
     fn lead<R: Wait>(&self, rt: &R, moments: &[u64], made: bool) {
         let mut shift = self.shift.lock(rt);
-        if !made {
-            shift.fail(PoolError::Memory);
-        }
+        shift.begin(made);
         for &moment in moments {
-            if shift.is_failed() {
+            let Lead::Moves { wakes_one } = shift.lead(self.shared, moment) else {
                 break;
-            }
-            shift.move_clock(self.shared, moment);
-            if shift.has_work() {
+            };
+            if wakes_one {
                 drop(shift);
                 self.work.notify_one();
                 shift = self.shift.lock(rt);
@@ -203,32 +215,30 @@ impl<'s, N: Named, A: HeapAllocator> Pool<'s, N, A> {
     /// Gives the finish of the job that a worker has done to the book, and the worker its next one. `None`: it is to leave.
     fn next<R: Wait>(&self, rt: &R, worker: u8, done: Option<Ending>) -> Option<Work> {
         let mut shift = self.shift.lock(rt);
-        if let Some(ending) = done {
-            shift.finish(self.shared, worker, ending);
-        }
+        let mut next = shift.hold(self.shared, worker, done);
         for _ in rt.forever() {
-            if shift.has_work() {
-                let work = shift.start(self.shared, worker);
-                if work.is_some() {
-                    let more = shift.has_work();
+            match next {
+                Next::Job { work, wakes_one } => {
                     drop(shift);
-                    if more {
+                    if wakes_one {
                         self.work.notify_one();
                     }
-                    return work;
+                    return Some(work);
                 }
-                continue;
+                Next::Leave => {
+                    drop(shift);
+                    self.work.notify_all();
+                    self.quiet.notify_one();
+                    return None;
+                }
+                Next::Sleep { wakes_leader } => {
+                    if wakes_leader {
+                        self.quiet.notify_one();
+                    }
+                    shift = self.work.wait(rt, shift);
+                    next = shift.hold(self.shared, worker, None);
+                }
             }
-            if shift.is_leaving() {
-                drop(shift);
-                self.work.notify_all();
-                self.quiet.notify_one();
-                return None;
-            }
-            if shift.is_quiet() {
-                self.quiet.notify_one();
-            }
-            shift = self.work.wait(rt, shift);
         }
         unreachable!()
     }
@@ -243,41 +253,41 @@ impl<'s, N: Named, A: HeapAllocator> Pool<'s, N, A> {
         ensures handle { IfOk result (λ h. h.seat ≡ new_handle (length N.cells)) }
         ensures notes { IfOk result (λ h. AreNotesOf h.notes N.cells × ((k : ℕ) → known_to h k ≡ None)) }
     {
-        self.shift.lock(rt).book.admit(self.shared)
+        self.shift.lock(rt).admit(self.shared)
     }
 
     /// Lets the clock show a moment, whether a run is under way or not. A run that is under way goes on with what is due then.
+    /// A line at least is added, and no work is started.
     ///
     /// # Errors
     ///
     /// Those of [`Book::apply`], [`PoolError::Full`] and then [`PoolError::Memory`]. They end no run.
     pub fn advance<R: Wait>(&self, rt: &R, moment: u64) -> Result<Applied, PoolError>
+        ensures told { IfOk result (λ told. (1 ≤ told.count) × (told.work ≡ None)) }
         ensures others { IfErr result (λ e. (e ≡ PoolError.Full) ⊎ (e ≡ PoolError.Memory)) }
     {
-        let mut shift = self.shift.lock(rt);
-        let applied = shift.advance(self.shared, moment);
-        let more = shift.has_work();
-        let quiet = shift.is_quiet();
-        drop(shift);
-        if more {
+        let advanced = self.shift.lock(rt).advance(self.shared, moment);
+        if advanced.wakes_one {
             self.work.notify_one();
         }
-        if quiet {
+        if advanced.wakes_leader {
             self.quiet.notify_one();
         }
-        applied
+        advanced.applied
     }
 }
 
 impl<'s, N: Named, A: Allocator> Pool<'s, N, A> {
-    /// The book, which takes back the handles that are out.
+    /// The book, which takes back the handles that are out. It took no more events than its limit.
     pub fn end(self) -> Book<N, A>
         ensures book { IsBook N.cells result }
         ensures named { (result.core.calls ≡ N.calls) × (workers_of result.core ≡ N.workers) }
+        ensures within { result.core.taken ≤ result.core.limit }
     {
         let Pool {
             shared: _,
             workers: _,
+            limit: _,
             shift,
             work: _,
             quiet: _,

@@ -20,7 +20,7 @@ use Rattle.executor_core.specs.CoreView.{CoreView, workers_of, state_of, room_of
 use Rattle.executor_core.specs.Needs.{need_of}
 use Rattle.executor_laws.specs.TaskWords.{word_after}
 use Rattle.worker_pool.specs.Books.{history_for, stands_in, was_outside, FitsWord}
-use Rattle.worker_pool.specs.Applies.{calls_in, SaysYes}
+use Rattle.worker_pool.specs.Applies.{calls_in, SaysYes, is_in_way, WereInWay}
 
 -- the seat's entries fit the words after a history, and who is cancelled there was cancelled by the seat or from outside
 pub record Agrees (calls : List Planned) (workers : ℕ) (past : List HistoryEntry) (v : CoreSeatView) : Type 0 where
@@ -99,31 +99,41 @@ pub record OnlyNoted (old new : CoreView) (before happened : List Happening) : T
   pub noting : Noting (past_in old before) (past_in new happened)
   pub room : room_of new ≤ room_of old
 
+-- the same, and the tasks of these cancels stood in the way of a happening
+pub record NotedFor (old new : CoreView) (before happened : List Happening) (happening : Happening) : Type 0 where
+  pub only : OnlyNoted old new before happened
+  pub way : WereInWay old.calls (workers_of old) (past_in old before) happening only.noting.noted
+
 -- a cancel of task k was noted, for which room was given up; a sweep that is next ends the same tasks but that one
 pub record Notes (old new : CoreView) (before happened : List Happening) (k : ℕ) : Type 0 where
   pub only : OnlyNoted old new before happened
   pub less : room_of new + 1 ≤ room_of old
   pub ends : (j : ℕ) → is_end j (ends_of new) ≡ (is_end j (ends_of old) && not (k == j))
+  -- it is one that stood in the way of each happening in whose way its task stood
+  pub way : (y : Happening) → is_in_way old.calls (workers_of old) (past_in old before) y k ≡ true
+      → WereInWay old.calls (workers_of old) (past_in old before) y only.noting.noted
 
 -- an entry is a call, or a cancel from outside that is answered yes
 abbrev pub IsPassed : HistoryEntry → Type 0
 IsPassed e = IsTrue (is_call e.happening) ⊎ ((k : ℕ) × SaysYes e k)
 
--- calls were made and cancels were noted; these are the calls, the newest first, and the tasks that they cancelled are the
--- seat's own now
-pub record Passes (before after_own : List ℕ) (old now : List HistoryEntry) (these : List Happening) : Type 0 where
+-- calls were made and cancels were noted, the last ones before this happening; these are the calls, the newest first, and the
+-- tasks that they cancelled are the seat's own now
+pub record Passes (plan : List Planned) (workers : ℕ) (happening : Happening) (before after_own : List ℕ) (old now : List HistoryEntry) (these : List Happening) : Type 0 where
   pub between : List HistoryEntry
   pub past : now ≡ between ++ old
   pub each : All IsPassed between
+  pub way : WereInWay plan workers old happening between
   pub calls : happenings (calls_in between) ≡ these
   pub own : (k : ℕ) → stands_in k after_own ≡ (was_cancelled k (calls_in between) || stands_in k before)
 
 -- then a last happening came; with the calls it is this part
-pub record Completes (before after_own : List ℕ) (old now : List HistoryEntry) (these : List Happening) : Type 0 where
+pub record Completes (plan : List Planned) (workers : ℕ) (before after_own : List ℕ) (old now : List HistoryEntry) (these : List Happening) : Type 0 where
   pub last : HistoryEntry
   pub between : List HistoryEntry
   pub past : now ≡ last ∷ (between ++ old)
   pub each : All IsPassed between
+  pub way : WereInWay plan workers old last.happening between
   pub part : last.happening ∷ happenings (calls_in between) ≡ these
   pub own : (k : ℕ) → stands_in k after_own ≡ (was_cancelled k (last ∷ calls_in between) || stands_in k before)
 

@@ -1,54 +1,48 @@
-//! What lies under the lock of a pool: a book, and how far the run over it is.
-ghost use Rattle.std.specs.Prelude.{◌≡◌, ◌⊎◌, ◌+◌, ◌-◌, ◌<◌, ◌^◌, ◌↔◌, true, false, Some, None, Err, IsTrue, IsOk, IsSome, IsErrOf, IfErr, IfOk, OnOk, OnErr, OnSome, MatchOption, is_some, unwrap_or};
+//! What lies under the lock of a pool: a book, and how far the run over it is. Its functions are what a thread does there in one
+//! hold of the lock, and say what it does next.
+ghost use Rattle.std.specs.Prelude.{◌≡◌, ◌⊎◌, ◌+◌, ◌≤◌, ◌↔◌, ℕ, true, false, Some, None, Err, IsTrue, IsOk, IsSome, IsErrOf, IfErr, IfOk, OnOk, OnErr, MatchOption, is_some, unwrap_or, length};
 ghost use Rattle.std.specs.Option.{ForSome};
-ghost use Rattle.executor_core.specs.CoreView.{workers_of, state_of};
-ghost use Rattle.executor_core.specs.State.{view_of_state};
-ghost use Rattle.executor_core.specs.Needs.{IsRipe};
+ghost use Rattle.task_word.specs.Views.{most_handles, new_handle, one_out};
+ghost use Rattle.result_cell.specs.Cells.{AreNotesOf};
+ghost use Rattle.executor_core.specs.CoreView.{workers_of};
 ghost use Rattle.executor_core.specs.declared.types.Event.TheVariants as v;
 ghost use Rattle.worker_pool.specs.Books.{IsBook};
+ghost use Rattle.worker_pool.specs.Shares.{known_to};
 ghost use Rattle.worker_pool.specs.Applies.{Applies, Tells};
-ghost use Rattle.worker_pool.specs.own.Shifts.{is_stopped, ends_runs, TookEvent};
+ghost use Rattle.worker_pool.specs.own.Shifts.{is_stopped, ends_runs, Under, HasWork, IsQuiet, KeepsLimit, KeepsFault, Refuses, Starts, GetNothing, Decides, Finishes, Holds, Leads};
 
-use crate::applied::{Applied, Work};
+use crate::applied::Work;
 use crate::book::Book;
 use crate::error::PoolError;
+use crate::handle::Handle;
 use crate::named::Named;
+use crate::pool::stage::{Advanced, Lead, Next, Stage};
 use crate::shared::Shared;
 use executor_core::Event;
 use heap_allocator::HeapAllocator;
 use sched_time::Ending;
 use std::alloc::Allocator;
 
-/// How far a run is.
-#[derive(Clone, Copy, Debug, PartialEq, Eq)]
-pub enum Stage {
-    /// No run is under way.
-    Closed,
-    /// Workers are made. None takes a start before the first clock.
-    Opening,
-    /// Workers take what is due.
-    Open,
-    /// Workers leave.
-    Leaving,
-}
-
 /// A book, and how far the run over it is.
 #[derive(Drop)]
 pub struct Shift<N: Named, A: Allocator> {
-    pub book: Book<N, A>,
+    book: Book<N, A>,
     stage: Stage,
     /// How many workers are in a job.
     running: u64,
     /// What a call of a run was refused with first. It ends that run and each later one.
     fault: Option<PoolError>,
     ghost kept: { ForSome fault (λ e. (ends_runs e ≡ true) × (is_stopped stage ≡ true)) },
+    ghost within: { book.core.taken ≤ book.core.limit },
 }
 
 impl<N: Named, A: Allocator> Shift<N, A> {
+    ghost use Rattle.worker_pool.specs.own.Seen.{seen};
+
     /// A book over which no run is under way.
     pub fn new(book: Book<N, A>) -> Shift<N, A>
-        ensures book { result.book ≡ book }
-        ensures closed { (result.stage ≡ Stage.Closed) × (result.fault ≡ None) × (result.running ≡ 0) }
+        requires within { book.core.taken ≤ book.core.limit }
+        ensures new { seen result ≡ record { book = book; stage = Stage.Closed; running = 0; fault = None } }
     {
         Shift {
             book,
@@ -92,6 +86,17 @@ impl<N: Named, A: Allocator> Shift<N, A> {
         }
     }
 
+    /// Who leads begins. Where some worker could not be made the run is refused for want of memory, and shows no moment.
+    pub fn begin(&mut self, made: bool)
+        ensures made { IsTrue made → seen self.new ≡ seen self.old }
+        ensures unmade { made ≡ false → (self.new.stage ≡ Stage.Leaving) × (self.new.fault ≡ Some (unwrap_or self.old.fault PoolError.Memory)) }
+        ensures same { (self.new.book ≡ self.old.book) × (self.new.running ≡ self.old.running) }
+    {
+        if !made {
+            self.fail(PoolError::Memory);
+        }
+    }
+
     /// Lets the workers of a run leave.
     pub fn leave(&mut self)
         ensures leaving { self.new.stage ≡ Stage.Leaving }
@@ -101,7 +106,7 @@ impl<N: Named, A: Allocator> Shift<N, A> {
     }
 
     /// A call of the run was refused: the first such is kept, and the workers leave.
-    pub fn fail(&mut self, fault: PoolError)
+    fn fail(&mut self, fault: PoolError)
         requires { ends_runs fault ≡ true }
         ensures first { self.new.fault ≡ Some (unwrap_or self.old.fault fault) }
         ensures leaving { self.new.stage ≡ Stage.Leaving }
@@ -113,32 +118,16 @@ impl<N: Named, A: Allocator> Shift<N, A> {
         }
     }
 
-    /// Whether a call of a run was refused.
-    pub fn is_failed(&self) -> bool
-        ensures { result ≡ is_some self.now.fault }
-    {
-        self.fault.is_some()
-    }
-
-    /// Whether the workers are to leave.
-    pub fn is_leaving(&self) -> bool
-        ensures { IsTrue result ↔ (self.now.stage ≡ Stage.Leaving) }
-    {
-        self.stage == Stage::Leaving
-    }
-
     /// Whether a worker may take a start: the run is open, and some task is ripe.
-    pub fn has_work(&self) -> bool
-        ensures { IsTrue result ↔ ((self.now.stage ≡ Stage.Open)
-            × IsRipe self.now.book.core.calls (view_of_state self.now.book.core.calls (state_of self.now.book.core))) }
+    fn has_work(&self) -> bool
+        ensures { IsTrue result ↔ HasWork (seen self.now) }
     {
         self.stage == Stage::Open && self.book.ripe()
     }
 
     /// Whether who leads has nothing to wait for: nothing is ripe and no job is run, or the run is not open.
     pub fn is_quiet(&self) -> bool
-        ensures { IsTrue result ↔ (self.now.stage ≡ Stage.Open → (self.now.running ≡ 0)
-            × (¬ IsRipe self.now.book.core.calls (view_of_state self.now.book.core.calls (state_of self.now.book.core)))) }
+        ensures { IsTrue result ↔ IsQuiet (seen self.now) }
     {
         if self.stage != Stage::Open {
             return true;
@@ -154,6 +143,7 @@ impl<N: Named, A: Allocator> Shift<N, A> {
         ensures same { result ≡ self.book }
         ensures book { IsBook N.cells result }
         ensures named { (result.core.calls ≡ N.calls) × (workers_of result.core ≡ N.workers) }
+        ensures within { result.core.taken ≤ result.core.limit }
     {
         let Shift {
             book,
@@ -167,53 +157,83 @@ impl<N: Named, A: Allocator> Shift<N, A> {
 }
 
 impl<N: Named, A: HeapAllocator> Shift<N, A> {
-    /// The clock of the run shows a moment, from which on the run is open; or it is refused, and the run is to end.
-    pub fn move_clock(&mut self, shared: &Shared<A>, moment: u64)
+    ghost use Rattle.worker_pool.specs.own.Seen.{seen};
+
+    /// What a worker does while it holds the lock: it gives the finish of its job to the book, if it comes from one, whether the run
+    /// goes on or not, and takes a start as long as there is work. What it does next is the answer.
+    ///
+    /// A start may find only tasks that are cancelled: then the worker looks again. A refused finish or start makes the run leave.
+    pub fn hold(&mut self, shared: &Shared<A>, worker: u8, done: Option<Ending>) -> Next
         requires shared { (shared.now.table ≡ N.table) × (shared.now.cells ≡ N.cells) }
-        requires goes_on { is_some self.old.fault ≡ false }
-        ensures taken { self.new.fault ≡ None → Applies self.old.book self.new.book (v.Clock moment) × (self.new.stage ≡ Stage.Open) }
-        ensures refused { IsSome self.new.fault → (self.new.book ≡ self.old.book) × (self.new.stage ≡ Stage.Leaving) }
-        ensures full { (self.new.fault ≡ Some PoolError.Full) ↔ (self.old.book.core.taken ≡ self.old.book.core.limit) }
-        ensures running { self.new.running ≡ self.old.running }
+        ensures holds { Holds worker done result (seen self.old) (seen self.new) }
+        ensures leaves { (result ≡ Next.Leave) ↔ (self.new.stage ≡ Stage.Leaving) }
+        ensures limit { KeepsLimit (seen self.old) (seen self.new) }
+        ensures fault { KeepsFault (seen self.old) (seen self.new) }
     {
-        match self.book.apply(shared, Event::Clock(moment)) {
-            Ok(_) => self.stage = Stage::Open,
-            Err(fault) => self.fail(fault),
+        if let Some(ending) = done {
+            self.finish(shared, worker, ending);
         }
+        self.next(shared, worker)
     }
 
-    /// A worker asks for work. `None`: what was ripe was cancelled, or the start is refused and the run is to end.
-    #[tactic(auto, using(crate::proofs::Shifting::goes_on, crate::proofs::Shifting::took))]
-    pub fn start(&mut self, shared: &Shared<A>, worker: u8) -> Option<Work>
+    /// Takes starts until one gets work, or there is no more of it.
+    fn next(&mut self, shared: &Shared<A>, worker: u8) -> Next
         requires shared { (shared.now.table ≡ N.table) × (shared.now.cells ≡ N.cells) }
-        requires open { self.old.stage ≡ Stage.Open }
-        ensures taken { self.new.fault ≡ None → TookEvent self.old.book self.new.book (v.Start worker) result × (self.new.stage ≡ Stage.Open) }
-        ensures refused { IsSome self.new.fault → (self.new.book ≡ self.old.book) × (self.new.stage ≡ Stage.Leaving) × (result ≡ None) }
-        ensures full { (self.new.fault ≡ Some PoolError.Full) ↔ (self.old.book.core.taken ≡ self.old.book.core.limit) }
-        ensures counted { OnSome result (0 < self.new.running) }
-        ensures others { result ≡ None → self.new.running ≡ self.old.running }
+        ensures decides { (count : ℕ) × (last : Under) × GetNothing worker count (seen self.old) last × Decides worker result last (seen self.new) }
+        ensures leaves { (result ≡ Next.Leave) ↔ (self.new.stage ≡ Stage.Leaving) }
+        ensures limit { KeepsLimit (seen self.old) (seen self.new) }
+        ensures fault { KeepsFault (seen self.old) (seen self.new) }
+    {
+        while self.has_work() {
+            match self.start(shared, worker) {
+                Ok(Some(work)) => {
+                    let more = self.has_work();
+                    return Next::Job {
+                        work,
+                        wakes_one: more,
+                    };
+                }
+                // What was ripe is cancelled.
+                Ok(None) => {}
+                Err(_) => return Next::Leave,
+            }
+        }
+        if self.stage == Stage::Leaving {
+            return Next::Leave;
+        }
+        let wakes_leader = self.is_quiet();
+        Next::Sleep { wakes_leader }
+    }
+
+    /// A worker takes a start, and is in a job where it gets work. Where the start is refused, the run is to end.
+    fn start(&mut self, shared: &Shared<A>, worker: u8) -> Result<Option<Work>, PoolError>
+        requires shared { (shared.now.table ≡ N.table) × (shared.now.cells ≡ N.cells) }
+        requires work { HasWork (seen self.old) }
+        ensures taken { IfOk result (λ got. Starts worker got (seen self.old) (seen self.new)) }
+        ensures one { OnOk result (self.new.book.core.taken ≡ self.old.book.core.taken + 1) }
+        ensures refused { IfErr result (λ e. Refuses e (seen self.old) (seen self.new)) }
+        ensures limit { KeepsLimit (seen self.old) (seen self.new) }
     {
         match self.book.apply(shared, Event::Start(worker)) {
             Ok(applied) => {
                 if applied.work.is_some() {
                     self.running = self.running.saturating_add(1);
                 }
-                applied.work
+                Ok(applied.work)
             }
             Err(fault) => {
                 self.fail(fault);
-                None
+                Err(fault)
             }
         }
     }
 
     /// A worker has run its job, whether the run goes on or not. Where the finish is refused, the run is to end.
-    pub fn finish(&mut self, shared: &Shared<A>, worker: u8, ending: Ending)
+    fn finish(&mut self, shared: &Shared<A>, worker: u8, ending: Ending)
         requires shared { (shared.now.table ≡ N.table) × (shared.now.cells ≡ N.cells) }
-        ensures done { (Applies self.old.book self.new.book (v.Finish worker ending) × (self.new.stage ≡ self.old.stage) × (self.new.fault ≡ self.old.fault))
-            ⊎ ((self.new.book ≡ self.old.book) × (self.new.stage ≡ Stage.Leaving) × IsSome self.new.fault) }
-        ensures full { self.old.book.core.taken ≡ self.old.book.core.limit → self.new.fault ≡ Some (unwrap_or self.old.fault PoolError.Full) }
-        ensures counted { self.new.running ≡ self.old.running - 1 }
+        ensures done { Finishes worker ending (seen self.old) (seen self.new) }
+        ensures limit { KeepsLimit (seen self.old) (seen self.new) }
+        ensures fault { KeepsFault (seen self.old) (seen self.new) }
     {
         self.running = self.running.saturating_sub(1);
         if let Err(fault) = self.book.apply(shared, Event::Finish(worker, ending)) {
@@ -221,15 +241,60 @@ impl<N: Named, A: HeapAllocator> Shift<N, A> {
         }
     }
 
-    /// The clock shows a moment, which ends no run and opens none.
-    pub fn advance(&mut self, shared: &Shared<A>, moment: u64) -> Result<Applied, PoolError>
+    /// Who leads shows the next moment of its run, which opens it, if no call of the run was refused. Where this clock is refused,
+    /// the run is to end.
+    pub fn lead(&mut self, shared: &Shared<A>, moment: u64) -> Lead
         requires shared { (shared.now.table ≡ N.table) × (shared.now.cells ≡ N.cells) }
-        ensures full { IsErrOf result PoolError.Full ↔ (self.old.book.core.taken ≡ self.old.book.core.limit) }
-        ensures others { IfErr result (λ e. (e ≡ PoolError.Full) ⊎ (e ≡ PoolError.Memory)) }
-        ensures refused { OnErr result (self.new.book ≡ self.old.book) }
-        ensures applied { IfOk result (λ told. (did : Applies self.old.book self.new.book (v.Clock moment)) × Tells self.old.book self.new.book did.last told) }
-        ensures same { (self.new.stage ≡ self.old.stage) × (self.new.running ≡ self.old.running) × (self.new.fault ≡ self.old.fault) }
+        ensures leads { Leads moment result (seen self.old) (seen self.new) }
+        ensures ends { (result ≡ Lead.Ends) ↔ IsSome self.new.fault }
+        ensures limit { KeepsLimit (seen self.old) (seen self.new) }
+        ensures fault { KeepsFault (seen self.old) (seen self.new) }
     {
-        self.book.apply(shared, Event::Clock(moment))
+        if self.fault.is_some() {
+            return Lead::Ends;
+        }
+        if let Err(fault) = self.book.apply(shared, Event::Clock(moment)) {
+            self.fail(fault);
+            return Lead::Ends;
+        }
+        self.stage = Stage::Open;
+        let wakes_one = self.has_work();
+        Lead::Moves { wakes_one }
+    }
+
+    /// The clock shows a moment, which ends no run and opens none.
+    pub fn advance(&mut self, shared: &Shared<A>, moment: u64) -> Advanced
+        requires shared { (shared.now.table ≡ N.table) × (shared.now.cells ≡ N.cells) }
+        ensures full { IsErrOf result.applied PoolError.Full ↔ (self.old.book.core.taken ≡ self.old.book.core.limit) }
+        ensures others { IfErr result.applied (λ e. (e ≡ PoolError.Full) ⊎ (e ≡ PoolError.Memory)) }
+        ensures refused { OnErr result.applied (self.new.book ≡ self.old.book) }
+        ensures applied { IfOk result.applied (λ told. (did : Applies self.old.book self.new.book (v.Clock moment)) × Tells self.old.book self.new.book did.last told) }
+        ensures told { IfOk result.applied (λ told. (1 ≤ told.count) × (told.work ≡ None)) }
+        ensures wakes { (IsTrue result.wakes_one ↔ HasWork (seen self.new)) × (IsTrue result.wakes_leader ↔ IsQuiet (seen self.new)) }
+        ensures same { (self.new.stage ≡ self.old.stage) × (self.new.running ≡ self.old.running) × (self.new.fault ≡ self.old.fault) }
+        ensures limit { KeepsLimit (seen self.old) (seen self.new) }
+    {
+        let _before = self.book.lines();
+        let applied = self.book.apply(shared, Event::Clock(moment));
+        let _after = self.book.lines();
+        Advanced {
+            applied,
+            wakes_one: self.has_work(),
+            wakes_leader: self.is_quiet(),
+        }
+    }
+
+    /// Cuts off a handle, as [`Book::admit`] does.
+    pub fn admit<'s>(&mut self, shared: &'s Shared<A>) -> Result<Handle<'s, N, A>, PoolError>
+        requires shared { (shared.now.table ≡ N.table) × (shared.now.cells ≡ N.cells) }
+        ensures seats { IsErrOf result PoolError.Seats ↔ (self.old.book.seat.out ≡ most_handles) }
+        ensures others { IfErr result (λ e. (e ≡ PoolError.Seats) ⊎ (e ≡ PoolError.Memory)) }
+        ensures refused { OnErr result (self.new.book ≡ self.old.book) }
+        ensures admitted { OnOk result (self.new.book ≡ record self.old.book { seat = one_out self.old.book.seat }) }
+        ensures same { (self.new.stage ≡ self.old.stage) × (self.new.running ≡ self.old.running) × (self.new.fault ≡ self.old.fault) }
+        ensures handle { IfOk result (λ h. h.seat ≡ new_handle (length N.cells)) }
+        ensures notes { IfOk result (λ h. AreNotesOf h.notes N.cells × ((k : ℕ) → known_to h k ≡ None)) }
+    {
+        self.book.admit(shared)
     }
 }

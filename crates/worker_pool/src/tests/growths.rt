@@ -9,6 +9,7 @@ ghost use Rattle.task_word.specs.Views.{new_core};
 
 use super::{Handles, Step, Told, check_lines, code_with_halt, step_of};
 use crate::{Book, Named, PoolError, Shared};
+use executor_core::{Happening, Line};
 use heap_allocator::HeapAllocator;
 use queue_code::{Code, Instr};
 use refusing_allocator::Refusing;
@@ -16,7 +17,7 @@ use std::alloc::{AllocGlobal, Global};
 use std::marker::Brand;
 use std::process::Abort;
 use std::test::Fail;
-use task_word::CoreSeat;
+use task_word::{CoreSeat, TaskState};
 
 /// A plan, what is done with a book for it, what is told with ample memory, and the lines then.
 #[derive(Clone, Copy)]
@@ -26,6 +27,9 @@ pub struct Row<'a> {
     pub told: &'a [Told],
     pub text: &'a str,
 }
+
+/// A row has so many tasks at most.
+const MOST_TASKS: u32 = 2;
 
 /// A call that was refused a growth.
 #[derive(Clone, Copy, Debug, PartialEq, Eq)]
@@ -37,7 +41,7 @@ pub enum Refused {
 }
 
 /// Plays a row with its first growth refused, then with its second and so on, until no growth of that number is asked for.
-/// Each time the call that was refused tells want of memory, and is made again; all else that is told, and the lines,
+/// Each time the call that was refused tells want of memory and changes nothing that is shown, and is made again; all else that is told, and the lines,
 /// are those with ample memory, and all memory is given back. Over all plays these calls were refused, in their order.
 pub fn refuse_each(
     rt: &(impl AllocGlobal + Abort),
@@ -139,9 +143,43 @@ fn play_steps<N: Named, A: HeapAllocator>(
     Ok(refused)
 }
 
-/// Does a step, and once more where memory was wanting; tells whether it was.
+/// What a book and the handles that are out show.
+#[derive(Drop, PartialEq, Eq)]
+struct Shown {
+    happened: Vec<Happening>,
+    lines: Vec<Line>,
+    is_ripe: bool,
+    /// The states of the first tasks, as each handle tells them.
+    states: Vec<TaskState>,
+}
+
+/// What a book and its handles show now.
+fn shown_by<N: Named, A: HeapAllocator>(
+    alloc: Global,
+    book: &Book<N, A>,
+    handles: &mut Handles<'_, N, A>,
+) -> Result<Shown, Fail> {
+    let mut happened = Vec::new(alloc);
+    happened.extend_from_slice(book.happenings())?;
+    let mut lines = Vec::new(alloc);
+    lines.extend_from_slice(book.lines())?;
+    let mut states = Vec::new(alloc);
+    for handle in handles.iter_mut().flatten() {
+        for task in 0..MOST_TASKS {
+            states.push(handle.state(task))?;
+        }
+    }
+    Ok(Shown {
+        happened,
+        lines,
+        is_ripe: book.ripe(),
+        states,
+    })
+}
+
+/// Does a step, and once more where memory was wanting; tells whether it was. Then all is shown as before, until it is done again.
 fn is_done_again<'s, N: Named, A: HeapAllocator>(
-    rt: &impl Abort,
+    rt: &(impl AllocGlobal + Abort),
     book: &mut Book<N, A>,
     shared: &'s Shared<A>,
     handles: &mut Handles<'s, N, A>,
@@ -150,11 +188,14 @@ fn is_done_again<'s, N: Named, A: HeapAllocator>(
 ) -> Result<bool, Fail>
     requires { (shared.now.table ≡ N.table) × (shared.now.cells ≡ N.cells) }
 {
+    let before = shown_by(rt.alloc(), book, handles)?;
     let first = step_of(book, shared, handles, step)?;
     if first != Told::Refused(PoolError::Memory) {
         assert_eq!(rt; first, told);
         return Ok(false);
     }
+    let after = shown_by(rt.alloc(), book, handles)?;
+    assert!(rt; after == before, "a refused call has changed what is shown");
     assert_eq!(rt; step_of(book, shared, handles, step)?, told);
     Ok(true)
 }

@@ -1,7 +1,10 @@
 //! Tests of the pool: jobs, and scripts of what is done with a pool by one thread.
 mod beside;
+mod growths;
+mod long;
 mod race;
 mod rows;
+mod seats;
 mod stress;
 mod usage;
 
@@ -11,11 +14,12 @@ ghost use Rattle.queue_code.specs.Codes.{calls_of};
 ghost use Rattle.task_word.specs.Views.{new_core};
 
 use crate::{Applied, Book, Handle, Job, Named, Pool, PoolError, Shared};
-use executor_core::{Happening, Line};
+use executor_core::{Answer, Happening, Line, Message, Outcome};
+use plan_read::Plan;
 use queue_code::{Code, Instr};
 use result_cell::Verdict;
 use sched_time::{Ending, Timing};
-use std::alloc::{AllocError, Global};
+use std::alloc::{AllocError, AllocGlobal, Global};
 use std::marker::Brand;
 use std::process::Abort;
 use std::sync::Wait;
@@ -25,6 +29,7 @@ use std::thread;
 use std::thread::Threads;
 use std::time::{Clock, Duration};
 use task_word::CoreSeat;
+use trace_check::{Finding, MOST_BYTES, check};
 use trace_text::write_line;
 
 /// How often a test looks whether what it waits for came, before it gives up.
@@ -115,6 +120,31 @@ fn text_of(alloc: Global, lines: &[Line]) -> Result<Vec<u8>, AllocError> {
         }
     }
     Ok(text)
+}
+
+/// Checks some lines by the plan alone.
+fn conforms(
+    rt: &(impl Abort + AllocGlobal),
+    plan: &Plan<Global>,
+    workers: u8,
+    lines: &[Line],
+) -> Result<(), Fail> {
+    let text = text_of(rt.alloc(), lines)?;
+    assert!(rt; text.len() <= MOST_BYTES);
+    let finding = check(rt.alloc(), plan, workers, &text)?;
+    assert!(rt; finding == Finding::Conforms, "{finding:?}");
+    Ok(())
+}
+
+/// Whether a line says that a task is done, with the value 1.
+fn is_done(line: &Line) -> bool {
+    matches!(
+        line.message,
+        Message::Answer(Answer::Finish {
+            outcome: Outcome::Done(1),
+            ..
+        })
+    )
 }
 
 /// The code of these instructions and a halt.

@@ -40,6 +40,9 @@ call = [
 ]
 "#;
 
+/// How many tasks the greater of the plans has.
+const TASKS: u32 = 3;
+
 /// How many steps there are to choose from.
 const CHOICES: u32 = 9;
 
@@ -88,25 +91,44 @@ fn found(
     Ok(check(alloc, plan, 1, &text)?)
 }
 
-/// Whether a line says that a cancel of task 0 from outside had an effect.
-fn is_outside(line: &Line) -> bool {
-    line.message
-        == Message::Answer(Answer::Outside {
-            task: 0,
-            effect: CancelEffect::Yes,
-        })
+/// What a line says that a cancel of this task from outside did, if it says that.
+fn outside(line: &Line, task: u32) -> Option<CancelEffect> {
+    match line.message {
+        Message::Answer(Answer::Outside { task: of, effect }) if of == task => Some(effect),
+        _ => None,
+    }
 }
 
-/// Whether a handle won task 0 as often as its cancel from outside stands in the lines.
-fn are_noted(steps: &[Step], played: &Played) -> bool {
-    let wins = steps
-        .iter()
-        .zip(&played.told)
-        .filter(|(step, told)| {
-            matches!(step, Step::Cancel(_, 0)) && **told == Told::Cancel(CancelAnswer::Yes)
-        })
-        .count();
-    wins == played.lines.iter().filter(|line| is_outside(line)).count()
+/// How often a handle won a task, and how often it was cancelled by an event.
+fn count_cancels(steps: &[Step], told: &[Told], task: u32) -> (usize, usize) {
+    let mut wins = 0usize;
+    let mut events = 0usize;
+    for (step, told) in steps.iter().zip(told) {
+        match (*step, *told) {
+            (Step::Cancel(_, of), Told::Cancel(CancelAnswer::Yes)) => {
+                wins = wins.saturating_add(usize::from(of == task));
+            }
+            (Step::Apply(Event::Cancel(of)), Told::Lines(..)) => {
+                events = events.saturating_add(usize::from(of == task));
+            }
+            _ => {}
+        }
+    }
+    (wins, events)
+}
+
+/// Whether a task has a line for each time that a handle won it and for each event that cancels it, and no further one from
+/// outside; and whether one of them says that it had an effect where a handle won, and else only where there was an event.
+fn is_noted(steps: &[Step], played: &Played, task: u32) -> bool {
+    let (wins, events) = count_cancels(steps, &played.told, task);
+    let mut lines = 0usize;
+    let mut effects = 0usize;
+    for effect in played.lines.iter().filter_map(|line| outside(line, task)) {
+        lines = lines.saturating_add(1);
+        effects = effects.saturating_add(usize::from(effect == CancelEffect::Yes));
+    }
+    let asked = wins.saturating_add(events);
+    lines == asked && wins <= effects && effects <= asked.min(1)
 }
 
 /// Plays four steps, by their number, behind a first one, and checks and compares the lines.
@@ -135,7 +157,9 @@ fn compare(
     assert!(rt; finding == Finding::Conforms, "{number}: {finding:?}");
     let plain = trace_of_happenings(alloc, &calls, 1, &played.happened)?;
     assert!(rt; plain.as_slice() == played.lines.as_slice(), "{number}");
-    assert!(rt; are_noted(&steps, &played), "{number}");
+    for task in 0..TASKS {
+        assert!(rt; is_noted(&steps, &played, task), "{number} {task}");
+    }
     Ok(())
 }
 

@@ -1,7 +1,5 @@
-use Rattle.std.proofs.Common.{◌≡◌, ◌∙◌, Option, Some, None, sym, ap, subst}
-use Rattle.std.specs.Prelude.{IsSome, IfNone, IfSome}
-use Rattle.worker_pool.specs.own.Results.{HasNoteOf, verdict_told}
-use Rattle.worker_pool.proofs.Settling.{set_or_back, settle_each, told_so}
+use Rattle.std.proofs.Common.{◌∙◌, sym}
+use Rattle.worker_pool.proofs.Settling.{told_so}
 use Rattle.worker_pool.proofs.results.settle.Goals as goal
 
 pub set_cell-requires-clause-below : goal.set_cell-requires-clause-below

@@ -4,9 +4,9 @@ ghost use Rattle.queue_code.specs.Calls.{task_count};
 ghost use Rattle.queue_code.specs.Codes.{calls_of};
 ghost use Rattle.task_word.specs.Views.{new_core};
 
-use super::{Call, RunNumber, Said, call_of, code_of, in_time, saw, tasks_of, text_of};
+use super::{Call, RunNumber, Said, call_of, code_of, in_time, is_done, saw, tasks_of, text_of};
 use crate::{Applied, Job, Named, Pool, PoolError, Shared};
-use executor_core::{Answer, Line, Message, Outcome};
+use executor_core::Line;
 use queue_code::{Code, Instr};
 use sched_time::{Ending, Timing};
 use std::alloc::{AllocError, Global};
@@ -155,17 +155,6 @@ fn a_second_run_is_told_so(rt: HostRuntime) -> Result<(), Fail> {
                   7 start 0 task 1 run 0 due 0\n7 finish 0 task 1 run 0 done 1\n";
     assert!(rt; text.as_slice() == wanted.as_bytes());
     Ok(())
-}
-
-/// Whether a line says that a task is done, and its job was let end.
-fn is_done(line: &Line) -> bool {
-    matches!(
-        line.message,
-        Message::Answer(Answer::Finish {
-            outcome: Outcome::Done(1),
-            ..
-        })
-    )
 }
 
 #[test]

@@ -4,7 +4,7 @@ ghost use Rattle.queue_code.specs.Calls.{task_count};
 ghost use Rattle.queue_code.specs.Codes.{calls_of};
 ghost use Rattle.task_word.specs.Views.{new_core};
 
-use super::{RunNumber, in_time, text_of};
+use super::{MOST_LOADS, RunNumber, conforms, in_time, saw};
 use crate::{Book, Handle, Job, Named, Pool, PoolError, Shared};
 use executor_core::{Answer, CancelEffect, Line, Message, Outcome};
 use plan_compile::compile;
@@ -21,16 +21,12 @@ use std::thread;
 use std::thread::Threads;
 use std::time::Clock;
 use task_word::{CancelAnswer, CoreSeat, TaskState};
-use trace_check::{Finding, MOST_BYTES, check};
 
 /// How often each race is run.
 const ROUNDS: u32 = 200;
 
 /// The first so many tasks are cancelled.
 const TASKS: usize = 64;
-
-/// How often who cancels looks whether a first job has begun, before it goes on without.
-const MOST_LOOKS: u32 = 1_000_000;
 
 /// A plan, who runs its tasks and who cancels them, and how the run ends.
 #[derive(Clone, Copy)]
@@ -49,16 +45,58 @@ pub struct Race<'a> {
     pub all_end: bool,
 }
 
-/// A job that takes some turns, and counts how often it was begun.
+/// A job that takes some turns, and what who cancels and who runs it wait for. Each is 0 at first.
 #[derive(Drop)]
 struct Turns {
     count: u32,
+    /// Whether each job, and the clock beside, waits until a handle has won a cancel.
+    waits: bool,
+    /// How many jobs were begun.
     begun: AtomicU64,
+    /// 1 once a handle has won a cancel.
+    cancelled: AtomicU64,
+    /// 1 once the run has ended.
+    ended: AtomicU64,
+    /// 1 where what is waited for did not come.
+    gave_up: AtomicU64,
+}
+
+impl Turns {
+    /// A job that takes so many turns.
+    fn new(count: u32, waits: bool) -> Turns {
+        Turns {
+            count,
+            waits,
+            begun: AtomicU64::new(0),
+            cancelled: AtomicU64::new(0),
+            ended: AtomicU64::new(0),
+            gave_up: AtomicU64::new(0),
+        }
+    }
+
+    /// Waits until a first job has begun, or the run has ended without one.
+    fn await_begin(&self) {
+        for _look in 0..MOST_LOADS {
+            let begun = self.begun.load(Ordering::SeqCst);
+            if begun > 0 || self.ended.load(Ordering::SeqCst) > 0 {
+                return;
+            }
+        }
+        self.gave_up.store(1, Ordering::SeqCst);
+    }
+
+    /// Waits until a handle has won a cancel, where that is waited for.
+    fn await_cancel(&self) {
+        if self.waits && !saw(&self.cancelled, 1) {
+            self.gave_up.store(1, Ordering::SeqCst);
+        }
+    }
 }
 
 impl Job for Turns {
     fn run(&self, _task: u32, run: u64) -> Ending {
         self.begun.fetch_add(1, Ordering::SeqCst);
+        self.await_cancel();
         for _turn in 0..self.count {
             let _begun = self.begun.load(Ordering::SeqCst);
         }
@@ -77,7 +115,7 @@ struct Canceller<'s, N: Named> {
 
 impl<'s, N: Named> Canceller<'s, N> {
     /// Cancels each task, from the first one on or from the last one on, and looks each time at those that it won.
-    fn cancel_all(&mut self, is_ascending: bool) {
+    fn cancel_all(&mut self, is_ascending: bool, job: &Turns) {
         for place in 0..TASKS {
             let task = if is_ascending {
                 place
@@ -86,6 +124,7 @@ impl<'s, N: Named> Canceller<'s, N> {
             };
             if self.handle.cancel(task as u32) == CancelAnswer::Yes {
                 self.won[task] = true;
+                job.cancelled.store(1, Ordering::SeqCst);
             }
             self.look();
         }
@@ -119,22 +158,13 @@ fn cancellers_of<'s, N: Named, R: Wait>(
     Ok(cancellers)
 }
 
-/// Waits until a first job has begun, or for so many looks.
-fn await_begin(begun: &AtomicU64) {
-    for _look in 0..MOST_LOOKS {
-        if begun.load(Ordering::SeqCst) > 0 {
-            return;
-        }
-    }
-}
-
 /// Cancels with all handles, each on a thread of its own, once a first job has begun.
 fn cancel_with_all<N: Named + Send + Sync, R: Threads + Wait + Sync>(
     rt: &R,
-    begun: &AtomicU64,
+    job: &Turns,
     cancellers: &mut [Canceller<'_, N>],
 ) {
-    await_begin(begun);
+    job.await_begin();
     let threads = cancellers.len();
     if threads == 0 {
         return;
@@ -143,7 +173,7 @@ fn cancel_with_all<N: Named + Send + Sync, R: Threads + Wait + Sync>(
         rt,
         cancellers,
         threads,
-        &|place, canceller| { canceller.cancel_all(place % 2 == 0) },
+        &|place, canceller| { canceller.cancel_all(place % 2 == 0, job) },
     );
 }
 
@@ -152,32 +182,36 @@ fn run_beside<N: Named + Send + Sync, R: Threads + Wait + Sync>(
     rt: &R,
     pool: &Pool<'_, N, Global>,
     race: &Race<'_>,
+    job: &Turns,
     cancellers: &mut [Canceller<'_, N>],
 ) -> Result<(), PoolError> {
-    let job = Turns {
-        count: race.turns,
-        begun: AtomicU64::new(0),
-    };
     let (ran, ()) = thread::join(
         rt,
-        || pool.run(rt, &job, race.moments),
-        || cancel_and_move(rt, pool, race.beside, &job.begun, cancellers),
+        || {
+            let ran = pool.run(rt, job, race.moments);
+            job.ended.store(1, Ordering::SeqCst);
+            ran
+        },
+        || cancel_and_move(rt, pool, race.beside, job, cancellers),
     );
     ran
 }
 
-/// Cancels with all handles, and lets the clock show a moment meanwhile.
+/// Cancels with all handles, and lets the clock show a moment meanwhile: once a handle has won, where that is waited for.
 fn cancel_and_move<N: Named + Send + Sync, R: Threads + Wait + Sync>(
     rt: &R,
     pool: &Pool<'_, N, Global>,
     moment: u64,
-    begun: &AtomicU64,
+    job: &Turns,
     cancellers: &mut [Canceller<'_, N>],
 ) {
     let (_applied, ()) = thread::join(
         rt,
-        || pool.advance(rt, moment),
-        || cancel_with_all(rt, begun, cancellers),
+        || {
+            job.await_cancel();
+            pool.advance(rt, moment)
+        },
+        || cancel_with_all(rt, job, cancellers),
     );
 }
 
@@ -190,6 +224,8 @@ struct Raced {
     /// How often a handle won.
     won: usize,
     keeps: bool,
+    /// Whether somebody waited in vain.
+    gave_up: bool,
     lines: Vec<Line>,
 }
 
@@ -215,7 +251,16 @@ fn count_wins<'s, N: Named>(
     Ok(())
 }
 
-/// Runs a race in a pool of these names. The handles are given back as they were made, or the last one first.
+/// How a race is run in one of its rounds.
+#[derive(Clone, Copy)]
+struct Round {
+    /// Whether the handles are given back the last one first, and not as they were made.
+    is_reversed: bool,
+    /// Whether each job, and the clock beside, waits until a handle has won a cancel, so that some handle wins.
+    waits: bool,
+}
+
+/// Runs a race in a pool of these names.
 fn race_of<N: Named + Send + Sync, R: Threads + Wait + Sync>(
     rt: &R,
     alloc: Global,
@@ -224,7 +269,7 @@ fn race_of<N: Named + Send + Sync, R: Threads + Wait + Sync>(
     code: Code<Global>,
     workers: u8,
     race: &Race<'_>,
-    is_reversed: bool,
+    round: Round,
 ) -> Result<Raced, Fail>
     requires shared { (shared.now.table ≡ N.table) × (shared.now.cells ≡ N.cells) }
     requires seat { (seat.table ≡ shared.now.table) × (seat.view ≡ new_core shared.now.tasks) }
@@ -237,9 +282,10 @@ fn race_of<N: Named + Send + Sync, R: Threads + Wait + Sync>(
         again: Ok(()),
         won: 0,
         keeps: true,
+        gave_up: false,
         lines: Vec::new(alloc),
     };
-    let cancellers = run_race(rt, alloc, &pool, race, is_reversed, &mut raced)?;
+    let cancellers = run_race(rt, alloc, &pool, race, round, &mut raced)?;
     let mut book = pool.end();
     count_wins(&mut book, shared, cancellers, &mut raced)?;
     Ok(raced)
@@ -251,15 +297,17 @@ fn run_race<'s, N: Named + Send + Sync, R: Threads + Wait + Sync>(
     alloc: Global,
     pool: &Pool<'s, N, Global>,
     race: &Race<'_>,
-    is_reversed: bool,
+    round: Round,
     raced: &mut Raced,
 ) -> Result<Vec<Canceller<'s, N>>, Fail> {
     // So that the handles meet tasks that are submitted.
     pool.advance(rt, 0)?;
     let mut cancellers = cancellers_of(rt, alloc, pool, race.handles)?;
-    raced.ran = run_beside(rt, pool, race, &mut cancellers);
+    let job = Turns::new(race.turns, round.waits);
+    raced.ran = run_beside(rt, pool, race, &job, &mut cancellers);
+    raced.gave_up = job.gave_up.load(Ordering::SeqCst) > 0;
     raced.again = pool.run(rt, &RunNumber, race.moments);
-    if is_reversed {
+    if round.is_reversed {
         cancellers.reverse();
     }
     Ok(cancellers)
@@ -270,6 +318,8 @@ fn run_race<'s, N: Named + Send + Sync, R: Threads + Wait + Sync>(
 struct Ends {
     done: [u32; TASKS],
     cancelled: [u32; TASKS],
+    /// Whether a run ended well: its task is done, or waits for the next one.
+    any_well: bool,
 }
 
 /// Counts an end of a task.
@@ -284,6 +334,7 @@ fn ends_in(lines: &[Line]) -> Ends {
     let mut ends = Ends {
         done: [0; TASKS],
         cancelled: [0; TASKS],
+        any_well: false,
     };
     for line in lines {
         let Message::Answer(answer) = line.message else {
@@ -298,23 +349,34 @@ fn ends_in(lines: &[Line]) -> Ends {
                 task,
                 outcome: Outcome::Done(_),
                 ..
-            } => count_end(&mut ends.done, task),
+            } => {
+                count_end(&mut ends.done, task);
+                ends.any_well = true;
+            }
+            Answer::Finish {
+                outcome: Outcome::Again(_),
+                ..
+            } => ends.any_well = true,
             _ => {}
         }
     }
     ends
 }
 
-/// Checks the counts of a race, and its lines by the plan alone.
+/// Checks the counts of a race, and its lines by the plan alone. Whether a run ended well in it.
 fn check_raced(
     rt: &(impl Abort + AllocGlobal),
     plan: &Plan<Global>,
     race: &Race<'_>,
     raced: &Raced,
-) -> Result<(), Fail> {
+) -> Result<bool, Fail> {
     assert_eq!(rt; raced.ran, race.ran);
     assert_eq!(rt; raced.again, race.ran);
     assert!(rt; raced.keeps, "a task that was won is not cancelled");
+    assert!(rt;
+        !raced.gave_up,
+        "no job began, or no handle cancelled, in all the time"
+    );
     let ends = ends_in(&raced.lines);
     let mut cancelled = 0u64;
     for (done, outside) in ends.done.iter().zip(&ends.cancelled) {
@@ -326,45 +388,44 @@ fn check_raced(
         cancelled = cancelled.saturating_add(*outside as u64);
     }
     assert_eq!(rt; raced.won as u64, cancelled);
-    let text = text_of(rt.alloc(), &raced.lines)?;
-    assert!(rt; text.len() <= MOST_BYTES);
-    let finding = check(rt.alloc(), plan, race.workers, &text)?;
-    assert!(rt; finding == Finding::Conforms, "{finding:?}");
-    Ok(())
+    conforms(rt, plan, race.workers, &raced.lines)?;
+    Ok(ends.any_well)
 }
 
-/// Runs a race once.
-fn round<R: Threads + Wait + Sync + Abort + AllocGlobal>(
+/// Runs a race once. Whether a run ended well in it, and whether a cancel won.
+fn run_round<R: Threads + Wait + Sync + Abort + AllocGlobal>(
     rt: &R,
     plan: &Plan<Global>,
     race: &Race<'_>,
-    is_reversed: bool,
-) -> Result<(), Fail> {
+    round: Round,
+) -> Result<(bool, bool), Fail> {
     let alloc = rt.alloc();
     let code = compile(alloc, plan)?;
     let (shared, seat) = Shared::new(alloc, code.tasks())?;
-    let raced = race_of::<Brand, _>(
-        rt,
-        alloc,
-        &shared,
-        seat,
-        code,
-        race.workers,
-        race,
-        is_reversed,
-    )?;
-    check_raced(rt, plan, race, &raced)
+    let raced = race_of::<Brand, _>(rt, alloc, &shared, seat, code, race.workers, race, round)?;
+    let any_well = check_raced(rt, plan, race, &raced)?;
+    Ok((any_well, raced.won > 0))
 }
 
-/// Runs a race again and again.
+/// Runs a race again and again: in some rounds runs end well, and in some cancels win.
 fn rounds<R: Threads + Wait + Sync + Abort + AllocGlobal>(
     rt: &R,
     race: &Race<'_>,
 ) -> Result<(), Fail> {
     let plan = read_plan(rt.alloc(), race.plan.as_bytes())?;
+    let mut any_well = false;
+    let mut any_won = false;
     for number in 0..ROUNDS {
-        round(rt, &plan, race, number % 2 == 1)?;
+        let how = Round {
+            is_reversed: number % 2 == 1,
+            waits: number % 4 >= 2,
+        };
+        let (well, won) = run_round(rt, &plan, race, how)?;
+        any_well |= well;
+        any_won |= won;
     }
+    assert!(rt; any_well, "no run ended well in any round");
+    assert!(rt; any_won, "no cancel won in any round");
     Ok(())
 }
 

@@ -1,6 +1,8 @@
 //! What a run comes to, which errors come, and what later runs are answered.
-use super::{Call, Played, RunNumber, Said, play, tasks_of, text_of};
+use super::{Call, Played, RunNumber, Said, conforms, is_done, play, tasks_of, text_of};
 use crate::{Applied, Job, PoolError};
+use executor_core::{Answer, Line, Message};
+use plan_read::read_plan;
 use result_cell::Verdict;
 use sched_time::Ending;
 use std::alloc::AllocGlobal;
@@ -148,9 +150,56 @@ impl Job for Gate {
     }
 }
 
+/// Whether a line is that of a run that ended.
+fn is_finish(line: &Line) -> bool {
+    matches!(line.message, Message::Answer(Answer::Finish { .. }))
+}
+
+/// Checks that each of so many tasks, of which there is one for each worker, is done, and that its job saw all others.
+fn check_all_saw(
+    rt: &(impl AllocGlobal + Abort),
+    played: &Played,
+    workers: u8,
+) -> Result<(), Fail> {
+    assert_eq!(rt; played.said.as_slice(), [Said::Ran(Ok(()))].as_slice());
+    assert_eq!(rt; played.results.len(), workers as usize);
+    for (task, result) in played.results.iter().enumerate() {
+        let verdict = Verdict {
+            task: task as u32,
+            ending: Ending::Value(1),
+        };
+        assert_eq!(rt; *result, Some(verdict));
+    }
+    let finishes = played.lines.iter().filter(|line| is_finish(line)).count();
+    let done = played.lines.iter().filter(|line| is_done(line)).count();
+    assert_eq!(rt; (finishes, done), (workers as usize, workers as usize));
+    let plan = format!(in rt.alloc();
+        "version = 1\n[[block]]\ntimes = {workers}\nevery = 0\ncall = [{{ op = \"schedule\", name = \"a\", delay = 0 }}]\n"
+    )?;
+    let plan = read_plan(rt.alloc(), plan.as_bytes())?;
+    conforms(rt, &plan, workers, &played.lines)
+}
+
+/// Each job waits until as many run as there are workers.
+#[test]
+fn as_many_jobs_run_as_there_are_workers(rt: HostRuntime) -> Result<(), Fail> {
+    for workers in [2u8, 8, 64] {
+        let gate = Gate {
+            wanted: workers as u64,
+            inside: AtomicU64::new(0),
+        };
+        let instrs = tasks_of(rt.alloc(), workers as usize, 0)?;
+        let calls = [Call::Run(&[0])];
+        let played = play(&rt, rt.alloc(), &instrs, workers, 1_000_000, &gate, &calls)?;
+        check_all_saw(&rt, &played, workers)?;
+    }
+    Ok(())
+}
+
+/// The same once more when all workers are asleep, so that each but the first is woken by another one.
 #[test]
 fn workers_run_jobs_at_the_same_time(rt: HostRuntime) -> Result<(), Fail> {
-    for workers in [2u8, 8] {
+    for workers in [2u8, 8, 64] {
         let gate = Gate {
             wanted: workers as u64,
             inside: AtomicU64::new(0),

@@ -1,15 +1,16 @@
-use Rattle.std.proofs.Common.{◌≡◌, ◌≢◌, inl, inr, [], ◌∙◌, sym, ap, subst, arith}
+use Rattle.std.proofs.Common.{◌≡◌, ◌≢◌, true, inl, inr, [], ◌∙◌, sym, ap, subst, arith}
 use Rattle.std.proofs.lemmas.Bool.{false≢true}
 use Rattle.task_word.specs.declared.views.CoreSeatView.{CoreSeatView}
 use Rattle.queue_code.specs.Calls.{task_count}
 use Rattle.executor_core.specs.declared.types.Need.TheVariants as n
 use Rattle.executor_core.specs.CoreView.{workers_of}
+use Rattle.executor_laws.specs.Cancels.{is_needed}
 use Rattle.worker_pool.specs.Books.{stands_in}
 use Rattle.worker_pool.specs.own.Moves.{CanMove, WasMet, moves_made}
 use Rattle.worker_pool.specs.own.Steps.{IsKept, past_in, need_in, OnlyOwnGrows}
 use Rattle.worker_pool.proofs.Steps.{own_then}
-use Rattle.worker_pool.proofs.Keepings.{keeps_step, kept_can_move, past_more, need_after, moves_on, moved_handles, call_comes_before}
-use Rattle.worker_pool.proofs.Growing.{none_noted, takes_one}
+use Rattle.worker_pool.proofs.Keepings.{keeps_step, kept_can_move, past_more, need_after, needed_in_way, moves_on, moved_handles, call_comes_before}
+use Rattle.worker_pool.proofs.Growing.{none_noted, none_way, takes_one}
 use Rattle.worker_pool.proofs.desk.Desk.attempt.Goals as goal
 
 pub move_word-requires : goal.move_word-requires
@@ -32,13 +33,15 @@ returns-in-Some g c =
     let did = c.note.ensures.notes old.seat.view met c.requires.kept was in
     let same : new.seat.view ≡ met = ap (λ s. s.view) c.note.ensures.seat in
     let to = same ∙ was.now in
+    let y = c.args.happening in
+    let way = needed_in_way old.core old.seat.view old.happenings.items old.lines.items y task c.requires.kept (subst (λ need. is_needed task need ≡ true) c.need-need.ensures c.in-Some.ensures.named) in
     record {
       table = ap (λ s. s.table) c.note.ensures.seat ∙ c.move_word.ensures.table;
       kept = subst (λ v. IsKept new.core v new.happenings.items new.lines.items) (sym same) did.0;
       same = did.1.only.same;
       handles = record { joined = ap (λ (v : CoreSeatView). v.joined) to; ranks = ap (λ (v : CoreSeatView). v.ranks) to; out = ap (λ (v : CoreSeatView). v.out) to; these = []; grows = ap (λ (v : CoreSeatView). v.own) to };
       done = λ q. absurd (false≢true q);
-      noted = λ q. (did.1.only, ap (λ (v : CoreSeatView). v.own) to);
+      noted = λ q. (record { only = did.1.only; way = did.1.way y way }, ap (λ (v : CoreSeatView). v.own) to);
       more = λ why. (did.1.only.counted c.requires.counted, did.1.less, did.2);
     }
 
@@ -62,7 +65,7 @@ returns g c =
       same = record { calls = steps.calls; workers = steps.workers; taken = c.happen.ensures.leaves.taken; limit = steps.limit };
       handles = subst (OnlyOwnGrows old.seat.view) (sym to) (moved_handles old.seat.view (need_in old.core y));
       done = λ q. (
-        takes_one old.core.calls (workers_of old.core) old.seat.view.own seat.own past past (past_in core items) y (none_noted past) (past_more old.core core old.happenings.items items y steps.calls steps.workers c.push_reserved.ensures.items)
+        takes_one old.core.calls old.core.calls (workers_of old.core) (workers_of old.core) old.seat.view.own seat.own past past (past_in core items) y (none_noted past) (none_way old.core.calls (workers_of old.core) past y) (past_more old.core core old.happenings.items items y steps.calls steps.workers c.push_reserved.ensures.items)
             (λ k. ap (λ (v : CoreSeatView). stands_in k v.own) (to ∙ ap (moves_made old.seat.view) after) ∙ own_then old.core.calls (workers_of old.core) past y old.seat.view k c.requires.kept.means (λ q. plain (after ∙ q))),
         moves_on old.core core old.lines.items lines y steps,
       );

@@ -12,9 +12,9 @@ returns-clause-kept g c =
     let old = c.args.self.now in
     let mid = c.sweep_all.new.self in
     let all = c.sweep_all.ensures in
-    let tasks = c.requires.tasks ∙ sym (ap Rattle.queue_code.specs.Calls.task_count all.noted.same.calls) in
+    let tasks = c.requires.tasks ∙ sym (ap Rattle.queue_code.specs.Calls.task_count all.noted.only.same.calls) in
     (sweeps_all old.seat.view.own mid.core c.make_call.new.self mid.seat.view mid.happenings.items c.push_reserved.new.self.items mid.lines.items c.make_call.new.out.items c.args.words.now.tasks tasks all.upto
-    (all.noted.sweeps c.requires.need) (still_comes old.core mid.core h.Call all.noted.same.calls all.noted.made all.noted.moment c.requires.comes) c.make_call.ensures.steps c.push_reserved.ensures.items).0
+    (all.noted.only.sweeps c.requires.need) (still_comes old.core mid.core h.Call all.noted.only.same.calls all.noted.only.made all.noted.only.moment c.requires.comes) c.make_call.ensures.steps c.push_reserved.ensures.items).0
 
 pub returns-clause-done : goal.returns-clause-done
 returns-clause-done g c =
@@ -22,21 +22,21 @@ returns-clause-done g c =
     let mid = c.sweep_all.new.self in
     let all = c.sweep_all.ensures in
     let steps = c.make_call.ensures.steps in
-    let tasks = c.requires.tasks ∙ sym (ap Rattle.queue_code.specs.Calls.task_count all.noted.same.calls) in
+    let tasks = c.requires.tasks ∙ sym (ap Rattle.queue_code.specs.Calls.task_count all.noted.only.same.calls) in
     let own = (sweeps_all old.seat.view.own mid.core c.make_call.new.self mid.seat.view mid.happenings.items c.push_reserved.new.self.items mid.lines.items c.make_call.new.out.items c.args.words.now.tasks tasks all.upto
-    (all.noted.sweeps c.requires.need) (still_comes old.core mid.core h.Call all.noted.same.calls all.noted.made all.noted.moment c.requires.comes) steps c.push_reserved.ensures.items).1
+    (all.noted.only.sweeps c.requires.need) (still_comes old.core mid.core h.Call all.noted.only.same.calls all.noted.only.made all.noted.only.moment c.requires.comes) steps c.push_reserved.ensures.items).1
     in
-    takes_one mid.core.calls (workers_of mid.core) old.seat.view.own mid.seat.view.own (past_in old.core old.happenings.items) (past_in mid.core mid.happenings.items) (past_in c.make_call.new.self c.push_reserved.new.self.items) h.Call all.noted.noting
+    takes_one old.core.calls mid.core.calls (workers_of old.core) (workers_of mid.core) old.seat.view.own mid.seat.view.own (past_in old.core old.happenings.items) (past_in mid.core mid.happenings.items) (past_in c.make_call.new.self c.push_reserved.new.self.items) h.Call all.noted.only.noting all.noted.way
     (past_more mid.core c.make_call.new.self mid.happenings.items c.push_reserved.new.self.items h.Call steps.calls steps.workers c.push_reserved.ensures.items) own
 
 pub returns-clause-same : goal.returns-clause-same
 returns-clause-same g c =
     let steps = c.make_call.ensures.steps in
-    same_then c.args.self.now.core c.sweep_all.new.self.core c.make_call.new.self c.sweep_all.ensures.noted.same
+    same_then c.args.self.now.core c.sweep_all.new.self.core c.make_call.new.self c.sweep_all.ensures.noted.only.same
     (record { calls = steps.calls; workers = steps.workers; taken = c.make_call.ensures.leaves.taken; limit = steps.limit })
 
 pub returns-clause-on : goal.returns-clause-on
 returns-clause-on g c =
-    let all = c.sweep_all.ensures.noted in
+    let all = c.sweep_all.ensures.noted.only in
     call_after c.args.self.now.core c.sweep_all.new.self.core c.make_call.new.self c.args.self.now.happenings.items c.sweep_all.new.self.happenings.items all
     (moves_on c.sweep_all.new.self.core c.make_call.new.self c.sweep_all.new.self.lines.items c.make_call.new.out.items h.Call c.make_call.ensures.steps)

@@ -1,7 +1,8 @@
 use Rattle.std.proofs.Common.{◌∙◌, refl, arith}
 use Rattle.queue_code.specs.Calls.{submits_task}
+use Rattle.executor_core.specs.declared.types.Happening.TheVariants as h
 use Rattle.executor_core.proofs.Flowing.{how_many-le}
-use Rattle.worker_pool.proofs.Growing.{nothing_noted, noted_then, same_handles, handles_then}
+use Rattle.worker_pool.proofs.Growing.{none_for, noted_for_then, same_handles, handles_then}
 use Rattle.worker_pool.proofs.Sweeps.{starts_at_none}
 use Rattle.worker_pool.proofs.desk.Desk.sweep_all.Goals as goal
 
@@ -12,7 +13,7 @@ loop-task-init g c =
       table = refl;
       upto = starts_at_none old.core old.seat.view old.happenings.items old.lines.items c.requires.kept;
       handles = same_handles old.seat.view;
-      noted = nothing_noted old.core old.happenings.items;
+      noted = none_for old.core old.happenings.items h.Call;
       room = c.requires.room;
     }
 
@@ -27,7 +28,7 @@ loop-task-preserved g c =
       table = did.table ∙ was.table;
       upto = did.upto first.seat.view.own was.upto;
       handles = handles_then first.seat.view old.seat.view new.seat.view was.handles did.handles;
-      noted = noted_then first.core old.core new.core first.happenings.items old.happenings.items new.happenings.items was.noted did.noted;
+      noted = noted_for_then first.core old.core new.core first.happenings.items old.happenings.items new.happenings.items h.Call was.noted did.noted;
       room = did.room;
     }
 

@@ -1,9 +1,11 @@
 use Rattle.std.proofs.Common.{◌<◌, ◌+◌, ◌∙◌, [], sym, ap, subst}
 use Rattle.task_word.specs.Views.{and_if}
 use Rattle.task_word.specs.Answers.{is_won}
+use Rattle.executor_core.specs.declared.types.Happening.TheVariants as h
 use Rattle.worker_pool.specs.own.Moves.{with_mark}
 use Rattle.worker_pool.specs.own.Steps.{SweepsUpTo}
-use Rattle.worker_pool.proofs.Growing.{nothing_noted, same_handles, in_front}
+use Rattle.worker_pool.proofs.Growing.{none_for, same_handles, in_front}
+use Rattle.worker_pool.proofs.Keepings.{ended_in_way}
 use Rattle.worker_pool.proofs.Sweeps.{ended_late, ended_won, passes_over, base_met, notes_in}
 use Rattle.worker_pool.proofs.desk.Desk.sweep_one.Goals as goal
 
@@ -16,7 +18,7 @@ pub returns-then-not-sweeps-clause-handles : goal.returns-then-not-sweeps-clause
 returns-then-not-sweeps-clause-handles g c = same_handles c.args.self.now.seat.view
 
 pub returns-then-not-sweeps-clause-noted : goal.returns-then-not-sweeps-clause-noted
-returns-then-not-sweeps-clause-noted g c = nothing_noted c.args.self.now.core c.args.self.now.happenings.items
+returns-then-not-sweeps-clause-noted g c = none_for c.args.self.now.core c.args.self.now.happenings.items h.Call
 
 pub returns-in-Late-clause-upto : goal.returns-in-Late-clause-upto
 returns-in-Late-clause-upto g c = λ own up.
@@ -39,7 +41,8 @@ returns-in-Late-clause-noted g c =
     let low = subst (λ n. k < n) c.requires.tasks c.requires.task in
     let q = sym c.sweeps.ensures ∙ c.if-not-sweeps.false in
     let was = ended_late own old.core old.seat.view c.cancel.new.self.view old.happenings.items old.lines.items k c.cancel.result low up q c.in-Late.is c.cancel.ensures.view in
-    (c.note.ensures.notes up.base (with_mark up.base k) up.kept (base_met own old.core old.seat.view c.cancel.new.self.view old.happenings.items old.lines.items k up was)).1.only
+    let did = (c.note.ensures.notes up.base (with_mark up.base k) up.kept (base_met own old.core old.seat.view c.cancel.new.self.view old.happenings.items old.lines.items k up was)).1 in
+    record { only = did.only; way = did.way h.Call (ended_in_way old.core up.base old.happenings.items old.lines.items k up.kept q) }
 
 pub returns-in-Late-clause-room : goal.returns-in-Late-clause-room
 returns-in-Late-clause-room g c =
@@ -71,4 +74,4 @@ returns-in-Won-clause-handles g c =
     record { joined = ap (λ v. v.joined) to; ranks = ap (λ v. v.ranks) to; out = ap (λ v. v.out) to; these = and_if (is_won c.cancel.result) c.args.task []; grows = ap (λ v. v.own) to ∙ in_front (is_won c.cancel.result) c.args.task c.args.self.now.seat.view.own }
 
 pub returns-in-Won-clause-noted : goal.returns-in-Won-clause-noted
-returns-in-Won-clause-noted g c = nothing_noted c.args.self.now.core c.args.self.now.happenings.items
+returns-in-Won-clause-noted g c = none_for c.args.self.now.core c.args.self.now.happenings.items h.Call

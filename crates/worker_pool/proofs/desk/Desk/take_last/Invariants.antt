@@ -1,7 +1,7 @@
 use Rattle.std.proofs.Common.{◌≡◌}
 use Rattle.std.specs.Prelude.{vec_len, vec_capacity}
 use Rattle.executor_core.specs.CoreView.{IsCounted, room_of}
-use Rattle.worker_pool.specs.own.Steps.{IsKept, HasRoom, OnlyOwnGrows, OnlyNoted, Comes}
+use Rattle.worker_pool.specs.own.Steps.{IsKept, HasRoom, OnlyOwnGrows, NotedFor, Comes}
 use Rattle.worker_pool.proofs.desk.Desk.take_last.Given as goal
 
 -- cancels alone were noted, and the event comes next
@@ -13,7 +13,7 @@ invariant-loop-happening g l = record {
   counted : IsCounted l.self.core;
   room : HasRoom l.self.core (vec_len l.self.lines) (vec_capacity l.self.lines) (vec_len l.self.happenings) (vec_capacity l.self.happenings);
   comes : Comes l.self.core l.happening;
-  noted : OnlyNoted l.fn.self.core l.self.core l.fn.self.happenings.items l.self.happenings.items;
+  noted : NotedFor l.fn.self.core l.self.core l.fn.self.happenings.items l.self.happenings.items l.happening;
   own : l.self.seat.view.own ≡ l.fn.self.seat.view.own;
 }
 
