@@ -1,6 +1,7 @@
 //! Tests of a run by a pool, from bytes in to bytes out.
 mod ends;
 mod example;
+mod growths;
 
 use crate::run_pool;
 use plan_read::{PlanFault, PlanFaultKind, read_plan};
@@ -65,6 +66,47 @@ fn answers<R: Threads + Wait + Sync + AllocGlobal + Abort>(
         assert!(rt; told == answer, "{clocks}: {told:?}");
         assert!(rt; text.as_slice() == trace.as_bytes(), "{clocks}");
     }
+}
+
+/// A line of a start or a finish without the number of its worker, and that number.
+fn of_worker(line: &str) -> Option<((&str, &str, &str), &str)> {
+    let (moment, rest) = line.split_once(' ')?;
+    let (word, rest) = rest.split_once(' ')?;
+    let (worker, rest) = rest.split_once(' ')?;
+    if word != "start" && word != "finish" {
+        return None;
+    }
+    Some(((moment, word, rest), worker))
+}
+
+/// Whether a line is the one that is wanted, but for its worker: one that starts is 0 or 1, and one that finishes is the one that
+/// started last.
+fn is_same_line<'a>(line: &'a str, wanted: &str, starter: &mut &'a str) -> bool {
+    let (Some((said, worker)), Some((to_say, _))) = (of_worker(line), of_worker(wanted)) else {
+        return line == wanted;
+    };
+    if said.1 == "start" {
+        *starter = worker;
+    }
+    said == to_say && worker == *starter && (worker == "0" || worker == "1")
+}
+
+/// Whether a text of two workers and one task is the one that is wanted, but for the worker that starts the task and finishes it.
+fn is_same(text: &[u8], wanted: &str) -> bool {
+    let Ok(text) = str::from_utf8(text) else {
+        return false;
+    };
+    let mut lines = text.split('\n');
+    let mut starter = "";
+    for wanted in wanted.split('\n') {
+        let Some(line) = lines.next() else {
+            return false;
+        };
+        if !is_same_line(line, wanted, &mut starter) {
+            return false;
+        }
+    }
+    lines.next().is_none()
 }
 
 /// Checks that a text is a trace of a plan.

@@ -1,5 +1,5 @@
 //! Runs whose ends follow a script.
-use super::{CLOCKS, ONE_DELAY, REPORT, TRACE};
+use super::{CLOCKS, ONE_DELAY, REPORT, TRACE, is_same};
 use crate::run_pool;
 use sched_engine::{Reading, Report, RunError, Writing};
 use scripted_ends::{Giving, Script, Taking, Trouble};
@@ -43,15 +43,6 @@ const PLAIN: Script = Script {
     trouble: Trouble::TakesNothing,
 };
 
-/// Whether two texts are the same, but for the worker that starts and finishes a task.
-fn is_same(text: &[u8], wanted: &[u8]) -> bool {
-    text.len() == wanted.len()
-        && text
-            .iter()
-            .zip(wanted)
-            .all(|(a, b)| a == b || (*a == b'1' && *b == b'0'))
-}
-
 /// Checks a run: its answer, that an end at fault was called no more, and what was written.
 fn plays<R: Threads + Wait + Sync + AllocGlobal + Abort>(rt: &R, row: &Row<'_>) {
     let (clocks, again) = (row.clocks.as_bytes(), row.again.as_bytes());
@@ -64,7 +55,7 @@ fn plays<R: Threads + Wait + Sync + AllocGlobal + Abort>(rt: &R, row: &Row<'_>) 
     assert!(rt; answer == row.answer, "{answer:?}");
     assert!(rt; answer != Err(RunError::Read) || reads == row.reader.calls());
     assert!(rt; answer != Err(RunError::Write) || sink.calls() == row.writer.calls());
-    assert!(rt; is_same(sink.taken(), row.text.as_bytes()));
+    assert!(rt; is_same(sink.taken(), row.text));
 }
 
 #[test]
