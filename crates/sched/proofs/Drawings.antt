@@ -1,5 +1,5 @@
 -- Drawings: how the drawing of a trace is told, by what it did.
-use Rattle.std.proofs.Common.{◌≡◌, ℕ, List, Option, Some, None, Result, Ok, Err, inl, inr, refl, ◌∙◌}
+use Rattle.std.proofs.Common.{ℕ, List, Option, Some, None, Result, Ok, Err, inl, inr, refl, ◌∙◌}
 use Rattle.std.specs.Io.KnownBytes.{Appends, Keeps}
 use Rattle.plan_read.specs.Plans.{PlanTree}
 use Rattle.plan_compile.specs.PlanCalls.{calls_of_plan}

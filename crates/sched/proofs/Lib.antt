@@ -3,3 +3,4 @@ pub mod KnownCommand
 pub mod Orders
 pub mod EndCounts
 pub mod Drawings
+pub mod Readings

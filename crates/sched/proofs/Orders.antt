@@ -22,7 +22,12 @@ use Rattle.sched_engine.specs.declared.report.RunError.{RunError}
 use Rattle.sched_engine.specs.declared.report.RunError.TheVariants as x
 use Rattle.sched.specs.declared.error.ProgramError.{ProgramError}
 use Rattle.sched.specs.declared.error.ProgramError.TheVariants.{PlanFile, TraceFile, TraceTooLong, Run}
+use Rattle.sched.specs.declared.arguments.Asked.TheVariants.{Alone}
+use Rattle.sched.specs.declared.arguments.AskedAlone.{AskedAlone}
+use Rattle.sched.specs.declared.arguments.AskedAlone.TheVariants as a
 use Rattle.sched.specs.declared.arguments.RunArguments.{RunArguments}
+use Rattle.sched.specs.Arguments.{Asks}
+use Rattle.sched.specs.Serving.{EndsAlone, ReadsTrace}
 use Rattle.sched.specs.Answers.{ListedAsAsked, MigratedAsAsked, PooledAsAsked, RanAsAsked, TellsEnd, ToldTasksAsAsked}
 use Rattle.sched.specs.Commands.{IsEndOf, NamesTrace}
 use Rattle.sched.specs.Drawings.{IsDrawnAsAsked}
@@ -365,7 +370,22 @@ one_or_none zero h = inl refl
 one_or_none (suc zero) h = inr refl
 one_or_none (suc (suc s)) h = absurd (omega arith)
 
--- a command that reads a trace ends as a command may end
-pub end_with_trace : (arguments : List (List ℕ)) (result : Result ℕ ProgramError) → MatchResult result (λ s. s ≤ 1) (λ e. status_of e ≡ 1) → NamesTrace arguments → IsEndOf arguments result
-end_with_trace arguments (Ok s) h names = elim (one_or_none s h) [ inl none ↦ inl none | inr one ↦ inr (one, names) ]
-end_with_trace arguments (Err e) h names = h
+-- a command that reads a trace ends as one may end
+pub end_with_trace : (asked : AskedAlone) (result : Result ℕ ProgramError) → ReadsTrace asked → MatchResult result (λ s. s ≤ 1) (λ e. status_of e ≡ 1) → EndsAlone asked result
+end_with_trace asked (Ok s) reads h = elim (one_or_none s h) [ inl none ↦ inl none | inr one ↦ inr (one, reads) ]
+end_with_trace asked (Err e) reads h = h
+
+-- arguments that ask to read a trace name a command that does
+names_trace : (arguments : List (List ℕ)) (asked : AskedAlone) → Asks arguments (Alone asked) → ReadsTrace asked → NamesTrace arguments
+names_trace arguments (a.Check asked) asks reads = inl (asks.0, asks.1)
+names_trace arguments (a.Draw asked) asks reads = inr (asks.0, asks.1)
+names_trace arguments (a.Run asked) asks reads = absurd reads
+names_trace arguments (a.Code asked) asks reads = absurd reads
+names_trace arguments (a.Tasks asked) asks reads = absurd reads
+names_trace arguments (a.Migrate asked) asks reads = absurd reads
+
+-- what one thread is asked ends as the arguments that ask for it may end
+pub end_alone : (arguments : List (List ℕ)) (asked : AskedAlone) (result : Result ℕ ProgramError) → Asks arguments (Alone asked) → EndsAlone asked result → IsEndOf arguments result
+end_alone arguments asked (Ok s) asks (inl none) = inl none
+end_alone arguments asked (Ok s) asks (inr breaks) = inr (breaks.0, names_trace arguments asked asks breaks.1)
+end_alone arguments asked (Err e) asks h = h

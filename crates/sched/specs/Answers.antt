@@ -1,12 +1,14 @@
--- Answers: how the end of a run, of a listing, of a list of tasks or of a migration is told.
+-- Answers: how the end of a run, of a listing, of a list of tasks or of a migration is told, and what of it stands on standard error.
 -- All of it is this project's rule.
-use Rattle.std.specs.Prelude.{◌≡◌, ℕ, List, Option, Result, Ok, Err, take}
-use Rattle.std.specs.Io.KnownBytes.{Appends}
+use Rattle.std.specs.Prelude.{◌≡◌, ℕ, Bool, List, Option, Result, Ok, Err, take}
+use Rattle.std.specs.Io.KnownBytes.{Appends, Keeps}
 use Rattle.plan_read.specs.Migrating.{Migrates}
 use Rattle.sched.specs.Errors.{IsToldAs, status_of}
+use Rattle.sched.specs.Lines.{error_line}
 use Rattle.sched.specs.declared.arguments.RunArguments.{RunArguments}
 use Rattle.sched.specs.declared.error.ProgramError.{ProgramError}
 use Rattle.sched.specs.declared.error.ProgramError.TheVariants.{Run}
+use Rattle.sched_engine.specs.Ends.{CountsTries, NoneFailed, WritesText}
 use Rattle.sched_engine.specs.Running.{Ran}
 use Rattle.sched_engine.specs.CodeTexts.{Listed}
 use Rattle.task_list.specs.Writing.{TasksWritten}
@@ -50,6 +52,13 @@ abbrev pub MigratedAsAsked : Result ℕ ProgramError → List ℕ → Option (Li
 MigratedAsAsked (Ok status) text old new = (printed : List ℕ) × Migrates text printed × (status ≡ 0) × Appends old new printed
 MigratedAsAsked (Err (Run x.Write)) text old new = (printed : List ℕ) × Migrates text printed × (n : ℕ) × Appends old new (take n printed)
 MigratedAsAsked (Err fault) text old new = ⊥
+
+-- what is told of an answer on standard error: nothing of a status, and the line of an error, or a front of it where the last try to write
+-- was bad
+abbrev pub IsTold : Result ℕ ProgramError → Option (List ℕ) → Option (List ℕ) → ℕ → ℕ → ℕ → ℕ → Type 0
+IsTold (Ok status) old new failed fruitless failed' fruitless' = Keeps old new × NoneFailed 0 failed fruitless failed' fruitless'
+IsTold (Err error) old new failed fruitless failed' fruitless' =
+    (whole : Bool) × WritesText whole old new (error_line error) × CountsTries whole failed fruitless failed' fruitless'
 
 -- the exit status that goes with an answer
 abbrev pub exit_status_of : Result ℕ ProgramError → ℕ

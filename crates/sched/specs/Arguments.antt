@@ -10,7 +10,9 @@ use Rattle.sched.specs.declared.arguments.PlanArguments.{PlanArguments}
 use Rattle.sched.specs.declared.arguments.CheckArguments.{CheckArguments}
 use Rattle.sched.specs.declared.arguments.DrawArguments.{DrawArguments}
 use Rattle.sched.specs.declared.arguments.Asked.{Asked}
-use Rattle.sched.specs.declared.arguments.Asked.TheVariants.{Run, Pool, Code, Tasks, Check, Migrate, Draw}
+use Rattle.sched.specs.declared.arguments.Asked.TheVariants.{Pool, Alone}
+use Rattle.sched.specs.declared.arguments.AskedAlone.{AskedAlone}
+use Rattle.sched.specs.declared.arguments.AskedAlone.TheVariants.{Run, Code, Tasks, Check, Migrate, Draw}
 
 -- a text writes, in decimal digits, a number that fits `bits` bits
 abbrev pub WritesNumber : ℕ → Text → Type 0
@@ -55,17 +57,21 @@ pub record AsksForDraw (rows : List Row) (asked : DrawArguments) : Type 0 where
   pub check : AsksForCheck rows asked.check
   pub view : AsksForView rows asked.view
 
--- what is asked for, by the command that is named, with what a command line holds for its arguments: a listing by `code`, the tasks
--- by `tasks`, a check by `check`, a migration by `migrate`, a picture by `draw`, a run by a pool by `pool`, and a run by any other
--- one, which is `run`
+-- what is asked of one thread, by the command that is named, with what a command line holds for its arguments: a listing by `code`,
+-- the tasks by `tasks`, a check by `check`, a migration by `migrate`, a picture by `draw`, and a run by any other one but `pool`,
+-- which is `run`
+abbrev pub AsksAlone : Option (Text × List Row) → AskedAlone → Type 0
+AsksAlone named (Code c) = (rows : List Row) × (named ≡ Some (codes "code", rows)) × AsksForPlan rows c
+AsksAlone named (Tasks t) = (rows : List Row) × (named ≡ Some (codes "tasks", rows)) × AsksForPlan rows t
+AsksAlone named (Check c) = (rows : List Row) × (named ≡ Some (codes "check", rows)) × AsksForCheck rows c
+AsksAlone named (Migrate m) = (rows : List Row) × (named ≡ Some (codes "migrate", rows)) × AsksForPlan rows m
+AsksAlone named (Draw d) = (rows : List Row) × (named ≡ Some (codes "draw", rows)) × AsksForDraw rows d
+AsksAlone named (Run r) = (name : Text) × (rows : List Row) × (named ≡ Some (name, rows)) × (name ≢ codes "code") × (name ≢ codes "tasks") × (name ≢ codes "check") × (name ≢ codes "pool") × (name ≢ codes "migrate") × (name ≢ codes "draw") × AsksForRun rows r
+
+-- what is asked for, by the command that is named: a run by a pool by `pool`, and of one thread what it is asked
 abbrev pub AsksIn : Option (Text × List Row) → Asked → Type 0
-AsksIn named (Code c) = (rows : List Row) × (named ≡ Some (codes "code", rows)) × AsksForPlan rows c
-AsksIn named (Tasks t) = (rows : List Row) × (named ≡ Some (codes "tasks", rows)) × AsksForPlan rows t
-AsksIn named (Check c) = (rows : List Row) × (named ≡ Some (codes "check", rows)) × AsksForCheck rows c
-AsksIn named (Migrate m) = (rows : List Row) × (named ≡ Some (codes "migrate", rows)) × AsksForPlan rows m
-AsksIn named (Draw d) = (rows : List Row) × (named ≡ Some (codes "draw", rows)) × AsksForDraw rows d
 AsksIn named (Pool p) = (rows : List Row) × (named ≡ Some (codes "pool", rows)) × AsksForRun rows p
-AsksIn named (Run r) = (name : Text) × (rows : List Row) × (named ≡ Some (name, rows)) × (name ≢ codes "code") × (name ≢ codes "tasks") × (name ≢ codes "check") × (name ≢ codes "pool") × (name ≢ codes "migrate") × (name ≢ codes "draw") × AsksForRun rows r
+AsksIn named (Alone asked) = AsksAlone named asked
 
 -- what the arguments of a command line ask for
 abbrev pub Asks : List Text → Asked → Type 0

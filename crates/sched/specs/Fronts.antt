@@ -1,10 +1,12 @@
 -- Fronts: how much of a file is read.
 -- All of it is this project's rule.
-use Rattle.std.specs.Prelude.{◌≡◌, ◌≢◌, ℕ, ◌+◌, List, Option, Some, None, Result, Ok, Err, IfSome, take, ⊤}
+use Rattle.std.specs.Prelude.{◌≡◌, ◌≢◌, ℕ, ◌+◌, ◌≤◌, List, length, Option, Some, None, Result, Ok, Err, IfSome, take}
+use Rattle.std.specs.Io.KnownBytes.{Consumes}
 use Rattle.std.specs.IoError.{error_kind}
 use Rattle.std.specs.declared.io.Error.{Error}
 use Rattle.std.specs.declared.io.ErrorKind.TheVariants.{OutOfMemory}
 use Rattle.plan_read.specs.Texts.{longest_text}
+use Rattle.sched_engine.specs.Ends.{LastBad}
 use Rattle.trace_check.specs.Standing.{most_bytes}
 
 -- how many bytes of a plan file are read at most: one more than a plan text may have, which shows that the file is longer
@@ -19,10 +21,20 @@ most_of_trace = most_bytes + 1
 abbrev pub front : ℕ → List ℕ → List ℕ
 front most bytes = take most bytes
 
--- what was read of a file that the system opened, or did not: the front of its bytes, where these are known, or nothing. Of a
--- file that was not opened nothing was read
-abbrev pub IsReadOf : {R : Type 0} → (R → Option (List ℕ)) → ℕ → Result R Error → Option (List ℕ) → Type 0
-IsReadOf remaining most (Ok reader) (Some text) = IfSome (remaining reader) (λ bytes. text ≡ front most bytes)
-IsReadOf remaining most (Ok reader) None = ⊤
-IsReadOf remaining most (Err error) (Some text) = ⊥
-IsReadOf remaining most (Err error) None = error_kind error ≢ OutOfMemory
+-- of a file at most so many bytes were taken
+abbrev pub TakesAtMost : ℕ → Option (List ℕ) → Option (List ℕ) → Type 0
+TakesAtMost most old new = (taken : List ℕ) × (length taken ≤ most) × Consumes old new taken
+
+-- an opened file is at fault: there is a state of it after tries of which the last was bad, and at most so many bytes were taken by then
+pub record IsAtFault {R : Type 0} (remaining : R → Option (List ℕ)) (failed fruitless : R → ℕ) (most : ℕ) (reader : R) : Type 0 where
+  pub after : R
+  pub taken : TakesAtMost most (remaining reader) (remaining after)
+  pub bad : LastBad (failed reader) (fruitless reader) (failed after) (fruitless after)
+
+-- what was read of a file that the system opened, or did not: the front of its bytes, where these are known, or nothing where it is at
+-- fault. Of a file that was not opened nothing was read
+abbrev pub IsReadOf : {R : Type 0} → (R → Option (List ℕ)) → (R → ℕ) → (R → ℕ) → ℕ → Result R Error → Option (List ℕ) → Type 0
+IsReadOf remaining failed fruitless most (Ok reader) (Some text) = IfSome (remaining reader) (λ bytes. text ≡ front most bytes)
+IsReadOf remaining failed fruitless most (Ok reader) None = IsAtFault remaining failed fruitless most reader
+IsReadOf remaining failed fruitless most (Err error) (Some text) = ⊥
+IsReadOf remaining failed fruitless most (Err error) None = error_kind error ≢ OutOfMemory

@@ -2,6 +2,7 @@
 -- All of it is this project's rule. Numbers are decimals with no leading zero.
 use Rattle.std.specs.Prelude.{List, ℕ, ◌++◌, codes}
 use Rattle.std.specs.Fmt.{decimal}
+use Rattle.plan_read.specs.declared.faults.PlanFault.{PlanFault}
 use Rattle.plan_read.specs.declared.faults.PlanFaultKind.{PlanFaultKind}
 use Rattle.plan_read.specs.declared.faults.PlanFaultKind.TheVariants as kinds
 use Rattle.sched_engine.specs.declared.report.RunError.{RunError}
@@ -29,9 +30,13 @@ kind_name kinds.TooLarge = codes "TooLarge"
 kind_name kinds.TooMany = codes "TooMany"
 kind_name kinds.Memory = codes "Memory"
 
+-- why a plan is none
+abbrev pub plan_fault_text : PlanFault → List ℕ
+plan_fault_text fault = codes "plan: " ++ kind_name fault.kind ++ codes " block " ++ decimal fault.block ++ codes " call " ++ decimal fault.call
+
 -- why a run, a listing or a check ended
 abbrev pub run_error_text : RunError → List ℕ
-run_error_text (x.Plan fault) = codes "plan: " ++ kind_name fault.kind ++ codes " block " ++ decimal fault.block ++ codes " call " ++ decimal fault.call
+run_error_text (x.Plan fault) = plan_fault_text fault
 run_error_text x.Workers = codes "the number of workers is not 1 to 64"
 run_error_text x.Limit = codes "the limit on events is 0"
 run_error_text (x.EventLine line) = codes "event line " ++ decimal line

@@ -1,41 +1,66 @@
 -- Serving: what the program does for the arguments of a command line.
 -- All of it is this project's rule.
-use Rattle.std.specs.Prelude.{ℕ, List, Option, Result}
+use Rattle.std.specs.Prelude.{◌≡◌, ℕ, ◌⊎◌, List, MatchResult, Option, Result, ⊤}
 use Rattle.std.specs.Borrow.{Bor}
 use Rattle.std.specs.Io.KnownBytes.{Keeps}
 use Rattle.std.specs.declared.io.Error.{Error}
 use Rattle.clap.specs.Words.{Text}
 use Rattle.sched.specs.Arguments.{Asks}
-use Rattle.sched.specs.Fronts.{IsReadOf, most_of_plan, most_of_trace}
+use Rattle.sched.specs.Errors.{status_of}
+use Rattle.sched.specs.Fronts.{most_of_plan, most_of_trace}
 use Rattle.sched.specs.Order.{AnswersCheck, AnswersCode, AnswersDraw, AnswersMigrate, AnswersPool, AnswersRun, AnswersTasks}
 use Rattle.sched.specs.declared.arguments.Asked.{Asked}
-use Rattle.sched.specs.declared.arguments.Asked.TheVariants.{Run, Pool, Code, Tasks, Check, Migrate, Draw}
+use Rattle.sched.specs.declared.arguments.Asked.TheVariants.{Pool, Alone}
+use Rattle.sched.specs.declared.arguments.AskedAlone.{AskedAlone}
+use Rattle.sched.specs.declared.arguments.AskedAlone.TheVariants.{Run, Code, Tasks, Check, Migrate, Draw}
 use Rattle.sched.specs.declared.error.ProgramError.{ProgramError}
 
--- what is asked for is done over the files that it names, as they are opened by their names. A listing, a list of tasks, a
--- check, a migration and a drawing read nothing else
-abbrev pub AnswersAsked : {P : Type 0} → Result ℕ ProgramError → (P → Option (List ℕ)) → (Bor Text → Result P Error → Type 0) → Asked → Option (List ℕ) → Option (List ℕ) → Option (List ℕ) → Option (List ℕ) → Type 0
-AnswersAsked {P} answer remaining Opens (Run asked) input left old new =
-    (plan : Result P Error) × Opens asked.path plan × AnswersRun answer (IsReadOf remaining most_of_plan plan) asked input left old new
-AnswersAsked {P} answer remaining Opens (Pool asked) input left old new =
-    (plan : Result P Error) × Opens asked.path plan × AnswersPool answer (IsReadOf remaining most_of_plan plan) asked input left old new
-AnswersAsked {P} answer remaining Opens (Code asked) input left old new =
-    (plan : Result P Error) × Opens asked.path plan × AnswersCode answer (IsReadOf remaining most_of_plan plan) old new × Keeps input left
-AnswersAsked {P} answer remaining Opens (Tasks asked) input left old new =
-    (plan : Result P Error) × Opens asked.path plan × AnswersTasks answer (IsReadOf remaining most_of_plan plan) old new × Keeps input left
-AnswersAsked {P} answer remaining Opens (Check asked) input left old new =
+-- what was read of a file that the system opened, or did not, of so many bytes at most: a fact for each list of bytes, and for nothing
+abbrev pub Reads : Type 0 → Type 1
+Reads P = ℕ → Result P Error → Option (List ℕ) → Type 0
+
+-- what is asked of one thread is done over what is read, of so many bytes at most, of the files that it names, as they are opened by
+-- their names. A listing, a list of tasks, a check, a migration and a drawing read nothing else
+abbrev pub AnswersAlone : {P : Type 0} → Result ℕ ProgramError → Reads P → (Bor Text → Result P Error → Type 0) → AskedAlone → Option (List ℕ) → Option (List ℕ) → Option (List ℕ) → Option (List ℕ) → Type 0
+AnswersAlone {P} answer IsRead Opens (Run asked) input left old new =
+    (plan : Result P Error) × Opens asked.path plan × AnswersRun answer (IsRead most_of_plan plan) asked input left old new
+AnswersAlone {P} answer IsRead Opens (Code asked) input left old new =
+    (plan : Result P Error) × Opens asked.path plan × AnswersCode answer (IsRead most_of_plan plan) old new × Keeps input left
+AnswersAlone {P} answer IsRead Opens (Tasks asked) input left old new =
+    (plan : Result P Error) × Opens asked.path plan × AnswersTasks answer (IsRead most_of_plan plan) old new × Keeps input left
+AnswersAlone {P} answer IsRead Opens (Check asked) input left old new =
     (plan : Result P Error) × Opens asked.path plan
-    × AnswersCheck answer (IsReadOf remaining most_of_plan plan) (λ text. (trace : Result P Error) × Opens asked.trace trace × IsReadOf remaining most_of_trace trace text) asked.workers old new
+    × AnswersCheck answer (IsRead most_of_plan plan) (λ text. (trace : Result P Error) × Opens asked.trace trace × IsRead most_of_trace trace text) asked.workers old new
     × Keeps input left
-AnswersAsked {P} answer remaining Opens (Migrate asked) input left old new =
-    (plan : Result P Error) × Opens asked.path plan × AnswersMigrate answer (IsReadOf remaining most_of_plan plan) old new × Keeps input left
-AnswersAsked {P} answer remaining Opens (Draw asked) input left old new =
+AnswersAlone {P} answer IsRead Opens (Migrate asked) input left old new =
+    (plan : Result P Error) × Opens asked.path plan × AnswersMigrate answer (IsRead most_of_plan plan) old new × Keeps input left
+AnswersAlone {P} answer IsRead Opens (Draw asked) input left old new =
     (plan : Result P Error) × Opens asked.check.path plan
-    × AnswersDraw answer (IsReadOf remaining most_of_plan plan) (λ text. (trace : Result P Error) × Opens asked.check.trace trace × IsReadOf remaining most_of_trace trace text) asked.check.workers asked.view old new
+    × AnswersDraw answer (IsRead most_of_plan plan) (λ text. (trace : Result P Error) × Opens asked.check.trace trace × IsRead most_of_trace trace text) asked.check.workers asked.view old new
     × Keeps input left
 
+-- what is asked for is done: a run by a pool over the plan's file, as it is opened by its name, or what is asked of one thread
+abbrev pub AnswersAsked : {P : Type 0} → Result ℕ ProgramError → Reads P → (Bor Text → Result P Error → Type 0) → Asked → Option (List ℕ) → Option (List ℕ) → Option (List ℕ) → Option (List ℕ) → Type 0
+AnswersAsked {P} answer IsRead Opens (Pool asked) input left old new =
+    (plan : Result P Error) × Opens asked.path plan × AnswersPool answer (IsRead most_of_plan plan) asked input left old new
+AnswersAsked {P} answer IsRead Opens (Alone asked) input left old new = AnswersAlone answer IsRead Opens asked input left old new
+
 -- what the arguments of a command line ask for is done
-pub record Serves {P : Type 0} (arguments : List Text) (answer : Result ℕ ProgramError) (remaining : P → Option (List ℕ)) (Opens : Bor Text → Result P Error → Type 0) (input left old new : Option (List ℕ)) : Type 0 where
+pub record Serves {P : Type 0} (arguments : List Text) (answer : Result ℕ ProgramError) (IsRead : Reads P) (Opens : Bor Text → Result P Error → Type 0) (input left old new : Option (List ℕ)) : Type 0 where
   pub asked : Asked
   pub asks : Asks arguments asked
-  pub answers : AnswersAsked answer remaining Opens asked input left old new
+  pub answers : AnswersAsked answer IsRead Opens asked input left old new
+
+-- a check and a drawing read a trace
+abbrev pub ReadsTrace : AskedAlone → Type 0
+ReadsTrace (Run asked) = ⊥
+ReadsTrace (Code asked) = ⊥
+ReadsTrace (Tasks asked) = ⊥
+ReadsTrace (Check asked) = ⊤
+ReadsTrace (Migrate asked) = ⊥
+ReadsTrace (Draw asked) = ⊤
+
+-- what is asked of one thread ends with 0, with 1 where a check or a drawing found that a trace breaks, or with an error whose exit status
+-- is 1
+abbrev pub EndsAlone : AskedAlone → Result ℕ ProgramError → Type 0
+EndsAlone asked answer = MatchResult answer (λ s. (s ≡ 0) ⊎ ((s ≡ 1) × ReadsTrace asked)) (λ e. status_of e ≡ 1)

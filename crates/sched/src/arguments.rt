@@ -13,10 +13,17 @@ use trace_svg::View;
 /// What a command line asks for.
 #[derive(Clone, Copy, Debug)]
 pub enum Asked<'a> {
-    /// A run of a plan over the events on standard input.
-    Run(RunArguments<'a>),
     /// A run of a plan by a pool over the clocks on standard input.
     Pool(RunArguments<'a>),
+    /// What one thread does, which waits for no other.
+    Alone(AskedAlone<'a>),
+}
+
+/// What is asked of one thread.
+#[derive(Clone, Copy, Debug)]
+pub enum AskedAlone<'a> {
+    /// A run of a plan over the events on standard input.
+    Run(RunArguments<'a>),
     /// The listing of a plan's code.
     Code(PlanArguments<'a>),
     /// The tasks of a plan.
@@ -76,25 +83,33 @@ impl<'a> Asked<'a> {
     {
         let matches = command(alloc)?.try_get_matches_from(arguments)?;
         if let Some(code) = matches.subcommand_matches("code") {
-            return Ok(Asked::Code(PlanArguments::of_matches(code)));
+            let plan = PlanArguments::of_matches(code);
+            return Ok(Asked::Alone(AskedAlone::Code(plan)));
         }
         if let Some(tasks) = matches.subcommand_matches("tasks") {
-            return Ok(Asked::Tasks(PlanArguments::of_matches(tasks)));
+            let plan = PlanArguments::of_matches(tasks);
+            return Ok(Asked::Alone(AskedAlone::Tasks(plan)));
         }
         if let Some(check) = matches.subcommand_matches("check") {
-            return Ok(Asked::Check(CheckArguments::of_matches(check)));
+            let check = CheckArguments::of_matches(check);
+            return Ok(Asked::Alone(AskedAlone::Check(check)));
         }
         if let Some(pool) = matches.subcommand_matches("pool") {
             return Ok(Asked::Pool(RunArguments::of_matches(pool)));
         }
         if let Some(migrate) = matches.subcommand_matches("migrate") {
-            return Ok(Asked::Migrate(PlanArguments::of_matches(migrate)));
+            let plan = PlanArguments::of_matches(migrate);
+            return Ok(Asked::Alone(AskedAlone::Migrate(plan)));
         }
         if let Some(draw) = matches.subcommand_matches("draw") {
-            return Ok(Asked::Draw(DrawArguments::of_matches(draw)));
+            let draw = DrawArguments::of_matches(draw);
+            return Ok(Asked::Alone(AskedAlone::Draw(draw)));
         }
         match matches.subcommand() {
-            Some((_, run)) => Ok(Asked::Run(RunArguments::of_matches(run))),
+            Some((_, run)) => {
+                let run = RunArguments::of_matches(run);
+                Ok(Asked::Alone(AskedAlone::Run(run)))
+            }
             None => unreachable!(),
         }
     }

@@ -247,8 +247,9 @@ greatest moment of the trace. There is
           or to the end of the picture where it has none; its colour tells what
           the run led to
   a mark  for each other line of the trace, above the lanes
-and their tooltips are the lines themselves. Bars are shown that have a part of
-the time, and marks within it.
+and each has a tooltip: of a mark its line, of a bar the name of its task and
+the lines of its run. Bars are shown that have a part of the time, and marks
+within it.
 A trace that is none of the plan is not drawn. As 'sched check' does, 'draw'
 prints
   breaks N  lines 1 to N - 1 may begin a trace of the plan, and with line N they

@@ -15,10 +15,9 @@ use crate::error::ProgramError;
 use crate::files::{plan_text, trace_text};
 use crate::finding::tell_finding;
 use plan_read::{Plan, read_plan};
-use sched_engine::{RunError, Sink};
-use std::alloc::{Allocator, Global};
+use sched_engine::{HeapAllocator, RunError, Sink, Source};
+use std::alloc::Allocator;
 use std::io;
-use std::io::Read;
 use trace_check::Finding;
 use trace_svg::{Drawn, draw};
 
@@ -26,16 +25,16 @@ use trace_svg::{Drawn, draw};
 /// trace's is opened where the plan is one. `Ok` is the exit status: 0 where the picture was written, and 1 where the trace breaks,
 /// which is told as [`check_files`](crate::work::check_files) does. At a fault of a file, of the plan, of the number of workers or
 /// of what is to be shown, the first in this order, nothing is written.
-pub fn draw_files<P: Read + Drop, O: Fn(&str) -> io::Result<P> + Drop, W: Sink>(
-    alloc: Global,
+pub fn draw_files<A: HeapAllocator, P: Source + Drop, O: Fn(&str) -> io::Result<P> + Drop, W: Sink>(
+    alloc: A,
     asked: &DrawArguments<'_>,
     plan: io::Result<P>,
     open_file: O,
     writer: &mut W,
 ) -> Result<u8, ProgramError>
     requires { O.IsAlwaysCallable open_file }
-    ensures answers { AnswersDraw result (IsReadOf P.remaining most_of_plan plan)
-        (λ text. (trace : Result P Error) × O.post open_file asked.now.check.trace trace × IsReadOf P.remaining most_of_trace trace text)
+    ensures answers { AnswersDraw result (IsReadOf P.remaining P.failed P.fruitless most_of_plan plan)
+        (λ text. (trace : Result P Error) × O.post open_file asked.now.check.trace trace × IsReadOf P.remaining P.failed P.fruitless most_of_trace trace text)
         asked.now.check.workers asked.now.view (W.contents writer.old) (W.contents writer.new) }
     ensures write { CountsOutput result (W.failed writer.old) (W.fruitless writer.old) (W.failed writer.new) (W.fruitless writer.new) }
     ensures unread { IsErrOf result (ProgramError.Run RunError.Read) → ⊥ }

@@ -1,66 +1,129 @@
 //! The line on standard error that tells why the program gives up.
 
-ghost use Rattle.std.specs.Prelude.{◌≡◌, Some};
-ghost use Rattle.std.specs.Process.{exit_status};
-ghost use Rattle.sched.specs.Answers.{exit_status_of};
-ghost use Rattle.sched.specs.Lines.{error_line, kind_name, reason_text};
+ghost use Rattle.std.specs.Prelude.{◌≡◌, ◌+◌, ◌≤◌, ◌++◌, length};
+ghost use Rattle.std.specs.Fmt.{decimal};
+ghost use Rattle.arrayvec.specs.ArrayString.{array_string_len};
+ghost use Rattle.sched.specs.Answers.{IsTold, exit_status_of};
+ghost use Rattle.sched.specs.Lines.{error_line, kind_name, plan_fault_text, reason_text, run_error_text};
 
 use crate::error::ProgramError;
-use plan_read::PlanFaultKind;
-use sched_engine::RunError;
-use std::fmt;
-use std::process::ExitCode;
+use arrayvec::ArrayString;
+use itoa::Buffer;
+use plan_read::{PlanFault, PlanFaultKind};
+use sched_engine::{RunError, Sink, write_text};
 
-/// An error as the line that tells it, its newline with it.
-#[derive(Clone, Copy, Debug)]
-pub struct ErrorLine(pub ProgramError);
+/// How many bytes a reason has at most.
+const LONGEST_REASON: usize = 120;
 
-impl fmt::Display for ErrorLine {
-    ghost output = { λ line. Some (error_line line.0) };
+/// How many bytes a line has at most: a reason, the name of the program before it, and a newline.
+const LONGEST_LINE: usize = LONGEST_REASON + 8;
 
-    fn fmt<W: fmt::Write>(&self, f: &mut fmt::Formatter<W>) -> fmt::Result {
-        let error = self.0;
-        write!(f, "sched: {error}\n")
-    }
-}
+/// Why the program gives up, in words.
+type Reason = ArrayString<LONGEST_REASON>;
 
-impl fmt::Display for ProgramError {
-    ghost output = { λ error. Some (reason_text error) };
-
-    fn fmt<W: fmt::Write>(&self, f: &mut fmt::Formatter<W>) -> fmt::Result {
-        match self {
-            ProgramError::Arguments => write!(f, "command line not UTF-8"),
-            ProgramError::PlanFile => write!(f, "plan file not read"),
-            ProgramError::TraceFile => write!(f, "trace file not read"),
-            ProgramError::TraceTooLong => write!(f, "trace file too long"),
-            ProgramError::EndsFirst => write!(f, "the picture ends before it begins"),
-            ProgramError::Crowded(marks) => write!(
-                f,
-                "{marks} marks or bars are too many: --from and --to narrow the picture"
-            ),
-            ProgramError::Run(RunError::Plan(fault)) => {
-                let kind = kind_name(fault.kind);
-                let block = fault.block;
-                let call = fault.call;
-                write!(f, "plan: {kind} block {block} call {call}")
-            }
-            ProgramError::Run(RunError::Workers) => {
-                write!(f, "the number of workers is not 1 to 64")
-            }
-            ProgramError::Run(RunError::Limit) => write!(f, "the limit on events is 0"),
-            ProgramError::Run(RunError::EventLine(line)) => write!(f, "event line {line}"),
-            ProgramError::Run(RunError::Full) => write!(f, "full"),
-            ProgramError::Run(RunError::Read) => write!(f, "read fault"),
-            ProgramError::Run(RunError::Write) => write!(f, "write fault"),
-            ProgramError::Run(RunError::Lost) => write!(f, "lost"),
-            ProgramError::Run(RunError::Memory) => write!(f, "out of memory"),
+/// Tells an answer: the exit status that it is or that goes with its error, and an error's line by `faults`. Where these are at fault,
+/// the status alone tells the error. No memory is taken.
+pub fn tell<W: Sink>(faults: &mut W, answer: Result<u8, ProgramError>) -> u8
+    ensures told { IsTold answer (W.contents faults.old) (W.contents faults.new) (W.failed faults.old) (W.fruitless faults.old) (W.failed faults.new) (W.fruitless faults.new) }
+    ensures status { result ≡ exit_status_of answer }
+{
+    match answer {
+        Ok(status) => status,
+        Err(error) => {
+            let _ = write_text(faults, line_of(error).as_str().as_bytes());
+            error.status()
         }
     }
 }
 
+/// The line that tells an error, with its newline.
+fn line_of(error: ProgramError) -> ArrayString<LONGEST_LINE>
+    ensures { result.bytes ≡ error_line error }
+{
+    let mut line = ArrayString::new();
+    line.push_str("sched: ");
+    line.push_str(reason_of(error).as_str());
+    line.push_str("\n");
+    line
+}
+
+/// Why the program gives up.
+fn reason_of(error: ProgramError) -> Reason
+    ensures { result.bytes ≡ reason_text error }
+{
+    match error {
+        ProgramError::Arguments => in_words("command line not UTF-8"),
+        ProgramError::PlanFile => in_words("plan file not read"),
+        ProgramError::TraceFile => in_words("trace file not read"),
+        ProgramError::TraceTooLong => in_words("trace file too long"),
+        ProgramError::EndsFirst => in_words("the picture ends before it begins"),
+        ProgramError::Crowded(marks) => {
+            let mut reason = in_words("");
+            push_number(&mut reason, marks);
+            reason.push_str(" marks or bars are too many: --from and --to narrow the picture");
+            reason
+        }
+        ProgramError::Run(error) => run_reason(error),
+    }
+}
+
+/// Why a run ended, or what the program did besides.
+fn run_reason(error: RunError) -> Reason
+    ensures { result.bytes ≡ run_error_text error }
+{
+    match error {
+        RunError::Plan(fault) => plan_reason(fault),
+        RunError::Workers => in_words("the number of workers is not 1 to 64"),
+        RunError::Limit => in_words("the limit on events is 0"),
+        RunError::EventLine(line) => {
+            let mut reason = in_words("event line ");
+            push_number(&mut reason, line);
+            reason
+        }
+        RunError::Full => in_words("full"),
+        RunError::Read => in_words("read fault"),
+        RunError::Write => in_words("write fault"),
+        RunError::Lost => in_words("lost"),
+        RunError::Memory => in_words("out of memory"),
+    }
+}
+
+/// Why a plan is none.
+fn plan_reason(fault: PlanFault) -> Reason
+    ensures { result.bytes ≡ plan_fault_text fault }
+{
+    let mut reason = in_words("plan: ");
+    reason.push_str(kind_name(fault.kind));
+    reason.push_str(" block ");
+    push_number(&mut reason, u64::from(fault.block));
+    reason.push_str(" call ");
+    push_number(&mut reason, u64::from(fault.call));
+    reason
+}
+
+/// A reason of these words.
+fn in_words(words: &str) -> Reason
+    requires { length words.now ≤ LONGEST_REASON }
+    ensures { result.bytes ≡ words.now }
+{
+    let mut reason = ArrayString::new();
+    reason.push_str(words);
+    reason
+}
+
+/// Appends a number, in decimal digits.
+fn push_number(reason: &mut Reason, number: u64)
+    requires { array_string_len reason.old + 40 ≤ LONGEST_REASON }
+    ensures bytes { reason.new.bytes ≡ reason.old.bytes ++ decimal number }
+    ensures short { array_string_len reason.new ≤ array_string_len reason.old + 40 }
+{
+    reason.push_str(Buffer::new().format(number));
+}
+
 /// The name of a kind of plan fault.
 fn kind_name(kind: PlanFaultKind) -> &'static str
-    ensures { result.now ≡ kind_name kind }
+    ensures name { result.now ≡ kind_name kind }
+    ensures short { length result.now ≤ 13 }
 {
     match kind {
         PlanFaultKind::TooLong => "TooLong",
@@ -80,19 +143,5 @@ fn kind_name(kind: PlanFaultKind) -> &'static str
         PlanFaultKind::TooLarge => "TooLarge",
         PlanFaultKind::TooMany => "TooMany",
         PlanFaultKind::Memory => "Memory",
-    }
-}
-
-/// Tells an answer: the exit status that it is or that goes with its error, and an error's line on
-/// standard error. Where standard error is closed, the status alone tells the error.
-pub fn told<R: Eprint>(rt: &R, answer: Result<u8, ProgramError>) -> ExitCode
-    ensures status { exit_status result ≡ exit_status_of answer }
-{
-    match answer {
-        Ok(status) => ExitCode::from(status),
-        Err(error) => {
-            let _ = rt.eprint(ErrorLine(error));
-            ExitCode::from(error.status())
-        }
     }
 }

@@ -29,7 +29,8 @@
 //! value is its number. `check` reads the plan, then at most 67,108,865 bytes of the trace file, and writes `conforms`, or `breaks N` with the
 //! number of a line from 1 ([`check`](trace_check::check)). `migrate` writes the plan of a text of version 1 as one of version 2
 //! ([`migrate`](plan_read::migrate)). `draw` reads what `check` does, and writes the picture of the trace ([`draw`](trace_svg::draw))
-//! or, where it is none of the plan, `breaks N`. No clock of the machine is read.
+//! or, where it is none of the plan, `breaks N`. No clock of the machine is read. All but `pool` waits for no other thread, and returns
+//! (`answer_alone`).
 //!
 //! # Order and ties
 //!
@@ -41,7 +42,8 @@
 //! The first fault ends the program: one of the command line, with status 2, then one of the plan file, of the plan, of
 //! the trace file, and of the run, the picture or the writing, each with status 1 and told by one line on standard error. What was
 //! answered before is written. A trace that breaks is status 1 too, with nothing on standard error. Where standard error
-//! is closed, the status alone tells the fault.
+//! is closed, the status alone tells the fault. A file is told as not read where it can't be opened, where a read of it fails, or where
+//! 1,000 reads of it in a row are interrupted.
 //!
 //! # Memory and cost
 //!
@@ -70,8 +72,10 @@ mod serving;
 mod tests;
 mod work;
 
+use sched_engine::Writing;
 use std::process::ExitCode;
 
 fn main(rt: HostRuntime) -> ExitCode {
-    program::program(&rt, &rt)
+    let mut faults = Writing::new(rt.stderr());
+    program::program(&rt, &rt, &mut faults)
 }

@@ -1,33 +1,36 @@
 //! The program: its work over the command line, the files, standard input and standard output of the system.
 
-ghost use Rattle.std.specs.Prelude.{◌≡◌, ◌≤◌, ◌⊎◌, map, string_bytes, IfErr, IfOk};
+ghost use Rattle.std.specs.Prelude.{◌≡◌, ℕ, ◌≤◌, ◌⊎◌, Result, map, string_bytes, IfErr, IfOk};
 ghost use Rattle.std.specs.Process.{exit_status};
 ghost use Rattle.clap.specs.Words.{kind_of};
+ghost use Rattle.sched.specs.Answers.{IsTold, exit_status_of};
 ghost use Rattle.sched.specs.Commands.{IsRefusal, IsShown, IsTaken};
 ghost use Rattle.sched.specs.Errors.{IsOrMemory};
 ghost use Rattle.sched.specs.declared.error.ProgramError.TheVariants.{Arguments};
 
 use crate::error::ProgramError;
-use crate::error_line::told;
+use crate::error_line::tell;
 use crate::serving::serve;
 use clap::Error;
 use clap::error::ErrorKind;
-use sched_engine::{Reading, RunError, Writing};
+use sched_engine::{Reading, RunError, Sink, Writing};
 use std::process::ExitCode;
 use std::rt::{Env, Files};
 use std::sync::Wait;
 use std::thread::Threads;
 use std::{env, fs, io};
 
-/// Does what the command line says, and answers the exit status: 0, 1 after a fault that a line
-/// on standard error tells or where a trace breaks, or 2 for a fault of the command line. A pool's threads are those of `threads`.
-pub fn program<R: Env + Files + Input + Print + Eprint + AllocGlobal, T: Threads + Wait + Sync>(
-    rt: &R,
-    threads: &T,
-) -> ExitCode
+/// Does what the command line says, and answers the exit status: 0, 1 after a fault that a line by `faults` tells or where a trace
+/// breaks, or 2 for a fault of the command line. A pool's threads are those of `threads`, and `faults` is standard error.
+pub fn program<R, T, F>(rt: &R, threads: &T, faults: &mut F) -> ExitCode
+where
+    R: Env + Files + Input + Print + Eprint + AllocGlobal,
+    T: Threads + Wait + Sync,
+    F: Sink,
     ensures status { exit_status result ≤ 2 }
+    ensures told { (answer : Result ℕ ProgramError) × (exit_status result ≡ exit_status_of answer) × IsTold answer (F.contents faults.old) (F.contents faults.new) (F.failed faults.old) (F.fruitless faults.old) (F.failed faults.new) (F.fruitless faults.new) }
 {
-    told(rt, answer(rt, threads))
+    ExitCode::from(tell(faults, answer(rt, threads)))
 }
 
 /// Does what the command line says. `Ok` is the exit status, 0, 1 or 2.
@@ -71,7 +74,7 @@ fn answer_arguments<R: Files + Input + Print + Eprint + AllocGlobal, T: Threads 
         threads,
         rt.alloc(),
         arguments,
-        |path| fs::open(rt, path),
+        |path| fs::open(rt, path).map(Reading::new),
         &mut reader,
         &mut writer,
     ) {

@@ -4,29 +4,28 @@ ghost use Rattle.std.specs.Prelude.{map, string_bytes, IfErr, IfOk};
 ghost use Rattle.clap.specs.Words.{FailsBy, fault_of};
 ghost use Rattle.sched.specs.Commands.{IsEndOf, sched_app};
 ghost use Rattle.sched.specs.EndCounts.{CountsInput, CountsOutput};
-ghost use Rattle.sched.specs.Serving.{Serves};
+ghost use Rattle.sched.specs.Fronts.{IsReadOf};
+ghost use Rattle.sched.specs.Serving.{AnswersAlone, EndsAlone, Serves};
 ghost use Rattle.sched_engine.specs.Ends.{NoneFailed};
 ghost use Rattle.sched_engine.specs.Running.{IsUntouched};
 
-use crate::arguments::Asked;
+use crate::arguments::{Asked, AskedAlone};
 use crate::drawing::draw_files;
 use crate::error::ProgramError;
 use crate::work::{check_files, list_file, migrate_file, pool_file, run_file, tasks_file};
 use clap::Error;
-use sched_engine::{Sink, Source};
+use sched_engine::{HeapAllocator, Sink, Source};
 use std::alloc::Global;
 use std::io;
-use std::io::Read;
 use std::sync::Wait;
 use std::thread::Threads;
 
 /// Does what the arguments of a command line ask for, the program's name first: it opens the files that they name, reads events
 /// from the reader and writes to the writer. A pool's threads are those of `rt`. `Ok` is how that ended: with an exit status, 0 or, where a trace breaks, 1, or with an
 /// error. `Err` is help, a fault of the command line or want of memory, which is to be shown: nothing was read or written.
-#[tactic(auto, using(crate::proofs::EndCounts::unread))]
 pub fn serve<
     R: Threads + Wait + Sync,
-    P: Read + Drop,
+    P: Source + Drop,
     O: Fn(&str) -> io::Result<P> + Drop,
     S: Source,
     W: Sink,
@@ -39,7 +38,7 @@ pub fn serve<
     writer: &mut W,
 ) -> Result<Result<u8, ProgramError>, Error>
     requires { O.IsAlwaysCallable open_file }
-    ensures serves { IfOk result (λ answer. Serves (map string_bytes arguments.now) answer P.remaining (O.post open_file) (S.remaining reader.old) (S.remaining reader.new) (W.contents writer.old) (W.contents writer.new)) }
+    ensures serves { IfOk result (λ answer. Serves (map string_bytes arguments.now) answer (IsReadOf P.remaining P.failed P.fruitless) (O.post open_file) (S.remaining reader.old) (S.remaining reader.new) (W.contents writer.old) (W.contents writer.new)) }
     ensures read { IfOk result (λ answer. CountsInput answer (S.failed reader.old) (S.fruitless reader.old) (S.failed reader.new) (S.fruitless reader.new)) }
     ensures write { IfOk result (λ answer. CountsOutput answer (W.failed writer.old) (W.fruitless writer.old) (W.failed writer.new) (W.fruitless writer.new)) }
     ensures fails { FailsBy (fault_of sched_app (map string_bytes arguments.now)) result }
@@ -48,25 +47,48 @@ pub fn serve<
     ensures status { IfOk result (IsEndOf (map string_bytes arguments.now)) }
 {
     match Asked::parse(alloc, arguments)? {
-        Asked::Run(asked) => Ok(run_file(alloc, &asked, open_file(asked.path), reader, writer)),
-        Asked::Pool(asked) => Ok(pool_file(
-            rt,
-            alloc,
-            &asked,
-            open_file(asked.path),
-            reader,
-            writer,
-        )),
-        Asked::Code(asked) => Ok(list_file(alloc, open_file(asked.path), writer)),
-        Asked::Tasks(asked) => Ok(tasks_file(alloc, open_file(asked.path), writer)),
-        Asked::Check(asked) => {
-            let plan = open_file(asked.path);
-            Ok(check_files(alloc, &asked, plan, open_file, writer))
+        Asked::Pool(pool) => {
+            let plan = open_file(pool.path);
+            Ok(pool_file(rt, alloc, &pool, plan, reader, writer))
         }
-        Asked::Migrate(asked) => Ok(migrate_file(alloc, open_file(asked.path), writer)),
-        Asked::Draw(asked) => {
-            let plan = open_file(asked.check.path);
-            Ok(draw_files(alloc, &asked, plan, open_file, writer))
+        Asked::Alone(asked) => Ok(answer_alone(alloc, &asked, open_file, reader, writer)),
+    }
+}
+
+/// Does what is asked of one thread: it opens the files that are named, reads events from the reader and writes to the writer. It
+/// waits for no other thread, and returns. `Ok` is the exit status, 0 or, where a trace breaks, 1.
+#[tactic(auto, using(crate::proofs::EndCounts::unread))]
+pub fn answer_alone<
+    A: HeapAllocator,
+    P: Source + Drop,
+    O: Fn(&str) -> io::Result<P> + Drop,
+    S: Source,
+    W: Sink,
+>(
+    alloc: A,
+    asked: &AskedAlone<'_>,
+    open_file: O,
+    reader: &mut S,
+    writer: &mut W,
+) -> Result<u8, ProgramError>
+    requires { O.IsAlwaysCallable open_file }
+    ensures answers { AnswersAlone result (IsReadOf P.remaining P.failed P.fruitless) (O.post open_file) asked.now (S.remaining reader.old) (S.remaining reader.new) (W.contents writer.old) (W.contents writer.new) }
+    ensures read { CountsInput result (S.failed reader.old) (S.fruitless reader.old) (S.failed reader.new) (S.fruitless reader.new) }
+    ensures write { CountsOutput result (W.failed writer.old) (W.fruitless writer.old) (W.failed writer.new) (W.fruitless writer.new) }
+    ensures status { EndsAlone asked.now result }
+{
+    match asked {
+        AskedAlone::Run(run) => run_file(alloc, run, open_file(run.path), reader, writer),
+        AskedAlone::Code(code) => list_file(alloc, open_file(code.path), writer),
+        AskedAlone::Tasks(tasks) => tasks_file(alloc, open_file(tasks.path), writer),
+        AskedAlone::Check(check) => {
+            let plan = open_file(check.path);
+            check_files(alloc, check, plan, open_file, writer)
+        }
+        AskedAlone::Migrate(migrate) => migrate_file(alloc, open_file(migrate.path), writer),
+        AskedAlone::Draw(draw) => {
+            let plan = open_file(draw.check.path);
+            draw_files(alloc, draw, plan, open_file, writer)
         }
     }
 }

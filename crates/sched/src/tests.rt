@@ -2,6 +2,7 @@ mod command_line;
 mod error_lines;
 mod files;
 mod help;
+mod memory;
 mod pictures;
 mod programs;
 mod world;

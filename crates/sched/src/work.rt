@@ -17,21 +17,20 @@ use pool_engine::run_pool;
 use sched_engine::{HeapAllocator, RunError, Sink, Source, run, write_listing, write_text};
 use std::alloc::Global;
 use std::io;
-use std::io::Read;
 use std::sync::Wait;
 use std::thread::Threads;
 use task_list::write_tasks;
 
 /// Runs the plan of a file, as the system opened it, as asked: events from the reader and the trace to the writer. `Ok` is
 /// the exit status, 0. At a fault of the file, the plan or the numbers, the first in this order, nothing is read or written.
-pub fn run_file<P: Read + Drop, S: Source, W: Sink>(
-    alloc: Global,
+pub fn run_file<A: HeapAllocator, P: Source + Drop, S: Source, W: Sink>(
+    alloc: A,
     asked: &RunArguments<'_>,
     plan: io::Result<P>,
     reader: &mut S,
     writer: &mut W,
 ) -> Result<u8, ProgramError>
-    ensures answers { AnswersRun result (IsReadOf P.remaining most_of_plan plan) asked.now (S.remaining reader.old) (S.remaining reader.new) (W.contents writer.old) (W.contents writer.new) }
+    ensures answers { AnswersRun result (IsReadOf P.remaining P.failed P.fruitless most_of_plan plan) asked.now (S.remaining reader.old) (S.remaining reader.new) (W.contents writer.old) (W.contents writer.new) }
     ensures read { CountsInput result (S.failed reader.old) (S.fruitless reader.old) (S.failed reader.new) (S.fruitless reader.new) }
     ensures write { CountsOutput result (W.failed writer.old) (W.fruitless writer.old) (W.failed writer.new) (W.fruitless writer.new) }
     ensures status { MatchResult result (λ s. s ≡ 0) (λ e. status_of e ≡ 1) }
@@ -61,7 +60,7 @@ fn run_text<A: HeapAllocator, S: Source, W: Sink>(
 /// Runs the plan of a file by a pool, as the system opened it, as asked: clocks from the reader, and the trace to the writer.
 /// `Ok` is the exit status, 0. At a fault of the file, the plan or the numbers, the first in this order, nothing is read or
 /// written.
-pub fn pool_file<R: Threads + Wait + Sync, P: Read + Drop, S: Source, W: Sink>(
+pub fn pool_file<R: Threads + Wait + Sync, P: Source + Drop, S: Source, W: Sink>(
     rt: &R,
     alloc: Global,
     asked: &RunArguments<'_>,
@@ -69,7 +68,7 @@ pub fn pool_file<R: Threads + Wait + Sync, P: Read + Drop, S: Source, W: Sink>(
     reader: &mut S,
     writer: &mut W,
 ) -> Result<u8, ProgramError>
-    ensures answers { AnswersPool result (IsReadOf P.remaining most_of_plan plan) asked.now (S.remaining reader.old) (S.remaining reader.new) (W.contents writer.old) (W.contents writer.new) }
+    ensures answers { AnswersPool result (IsReadOf P.remaining P.failed P.fruitless most_of_plan plan) asked.now (S.remaining reader.old) (S.remaining reader.new) (W.contents writer.old) (W.contents writer.new) }
     ensures read { CountsInput result (S.failed reader.old) (S.fruitless reader.old) (S.failed reader.new) (S.fruitless reader.new) }
     ensures write { CountsOutput result (W.failed writer.old) (W.fruitless writer.old) (W.failed writer.new) (W.fruitless writer.new) }
     ensures status { MatchResult result (λ s. s ≡ 0) (λ e. status_of e ≡ 1) }
@@ -98,12 +97,12 @@ fn pool_text<R: Threads + Wait + Sync, A: HeapAllocator + Send + Sync, S: Source
 
 /// Writes the listing of the plan of a file, as the system opened it. `Ok` is the exit status, 0. At a fault of the file or
 /// the plan, the first in this order, nothing is written.
-pub fn list_file<P: Read + Drop, W: Sink>(
-    alloc: Global,
+pub fn list_file<A: HeapAllocator, P: Source + Drop, W: Sink>(
+    alloc: A,
     plan: io::Result<P>,
     writer: &mut W,
 ) -> Result<u8, ProgramError>
-    ensures answers { AnswersCode result (IsReadOf P.remaining most_of_plan plan) (W.contents writer.old) (W.contents writer.new) }
+    ensures answers { AnswersCode result (IsReadOf P.remaining P.failed P.fruitless most_of_plan plan) (W.contents writer.old) (W.contents writer.new) }
     ensures write { CountsOutput result (W.failed writer.old) (W.fruitless writer.old) (W.failed writer.new) (W.fruitless writer.new) }
     ensures unread { IsErrOf result (ProgramError.Run RunError.Read) → ⊥ }
     ensures status { MatchResult result (λ s. s ≡ 0) (λ e. status_of e ≡ 1) }
@@ -128,12 +127,12 @@ fn list_text<A: HeapAllocator, W: Sink>(
 
 /// Writes the tasks of the plan of a file, as the system opened it. `Ok` is the exit status, 0. At a fault of the file or the
 /// plan, the first in this order, nothing is written.
-pub fn tasks_file<P: Read + Drop, W: Sink>(
-    alloc: Global,
+pub fn tasks_file<A: HeapAllocator, P: Source + Drop, W: Sink>(
+    alloc: A,
     plan: io::Result<P>,
     writer: &mut W,
 ) -> Result<u8, ProgramError>
-    ensures answers { AnswersTasks result (IsReadOf P.remaining most_of_plan plan) (W.contents writer.old) (W.contents writer.new) }
+    ensures answers { AnswersTasks result (IsReadOf P.remaining P.failed P.fruitless most_of_plan plan) (W.contents writer.old) (W.contents writer.new) }
     ensures write { CountsOutput result (W.failed writer.old) (W.fruitless writer.old) (W.failed writer.new) (W.fruitless writer.new) }
     ensures unread { IsErrOf result (ProgramError.Run RunError.Read) → ⊥ }
     ensures status { MatchResult result (λ s. s ≡ 0) (λ e. status_of e ≡ 1) }
@@ -159,16 +158,21 @@ fn tasks_text<A: HeapAllocator, W: Sink>(
 /// Checks the trace of a file against the plan of a file, as the system opens them, and writes what is found, as asked. The
 /// trace's is opened where the plan is one. `Ok` is the exit status: 0 where the trace conforms, 1 where it breaks. At a fault of a file,
 /// the plan or the number of workers, the first in this order, nothing is written.
-pub fn check_files<P: Read + Drop, O: Fn(&str) -> io::Result<P> + Drop, W: Sink>(
-    alloc: Global,
+pub fn check_files<
+    A: HeapAllocator,
+    P: Source + Drop,
+    O: Fn(&str) -> io::Result<P> + Drop,
+    W: Sink,
+>(
+    alloc: A,
     asked: &CheckArguments<'_>,
     plan: io::Result<P>,
     open_file: O,
     writer: &mut W,
 ) -> Result<u8, ProgramError>
     requires { O.IsAlwaysCallable open_file }
-    ensures answers { AnswersCheck result (IsReadOf P.remaining most_of_plan plan)
-        (λ text. (trace : Result P Error) × O.post open_file asked.now.trace trace × IsReadOf P.remaining most_of_trace trace text)
+    ensures answers { AnswersCheck result (IsReadOf P.remaining P.failed P.fruitless most_of_plan plan)
+        (λ text. (trace : Result P Error) × O.post open_file asked.now.trace trace × IsReadOf P.remaining P.failed P.fruitless most_of_trace trace text)
         asked.now.workers (W.contents writer.old) (W.contents writer.new) }
     ensures write { CountsOutput result (W.failed writer.old) (W.fruitless writer.old) (W.failed writer.new) (W.fruitless writer.new) }
     ensures unread { IsErrOf result (ProgramError.Run RunError.Read) → ⊥ }
@@ -185,12 +189,12 @@ pub fn check_files<P: Read + Drop, O: Fn(&str) -> io::Result<P> + Drop, W: Sink>
 
 /// Writes the plan of a file, as the system opened it, as `migrate` prints it. `Ok` is the exit status, 0. At a fault of the
 /// file or the plan, the first in this order, nothing is written.
-pub fn migrate_file<P: Read + Drop, W: Sink>(
-    alloc: Global,
+pub fn migrate_file<A: HeapAllocator, P: Source + Drop, W: Sink>(
+    alloc: A,
     plan: io::Result<P>,
     writer: &mut W,
 ) -> Result<u8, ProgramError>
-    ensures answers { AnswersMigrate result (IsReadOf P.remaining most_of_plan plan) (W.contents writer.old) (W.contents writer.new) }
+    ensures answers { AnswersMigrate result (IsReadOf P.remaining P.failed P.fruitless most_of_plan plan) (W.contents writer.old) (W.contents writer.new) }
     ensures write { CountsOutput result (W.failed writer.old) (W.fruitless writer.old) (W.failed writer.new) (W.fruitless writer.new) }
     ensures unread { IsErrOf result (ProgramError.Run RunError.Read) → ⊥ }
     ensures status { MatchResult result (λ s. s ≡ 0) (λ e. status_of e ≡ 1) }

@@ -1,6 +1,8 @@
 //! What the command line takes.
 
-use crate::arguments::{Asked, CheckArguments, DrawArguments, PlanArguments, RunArguments};
+use crate::arguments::{
+    Asked, AskedAlone, CheckArguments, DrawArguments, PlanArguments, RunArguments,
+};
 use std::alloc::Global;
 use std::process::Abort;
 use std::test::Fail;
@@ -8,29 +10,36 @@ use trace_svg::View;
 
 /// What the arguments of a command line ask for, in words, or the status with which they end the program.
 fn in_words(alloc: Global, arguments: &[String]) -> Result<String, Fail> {
-    let words = match Asked::parse(alloc, arguments) {
-        Ok(Asked::Run(asked)) => {
-            format!(in alloc; "run {} {} {}", asked.path, asked.workers, asked.limit)?
-        }
+    match Asked::parse(alloc, arguments) {
         Ok(Asked::Pool(asked)) => {
-            format!(in alloc; "pool {} {} {}", asked.path, asked.workers, asked.limit)?
+            Ok(format!(in alloc; "pool {} {} {}", asked.path, asked.workers, asked.limit)?)
         }
-        Ok(Asked::Code(asked)) => format!(in alloc; "code {}", asked.path)?,
-        Ok(Asked::Check(asked)) => {
-            format!(in alloc; "check {} {} {}", asked.path, asked.trace, asked.workers)?
+        Ok(Asked::Alone(asked)) => of_one_thread(alloc, asked),
+        Err(error) => Ok(format!(in alloc; "status {}", error.exit_code())?),
+    }
+}
+
+/// What is asked of one thread, in words.
+fn of_one_thread(alloc: Global, asked: AskedAlone<'_>) -> Result<String, Fail> {
+    let words = match asked {
+        AskedAlone::Run(run) => {
+            format!(in alloc; "run {} {} {}", run.path, run.workers, run.limit)?
         }
-        Ok(Asked::Migrate(asked)) => format!(in alloc; "migrate {}", asked.path)?,
-        Ok(Asked::Tasks(asked)) => format!(in alloc; "tasks {}", asked.path)?,
-        Ok(Asked::Draw(asked)) => {
+        AskedAlone::Code(code) => format!(in alloc; "code {}", code.path)?,
+        AskedAlone::Check(check) => {
+            format!(in alloc; "check {} {} {}", check.path, check.trace, check.workers)?
+        }
+        AskedAlone::Migrate(old) => format!(in alloc; "migrate {}", old.path)?,
+        AskedAlone::Tasks(tasks) => format!(in alloc; "tasks {}", tasks.path)?,
+        AskedAlone::Draw(draw) => {
             let CheckArguments {
                 path,
                 trace,
                 workers,
-            } = asked.check;
-            let View { from, to, marks } = asked.view;
+            } = draw.check;
+            let View { from, to, marks } = draw.view;
             format!(in alloc; "draw {path} {trace} {workers} {from:?} {to:?} {marks}")?
         }
-        Err(error) => format!(in alloc; "status {}", error.exit_code())?,
     };
     Ok(words)
 }
@@ -171,29 +180,29 @@ fn shows_what_is_asked_for_to_programmers(rt: HostRuntime) -> Result<(), Fail> {
     };
     for (asked, text) in [
         (
-            Asked::Run(run),
-            "Run(RunArguments { path: \"p\", workers: 2, limit: 3 })",
+            Asked::Alone(AskedAlone::Run(run)),
+            "Alone(Run(RunArguments { path: \"p\", workers: 2, limit: 3 }))",
         ),
         (
             Asked::Pool(run),
             "Pool(RunArguments { path: \"p\", workers: 2, limit: 3 })",
         ),
         (
-            Asked::Code(PlanArguments { path: "p" }),
-            "Code(PlanArguments { path: \"p\" })",
+            Asked::Alone(AskedAlone::Code(PlanArguments { path: "p" })),
+            "Alone(Code(PlanArguments { path: \"p\" }))",
         ),
         (
-            Asked::Check(check),
-            "Check(CheckArguments { path: \"p\", trace: \"t\", workers: 2 })",
+            Asked::Alone(AskedAlone::Check(check)),
+            "Alone(Check(CheckArguments { path: \"p\", trace: \"t\", workers: 2 }))",
         ),
         (
-            Asked::Draw(DrawArguments { check, view }),
-            "Draw(DrawArguments { check: CheckArguments { path: \"p\", trace: \"t\", workers: 2 }, \
-view: View { from: None, to: Some(3), marks: 4 } })",
+            Asked::Alone(AskedAlone::Draw(DrawArguments { check, view })),
+            "Alone(Draw(DrawArguments { check: CheckArguments { path: \"p\", trace: \"t\", workers: 2 }, \
+view: View { from: None, to: Some(3), marks: 4 } }))",
         ),
         (
-            Asked::Migrate(PlanArguments { path: "p" }),
-            "Migrate(PlanArguments { path: \"p\" })",
+            Asked::Alone(AskedAlone::Migrate(PlanArguments { path: "p" })),
+            "Alone(Migrate(PlanArguments { path: \"p\" }))",
         ),
     ] {
         let shown = format!(in rt.alloc(); "{asked:?}")?;

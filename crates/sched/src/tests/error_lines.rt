@@ -1,20 +1,34 @@
 //! The lines on standard error, and the exit statuses.
 
-use super::world::World;
-use super::{ends, given};
 use crate::error::ProgramError;
-use crate::error_line::{ErrorLine, told};
+use crate::error_line::tell;
 use plan_read::{PlanFault, PlanFaultKind};
-use sched_engine::RunError;
+use sched_engine::{RunError, Writing};
+use scripted_ends::{Script, Taking, Trouble};
+use std::io::ErrorKind;
 use std::process::Abort;
 use std::test::Fail;
 use trace_svg::DrawError;
 
-/// Checks that a fault is told by just this line on standard error, and this status.
+/// Checks that an answer is told by just this line on a standard error with a script, and this status, and how often that was called.
+fn is_told_by(
+    rt: &(impl AllocGlobal + Abort),
+    answer: Result<u8, ProgramError>,
+    script: Script,
+    status: u8,
+    line: &str,
+    calls: u32,
+) {
+    let mut faults = Writing::new(Taking::new(rt.alloc(), script));
+    assert_eq!(rt; tell(&mut faults, answer), status);
+    let end = faults.into_inner();
+    assert!(rt; end.taken() == line.as_bytes(), "{line}");
+    assert_eq!(rt; end.calls(), calls);
+}
+
+/// Checks that a fault is told by just this line, at one call, and this status.
 fn is_told(rt: &(impl AllocGlobal + Abort), fault: ProgramError, status: u8, line: &str) {
-    let world = World::new(rt.alloc(), given(&[], ""));
-    let code = told(&world, Err(fault));
-    ends(rt, &world.end(code), status, "", line)
+    is_told_by(rt, Err(fault), Script::smooth(128), status, line, 1)
 }
 
 /// A fault of a plan in the second call of its third block.
@@ -132,31 +146,82 @@ fn tells_faults_of_the_plan_file_and_of_the_arguments(rt: HostRuntime) {
 
 #[test]
 fn tells_a_status_by_no_line(rt: HostRuntime) {
-    for status in [0, 2] {
-        let world = World::new(rt.alloc(), given(&[], ""));
-        let code = told(&world, Ok(status));
-        ends(&rt, &world.end(code), status, "", "");
+    for status in [0, 1, 2] {
+        is_told_by(&rt, Ok(status), Script::smooth(128), status, "", 0);
     }
 }
 
-/// How errors and their lines are shown to programmers.
+/// The longest lines: that of a crowd, and that of a plan.
+#[test]
+fn tells_the_greatest_numbers(rt: HostRuntime) {
+    is_told(
+        &rt,
+        ProgramError::Crowded(u64::MAX),
+        1,
+        "sched: 18446744073709551615 marks or bars are too many: --from and --to narrow the picture\n",
+    );
+    is_told(
+        &rt,
+        ProgramError::Run(RunError::Plan(PlanFault {
+            kind: PlanFaultKind::DuplicateName,
+            block: u32::MAX,
+            call: u32::MAX,
+        })),
+        1,
+        "sched: plan: DuplicateName block 4294967295 call 4294967295\n",
+    );
+}
+
+/// Where standard error is at fault, the status tells the error, and a front of the line stands there.
+#[test]
+fn tells_an_error_by_its_status_where_standard_error_is_at_fault(rt: HostRuntime) {
+    let five = Script::smooth(5);
+    let closed = Script {
+        trouble_at: 1,
+        trouble: Trouble::Fails(ErrorKind::BrokenPipe),
+        ..five
+    };
+    let full = Script {
+        trouble_at: 3,
+        ..five
+    };
+    let interrupted = Script {
+        interrupts: 999,
+        ..five
+    };
+    let hopeless = Script {
+        interrupts: 1_000,
+        ..five
+    };
+    for (script, line, calls) in [
+        (five, "sched: full\n", 3),
+        (closed, "", 1),
+        (full, "sched: ful", 3),
+        (interrupted, "sched: full\n", 3_000),
+        (hopeless, "", 1_000),
+    ] {
+        let error = ProgramError::Run(RunError::Full);
+        is_told_by(&rt, Err(error), script, 1, line, calls);
+    }
+}
+
+/// How errors are shown to programmers.
 #[test]
 fn shows_errors_to_programmers(rt: HostRuntime) -> Result<(), Fail> {
     for (error, text) in [
-        (ProgramError::TraceTooLong, "ErrorLine(TraceTooLong)"),
-        (ProgramError::EndsFirst, "ErrorLine(EndsFirst)"),
-        (ProgramError::Crowded(3), "ErrorLine(Crowded(3))"),
+        (ProgramError::TraceTooLong, "TraceTooLong"),
+        (ProgramError::EndsFirst, "EndsFirst"),
+        (ProgramError::Crowded(3), "Crowded(3)"),
         (
             ProgramError::Run(RunError::EventLine(9)),
-            "ErrorLine(Run(EventLine(9)))",
+            "Run(EventLine(9))",
         ),
         (
             of_plan(PlanFaultKind::BadName),
-            "ErrorLine(Run(Plan(PlanFault { kind: BadName, block: 3, call: 2 })))",
+            "Run(Plan(PlanFault { kind: BadName, block: 3, call: 2 }))",
         ),
     ] {
-        let line = ErrorLine(error);
-        let shown = format!(in rt.alloc(); "{line:?}")?;
+        let shown = format!(in rt.alloc(); "{error:?}")?;
         assert!(rt; shown.as_str() == text, "{shown}");
     }
     Ok(())

@@ -1,10 +1,14 @@
 //! How much of a plan file is read, and what a fault of it comes to.
 
 use super::world::{Given, GivenFile};
-use super::{ends_given, given};
+use super::{ONE_DELAY, ends_given, given};
 use crate::error::ProgramError;
 use crate::files::{MOST_OF_PLAN, MOST_OF_TRACE, plan_front, plan_text, trace_text, whole_trace};
+use sched_engine::{Pieces, Reading};
+use scripted_ends::{Giving, Script, Trouble};
+use std::alloc::Global;
 use std::fs;
+use std::io::ErrorKind;
 use std::test::Fail;
 
 /// The command line of a run of `plan.toml`.
@@ -21,7 +25,8 @@ fn reads_one_byte_more_than_a_plan_may_have(rt: HostRuntime) -> Result<(), Fail>
         (1_048_580, 1_048_577),
     ] {
         let bytes = " ".repeat(alloc, length)?;
-        let text = plan_front(alloc, bytes.as_bytes());
+        let mut file = Pieces::new(bytes.as_bytes(), 100_000);
+        let text = plan_front(alloc, &mut file);
         assert_eq!(rt; text.ok().map(|text| text.len()), Some(read));
     }
     assert_eq!(rt; MOST_OF_PLAN, 1_048_577);
@@ -55,7 +60,7 @@ fn does_not_take_a_broken_file_for_its_front(rt: HostRuntime) {
         is_broken: true,
     };
     assert_eq!(rt;
-        plan_front(rt.alloc(), broken).err(),
+        plan_front(rt.alloc(), &mut Reading::new(broken)).err(),
         Some(ProgramError::PlanFile)
     );
     let given = Given {
@@ -68,21 +73,24 @@ fn does_not_take_a_broken_file_for_its_front(rt: HostRuntime) {
 /// A file that is at fault behind the bytes that are read of it.
 #[test]
 fn reads_no_byte_past_those_that_it_takes(rt: HostRuntime) -> Result<(), Fail> {
-    let most = MOST_OF_PLAN as usize;
-    let bytes = "#".repeat(rt.alloc(), most)?;
+    let bytes = "#".repeat(rt.alloc(), MOST_OF_PLAN)?;
     let broken = GivenFile {
         rest: bytes.as_bytes(),
         is_broken: true,
     };
-    let text = plan_front(rt.alloc(), broken);
-    assert_eq!(rt; text.ok().map(|text| text.len()), Some(most));
+    let text = plan_front(rt.alloc(), &mut Reading::new(broken));
+    assert_eq!(rt; text.ok().map(|text| text.len()), Some(MOST_OF_PLAN));
     Ok(())
 }
 
 #[test]
 fn does_not_take_a_missing_file_for_an_empty_one(rt: HostRuntime) {
     assert_eq!(rt;
-        plan_text(rt.alloc(), fs::open(&rt, "no such plan.toml")).err(),
+        plan_text(
+            rt.alloc(),
+            fs::open(&rt, "no such plan.toml").map(Reading::new)
+        )
+        .err(),
         Some(ProgramError::PlanFile)
     );
     let given = Given {
@@ -96,10 +104,74 @@ fn does_not_take_a_missing_file_for_an_empty_one(rt: HostRuntime) {
 #[test]
 fn reads_the_whole_of_a_trace(rt: HostRuntime) {
     assert_eq!(rt; MOST_OF_TRACE, 67_108_865);
-    let text = whole_trace(rt.alloc(), b"0 clock\n".as_slice());
+    let text = whole_trace(rt.alloc(), &mut Pieces::new(b"0 clock\n", 3));
     assert_eq!(rt; text.ok().map(|text| text.len()), Some(8));
     assert_eq!(rt;
-        trace_text(rt.alloc(), fs::open(&rt, "no such trace")).err(),
+        trace_text(rt.alloc(), fs::open(&rt, "no such trace").map(Reading::new)).err(),
         Some(ProgramError::TraceFile)
     );
+}
+
+/// What of a file with a script is read, as a trace's or as a plan's, and how often it was called.
+fn read_of(
+    alloc: Global,
+    is_trace: bool,
+    bytes: &str,
+    script: Script,
+) -> (Result<Vec<u8>, ProgramError>, u32) {
+    let mut file = Reading::new(Giving::new(bytes.as_bytes(), b"", script));
+    let text = if is_trace {
+        whole_trace(alloc, &mut file)
+    } else {
+        plan_front(alloc, &mut file)
+    };
+    (text, file.into_inner().calls())
+}
+
+/// A file of 76 bytes, of which a read gives 20 at most: it is read in four reads, and a fifth is its end.
+#[test]
+fn reads_a_file_that_is_interrupted(rt: HostRuntime) {
+    for is_trace in [false, true] {
+        for (interrupts, calls) in [(0, 5), (1, 10), (999, 5_000)] {
+            let script = Script {
+                interrupts,
+                ..Script::smooth(20)
+            };
+            let (text, called) = read_of(rt.alloc(), is_trace, ONE_DELAY, script);
+            assert!(rt; text.is_ok_and(|text| text.as_slice() == ONE_DELAY.as_bytes()));
+            assert_eq!(rt; called, calls);
+        }
+    }
+}
+
+/// The same file at fault in each of its five reads, and by a thousand interrupts in a row. It is not called behind its fault.
+#[test]
+fn tells_a_file_that_is_at_fault(rt: HostRuntime) {
+    let fails = Script {
+        trouble: Trouble::Fails(ErrorKind::Other),
+        ..Script::smooth(20)
+    };
+    for (is_trace, fault) in [
+        (false, ProgramError::PlanFile),
+        (true, ProgramError::TraceFile),
+    ] {
+        for (interrupts, trouble_at, calls) in [
+            (0, 1, 1),
+            (0, 3, 3),
+            (0, 5, 5),
+            (999, 1, 1_000),
+            (999, 5, 5_000),
+            (1_000, 1, 1_000),
+            (1_000, 0, 1_000),
+        ] {
+            let script = Script {
+                interrupts,
+                trouble_at,
+                ..fails
+            };
+            let (text, called) = read_of(rt.alloc(), is_trace, ONE_DELAY, script);
+            assert_eq!(rt; text.err(), Some(fault));
+            assert_eq!(rt; called, calls);
+        }
+    }
 }

@@ -3,6 +3,7 @@
 ghost use Rattle.std.specs.Prelude.{IsErr};
 
 use crate::program::program;
+use sched_engine::Writing;
 use std::alloc::{Allocator, Global};
 use std::cell::RefCell;
 use std::env::FillError;
@@ -72,10 +73,18 @@ impl<'a> World<'a> {
     }
 }
 
+/// Standard error of a world, as a writer.
+#[derive(Drop)]
+struct Faults<'w, 'a> {
+    world: &'w World<'a>,
+}
+
 /// Runs the program in a world of what is given, with the threads of `rt`.
 pub fn run_in<R: AllocGlobal + Threads + Wait + Sync>(rt: &R, given: Given<'_>) -> Ended {
     let world = World::new(rt.alloc(), given);
-    let status = program(&world, rt);
+    let mut faults = Writing::new(Faults { world: &world });
+    let status = program(&world, rt, &mut faults);
+    drop(faults);
     world.end(status)
 }
 
@@ -145,6 +154,17 @@ impl Eprint for World<'_> {
 
     fn eprintln<D: Display + Drop>(&self, value: D) -> io::Result<()> {
         append(&self.err, format!(in self.alloc; "{value}\n")?.as_bytes())
+    }
+}
+
+impl Write for Faults<'_, '_> {
+    fn write(&mut self, buf: &[u8]) -> io::Result<usize> {
+        append(&self.world.err, buf)?;
+        Ok(buf.len())
+    }
+
+    fn flush(&mut self) -> io::Result<()> {
+        Ok(())
     }
 }
 

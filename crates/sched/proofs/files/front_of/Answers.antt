@@ -1,20 +1,28 @@
-use Rattle.std.proofs.Common.{ap, ℕ, List, [], Option, Some, None, take, ◌++◌, ◌≡◌, ◌∙◌}
-use Rattle.std.specs.Prelude.{IfSome, option_map}
-use Rattle.std.specs.Io.Take.{take_inner, take_limit, take_remaining}
-use Rattle.std.specs.declared.io.Take.{Take}
+use Rattle.std.proofs.Common.{inl, refl, rules}
+use Rattle.std.proofs.lemmas.List.{with_items_is, places}
+use Rattle.sched_engine.proofs.Tries.{bad_try, good_then_bad, good_then_good, good_try}
+use Rattle.sched.proofs.Readings.{read_more}
 use Rattle.sched.proofs.files.front_of.Goals as goal
 
--- what was read up to a limit is the front of what there is
-front : {R : Type 0} (remaining : R → Option (List ℕ)) (limited : Take R) (reader : R) (limit : ℕ) (got before : List ℕ)
-    → take_limit limited ≡ limit → take_inner limited ≡ reader → before ≡ []
-    → IfSome (take_remaining remaining limited) (λ xs. got ≡ before ++ xs)
-    → IfSome (remaining reader) (λ bytes. got ≡ take limit bytes)
-front remaining limited reader limit got before is_limit is_reader none all = go (remaining reader) (rw (is_limit, is_reader) at all)
-  where
-    go : (known : Option (List ℕ)) → IfSome (option_map (take limit) known) (λ xs. got ≡ before ++ xs) → IfSome known (λ bytes. got ≡ take limit bytes)
-    go None h = h
-    go (Some bytes) h = h ∙ ap (λ (xs : List ℕ). xs ++ take limit bytes) none
+pub returns-in-Some-eq0-clause-counts : goal.returns-in-Some-eq0-clause-counts
+returns-in-Some-eq0-clause-counts g c = good_then_good _ _ _ _ _ _ c.loop-filled.invariant.counts (good_try _ _ _ _ c.in-Some-eq0.ensures.counts)
 
-pub returns-in-Ok-clause-text : goal.returns-in-Ok-clause-text
-returns-in-Ok-clause-text g c =
-    front g.R.Read.remaining c.take.result c.args.reader c.args.most _ _ c.take.ensures.limit c.take.ensures.inner c.new-text.ensures.items c.in-Ok.ensures.bytes
+-- what was read so far, and then what this read brought
+pub loop-filled-preserved : goal.loop-filled-preserved
+loop-filled-preserved g c =
+    let so_far = c.loop-filled.invariant in
+    let filled = c.loop-filled.filled in
+    let read = c.in-Some.ensures in
+    let items = with_items_is c.make_room.new.text c.read_behind.new.text (search (rules, places)) in
+    record {
+      read =
+          rw items (read_more _ _ _ c.loop-filled.text.items c.make_room.new.text.items c.as_mut_slice.result.now c.read_behind.new.text filled c.in-Some.n
+          c.make_room.ensures.front c.as_mut_slice.ensures.value c.read_behind.ensures.front so_far.read read.read);
+      counts = good_then_good _ _ _ _ _ _ so_far.counts (good_try _ _ _ _ read.counts);
+      within = rw items read.fits;
+      few = search (rules, places);
+    }
+
+-- this read was at fault
+pub returns-in-None-clause-counts : goal.returns-in-None-clause-counts
+returns-in-None-clause-counts g c = inl (refl, good_then_bad _ _ _ _ _ _ c.loop-filled.invariant.counts (bad_try _ _ _ _ c.in-None.ensures.counts))

@@ -16,7 +16,7 @@ is_all (Some bytes) text front short =
     front ∙ take_all 67108865 bytes (omega (arith, ap length front, length-take 67108865 bytes, short))
 
 pub returns-then-len-ge-MOST_OF_TRACE-clause-long : goal.returns-then-len-ge-MOST_OF_TRACE-clause-long
-returns-then-len-ge-MOST_OF_TRACE-clause-long g c = λ q. is_long (g.R.Read.remaining c.args.reader) c.in_ok-text.text.items c.in_ok-text.ensures.text (omega (arith, c.if-len-ge-MOST_OF_TRACE.true, c.len.ensures, c.in_ok-text.text.ok.0))
+returns-then-len-ge-MOST_OF_TRACE-clause-long g c = λ q. is_long (g.P.Source.remaining c.args.file.now) c.in_ok-text.text.items c.in_ok-text.ensures.text (omega (arith, c.if-len-ge-MOST_OF_TRACE.true, c.len.ensures, c.in_ok-text.text.ok.0))
 
 pub returns-clause-text : goal.returns-clause-text
-returns-clause-text g c = is_all (g.R.Read.remaining c.args.reader) c.in_ok-text.text.items c.in_ok-text.ensures.text (omega (arith, c.if-len-ge-MOST_OF_TRACE.false, c.len.ensures, c.in_ok-text.text.ok.0))
+returns-clause-text g c = is_all (g.P.Source.remaining c.args.file.now) c.in_ok-text.text.items c.in_ok-text.ensures.text (omega (arith, c.if-len-ge-MOST_OF_TRACE.false, c.len.ensures, c.in_ok-text.text.ok.0))

@@ -1,4 +1,4 @@
-use Rattle.std.proofs.Common.{ap, ap₂, refl, rules, subst, sym, codes, map, string_bytes, Option, Some, None, List, [], Result, Err, true, false, ◌≡◌, ◌∙◌}
+use Rattle.std.proofs.Common.{ap, ap₂, refl, rules, subst, sym, Option, Some, None, List, [], Result, Err, true, false, ◌≡◌, ◌∙◌}
 use Rattle.std.specs.Prelude.{IsSome, option_map}
 use Rattle.std.proofs.lemmas.Bool.{and_parts, not-true}
 use Rattle.std.proofs.lemmas.Option.{none-some, same_Some}
@@ -79,42 +79,42 @@ pub returns-in-Some-clause-asked : goal.returns-in-Some-clause-asked
 returns-in-Some-clause-asked c = (
   _,
   named _ _ _ _ _ c.in_ok-command.ensures.app c.in_ok-matches.ensures.matches (c.in-Some.ensures.found.0 refl) c.in-Some.ensures.rows,
-  c.of_matches.ensures,
+  c.of_matches-plan.ensures,
 )
 
 pub returns-in-Some-subcommand_matches-clause-asked : goal.returns-in-Some-subcommand_matches-clause-asked
 returns-in-Some-subcommand_matches-clause-asked c = (
   _,
   named _ _ _ _ _ c.in_ok-command.ensures.app c.in_ok-matches.ensures.matches (c.in-Some-subcommand_matches.ensures.found.0 refl) c.in-Some-subcommand_matches.ensures.rows,
-  c.of_matches-in-Some-subcommand_matches.ensures,
+  c.of_matches-plan-in-Some-subcommand_matches.ensures,
 )
 
 pub returns-in-Some-subcommand_matches-2-clause-asked : goal.returns-in-Some-subcommand_matches-2-clause-asked
 returns-in-Some-subcommand_matches-2-clause-asked c = (
   _,
   named _ _ _ _ _ c.in_ok-command.ensures.app c.in_ok-matches.ensures.matches (c.in-Some-subcommand_matches-2.ensures.found.0 refl) c.in-Some-subcommand_matches-2.ensures.rows,
-  c.of_matches-in-Some-subcommand_matches-2.ensures,
+  c.of_matches-check.ensures,
 )
 
 pub returns-in-Some-subcommand_matches-3-clause-asked : goal.returns-in-Some-subcommand_matches-3-clause-asked
 returns-in-Some-subcommand_matches-3-clause-asked c = (
   _,
   named _ _ _ _ _ c.in_ok-command.ensures.app c.in_ok-matches.ensures.matches (c.in-Some-subcommand_matches-3.ensures.found.0 refl) c.in-Some-subcommand_matches-3.ensures.rows,
-  c.of_matches-in-Some-subcommand_matches-3.ensures,
+  c.of_matches.ensures,
 )
 
 pub returns-in-Some-subcommand_matches-4-clause-asked : goal.returns-in-Some-subcommand_matches-4-clause-asked
 returns-in-Some-subcommand_matches-4-clause-asked c = (
   _,
   named _ _ _ _ _ c.in_ok-command.ensures.app c.in_ok-matches.ensures.matches (c.in-Some-subcommand_matches-4.ensures.found.0 refl) c.in-Some-subcommand_matches-4.ensures.rows,
-  c.of_matches-in-Some-subcommand_matches-4.ensures,
+  c.of_matches-plan-in-Some-subcommand_matches-4.ensures,
 )
 
 pub returns-in-Some-subcommand_matches-5-clause-asked : goal.returns-in-Some-subcommand_matches-5-clause-asked
 returns-in-Some-subcommand_matches-5-clause-asked c = (
   _,
   named _ _ _ _ _ c.in_ok-command.ensures.app c.in_ok-matches.ensures.matches (c.in-Some-subcommand_matches-5.ensures.found.0 refl) c.in-Some-subcommand_matches-5.ensures.rows,
-  c.of_matches-in-Some-subcommand_matches-5.ensures,
+  c.of_matches-draw.ensures,
 )
 
 pub returns-clause-asked : goal.returns-clause-asked
@@ -129,7 +129,7 @@ returns-clause-asked c =
       λ q. none_found _ c.in_default-subcommand_matches-3.is (c.subcommand_matches-4.ensures.found.1 (sym name ∙ ap Some q)),
       λ q. none_found _ c.in_default-subcommand_matches-4.is (c.subcommand_matches-5.ensures.found.1 (sym name ∙ ap Some q)),
       λ q. none_found _ c.in_default-subcommand_matches-5.is (c.subcommand_matches-6.ensures.found.1 (sym name ∙ ap Some q)),
-      c.of_matches-in-Some-subcommand.ensures,
+      c.of_matches-run.ensures,
     )
 
 -- the command line wants a command, so one was found

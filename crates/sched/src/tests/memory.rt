@@ -1,0 +1,105 @@
+//! Memory: what a command takes comes back, also where it is refused some.
+
+use super::ONE_DELAY;
+use crate::arguments::{AskedAlone, CheckArguments, DrawArguments, PlanArguments, RunArguments};
+use crate::error::ProgramError;
+use crate::serving::answer_alone;
+use refusing_allocator::Refusing;
+use sched_engine::{Pieces, RunError, Writing};
+use std::alloc::Global;
+use std::io;
+use std::process::Abort;
+use trace_svg::View;
+
+/// A trace of the plan of one delayed task.
+const TRACE: &str = "0 submit 0 schedule due 5\n5 clock\n5 start 0 task 0 run 0 due 5\n7 clock\n\
+7 finish 0 task 0 run 0 done 7\n";
+
+/// The same one, whose third line has a worker that is not there.
+const BREAKS: &str = "0 submit 0 schedule due 5\n5 clock\n5 start 1 task 0 run 0 due 5\n";
+
+/// Events of which the trace tells.
+const EVENTS: &str = "clock 5\nstart 0\nclock 7\nfinish 0 ok 7\n";
+
+/// What is done over the plan of one delayed task in the file `plan`, and over the traces in `trace` and `breaks`.
+fn answer(heap: &Refusing<Global>, asked: AskedAlone<'_>) -> Result<u8, ProgramError> {
+    let mut events = Pieces::new(EVENTS.as_bytes(), 100);
+    let mut out = Writing::new(io::sink());
+    let open = |path: &str| {
+        let bytes = match path {
+            "trace" => TRACE,
+            "breaks" => BREAKS,
+            _ => ONE_DELAY,
+        };
+        Ok(Pieces::new(bytes.as_bytes(), 100))
+    };
+    answer_alone(heap, &asked, open, &mut events, &mut out)
+}
+
+/// Refuses each growth of a command in turn: it tells want of memory, and all comes back. The last time nothing is refused, and the
+/// command ends with this status.
+fn gives_back(rt: &(impl AllocGlobal + Abort), asked: AskedAlone<'_>, status: u8) {
+    let heap = Refusing::new(rt.alloc());
+    let mut has_all = false;
+    for number in 1u64..10_000 {
+        heap.refuse(number);
+        let answer = answer(&heap, asked);
+        assert!(rt;
+            heap.used() == 0,
+            "{asked:?} at growth {number}: {}",
+            heap.used()
+        );
+        if !heap.has_refused() {
+            assert_eq!(rt; answer, Ok(status));
+            has_all = number > 1;
+            break;
+        }
+        assert!(rt;
+            answer == Err(ProgramError::Run(RunError::Memory)),
+            "{asked:?} at growth {number}: {answer:?}"
+        );
+    }
+    assert!(rt; has_all, "{asked:?}");
+}
+
+#[test]
+fn each_command_gives_back_what_it_took(rt: HostRuntime) {
+    let plan = PlanArguments { path: "plan" };
+    let run = RunArguments {
+        path: "plan",
+        workers: 1,
+        limit: 100,
+    };
+    let check = CheckArguments {
+        path: "plan",
+        trace: "trace",
+        workers: 1,
+    };
+    let breaks = CheckArguments {
+        trace: "breaks",
+        ..check
+    };
+    let view = View {
+        from: None,
+        to: None,
+        marks: 10,
+    };
+    for (asked, status) in [
+        (AskedAlone::Run(run), 0),
+        (AskedAlone::Code(plan), 0),
+        (AskedAlone::Tasks(plan), 0),
+        (AskedAlone::Check(check), 0),
+        (AskedAlone::Check(breaks), 1),
+        (AskedAlone::Migrate(plan), 0),
+        (AskedAlone::Draw(DrawArguments { check, view }), 0),
+        (
+            AskedAlone::Draw(DrawArguments {
+                check: breaks,
+                view,
+            }),
+            1,
+        ),
+    ] {
+        gives_back(&rt, asked, status);
+    }
+}
