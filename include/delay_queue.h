@@ -13,10 +13,11 @@
  *
  * This file is C11 and C++11. docs/EMBEDDING.md says what a program is linked with.
  *
- * Answers. Each call but dq_insert_unchecked answers a dq_status. Where it is not DQ_DONE, the queue is as it was, and
- * nothing was written to what `out`, `due`, `count` or `touched` point to; dq_insert_many and dq_poll_many say what stands
- * after them. DQ_NULL comes before all other answers: nothing at all changed then, and nothing was written. DQ_NO_QUEUE
- * comes next.
+ * Answers. Each call but dq_insert_unchecked answers a dq_status. DQ_NULL comes before all other answers: nothing at all
+ * changed then, and nothing was written. DQ_NO_QUEUE comes next. Where the answer is not DQ_DONE, the queue is as it was, and
+ * nothing was written to what `out`, `due`, `count` or `touched` point to. The two calls for many entries are other: what
+ * dq_insert_many added before an entry that is refused stays, and both write how many entries they added or took out on
+ * each answer but DQ_NULL.
  *
  * What is proved: each function of the library, named dq_ref_.. below, and dq_insert_unchecked meet their contracts
  * (crates/delay_queue_c), which say the answer, what is written and what becomes of the queue in each case, touch no memory

@@ -28,20 +28,22 @@
  * and which lines answer an event under "Answers". Each line ends with a newline.
  *
  * Answers. Each call answers a sched_status. Where it is not SCHED_DONE, the executor is as it was, and so are its lines.
- * SCHED_NULL comes before all other answers, and nothing is written then; SCHED_NO_EXECUTOR comes next, and what a call
- * writes through a pointer is zeros then.
+ * SCHED_NULL comes before all other answers, and nothing is written then; SCHED_NO_EXECUTOR comes next. On each other answer a
+ * call writes its `fault`, `copied`, `state` or `run` anew, and fills it with zeros where it has nothing to tell; a text buffer
+ * is as it was where the answer is not SCHED_DONE.
  *
- * Memory. No call but sched_new answers SCHED_NO_MEMORY, which is proved. sched_new may answer it always, as far as the contracts
- * say. That sched_new takes all memory that an executor ever needs, and no event takes any, is tested. Text goes into the
+ * Memory. No call but sched_new answers SCHED_NO_MEMORY, which is proved. sched_new may answer it to each empty slot, as far as the
+ * contracts say. That sched_new takes all memory that an executor ever needs, and no event takes any, is tested. Text goes into the
  * caller's buffer: so the library keeps none, and hands out no pointer that could be used too late.
  *
  * What is proved: each function of the library, named sched_ref_.. below, meets its contract (crates/sched_c/specs/Calls.antt),
- * which says for each answer but SCHED_NO_MEMORY exactly when it comes, what is written and what becomes of the executor; touches
- * no memory but what it is handed and what the executor took; and ends. The lines that answer an event are those that the
- * executor's equations give, in their order, and the text that is copied is the text of these lines. What follows of the equations,
- * as that no run starts before it is due and that no two runs of a task overlap, is proved in crates/executor_laws. What is not
- * proved: that sched_free gives all memory back, and that a sched_new does that makes no executor (tools/embed tries both); the
- * inline functions of this file, which test for NULL and are tested; and the C library's heap.
+ * which says exactly when each answer comes, but that SCHED_NO_MEMORY may come in place of some answers of sched_new, what is
+ * written and what becomes of the executor; touches no memory but what it is handed and what the executor took; and ends. The
+ * lines that answer an event are those that the executor's equations give, in their order, and the text that is copied is the
+ * text of these lines. What follows of the equations, as that no run starts before it is due and that no two runs of a task
+ * overlap, is proved in crates/executor_laws. What is not proved: that sched_free gives all memory back, and that a sched_new
+ * does that makes no executor (tools/embed tries both); the inline functions of this file, which test for NULL and are tested;
+ * and the C library's heap.
  *
  * What a caller owes, since nothing can check it:
  * - a slot is SCHED_EMPTY, or all zeros, before the first call, and only these calls read or write its members after that;
@@ -110,15 +112,17 @@ enum {
     SCHED_FAULT_UNKNOWN_KEY = 4,    /* a table has a key that does not belong there */
     SCHED_FAULT_MISSING = 5,        /* a key is missing */
     SCHED_FAULT_WRONG_TYPE = 6,     /* a value is not what its key wants */
-    SCHED_FAULT_BAD_UNIT = 7,       /* a unit is none */
+    SCHED_FAULT_BAD_UNIT = 7,       /* a unit is none of those of the plan's version */
     SCHED_FAULT_BAD_TIMES = 8,      /* a `times` is not 1 to 65,536 */
     SCHED_FAULT_NEGATIVE = 9,       /* a moment, an offset or an `every` is below 0 */
     SCHED_FAULT_BAD_NAME = 10,      /* a name is not 1 to 32 ASCII letters, digits, `-` and `_` */
     SCHED_FAULT_DUPLICATE_NAME = 11,/* a submission has the name of one before it */
     SCHED_FAULT_UNKNOWN_NAME = 12,  /* a cancel names no submission that stands before it */
     SCHED_FAULT_AMBIGUOUS = 13,     /* a cancel names a submission of an earlier block that is repeated */
-    SCHED_FAULT_OUT_OF_ORDER = 14,  /* a call comes before the one that stands before it */
-    SCHED_FAULT_TOO_LARGE = 15,     /* a time is above 2^62 nanoseconds */
+    SCHED_FAULT_OUT_OF_ORDER = 14,  /* a block begins before the last call of those before it, an offset is below that of the call
+                                     * before it, or a call of a repeated block comes after the next iteration begins */
+    SCHED_FAULT_TOO_LARGE = 15,     /* a moment, an offset, a delay, a period or an `every` is above 2^62 nanoseconds, or so is the
+                                     * moment of a call in the last iteration of its block */
     SCHED_FAULT_TOO_MANY = 16       /* more than 256 blocks, 256 calls in a block, or 65,536 calls with all repetitions */
 };
 
@@ -157,9 +161,9 @@ typedef struct sched_run {
 
 /* How far a task has come. */
 enum {
-    SCHED_TASK_VACANT = 0,  /* not submitted */
-    SCHED_TASK_NEW = 1,     /* waits for its run */
-    SCHED_TASK_RUNNING = 2, /* is run */
+    SCHED_TASK_VACANT = 0,  /* not submitted yet, or its submission was refused */
+    SCHED_TASK_NEW = 1,     /* waits for its run, or was cancelled before that began */
+    SCHED_TASK_RUNNING = 2, /* is run, or was cancelled meanwhile or as its run ended */
     SCHED_TASK_DONE = 3,    /* its last run is done */
     SCHED_TASK_FAILED = 4   /* its last run failed */
 };
@@ -218,7 +222,7 @@ static inline sched_status sched_clock(sched_slot *slot, uint64_t moment) {
 }
 
 /* A worker asks for work. The line names the task, its run and the due moment, as sched_started tells them, or says that the worker
- * is idle. */
+ * is idle, or what is wrong. */
 static inline sched_status sched_start(sched_slot *slot, uint32_t worker) {
     return slot == NULL ? (sched_status)SCHED_NULL : sched_ref_start(slot, worker);
 }

@@ -1,9 +1,8 @@
 -- What a slot of a delay queue owns. (This project's rule.)
 use base.Fml.{Fml}
-use base.Stored.{Coded}
 use denote.RawPtr.{Ptr}
 use denote.RattleType.{RattleType}
-use Rattle.std.specs.Prelude.{Bool, []}
+use Rattle.std.specs.Prelude.{Bool}
 use Rattle.std.specs.Global.{Global}
 use Rattle.std.specs.contracts.alloc.Global as heap
 use Rattle.std.specs.contracts.impls.GlobalAllocator.TheImpl.{ghosts}
@@ -18,10 +17,3 @@ QueueRow = queue.the_row heap.the_row ghosts
 -- a full slot owns its queue, an empty one nothing
 abbrev pub holds_queue : Global → Ptr → Bool → Queue → Fml
 holds_queue alloc at full value = slot_owns (ghosts.dealloc_token alloc) QueueRow at full value
-
-abbrev pub queue_coded : Coded Queue
-queue_coded = QueueRow.coded
-
--- what stands for the queue of an empty slot
-abbrev pub nothing : Queue
-nothing = record { entries = []; touched = 0 }

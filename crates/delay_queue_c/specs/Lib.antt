@@ -1,3 +1,4 @@
 pub mod Held
 pub mod Slots
 pub mod Statuses
+pub mod own

@@ -1,8 +1,6 @@
 -- The numbers by which the calls answer, and which of them an insertion answers. (All of it is this project's rule.)
 use Rattle.std.specs.Prelude.{ℕ, Bool, List, Option, length, is_some, nat_lt, if◌then◌else◌}
 use Rattle.delay_queue.specs.Queues.{due_in}
-use Rattle.delay_queue_c.specs.declared.status.Status.{Status}
-use Rattle.delay_queue_c.specs.declared.status.Status.TheVariants.{Done, NoEntry, NoMemory, NoQueue, HasQueue, UnknownTask, HasEntry}
 
 -- the call did what it says
 abbrev pub done : ℕ
@@ -31,15 +29,6 @@ unknown_task = 5
 -- the task has an entry already
 abbrev pub has_entry : ℕ
 has_entry = 6
-
-abbrev pub number_of : Status → ℕ
-number_of Done = done
-number_of NoEntry = no_entry
-number_of NoMemory = no_memory
-number_of NoQueue = no_queue
-number_of HasQueue = has_queue
-number_of UnknownTask = unknown_task
-number_of HasEntry = has_entry
 
 -- what an insertion answers, by whether the slot is full, the entries of its queue and the task
 abbrev pub insert_status : Bool → List (Option ℕ) → ℕ → ℕ

@@ -1,7 +1,8 @@
 //! The pointer to a queue on the heap, which C holds.
 ghost use Rattle.std.specs.Prelude.{◌≡◌, Bool, true, false};
 ghost use Rattle.delay_queue.specs.Queues.{Queue};
-ghost use Rattle.delay_queue_c.specs.Held.{holds_queue, queue_coded, nothing};
+ghost use Rattle.delay_queue_c.specs.Held.{holds_queue};
+ghost use Rattle.delay_queue_c.specs.own.Kept.{queue_coded, nothing};
 
 use c_slot::Kept;
 use delay_queue::DelayQueue;

@@ -3,7 +3,8 @@ ghost use Rattle.std.specs.Prelude.{◌≡◌, ◌≢◌, ◌<◌, true, min, No
 ghost use Rattle.delay_queue.specs.Queues.{due_in, entry_count, most_touches, Touches};
 ghost use Rattle.delay_queue.specs.Touches.{insert_touches, CountsTouches};
 ghost use Rattle.delay_queue_c.specs.Slots.{entry, IsSame};
-ghost use Rattle.delay_queue_c.specs.Statuses.{done, number_of, insert_status};
+ghost use Rattle.delay_queue_c.specs.Statuses.{done, insert_status};
+ghost use Rattle.delay_queue_c.specs.own.Told.{number_of};
 
 use crate::slot::Slot;
 use crate::status::Status;

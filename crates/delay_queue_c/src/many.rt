@@ -2,7 +2,8 @@
 ghost use Rattle.std.specs.Prelude.{◌≡◌, ◌≢◌, ◌<◌, ◌≤◌, true, false, length, take, drop};
 ghost use Rattle.delay_queue.specs.Queues.{NoneIsDue};
 ghost use Rattle.delay_queue_c.specs.Slots.{InsertsEach, Stops, PollsEach};
-ghost use Rattle.delay_queue_c.specs.Statuses.{no_queue, number_of, queue_status};
+ghost use Rattle.delay_queue_c.specs.Statuses.{no_queue, queue_status};
+ghost use Rattle.delay_queue_c.specs.own.Told.{number_of};
 
 use crate::entry::DqEntry;
 use crate::insert::insert_into;

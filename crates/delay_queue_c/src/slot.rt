@@ -1,6 +1,6 @@
 //! What C holds of a queue.
 ghost use Rattle.std.specs.Prelude.{◌≡◌, true, false, is_some, length, IfSome, IfNone};
-ghost use Rattle.delay_queue_c.specs.Held.{nothing};
+ghost use Rattle.delay_queue_c.specs.own.Kept.{nothing};
 
 use crate::held::Held;
 use c_slot::Kept;

@@ -1,6 +1,7 @@
 //! How a call ended.
 ghost use Rattle.std.specs.Prelude.{◌≡◌, if◌then◌else◌};
-ghost use Rattle.delay_queue_c.specs.Statuses.{number_of, done, no_entry};
+ghost use Rattle.delay_queue_c.specs.Statuses.{done, no_entry};
+ghost use Rattle.delay_queue_c.specs.own.Told.{number_of};
 
 /// How a call ended.
 #[derive(Clone, Copy, Debug, PartialEq, Eq)]

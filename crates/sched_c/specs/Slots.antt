@@ -1,12 +1,10 @@
 -- What a slot owns. (This project's rule.)
 use base.Fml.{Fml}
-use base.Stored.{Coded}
 use denote.RawPtr.{Ptr}
 use denote.RattleType.{RattleType}
-use Rattle.std.specs.Prelude.{Bool, false, []}
+use Rattle.std.specs.Prelude.{Bool}
 use Rattle.std.specs.Global.{Global}
 use Rattle.std.specs.contracts.impls.GlobalAllocator.TheImpl.{ghosts}
-use Rattle.sched_time.specs.Policies.{default_policies}
 use Rattle.c_slot.specs.Slots.{slot_owns}
 use Rattle.sched_c.specs.Seen.{Seen}
 use Rattle.sched_c.specs.contracts.session.Session as session
@@ -18,13 +16,3 @@ SessionRow = session.the_row
 -- a full slot owns its session, an empty one nothing
 abbrev pub holds_session : Global → Ptr → Bool → Seen → Fml
 holds_session alloc at full value = slot_owns (ghosts.dealloc_token alloc) SessionRow at full value
-
-abbrev pub seen_coded : Coded Seen
-seen_coded = SessionRow.coded
-
--- what stands for the session of an empty slot
-abbrev pub no_session : Seen
-no_session = record {
-  core = record { calls = []; limit = 0; taken = 0; made = 0; moment = 0; tasks = []; work = []; policies = default_policies; shut = false; stopped = false };
-  lines = [];
-}

@@ -1,7 +1,8 @@
 //! The pointer to a session on the heap, which C holds.
 ghost use Rattle.std.specs.Prelude.{◌≡◌, Bool, true, false};
 ghost use Rattle.sched_c.specs.Seen.{Seen};
-ghost use Rattle.sched_c.specs.Slots.{holds_session, seen_coded, no_session};
+ghost use Rattle.sched_c.specs.Slots.{holds_session};
+ghost use Rattle.sched_c.specs.own.Kept.{no_session, seen_coded};
 
 use crate::session::Session;
 use c_slot::Kept;

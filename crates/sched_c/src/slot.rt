@@ -1,6 +1,6 @@
 //! What C holds of an executor.
 ghost use Rattle.std.specs.Prelude.{◌≡◌, true, false, is_some, IfSome, IfNone};
-ghost use Rattle.sched_c.specs.Slots.{no_session};
+ghost use Rattle.sched_c.specs.own.Kept.{no_session};
 
 use crate::held::Held;
 use crate::session::Session;

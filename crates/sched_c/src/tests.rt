@@ -172,6 +172,25 @@ fn what_is_refused_is_told(rt: HostRuntime) {
     assert_eq!(rt; sched_ref_free(alloc, &mut slot), 0);
 }
 
+/// A plan whose fault stands in the third call of the second block: its name is empty.
+const THIRD_CALL_OF_TWO: &str = "version = 1
+[[block]]
+call = [{ op = \"execute\", name = \"a\" }]
+[[block]]
+call = [{ op = \"execute\", name = \"b\" }, { op = \"ask\" }, { op = \"execute\", name = \"\" }]
+";
+
+#[test]
+fn a_fault_names_its_block_and_its_call(rt: HostRuntime) {
+    let alloc = rt.alloc();
+    let mut slot = Slot::empty(alloc);
+    let mut fault = Fault::none();
+    let text = THIRD_CALL_OF_TWO.as_bytes();
+    let status = sched_ref_new(alloc, &mut slot, text, 1, 1, &mut fault);
+    assert_eq!(rt; status, Status::NoPlan.number());
+    assert_eq!(rt; (fault.kind, fault.block, fault.call), (10, 2, 3));
+}
+
 #[test]
 fn a_start_is_told(rt: HostRuntime) {
     let alloc = rt.alloc();

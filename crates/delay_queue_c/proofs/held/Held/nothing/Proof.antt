@@ -10,7 +10,7 @@ use Rattle.std.specs.contracts.alloc.Global as heap
 use Rattle.std.proofs.alloc.Calls.{handle_tells}
 use Rattle.std_alloc.proofs.ResultValues.{and_tt}
 use Rattle.delay_queue_c.proofs.AsBox.{E}
-use Rattle.delay_queue_c.specs.Held.{nothing as no_queue}
+use Rattle.delay_queue_c.specs.own.Kept.{nothing as no_queue}
 use Rattle.delay_queue_c.specs.contracts.held.Held as held
 use Rattle.delay_queue_c.specs.contracts.held.Held.nothing as f
 use Rattle.delay_queue_c.proofs.held.Held.nothing.Statement.{statement}

@@ -10,7 +10,7 @@ use Rattle.std.specs.contracts.alloc.Global as heap
 use Rattle.std.proofs.alloc.Calls.{handle_tells}
 use Rattle.std_alloc.proofs.ResultValues.{and_tt}
 use Rattle.sched_c.proofs.AsBox.{E}
-use Rattle.sched_c.specs.Slots.{no_session}
+use Rattle.sched_c.specs.own.Kept.{no_session}
 use Rattle.sched_c.specs.contracts.held.Held as held
 use Rattle.sched_c.specs.contracts.held.Held.nothing as f
 use Rattle.sched_c.proofs.held.Held.nothing.Statement.{statement}

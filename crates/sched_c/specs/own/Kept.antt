@@ -1,0 +1,17 @@
+-- How a slot sees what it keeps.
+use base.Stored.{Coded}
+use Rattle.std.specs.Prelude.{false, []}
+use Rattle.sched_time.specs.Policies.{default_policies}
+use Rattle.sched_c.specs.Seen.{Seen}
+use Rattle.sched_c.specs.Slots.{SessionRow}
+
+-- the code of a session, as the logic sees it
+abbrev pub seen_coded : Coded Seen
+seen_coded = SessionRow.coded
+
+-- what stands for the session of an empty slot
+abbrev pub no_session : Seen
+no_session = record {
+  core = record { calls = []; limit = 0; taken = 0; made = 0; moment = 0; tasks = []; work = []; policies = default_policies; shut = false; stopped = false };
+  lines = [];
+}
