@@ -83,6 +83,19 @@ static void with_a_queue(void) {
     WANT(dq_free(&slot) == DQ_DONE && dq_free(&slot) == DQ_NO_QUEUE);
 }
 
+/* A slot that is full is told with no growth asked for, so with none refused. */
+static void with_a_full_slot(void) {
+    dq_slot slot = DQ_EMPTY;
+    WANT(dq_new(&slot, 3) == DQ_DONE);
+    met = false;
+    refused = -1;
+    dq_status status = dq_new(&slot, 9);
+    refused = 0;
+    WANT(status == DQ_HAS_QUEUE && !met);
+    WANT(dq_try_insert(&slot, 1, 2) == DQ_DONE && dq_try_insert(&slot, 1, 3) == DQ_UNKNOWN_TASK);
+    WANT(dq_free(&slot) == DQ_DONE && blocks == 0);
+}
+
 /* A queue for no task. */
 static void without_tasks(void) {
     dq_slot slot = DQ_EMPTY;
@@ -141,6 +154,7 @@ int main(void) {
     without_a_queue();
     with_null();
     with_a_queue();
+    with_a_full_slot();
     without_tasks();
     in_words();
     in_order();

@@ -49,6 +49,10 @@ int main(int count, char **words) {
         demand(!met || (!slot.full && fault.kind == 0), "there was no memory, and the slot is not empty");
         demand(!met || blocks == 0, "there was no memory, and a block was kept");
     }
+    refused = -1;
+    sched_status full = sched_new(&slot, plan, length, workers, EVENTS, &fault);
+    refused = 0;
+    demand(full == SCHED_HAS_EXECUTOR && !met, "a full slot took memory");
     char line[128];
     while (fgets(line, sizeof line, stdin)) {
         sched_state state;

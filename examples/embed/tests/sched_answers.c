@@ -7,6 +7,11 @@
 
 static const char plan[] = "version = 1\n[[block]]\ncall = [{ op = \"rate\", name = \"a\", first = 5, period = 10 }]\n";
 static const char no_plan[] = "version = 1\n[[block]]\ncall = [{ op = \"rate\", name = \"\", first = 5, period = 10 }]\n";
+/* Its fault stands in the third call of the second block. */
+static const char third_call_of_two[] =
+    "version = 1\n"
+    "[[block]]\ncall = [{ op = \"execute\", name = \"a\" }]\n"
+    "[[block]]\ncall = [{ op = \"execute\", name = \"b\" }, { op = \"ask\" }, { op = \"execute\", name = \"\" }]\n";
 
 #define DEMAND(holds)                                              \
     do {                                                           \
@@ -60,6 +65,8 @@ static void refused(sched_slot *slot) {
     sched_fault fault;
     DEMAND(make(slot, no_plan, 0, 0, &fault) == SCHED_NO_PLAN && !slot->full);
     DEMAND(fault.kind == SCHED_FAULT_BAD_NAME && fault.block == 1 && fault.call == 1);
+    DEMAND(make(slot, third_call_of_two, 1, 1, &fault) == SCHED_NO_PLAN && !slot->full);
+    DEMAND(fault.kind == SCHED_FAULT_BAD_NAME && fault.block == 2 && fault.call == 3);
     DEMAND(make(slot, plan, 0, 0, &fault) == SCHED_WORKERS && fault.kind == SCHED_FAULT_NONE && !slot->full);
     DEMAND(make(slot, plan, 65, 1, &fault) == SCHED_WORKERS && make(slot, plan, 64, 0, &fault) == SCHED_LIMIT && !slot->full);
     DEMAND(make(slot, no_plan, 257, 1, &fault) == SCHED_NO_PLAN && make(slot, plan, 257, 0, &fault) == SCHED_WORKERS);
