@@ -1,0 +1,12 @@
+pub mod Order
+pub mod Digits
+pub mod Lookups
+pub mod Holes
+pub mod Keys
+pub mod Places
+pub mod Tables
+pub mod Counts
+pub mod Calls
+pub mod Touched
+pub mod Taken
+pub mod Growing

@@ -1,0 +1,51 @@
+//! What stands between entries that are due at one moment.
+ghost use Rattle.std.specs.Prelude.{◌≡◌, ℕ, ◌+◌, ◌*◌, ◌^◌};
+ghost use Rattle.slot_queue.specs.Entries.{seen, is_before};
+
+use crate::entry::Entry;
+
+/// A rank: what stands between entries that are due at one moment.
+///
+/// Each kind of rank compares two entries by itself, so that none pays for what another one needs.
+pub trait Rank: Copy {
+    /// The number that a rank stands for.
+    ghost rank: { Self → ℕ };
+
+    /// Whether the first entry comes before the second: the earlier moment first, at the same moment the lower rank, and
+    /// at the same rank the smaller slot number.
+    fn is_before(one: Entry<Self>, other: Entry<Self>) -> bool
+        ensures { result ≡ is_before (seen rank one) (seen rank other) };
+}
+
+/// No rank: entries that are due at one moment leave by slot number. It takes no room.
+#[derive(Clone, Copy, Debug, PartialEq, Eq, PartialOrd, Ord)]
+pub struct NoRank {}
+
+impl Rank for NoRank {
+    ghost rank = { λ _. 0 };
+
+    fn is_before(one: Entry<NoRank>, other: Entry<NoRank>) -> bool
+        ensures { result ≡ is_before (seen (λ _. 0) one) (seen (λ _. 0) other) }
+    {
+        key(one.due, u64::from(one.slot)) < key(other.due, u64::from(other.slot))
+    }
+}
+
+/// A number: the lower one leaves first.
+impl Rank for u64 {
+    ghost rank = { λ number. number };
+
+    fn is_before(one: Entry<u64>, other: Entry<u64>) -> bool
+        ensures { result ≡ is_before (seen (λ number. number) one) (seen (λ number. number) other) }
+    {
+        let (first, second) = (key(one.due, one.rank), key(other.due, other.rank));
+        first < second || (first == second && one.slot < other.slot)
+    }
+}
+
+/// Two numbers as one, by which they are compared without a branch.
+fn key(high: u64, low: u64) -> u128
+    ensures { result ≡ high * 2 ^ 64 + low }
+{
+    (u128::from(high) << 64) + u128::from(low)
+}
