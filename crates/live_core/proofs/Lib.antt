@@ -1,0 +1,12 @@
+pub mod Making
+pub mod Meeting
+pub mod Gone
+pub mod Emptied
+pub mod Indexed
+pub mod Held
+pub mod Steps
+pub mod Noted
+pub mod Living
+pub mod Filtered
+pub mod Compacted
+pub mod Ranged

@@ -1,0 +1,39 @@
+-- The table refuses it, and stays as it is.
+use Rattle.std.proofs.Common.{◌≡◌, ◌+◌, ◌∙◌, true, vec_capacity, refl, sym, ap, subst, arith}
+use Rattle.std.proofs.lemmas.Bool.{false≢true}
+use Rattle.sched_time.specs.declared.timing.Timing.TheVariants as t
+use Rattle.queue_code.specs.declared.call.CodeCall.TheVariants as call
+use Rattle.executor_core.specs.declared.types.Answer.TheVariants as answer
+use Rattle.executor_core.specs.declared.types.Refusal.TheVariants as refusal
+use Rattle.executor_core.specs.Answers.{bare}
+use Rattle.task_table.specs.Tables.{TableView}
+use Rattle.live_core.specs.Lives.{LiveView, Calls}
+use Rattle.live_core.proofs.Living.{live_call}
+use Rattle.live_core.proofs.Noted.{noted_later}
+use Rattle.live_core.proofs.Steps.{may_submit, rejects_there}
+use Rattle.live_core.proofs.executor.ScheduledExecutor.reject.Goals as goal
+
+pub invariant_of-self : goal.invariant_of-self
+invariant_of-self g c =
+    let e = c.self.inside in
+    let m : LiveView = record { table = e.table; count = e.count; accepted = e.accepted; earliest = e.earliest; ended = e.ended.items } in
+    let table = c.refuse.new.self in
+    let new : LiveView = record { table = table; count = e.count + 1; accepted = e.accepted; earliest = e.earliest; ended = c.clear.new.self.items } in
+    let may = may_submit m c.args.self.now c.args.moment 0 t.Once c.self.view_is c.requires.early c.requires.ahead c.requires.limit c.requires.few (omega arith) tt in
+    let shut : table.shut ≡ true = ap (λ (x : TableView). x.shut) c.refuse.ensures.slots ∙ (ap (λ (v : LiveView). v.table.shut) c.self.view_is ∙ c.requires.shut) in
+    live_call m new (c.args.moment, call.Submit e.count t.Once 0) (bare (answer.Refuse e.count refusal.Rejected)) e.notes.free e.notes.entries e.notes.free_room (vec_capacity e.ended)
+    e.notes.free e.notes.entries e.notes.free_room (vec_capacity c.clear.new.self) c.self.invariant
+    (rejects_there m table c.clear.new.self.items c.args.moment 0 t.Once may c.refuse.ensures.slots c.clear.ensures.items (c.refuse.ensures.steps e.count t.Once 0))
+    (λ q. absurd (false≢true (sym q ∙ shut))) refl
+    (noted_later e.table.slots table.slots e.count e.notes.free e.notes.entries e.notes.free_room (vec_capacity e.ended) (vec_capacity c.clear.new.self) (ap (λ (x : TableView). x.slots) c.refuse.ensures.slots) c.clear.ensures.capacity c.self.invariant.noted)
+
+pub returns-clause-made : goal.returns-clause-made
+returns-clause-made g c =
+    let e = c.self.inside in
+    let m : LiveView = record { table = e.table; count = e.count; accepted = e.accepted; earliest = e.earliest; ended = e.ended.items } in
+    let table = c.refuse.new.self in
+    let new : LiveView = record { table = table; count = e.count + 1; accepted = e.accepted; earliest = e.earliest; ended = c.clear.new.self.items } in
+    λ timing delay short timed.
+    let may = may_submit m c.args.self.now c.args.moment delay timing c.self.view_is c.requires.early c.requires.ahead c.requires.limit c.requires.few short timed in
+    subst (λ (v : LiveView). Calls v new (c.args.moment, call.Submit v.count timing delay) (bare (answer.Refuse e.count refusal.Rejected))) c.self.view_is
+    (rejects_there m table c.clear.new.self.items c.args.moment delay timing may c.refuse.ensures.slots c.clear.ensures.items (c.refuse.ensures.steps e.count timing delay))

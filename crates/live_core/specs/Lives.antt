@@ -1,0 +1,64 @@
+-- What contracts see of an executor whose calls are made while it runs, and where it stands.
+-- All of it is this project's rule.
+use Rattle.std.specs.Prelude.{◌≡◌, ℕ, ◌^◌, ◌≤◌, max, nat_lt, List, [], ◌∷◌, ◌++◌, length}
+use Rattle.queue_code.specs.Calls.{Planned, task_count}
+use Rattle.executor_core.specs.declared.types.Happening.{Happening}
+use Rattle.executor_core.specs.declared.types.Happening.TheVariants as h
+use Rattle.executor_core.specs.Answers.{Reply}
+use Rattle.executor_core.specs.Histories.{HistoryEntry, entry_of, happenings, made, was_accepted}
+use Rattle.executor_core.specs.Flows.{lines_of, lines_at}
+use Rattle.live_laws.specs.Additions.{AllLookBelow}
+use Rattle.task_table.specs.declared.seat.TaskRef.{TaskRef}
+use Rattle.task_table.specs.Tables as tables
+use Rattle.task_table.specs.Tables.{TableView}
+
+-- a number that no task ever has: tasks are numbered by 64 bits
+abbrev pub never : ℕ
+never = 2 ^ 64
+
+-- the tasks in their slots; how many numbers were given out; of how many the submission was accepted, which are the first ones, as
+-- an executor that is shut never opens again; the least moment of the call that comes next; and the tasks that the last happening
+-- ended
+pub record LiveView : Type 0 where
+  pub table : TableView
+  pub count : ℕ
+  pub accepted : ℕ
+  pub earliest : ℕ
+  pub ended : List TaskRef
+
+-- the executor once its table is so, and the last happening ended no task
+abbrev pub quiet : LiveView → TableView → LiveView
+quiet m table = record m { table = table; ended = [] }
+
+-- the moment at which a call is made, where this one is handed in: the greatest of it, now, and 1 ns after the last accepted clock
+abbrev pub moment_of_call : LiveView → ℕ → ℕ
+moment_of_call m at = max at (max m.table.moment m.earliest)
+
+-- The executor stands where this history of the calls made so far leads: all calls were made in it; each accepted clock was
+-- before the least moment of the call that comes next, and each cancel from outside named a number that was given out, or one
+-- that no task ever has.
+pub record Stands (m : LiveView) (calls : List Planned) (past : List HistoryEntry) : Type 0 where
+  pub table : tables.Stands m.table calls past
+  pub made : made (happenings past) ≡ length calls
+  pub count : task_count calls ≡ m.count
+  pub few : m.count ≤ never
+  pub below : AllLookBelow m.earliest m.count never past
+  pub accepted : (k : ℕ) → was_accepted k past ≡ nat_lt k m.accepted
+
+-- a call is made: the executor stands where the longer history of the longer calls leads, and the lines of this reply are added
+pub record Makes (new : LiveView) (calls : List Planned) (past : List HistoryEntry) (p : Planned) (r : Reply) : Type 0 where
+  pub stands : Stands new (calls ++ p ∷ []) (entry_of h.Call r ∷ past)
+  pub lines : lines_of (calls ++ p ∷ []) (entry_of h.Call r ∷ past) ≡ lines_of calls past ++ lines_at new.table.moment r
+
+-- an event comes: the same, where the calls stay
+pub record Meets (new : LiveView) (calls : List Planned) (past : List HistoryEntry) (y : Happening) (r : Reply) : Type 0 where
+  pub stands : Stands new calls (entry_of y r ∷ past)
+  pub lines : lines_of calls (entry_of y r ∷ past) ≡ lines_of calls past ++ lines_at new.table.moment r
+
+-- whatever calls and history led here, the call is made with this reply
+abbrev pub Calls : LiveView → LiveView → Planned → Reply → Type 0
+Calls old new p r = (calls : List Planned) (past : List HistoryEntry) → Stands old calls past → Makes new calls past p r
+
+-- the same of an event
+abbrev pub Happens : LiveView → LiveView → Happening → Reply → Type 0
+Happens old new y r = (calls : List Planned) (past : List HistoryEntry) → Stands old calls past → Meets new calls past y r

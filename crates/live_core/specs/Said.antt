@@ -1,0 +1,84 @@
+-- What the executor's calls answer, as the lines of a trace have it.
+-- All of it is this project's rule.
+use Rattle.std.specs.Prelude.{◌≡◌, ℕ, ◌-◌, ◌^◌, ◌<◌, ◌≤◌, ◌==◌, ◌&&◌, nat_lt, Bool, false, if◌then◌else◌, List, map, Option, is_some}
+use Rattle.std.specs.Option.{option_map_or}
+use Rattle.sched_time.specs.declared.timing.Timing.{Timing}
+use Rattle.executor_core.specs.declared.types.Answer.{Answer}
+use Rattle.executor_core.specs.declared.types.Answer.TheVariants as a
+use Rattle.executor_core.specs.declared.types.CancelEffect.{CancelEffect}
+use Rattle.executor_core.specs.declared.types.CancelEffect.TheVariants as f
+use Rattle.executor_core.specs.declared.types.Refusal.TheVariants as refusal
+use Rattle.executor_core.specs.Answers.{Reply, bare, kind_of}
+use Rattle.executor_core.specs.Counts.{IsWorkerCount}
+use Rattle.sched_time.specs.Times.{longest}
+use Rattle.queue_code.specs.declared.call.CodeCall.TheVariants as c
+use Rattle.queue_code.specs.Calls.{how_many, IsTimed}
+use Rattle.task_table.specs.declared.seat.Seat.{Seat}
+use Rattle.task_table.specs.declared.seat.TaskRef.{TaskRef}
+use Rattle.task_table.specs.Seats.{task_in, slot_of, waits}
+use Rattle.task_table.specs.Tables.{TableView}
+use Rattle.live_core.specs.declared.error.MakeError.{MakeError}
+use Rattle.live_core.specs.declared.error.MakeError.TheVariants as me
+use Rattle.live_core.specs.declared.error.CallError.{CallError}
+use Rattle.live_core.specs.declared.error.CallError.TheVariants as ce
+use Rattle.live_core.specs.Lives.{LiveView, Calls, moment_of_call}
+use Rattle.live_core.specs.declared.answers.Submitted.{Submitted}
+use Rattle.live_core.specs.declared.answers.Submitted.TheVariants as su
+
+-- a submission of this timing is accepted, or refused since the executor is shut
+abbrev pub submit_reply : Timing → Submitted → Reply
+submit_reply timing (su.Accepted task due) = bare (a.Submit task.number (kind_of timing) due)
+submit_reply timing (su.Rejected number) = bare (a.Refuse number refusal.Rejected)
+
+-- the numbers of some tasks
+abbrev pub numbers_of : List TaskRef → List ℕ
+numbers_of tasks = map (λ t. t.number) tasks
+
+-- an answer, and the tasks that it ends
+abbrev pub ending : Answer → List TaskRef → Reply
+ending answer ended = record { answer = answer; ends = numbers_of ended }
+
+-- what a cancel does to a task that has no slot, where so many were accepted: nothing, as it is over, or was never accepted
+abbrev pub effect_without : ℕ → ℕ → CancelEffect
+effect_without accepted k = if nat_lt k accepted then f.No else f.Absent
+
+-- why no executor is made for so many workers: they are not 1 to 64, or else memory was refused
+abbrev pub IsMakeError : ℕ → MakeError → Type 0
+IsMakeError workers me.Workers = IsWorkerCount workers → ⊥
+IsMakeError workers me.Memory = IsWorkerCount workers
+
+-- how many tasks have a slot
+abbrev pub tasks_in : List (Option Seat) → ℕ
+tasks_in slots = how_many is_some slots
+
+-- the slot of a task holds it, and it waits for a run
+abbrev pub is_waiting_there : TableView → TaskRef → Bool
+is_waiting_there m task = option_map_or (λ x. (x.number == task.number) && waits (task_in x)) (slot_of m.slots task.slot) false
+
+-- the number that a submission was given
+abbrev pub number_of : Submitted → ℕ
+number_of (su.Accepted task due) = task.number
+number_of (su.Rejected number) = number
+
+-- a submission has this number, which comes next, and is a call that is made
+pub record Submits (old new : LiveView) (at : ℕ) (timing : Timing) (delay : ℕ) (s : Submitted) : Type 0 where
+  pub number : number_of s ≡ old.count
+  pub makes : Calls old new (moment_of_call old at, c.Submit old.count timing delay) (submit_reply timing s)
+
+-- the spans of a submission are within the limit
+abbrev pub IsShort : Timing → ℕ → Type 0
+IsShort timing delay = (delay ≤ longest) × IsTimed timing
+
+-- why a submission is no call: a span is too long, or else its moment would be too late, or else no number is left, or else memory
+-- was refused for a task that would be accepted
+abbrev pub IsSubmitError : LiveView → ℕ → Timing → ℕ → CallError → Type 0
+IsSubmitError m at timing delay ce.TooLong = IsShort timing delay → ⊥
+IsSubmitError m at timing delay ce.TooFar = IsShort timing delay × (longest < moment_of_call m at)
+IsSubmitError m at timing delay ce.Full = IsShort timing delay × (moment_of_call m at ≤ longest) × (m.count ≡ 2 ^ 64 - 1)
+IsSubmitError m at timing delay ce.Memory = IsShort timing delay × (moment_of_call m at ≤ longest) × (m.count < 2 ^ 64 - 1) × (m.table.shut ≡ false)
+IsSubmitError m at timing delay _ = ⊥
+
+-- the same of one with this period, or fixed delay, which is legal if it is not 0
+abbrev pub IsPeriodicError : ℕ → LiveView → ℕ → Timing → ℕ → CallError → Type 0
+IsPeriodicError span m at timing delay ce.Illegal = span ≡ 0
+IsPeriodicError span m at timing delay error = (0 < span) × IsSubmitError m at timing delay error

@@ -1,0 +1,4 @@
+-- What no public clause of this crate, or of those above it, leads to: means of its own contracts and proofs.
+pub mod Slots
+pub mod Changes
+pub mod Formed

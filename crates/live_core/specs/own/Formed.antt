@@ -1,0 +1,37 @@
+-- What stays true of each executor. No contract of a public call cites it but through the invariant of the executor.
+-- All of it is this project's rule.
+use Rattle.std.specs.Prelude.{◌≡◌, ℕ, ◌+◌, ◌≤◌, false, Option, List, length}
+use Rattle.sched_time.specs.Times.{longest}
+use Rattle.queue_code.specs.Calls.{Planned}
+use Rattle.executor_core.specs.Histories.{HistoryEntry}
+use Rattle.task_table.specs.declared.seat.Seat.{Seat}
+use Rattle.task_table.specs.declared.seat.TaskRef.{TaskRef}
+use Rattle.task_table.specs.Tables as tables
+use Rattle.task_table.specs.Tables.{TableView, workers_of}
+use Rattle.live_core.specs.Lives.{LiveView, Stands}
+use Rattle.live_core.specs.own.Slots.{held_numbers, AreEmpty, IsIndex}
+
+-- the empty slots of a table and the index of its numbers are known, and there is room to note that each slot is empty, and that the
+-- task of each was ended
+pub record AreNoted (slots : List (Option Seat)) (count : ℕ) (free : List ℕ) (entries : List TaskRef) (free_room ended_room : ℕ) : Type 0 where
+  pub empty : AreEmpty (held_numbers slots) free
+  pub index : IsIndex (held_numbers slots) entries count
+  pub room : length slots ≤ free_room
+  pub spare : length slots ≤ ended_room
+
+-- what stays true of each executor: there are calls and a history where it stands; until it is shut, each submission was accepted;
+-- and its slots are noted
+pub record IsLive (m : LiveView) (free : List ℕ) (entries : List TaskRef) (free_room ended_room : ℕ) : Type 0 where
+  pub calls : List Planned
+  pub past : List HistoryEntry
+  pub stands : Stands m calls past
+  pub unshut : m.table.shut ≡ false → m.accepted ≡ m.count
+  pub earliest : m.earliest ≤ longest + 1
+  pub noted : AreNoted m.table.slots m.count free entries free_room ended_room
+
+-- the table has more slots, or as many, and stands where it stood
+pub record IsRoomier (old new : TableView) : Type 0 where
+  pub moment : new.moment ≡ old.moment
+  pub shut : new.shut ≡ old.shut
+  pub workers : workers_of new ≡ workers_of old
+  pub stands : (calls : List Planned) (past : List HistoryEntry) → tables.Stands old calls past → tables.Stands new calls past

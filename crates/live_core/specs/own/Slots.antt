@@ -1,0 +1,75 @@
+-- Which slots are empty, and which slot the task of a number has. No contract of a public call cites it but through the invariant of
+-- the executor. All of it is this project's rule.
+use Rattle.std.specs.Prelude.{◌≡◌, ℕ, ◌+◌, ◌<◌, ◌≤◌, ◌==◌, Bool, true, false, List, [], ◌∷◌, length, map, Option, Some, None, slice_get, slice_index_or, is_some}
+use Rattle.std.specs.Option.{option_map, option_map_or}
+use Rattle.std.specs.List.{list_any}
+use Rattle.queue_code.specs.Calls.{how_many}
+use Rattle.task_table.specs.declared.seat.Seat.{Seat}
+use Rattle.task_table.specs.declared.seat.TaskRef.{TaskRef}
+
+-- the numbers of the tasks in the slots
+abbrev pub held_numbers : List (Option Seat) → List (Option ℕ)
+held_numbers slots = map (option_map (λ x. x.number)) slots
+
+-- the number of the task in a slot, and none where it is empty or there is no such slot
+abbrev pub number_in : List (Option ℕ) → ℕ → Option ℕ
+number_in held i = slice_index_or held i None
+
+-- the slot of a task holds it
+abbrev pub is_held : List (Option ℕ) → TaskRef → Bool
+is_held held task = option_map_or (λ k. k == task.number) (number_in held task.slot) false
+
+-- a slot is one of some
+abbrev pub is_among : ℕ → List ℕ → Bool
+is_among i slots = list_any (λ j. j == i) slots
+
+-- each is one of some slots once
+abbrev pub AreOnce : List ℕ → Type 0
+AreOnce [] = Unit {0}
+AreOnce (i ∷ slots) = (is_among i slots ≡ false) × AreOnce slots
+
+-- these are the empty slots: each once, and together with the tasks in slots they are as many as there are slots
+pub record AreEmpty (held : List (Option ℕ)) (free : List ℕ) : Type 0 where
+  pub within : (i : ℕ) → is_among i free ≡ true → i < length held
+  pub empty : (i : ℕ) → is_among i free ≡ true → number_in held i ≡ None
+  pub once : AreOnce free
+  pub count : length free + how_many is_some held ≡ length held
+
+-- the entries of an index ascend by number
+abbrev pub Ascends : List TaskRef → Type 0
+Ascends entries = (i j : ℕ) (x y : TaskRef) → i < j → slice_get entries i ≡ Some x → slice_get entries j ≡ Some y → x.number < y.number
+
+-- each entry before a place is below a number
+abbrev pub IsBelow : List TaskRef → ℕ → ℕ → Type 0
+IsBelow entries place number = (i : ℕ) (x : TaskRef) → i < place → slice_get entries i ≡ Some x → x.number < number
+
+-- each entry from a place on is above a number
+abbrev pub IsAbove : List TaskRef → ℕ → ℕ → Type 0
+IsAbove entries place number = (i : ℕ) (x : TaskRef) → place ≤ i → slice_get entries i ≡ Some x → number < x.number
+
+-- an entry of an index says that the task of this number has this slot
+abbrev pub HasEntry : List TaskRef → ℕ → ℕ → Type 0
+HasEntry entries number slot = (i : ℕ) × (slice_get entries i ≡ Some (record { number = number; slot = slot }))
+
+-- no entry of an index is of this number
+abbrev pub HasNone : List TaskRef → ℕ → Type 0
+HasNone entries number = (i : ℕ) (x : TaskRef) → slice_get entries i ≡ Some x → x.number ≡ number → ⊥
+
+-- an index of slots by number, ascending: each task in a slot has its entry, and no number is one that was not given out.
+-- (An entry whose slot holds another task by now is stale, and is dropped some time.)
+pub record IsIndex (held : List (Option ℕ)) (entries : List TaskRef) (count : ℕ) : Type 0 where
+  pub ascending : Ascends entries
+  pub below : (i : ℕ) (x : TaskRef) → slice_get entries i ≡ Some x → x.number < count
+  pub each : (slot number : ℕ) → number_in held slot ≡ Some number → HasEntry entries number slot
+
+-- what contracts see of an index: its entries, and how many it has room for
+pub record IndexView : Type 0 where
+  pub entries : List TaskRef
+  pub room : ℕ
+
+-- what contracts see of the notes of some slots: the empty ones, and the index of the others, and how many each has room for
+pub record NotesView : Type 0 where
+  pub free : List ℕ
+  pub free_room : ℕ
+  pub entries : List TaskRef
+  pub index_room : ℕ

@@ -1,0 +1,109 @@
+//! The executor, and what it tells.
+ghost use Rattle.std.specs.Prelude.{◌≡◌, ℕ, ◌≤◌, List, [], IfOk, IfErr};
+ghost use Rattle.sched_time.specs.Times.{longest};
+ghost use Rattle.executor_core.specs.Counts.{IsWorkerCount};
+
+use crate::error::MakeError;
+use crate::notes::Notes;
+use executor_core::Stage;
+use std::alloc::Allocator;
+use std::marker::Model;
+use task_table::{TaskRef, TaskTable};
+
+/// An executor whose calls are made while it runs.
+///
+/// A contract sees it as a [`LiveView`](../../specs/Lives.antt): its table of tasks, how many numbers were given out, of how many
+/// the submission was accepted, the least moment of the call that comes next, and the tasks that the last happening ended.
+#[derive(Drop)]
+pub struct ScheduledExecutor<A: Allocator> {
+    pub(crate) table: TaskTable<A>,
+    pub(crate) notes: Notes<A>,
+    pub(crate) ended: Vec<TaskRef, A>,
+    pub(crate) count: u64,
+    pub(crate) accepted: u64,
+    pub(crate) earliest: u64,
+}
+
+impl<A: Allocator> Model for ScheduledExecutor<A> {
+    ghost use Rattle.std.specs.Prelude.{vec_capacity};
+    ghost use Rattle.live_core.specs.Lives.{LiveView};
+    ghost use Rattle.live_core.specs.own.Formed.{IsLive};
+
+    ghost Value = { LiveView };
+
+    ghost view = { λ e. record { table = e.table; count = e.count; accepted = e.accepted; earliest = e.earliest; ended = e.ended.items } };
+
+    ghost invariant = { λ e. IsLive (record { table = e.table; count = e.count; accepted = e.accepted; earliest = e.earliest; ended = e.ended.items }) e.notes.free e.notes.entries e.notes.free_room (vec_capacity e.ended) };
+}
+
+impl<A: Allocator> ScheduledExecutor<A> {
+    ghost use Rattle.task_table.specs.Tables.{workers_of};
+    ghost use Rattle.live_core.specs.Lives.{Stands};
+    ghost use Rattle.live_core.specs.Said.{IsMakeError, tasks_in, is_waiting_there};
+
+    /// An executor before anything happened, for 1 to 64 workers, which `alloc` gives its memory.
+    ///
+    /// # Errors
+    ///
+    /// [`MakeError::Workers`] where there are none, or more than 64; [`MakeError::Memory`] where `alloc` refuses the memory for
+    /// them.
+    pub fn new(alloc: A, workers: u8) -> Result<ScheduledExecutor<A>, MakeError>
+    where
+        A: Copy,
+        ensures stands { IfOk result (λ e. Stands e [] []) }
+        ensures workers { IfOk result (λ e. workers_of e.table ≡ workers) }
+        ensures first { IfOk result (λ e. e.count ≡ 0) }
+        ensures failed { IfErr result (λ error. IsMakeError workers error) }
+    {
+        if workers < 1 || workers > 64 {
+            return Err(MakeError::Workers);
+        }
+        let Ok(table) = TaskTable::new(alloc, workers) else {
+            return Err(MakeError::Memory);
+        };
+        Ok(ScheduledExecutor {
+            table,
+            notes: Notes::new(alloc),
+            ended: Vec::new(alloc),
+            count: 0,
+            accepted: 0,
+            earliest: 0,
+        })
+    }
+
+    /// The moment, 0 to 2^62 nanoseconds: the greatest of the accepted clocks and the calls made.
+    pub fn now(&self) -> u64
+        ensures value { result ≡ self.now.table.moment }
+        ensures limit { result ≤ longest }
+    {
+        self.table.now()
+    }
+
+    /// How many tasks have a slot: those that wait or are kept, and those whose run is under way.
+    pub fn len(&self) -> usize
+        ensures { result ≡ tasks_in self.now.table.slots }
+    {
+        self.table.slots() - self.notes.free_slots()
+    }
+
+    /// Whether a task waits for a run.
+    pub fn is_waiting(&self, task: TaskRef) -> bool
+        ensures { result ≡ is_waiting_there self.now.table task }
+    {
+        match self.table.seat(task.slot) {
+            Some(seat) => {
+                seat.number == task.number
+                    && !seat.cancelled
+                    && matches!(seat.phase, Stage::Waiting)
+            }
+            None => false,
+        }
+    }
+
+    /// The tasks that the last happening ended, by their numbers, ascending.
+    pub fn ended(&self) -> &[TaskRef]
+        ensures { result.now ≡ self.now.ended }
+    {
+        &self.ended
+    }
+}

@@ -1,0 +1,120 @@
+//! Which slot each number has.
+ghost use Rattle.std.specs.Prelude.{◌≡◌, ℕ, ◌+◌, ◌<◌, ◌≤◌, ◌++◌, [], ◌∷◌, length, false, IfSome, IfNone, OnOk, OnErr};
+ghost use Rattle.std.specs.List.{filter};
+ghost use Rattle.live_core.specs.own.Slots.{IsBelow, HasEntry, HasNone, IsIndex, held_numbers, is_held};
+
+use std::alloc::{AllocError, Allocator};
+use std::marker::Model;
+use task_table::{TaskRef, TaskTable};
+
+/// The slots of tasks by their numbers. An entry whose slot holds another task by now, or none, is stale.
+///
+/// A contract sees it as its entries, which ascend by number, and how many it has room for.
+#[derive(Drop)]
+pub(crate) struct NumberIndex<A: Allocator> {
+    entries: Vec<TaskRef, A>,
+}
+
+impl<A: Allocator> Model for NumberIndex<A> {
+    ghost use Rattle.std.specs.Prelude.{vec_capacity};
+    ghost use Rattle.live_core.specs.own.Slots.{IndexView, Ascends};
+
+    ghost Value = { IndexView };
+
+    ghost view = { λ x. record { entries = x.entries.items; room = vec_capacity x.entries } };
+
+    ghost invariant = { λ x. Ascends x.entries.items };
+}
+
+impl<A: Allocator> NumberIndex<A> {
+    /// An index of no task, without room.
+    pub(crate) fn new(alloc: A) -> NumberIndex<A>
+        ensures { result.entries ≡ [] }
+    {
+        NumberIndex {
+            entries: Vec::new(alloc),
+        }
+    }
+
+    /// The slot in the entry of a number, and `None` where there is no such entry.
+    pub(crate) fn find(&self, number: u64) -> Option<u32>
+        ensures found { IfSome result (λ slot. HasEntry self.now.entries number slot) }
+        ensures none { IfNone result (HasNone self.now.entries number) }
+    {
+        let mut low = 0;
+        let mut high = self.entries.len();
+        while low < high {
+            let middle = low + (high - low) / 2;
+            let entry = self.entries[middle];
+            if entry.number == number {
+                return Some(entry.slot);
+            }
+            if entry.number < number {
+                low = middle + 1;
+            } else {
+                high = middle;
+            }
+        }
+        None
+    }
+
+    /// Drops the entries whose slot in this table holds another task by now, or none.
+    pub(crate) fn compact<B: Allocator>(&mut self, table: &TaskTable<B>)
+        ensures { self.new.entries ≡ filter (is_held (held_numbers table.now.slots)) self.old.entries }
+    {
+        let mut kept = 0;
+        let mut i = 0;
+        while i < self.entries.len() {
+            let entry = self.entries[i];
+            if holds(table, entry) {
+                self.entries[kept] = entry;
+                kept += 1;
+            }
+            i += 1;
+        }
+        self.entries.truncate(kept);
+    }
+
+    /// Makes room for one more entry. Where there is none, the stale entries are dropped, and where more than half of the
+    /// entries are left, there is room for twice as many after it.
+    ///
+    /// # Errors
+    ///
+    /// `AllocError` where the memory for them is refused.
+    pub(crate) fn make_room<B: Allocator>(&mut self, table: &TaskTable<B>) -> Result<(), AllocError>
+        ensures index { (count : ℕ) → IsIndex (held_numbers table.now.slots) self.old.entries count → IsIndex (held_numbers table.now.slots) self.new.entries count }
+        ensures room { OnOk result (length self.new.entries < self.new.room) }
+    {
+        if !self.is_full() {
+            return Ok(());
+        }
+        self.compact(table);
+        self.entries.reserve(self.entries.len() + 1)
+    }
+
+    /// Whether there is no room for one more entry.
+    pub(crate) fn is_full(&self) -> bool
+        ensures { result ≡ false → length self.now.entries < self.now.room }
+    {
+        self.entries.len() >= self.entries.capacity()
+    }
+
+    /// Adds the task of a number that is above all others.
+    pub(crate) fn add(&mut self, task: TaskRef)
+        requires above { IsBelow self.old.entries (length self.old.entries) task.number }
+        requires room { length self.old.entries < self.old.room }
+        ensures { self.new ≡ record { entries = self.old.entries ++ task ∷ []; room = self.old.room } }
+    {
+        self.entries.push_reserved(task);
+    }
+}
+
+/// Whether the slot of a task holds it.
+pub(crate) fn holds<A: Allocator>(table: &TaskTable<A>, task: TaskRef) -> bool
+    ensures { result ≡ is_held (held_numbers table.now.slots) task }
+{
+    match table.seat(task.slot) {
+        Some(seat) => seat.number == task.number,
+        None => false,
+    }
+}

@@ -1,0 +1,126 @@
+//! Which slots are empty, and which slot each number has.
+ghost use Rattle.std.specs.Prelude.{◌≡◌, ℕ, ◌+◌, ◌-◌, ◌<◌, ◌≤◌, ◌++◌, List, [], ◌∷◌, length, IfSome, IfNone, OnOk, OnErr};
+ghost use Rattle.std.specs.List.{range_with_len};
+ghost use Rattle.live_core.specs.own.Slots.{IsBelow, HasEntry, HasNone, IsIndex, held_numbers};
+
+use crate::index::NumberIndex;
+use std::alloc::{AllocError, Allocator};
+use std::marker::Model;
+use task_table::{TaskRef, TaskTable};
+
+/// What is noted of the slots of a table: the empty ones, and an index of the others by the numbers of their tasks.
+///
+/// A contract sees it as the lists of both, and how many each has room for.
+#[derive(Drop)]
+pub(crate) struct Notes<A: Allocator> {
+    free: Vec<u32, A>,
+    index: NumberIndex<A>,
+}
+
+impl<A: Allocator> Model for Notes<A> {
+    ghost use Rattle.std.specs.Prelude.{vec_capacity};
+    ghost use Rattle.live_core.specs.own.Slots.{NotesView};
+
+    ghost Value = { NotesView };
+
+    ghost view = { λ n. record { free = n.free.items; free_room = vec_capacity n.free; entries = n.index.entries; index_room = n.index.room } };
+}
+
+impl<A: Allocator> Notes<A> {
+    /// The notes of no slot, without room.
+    pub(crate) fn new(alloc: A) -> Notes<A>
+    where
+        A: Copy,
+        ensures free { result.free ≡ [] }
+        ensures index { result.entries ≡ [] }
+    {
+        Notes {
+            free: Vec::new(alloc),
+            index: NumberIndex::new(alloc),
+        }
+    }
+
+    /// How many slots are empty.
+    pub(crate) fn free_slots(&self) -> usize
+        ensures { result ≡ length self.now.free }
+    {
+        self.free.len()
+    }
+
+    /// Takes out the empty slot that was noted last, and `None` where there is none.
+    pub(crate) fn take(&mut self) -> Option<u32>
+        ensures taken { IfSome result (λ slot. self.old.free ≡ self.new.free ++ slot ∷ []) }
+        ensures none { IfNone result (self.old.free ≡ []) }
+        ensures rest { self.new ≡ record self.old { free = self.new.free } }
+    {
+        self.free.pop()
+    }
+
+    /// Notes an empty slot.
+    pub(crate) fn release(&mut self, slot: u32)
+        requires { length self.old.free < self.old.free_room }
+        ensures { self.new ≡ record self.old { free = self.old.free ++ slot ∷ [] } }
+    {
+        self.free.push_reserved(slot);
+    }
+
+    /// Notes the slot of a task whose number is above all others.
+    pub(crate) fn add(&mut self, task: TaskRef)
+        requires above { IsBelow self.old.entries (length self.old.entries) task.number }
+        requires room { length self.old.entries < self.old.index_room }
+        ensures { self.new ≡ record self.old { entries = self.old.entries ++ task ∷ [] } }
+    {
+        self.index.add(task);
+    }
+
+    /// The slot that was noted for a number, and `None` where none is.
+    pub(crate) fn find(&self, number: u64) -> Option<u32>
+        ensures found { IfSome result (λ slot. HasEntry self.now.entries number slot) }
+        ensures none { IfNone result (HasNone self.now.entries number) }
+    {
+        self.index.find(number)
+    }
+
+    /// Makes room for one more entry in the index of this table's slots.
+    ///
+    /// # Errors
+    ///
+    /// `AllocError` where the memory for it is refused.
+    pub(crate) fn make_index_room<B: Allocator>(
+        &mut self,
+        table: &TaskTable<B>,
+    ) -> Result<(), AllocError>
+        ensures index { (count : ℕ) → IsIndex (held_numbers table.now.slots) self.old.entries count → IsIndex (held_numbers table.now.slots) self.new.entries count }
+        ensures room { OnOk result (length self.new.entries < self.new.index_room) }
+        ensures free { self.new.free ≡ self.old.free }
+        ensures free_room { self.new.free_room ≡ self.old.free_room }
+    {
+        self.index.make_room(table)
+    }
+
+    /// Makes room to note that each of so many slots is empty.
+    ///
+    /// # Errors
+    ///
+    /// `AllocError` where the memory for them is refused: then nothing has changed.
+    pub(crate) fn reserve_free(&mut self, slots: usize) -> Result<(), AllocError>
+        ensures room { OnOk result (slots ≤ self.new.free_room) }
+        ensures grows { self.old.free_room ≤ self.new.free_room }
+        ensures rest { self.new ≡ record self.old { free_room = self.new.free_room } }
+    {
+        self.free.reserve(slots)
+    }
+
+    /// Notes that the slots from one to the one before another are empty.
+    pub(crate) fn add_empty(&mut self, from: u32, to: u32)
+        requires order { from ≤ to }
+        requires room { length self.old.free + (to - from) ≤ self.old.free_room }
+        ensures { self.new ≡ record self.old { free = self.old.free ++ range_with_len from (to - from) } }
+    {
+        let mut slot = from;
+        while slot < to {
+            self.free.push_reserved(slot);
+            slot += 1;
+        }
+    }
+}

@@ -1,0 +1,58 @@
+//! A task comes into an empty slot.
+ghost use Rattle.std.specs.Prelude.{◌≡◌, ◌<◌, ◌≤◌, ◌+◌, [], false, length, vec_capacity};
+ghost use Rattle.sched_time.specs.Times.{longest};
+ghost use Rattle.queue_code.specs.Calls.{IsTimed};
+ghost use Rattle.queue_code.specs.declared.call.CodeCall.TheVariants as call;
+ghost use Rattle.executor_core.specs.Answers.{bare, kind_of};
+ghost use Rattle.executor_core.specs.declared.types.Answer.TheVariants as answer;
+ghost use Rattle.task_table.specs.Tables.{workers_of, CallSteps};
+ghost use Rattle.live_core.specs.own.Formed.{AreNoted};
+
+use crate::notes::Notes;
+use sched_time::Timing;
+use std::alloc::Allocator;
+use task_table::{TaskRef, TaskTable};
+
+/// A task of the table.
+#[derive(Clone, Copy, Debug, PartialEq, Eq)]
+pub(crate) struct Placed {
+    pub(crate) task: TaskRef,
+    /// The due moment of its first run.
+    pub(crate) due: u64,
+}
+
+/// A call submits a task at the moment `at`: it has the number `count`, and comes into the slot that was noted last as empty. No
+/// task is ended.
+pub(crate) fn place<A: Allocator>(
+    table: &mut TaskTable<A>,
+    notes: &mut Notes<A>,
+    ended: &mut Vec<TaskRef, A>,
+    count: u64,
+    at: u64,
+    timing: Timing,
+    delay: u64,
+) -> Placed
+    requires noted { AreNoted table.old.slots count notes.old.free notes.old.entries notes.old.free_room (vec_capacity ended.old) }
+    requires slot { 0 < length notes.old.free }
+    requires entry { length notes.old.entries < notes.old.index_room }
+    requires unshut { table.old.shut ≡ false }
+    requires moment { table.old.moment ≤ at }
+    requires limit { at ≤ longest }
+    requires spans { (delay ≤ longest) × IsTimed timing }
+    ensures number { result.task.number ≡ count }
+    ensures noted { AreNoted table.new.slots (count + 1) notes.new.free notes.new.entries notes.new.free_room (vec_capacity ended.new) }
+    ensures workers { workers_of table.new ≡ workers_of table.old }
+    ensures shut { table.new.shut ≡ table.old.shut }
+    ensures ended { ended.new.items ≡ [] }
+    ensures steps { CallSteps table.old table.new (at, call.Submit count timing delay) (bare (answer.Submit count (kind_of timing) result.due)) }
+{
+    let Some(slot) = notes.take() else {
+        unreachable!();
+    };
+    let number = count;
+    let due = table.admit(slot, number, at, timing, delay);
+    let task = TaskRef { number, slot };
+    notes.add(task);
+    ended.clear();
+    Placed { task, due }
+}

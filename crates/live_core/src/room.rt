@@ -1,0 +1,65 @@
+//! Room for one more task.
+ghost use Rattle.std.specs.Prelude.{◌≡◌, ◌<◌, length, OnOk, OnErr, vec_capacity};
+ghost use Rattle.live_core.specs.own.Formed.{AreNoted, IsRoomier};
+
+use crate::notes::Notes;
+use std::alloc::{AllocError, Allocator};
+use task_table::{TaskRef, TaskTable};
+
+/// Makes room for one more task, where `count` numbers were given out: an empty slot, and an entry of the index. The slots are
+/// twice as many then, where all are taken.
+///
+/// # Errors
+///
+/// `AllocError` where memory is refused, or where there are 2^30 slots, and all are taken: the table is as it was then.
+pub(crate) fn make_room<A: Allocator>(
+    table: &mut TaskTable<A>,
+    notes: &mut Notes<A>,
+    ended: &mut Vec<TaskRef, A>,
+    count: u64,
+) -> Result<(), AllocError>
+    requires noted { AreNoted table.old.slots count notes.old.free notes.old.entries notes.old.free_room (vec_capacity ended.old) }
+    ensures noted { AreNoted table.new.slots count notes.new.free notes.new.entries notes.new.free_room (vec_capacity ended.new) }
+    ensures roomier { IsRoomier table.old table.new }
+    ensures refused { OnErr result (table.new ≡ table.old) }
+    ensures entry { OnOk result (length notes.new.entries < notes.new.index_room) }
+    ensures slot { OnOk result (0 < length notes.new.free) }
+    ensures ended { ended.new.items ≡ ended.old.items }
+{
+    notes.make_index_room(table)?;
+    if notes.free_slots() > 0 {
+        return Ok(());
+    }
+    let slots = table.slots();
+    if slots >= 1073741824 {
+        return Err(AllocError);
+    }
+    grow(table, notes, ended, count, 2 * slots as u32 + 4)
+}
+
+/// Makes room for so many slots in all, and notes that the new ones are empty.
+pub(crate) fn grow<A: Allocator>(
+    table: &mut TaskTable<A>,
+    notes: &mut Notes<A>,
+    ended: &mut Vec<TaskRef, A>,
+    count: u64,
+    slots: u32,
+) -> Result<(), AllocError>
+    requires noted { AreNoted table.old.slots count notes.old.free notes.old.entries notes.old.free_room (vec_capacity ended.old) }
+    requires more { length table.old.slots < slots }
+    ensures noted { AreNoted table.new.slots count notes.new.free notes.new.entries notes.new.free_room (vec_capacity ended.new) }
+    ensures roomier { IsRoomier table.old table.new }
+    ensures size { OnOk result (length table.new.slots ≡ slots) }
+    ensures refused { OnErr result (table.new ≡ table.old) }
+    ensures entries { notes.new.entries ≡ notes.old.entries }
+    ensures index_room { notes.new.index_room ≡ notes.old.index_room }
+    ensures slot { OnOk result (0 < length notes.new.free) }
+    ensures ended { ended.new.items ≡ ended.old.items }
+{
+    notes.reserve_free(slots as usize)?;
+    ended.reserve(slots as usize)?;
+    let first = table.slots() as u32;
+    table.reserve(slots)?;
+    notes.add_empty(first, slots);
+    Ok(())
+}

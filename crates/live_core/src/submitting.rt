@@ -1,0 +1,76 @@
+//! Submissions that are accepted, and those that are rejected.
+ghost use Rattle.std.specs.Prelude.{◌≡◌, ℕ, ◌^◌, ◌<◌, ◌≤◌, ◌+◌, true, false, IfOk, OnErr};
+ghost use Rattle.sched_time.specs.Times.{longest};
+ghost use Rattle.sched_time.specs.declared.timing.Timing as timings;
+ghost use Rattle.queue_code.specs.Calls.{IsTimed};
+ghost use Rattle.queue_code.specs.declared.call.CodeCall.TheVariants as call;
+
+use crate::answers::Submitted;
+use crate::executor::ScheduledExecutor;
+use crate::place::place;
+use crate::room::make_room;
+use sched_time::Timing;
+use std::alloc::{AllocError, Allocator};
+
+impl<A: Allocator> ScheduledExecutor<A> {
+    ghost use Rattle.live_core.specs.Lives.{Calls};
+    ghost use Rattle.live_core.specs.Said.{submit_reply, number_of};
+    ghost use Rattle.live_core.specs.declared.answers.Submitted.TheVariants as submitted;
+
+    /// A call submits a task at this moment, where the executor is not shut.
+    pub(crate) fn accept(
+        &mut self,
+        moment: u64,
+        timing: Timing,
+        delay: u64,
+    ) -> Result<Submitted, AllocError>
+        requires unshut { self.old.table.shut ≡ false }
+        requires early { self.old.earliest ≤ moment }
+        requires ahead { self.old.table.moment ≤ moment }
+        requires limit { moment ≤ longest }
+        requires spans { (delay ≤ longest) × IsTimed timing }
+        requires few { self.old.count + 1 < 2 ^ 64 }
+        ensures number { IfOk result (λ s. number_of s ≡ self.old.count) }
+        ensures made { IfOk result (λ s. Calls self.old self.new (moment, call.Submit self.old.count timing delay) (submit_reply timing s)) }
+        ensures refused { OnErr result (self.new ≡ self.old) }
+    {
+        make_room(
+            &mut self.table,
+            &mut self.notes,
+            &mut self.ended,
+            self.count,
+        )?;
+        let placed = place(
+            &mut self.table,
+            &mut self.notes,
+            &mut self.ended,
+            self.count,
+            moment,
+            timing,
+            delay,
+        );
+        self.count += 1;
+        self.accepted += 1;
+        Ok(Submitted::Accepted {
+            task: placed.task,
+            due: placed.due,
+        })
+    }
+
+    /// A call submits a task at this moment, where the executor is shut: it is rejected.
+    pub(crate) fn reject(&mut self, moment: u64) -> Submitted
+        requires shut { self.old.table.shut ≡ true }
+        requires early { self.old.earliest ≤ moment }
+        requires ahead { self.old.table.moment ≤ moment }
+        requires limit { moment ≤ longest }
+        requires few { self.old.count + 1 < 2 ^ 64 }
+        ensures number { result ≡ submitted.Rejected self.old.count }
+        ensures made { (timing : timings.Timing) (delay : ℕ) → delay ≤ longest → IsTimed timing → Calls self.old self.new (moment, call.Submit self.old.count timing delay) (submit_reply timing result) }
+    {
+        let number = self.count;
+        self.table.refuse(moment);
+        self.ended.clear();
+        self.count += 1;
+        Submitted::Rejected { number }
+    }
+}

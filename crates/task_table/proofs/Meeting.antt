@@ -1,0 +1,174 @@
+-- Which kept tasks a start meets, and what becomes of one that is dropped.
+use Rattle.std.proofs.Common.{◌≡◌, ℕ, ◌+◌, ◌<◌, ◌≤◌, nat_le, ◌&&◌, ◌||◌, zero, suc, Bool, true, false, cond, inl, inr, List, [], ◌∷◌, Option, Some, None, refl, sym, ap, ◌∙◌, arith, subst}
+use Rattle.std.specs.Prelude.{not, IfSome, IfNone}
+use Rattle.std.proofs.Math.ListN.{set}
+use Rattle.std.proofs.lemmas.Bool.Decides.{nat_tests}
+use Rattle.std.proofs.lemmas.Option.{none-some}
+use Rattle.delay_queue.specs.Queues.{comes_before}
+use Rattle.queue_code.specs.Calls.{how_many}
+use Rattle.task_table.specs.declared.seat.Seat.{Seat}
+use Rattle.task_table.specs.Seats.{task_in, slot_of, waits, is_alive, is_waiting_in, is_running_in}
+use Rattle.task_table.specs.Tables.{TableView}
+use Rattle.task_table.specs.Firsts.{NoneDue, FirstIs, MeetsNone, NoneMet, NoneKept, holds_kept, kept_in, IsEarliest, NoneWaits}
+use Rattle.task_table.specs.Changes.{put, unkept}
+use Rattle.task_table.specs.Runs.{Drops}
+use Rattle.task_table.specs.own.Formed.{IsFormed, IsSeated}
+use Rattle.task_table.specs.own.Queues.{keys, IsTable}
+use Rattle.task_table.specs.own.Heads.{HeadsQueue, HeadsKept, IsMetBy}
+use Rattle.slot_queue.specs.Entries.{Key}
+use Rattle.slot_queue.specs.Queues.{IsLeast, IsEmpty}
+use Rattle.task_table.proofs.Keys.{keys_least, keys_empty}
+use Rattle.task_table.proofs.Heads.{waits_at, stays_at, entry_at, first_due, least_not_due, none_due, least_unmet, none_kept}
+
+-- ---- the least entries
+
+-- the least entry of the tasks that wait, where it is due
+pub heads_queue : (m : TableView) (entries kept : List (Option Key)) (key : Key) (slot : ℕ) → IsTable m entries kept → IsLeast entries key slot → key.due ≤ m.moment → HeadsQueue m slot key.due key.rank
+heads_queue m entries kept key slot t least reached =
+    let is = keys_least entries key slot least in
+    let at = waits_at m (keys entries) (keys kept) slot key.due key.rank t.queues is.there in
+    record { task = at.x; first = first_due m (keys entries) (keys kept) slot key.due key.rank at.x t.formed t.queues is at.there reached; dues = at.dues; named = at.named }
+
+-- where it is not due
+pub heads_later : (m : TableView) (entries kept : List (Option Key)) (key : Key) (slot : ℕ) → IsTable m entries kept → IsLeast entries key slot → m.moment < key.due → NoneDue m
+heads_later m entries kept key slot t least ahead = least_not_due m (keys entries) (keys kept) slot key.due key.rank t.queues (keys_least entries key slot least) ahead
+
+-- where there is none
+pub heads_none : (m : TableView) (entries kept : List (Option Key)) → IsTable m entries kept → IsEmpty entries → NoneDue m
+heads_none m entries kept t empty = none_due m (keys entries) (keys kept) t.queues (λ i due number q. absurd (none-some (due, number) (sym (keys_empty entries empty i) ∙ q)))
+
+-- an entry that does not come before is due no earlier
+no_earlier : (due number later other : ℕ) → comes_before later other due number ≡ false → due ≤ later
+no_earlier due number later other q = grind (arith, nat_tests)
+
+-- the least entry is due first
+pub heads_earliest : (m : TableView) (entries kept : List (Option Key)) (key : Key) (slot : ℕ) → IsTable m entries kept → IsLeast entries key slot → IsEarliest m key.due
+heads_earliest m entries kept key slot t least =
+    let is = keys_least entries key slot least in
+    let at = waits_at m (keys entries) (keys kept) slot key.due key.rank t.queues is.there in
+    record {
+      slot = slot;
+      task = at.x;
+      there = at.there;
+      waiting = at.waiting;
+      is = at.dues;
+      least = λ i y there waiting. no_earlier key.due key.rank y.due y.number (is.least i y.due y.number (entry_at m (keys entries) (keys kept) i y t.queues there waiting));
+    }
+
+-- where there is no entry, no task waits
+pub none_waits : (m : TableView) (entries kept : List (Option Key)) → IsTable m entries kept → IsEmpty entries → NoneWaits m
+none_waits m entries kept t empty i y there = by (waits (task_in y)) refl
+  where
+    by : (b : Bool) → waits (task_in y) ≡ b → b ≡ false
+    by true waiting = absurd (none-some (y.due, y.number) (sym (keys_empty entries empty i) ∙ entry_at m (keys entries) (keys kept) i y t.queues there waiting))
+    by false waiting = refl
+
+-- the least entry of the kept tasks
+pub heads_kept : (m : TableView) (entries kept : List (Option Key)) (key : Key) (slot : ℕ) → IsTable m entries kept → IsLeast kept key slot → HeadsKept m slot key.due key.rank
+heads_kept m entries kept key slot t least =
+    let is = keys_least kept key slot least in
+    let at = stays_at m (keys entries) (keys kept) slot key.due key.rank t.queues is.there in
+    record {
+      task = at.x;
+      there = at.there;
+      kept = at.kept;
+      dues = at.dues;
+      named = at.named;
+      unmet = λ first out. least_unmet m (keys entries) (keys kept) slot key.due key.rank at.x first t.formed t.queues is at.there out;
+    }
+
+-- where there is none, no task is kept
+pub none_stays : (m : TableView) (entries kept : List (Option Key)) → IsTable m entries kept → IsEmpty kept → NoneKept m
+none_stays m entries kept t empty = none_kept m (keys entries) (keys kept) t.queues (keys_empty kept empty)
+
+-- what follows of a value, if there is one, and where there is none
+pub if_some : {X : Type 0} (P Q : X → Type 0) (o : Option X) → ((x : X) → P x → Q x) → IfSome o P → IfSome o Q
+if_some P Q None f p = p
+if_some P Q (Some x) f p = f x p
+
+pub if_none : {X P Q : Type 0} (o : Option X) → (P → Q) → IfNone o P → IfNone o Q
+if_none None f p = f p
+if_none (Some x) f p = p
+
+-- ---- what a start meets
+
+-- a test does not hold both ways
+not_both : (due number later other : ℕ) → comes_before due number later other ≡ true → comes_before later other due number ≡ true → ⊥
+not_both due number later other p q = grind (arith, nat_tests)
+
+-- the first task that is due is one alone
+first_same : (m : TableView) (one other : Option Seat) → FirstIs m one → FirstIs m other → one ≡ other
+first_same m None None p q = refl
+first_same m None (Some y) p q = absurd (p q.0 y q.1.there q.1.waiting q.1.due)
+first_same m (Some x) None p q = absurd (q p.0 x p.1.there p.1.waiting p.1.due)
+first_same m (Some x) (Some y) p q = elim (p.1.least q.0 y q.1.there q.1.waiting q.1.due) [
+  | inl here ↦ sym p.1.there ∙ (ap (slot_of m.slots) (sym here) ∙ q.1.there)
+  | inr before ↦ elim (q.1.least p.0 x p.1.there p.1.waiting p.1.due) [
+    | inl here ↦ sym p.1.there ∙ (ap (slot_of m.slots) here ∙ q.1.there)
+    | inr after ↦ absurd (not_both x.due x.number y.due y.number before after)
+  ]
+]
+
+-- where a start does not meet the first kept task, it meets none
+pub none_met : (m : TableView) (slot due number : ℕ) → HeadsKept m slot due number → IsMetBy m due number false → NoneMet m
+none_met m slot due number head met first is =
+    subst (MeetsNone m) (first_same m met.first first met.is is) (head.unmet met.first (sym (met.told head.task head.dues head.named)))
+
+-- a moment that is reached, and one that is not
+reached : (a b : ℕ) → a ≤ b → nat_le a b ≡ true
+reached a b le = grind (arith, nat_tests)
+
+ahead_of : (a b : ℕ) → b < a → nat_le a b ≡ false
+ahead_of a b lt = grind (arith, nat_tests)
+
+-- a start that gets a task meets a kept one that is due, if it comes before that task
+pub met_first : (m : TableView) (slot due number later other now : ℕ) (b : Bool) → HeadsQueue m slot later other → now ≡ m.moment → due ≤ now → b ≡ comes_before due number later other → IsMetBy m due number b
+met_first m slot due number later other now b head same ripe is = record {
+  first = Some head.task;
+  is = (slot, head.first);
+  told = λ x d n.
+      let there : nat_le x.due m.moment ≡ true = reached x.due m.moment (omega (arith, d, same, ripe)) in
+      is ∙ ((λ i. comes_before (sym d i) (sym n i) (sym head.dues i) (sym head.named i)) ∙ sym (ap (λ c. c && comes_before x.due x.number head.task.due head.task.number) there));
+}
+
+-- and meets none that is not due
+pub met_later : (m : TableView) (slot due number later other now : ℕ) → HeadsQueue m slot later other → now ≡ m.moment → now < due → IsMetBy m due number (nat_le due now)
+met_later m slot due number later other now head same ahead = record {
+  first = Some head.task;
+  is = (slot, head.first);
+  told = λ x d n. ahead_of due now ahead ∙ sym (ap (λ c. c && comes_before x.due x.number head.task.due head.task.number) (ahead_of x.due m.moment (omega (arith, d, same, ahead))));
+}
+
+-- ---- a task is dropped
+
+-- how many tasks are kept once one is not
+fewer : (slots : List (Option Seat)) (slot : ℕ) (x : Seat) → slot_of slots slot ≡ Some x → x.kept ≡ true → how_many holds_kept (set slots slot (Some (unkept x))) + 1 ≡ how_many holds_kept slots
+fewer [] slot x there held = absurd (none-some x there)
+fewer (y ∷ slots) zero x there held =
+    let was : holds_kept y ≡ true = ap holds_kept there ∙ held in
+    let h : ℕ = how_many holds_kept slots in
+    let now : cond (holds_kept y) (1 + h) h ≡ 1 + h = ap (λ b. cond b (1 + h) h) was in
+    omega (arith, now)
+fewer (y ∷ slots) (suc i) x there held = by (holds_kept y) (fewer slots i x there held)
+  where
+    by : (b : Bool) → how_many holds_kept (set slots i (Some (unkept x))) + 1 ≡ how_many holds_kept slots →
+        cond b (1 + how_many holds_kept (set slots i (Some (unkept x)))) (how_many holds_kept (set slots i (Some (unkept x)))) + 1 ≡ cond b (1 + how_many holds_kept slots) (how_many holds_kept slots)
+    by true rest = omega (arith, rest)
+    by false rest = rest
+
+-- of a task that was kept nothing comes any more
+over_now : (moment : ℕ) (x : Seat) → IsSeated moment x → x.kept ≡ true → is_alive (task_in (unkept x)) ≡ false
+over_now moment x s held =
+    let at = s.kept held in
+    λ i. ((is_waiting_in (at.0 i) && not (at.1 i)) || false) || is_running_in (at.0 i)
+
+-- what the call says of it
+pub drops : (m n : TableView) (slot due number : ℕ) → IsFormed m → (head : HeadsKept m slot due number) → n ≡ put m slot (unkept head.task) → Drops m n slot
+drops m n slot due number formed head is = record {
+  task = head.task;
+  there = head.there;
+  kept = head.kept;
+  is = is;
+  over = over_now m.moment head.task (formed.seated slot head.task head.there) head.kept;
+  fewer = ap (λ (u : TableView). kept_in u.slots + 1) is ∙ fewer m.slots slot head.task head.there head.kept;
+}

@@ -1,0 +1,13 @@
+pub use Rattle.queue_code.specs.Calls
+pub use Rattle.executor_core.specs.View
+pub use Rattle.executor_core.specs.Answers
+pub use Rattle.executor_core.specs.Histories
+pub use Rattle.executor_core.specs.State
+pub mod Seats
+pub mod Tables
+pub mod Firsts
+pub mod Ends
+pub mod Changes
+pub mod Runs
+pub mod own
+pub mod Endings

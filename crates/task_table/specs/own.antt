@@ -1,0 +1,5 @@
+-- What no public clause of this crate, or of those above it, leads to: means of its own contracts and proofs.
+pub mod Formed
+pub mod Queues
+pub mod Heads
+pub mod Found

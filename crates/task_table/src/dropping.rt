@@ -1,0 +1,97 @@
+//! Kept tasks: those that were cancelled while they waited, and still stand in the queue.
+ghost use Rattle.std.specs.Prelude.{◌≡◌, ℕ, ◌<◌, true, List, Some, IfSome, IfNone};
+ghost use Rattle.queue_code.specs.Calls.{Planned};
+ghost use Rattle.executor_core.specs.Histories.{HistoryEntry};
+ghost use Rattle.executor_core.specs.declared.types.Happening.TheVariants as happening;
+ghost use Rattle.task_table.specs.Changes as changes;
+ghost use Rattle.task_table.specs.declared.seat.Seat as seats;
+ghost use Rattle.delay_queue.specs.Queues as queues;
+
+use crate::seat::Seat;
+use crate::table::TaskTable;
+use slot_queue::Entry;
+use std::alloc::Allocator;
+
+impl<A: Allocator> TaskTable<A> {
+    ghost use Rattle.task_table.specs.Tables.{StandsBefore, IsNextCall};
+    ghost use Rattle.task_table.specs.Seats.{slot_of};
+    ghost use Rattle.task_table.specs.Firsts.{NoneMet, NoneKept};
+    ghost use Rattle.task_table.specs.Ends.{sweeps_at};
+    ghost use Rattle.task_table.specs.Runs.{IsFree, Drops};
+    ghost use Rattle.task_table.specs.own.Formed.{IsFormed};
+    ghost use Rattle.task_table.specs.own.Heads.{HeadsKept, IsMetBy};
+
+    /// Drops one of the kept tasks that the next start meets, if it is not refused, and answers its slot: of its task nothing
+    /// comes any more. `None` says that it meets none; the table is then as it was.
+    ///
+    /// Each call that drops one makes the number of kept tasks smaller, so that a loop of such calls ends.
+    pub fn drop_met(&mut self) -> Option<u32>
+        ensures dropped { IfSome result (λ slot. Drops self.old self.new slot) }
+        ensures steps { IfSome result (λ _. (worker : ℕ) → IsFree self.old worker → (calls : List Planned) (past : List HistoryEntry)
+            → StandsBefore self.old calls past (happening.Start worker) → StandsBefore self.new calls past (happening.Start worker)) }
+        ensures none { IfNone result ((self.new ≡ self.old) × NoneMet self.old) }
+    {
+        let entry = self.first_kept()?;
+        let met = self.meets(entry.due, entry.rank);
+        if met {
+            self.drop_at(entry.slot);
+            return Some(entry.slot);
+        }
+        None
+    }
+
+    /// Drops a kept task before a call that sweeps, and answers its slot: of its task nothing comes any more. `None` says that
+    /// none is kept; the table is then as it was.
+    ///
+    /// Each call that drops one makes the number of kept tasks smaller, so that a loop of such calls ends.
+    pub fn drop_kept(&mut self) -> Option<u32>
+        ensures dropped { IfSome result (λ slot. Drops self.old self.new slot) }
+        ensures steps { IfSome result (λ _. (calls : List Planned) (past : List HistoryEntry) (p : Planned) → IsNextCall calls past p → sweeps_at self.old.shut p.1 ≡ true
+            → StandsBefore self.old calls past happening.Call → StandsBefore self.new calls past happening.Call) }
+        ensures none { IfNone result ((self.new ≡ self.old) × NoneKept self.old) }
+    {
+        let entry = self.first_kept()?;
+        self.drop_at(entry.slot);
+        Some(entry.slot)
+    }
+
+    /// The entry of the first kept task, and `None` where none is kept.
+    fn first_kept(&self) -> Option<Entry<u64>>
+        ensures first { IfSome result (λ entry. HeadsKept self.now entry.slot entry.due entry.rank) }
+        ensures none { IfNone result (NoneKept self.now) }
+        ensures formed { IsFormed self.now }
+    {
+        self.kept.peek()
+    }
+
+    /// Whether the next start meets a kept task of this due moment and number, if it is not refused.
+    fn meets(&self, due: u64, number: u64) -> bool
+        ensures { IsMetBy self.now due number result }
+    {
+        let now = self.now();
+        match self.first_due() {
+            Some(first) => due <= now && comes_before(due, number, first.due, first.rank),
+            None => due <= now,
+        }
+    }
+
+    /// Drops the task in a slot from the queue.
+    fn drop_at(&mut self, slot: u32)
+        requires { (x : seats.Seat) × (slot_of self.old.slots slot ≡ Some x) × (x.kept ≡ true) }
+        ensures dropped { (x : seats.Seat) → slot_of self.old.slots slot ≡ Some x → self.new ≡ changes.put self.old slot (changes.unkept x) }
+    {
+        let seat = self.held(slot);
+        self.kept.remove(slot);
+        self.slots[slot as usize] = Some(Seat {
+            kept: false,
+            ..seat
+        });
+    }
+}
+
+/// Whether a task of this due moment and number comes before another one of those.
+fn comes_before(due: u64, number: u64, later: u64, other: u64) -> bool
+    ensures { result ≡ queues.comes_before due number later other }
+{
+    due < later || (due == later && number < other)
+}

@@ -1,0 +1,166 @@
+//! What the clock and the starts of the workers do to a table.
+ghost use Rattle.std.specs.Prelude.{◌≡◌, ℕ, ◌+◌, ◌<◌, ◌^◌, ◌≤◌, ◌↔◌, true, Some, None, slice_index_or, IsOk, IfOk, IfErr, OnErr, IfSome, IfNone};
+ghost use Rattle.executor_core.specs.Answers.{bare, is_accepted};
+ghost use Rattle.executor_core.specs.declared.types.Answer.TheVariants as answer;
+ghost use Rattle.executor_core.specs.declared.types.Happening.TheVariants as happening;
+ghost use Rattle.task_table.specs.Changes as changes;
+ghost use Rattle.task_table.specs.declared.seat.Seat as seats;
+
+use crate::answers::{Begun, StartError};
+use crate::seat::{Seat, TaskRef};
+use crate::table::TaskTable;
+use executor_core::{EventError, Stage};
+use sched_time::LONGEST;
+use slot_queue::Entry;
+use std::alloc::Allocator;
+
+impl<A: Allocator> TaskTable<A> {
+    ghost use Rattle.task_table.specs.Tables.{EventSteps};
+    ghost use Rattle.task_table.specs.Seats.{slot_of};
+    ghost use Rattle.task_table.specs.Firsts.{IsFirstDue, NoneDue, NoneMet, IsEarliest, NoneWaits};
+    ghost use Rattle.task_table.specs.Runs.{IsFree, IsStartError, Starts, FailsStart, FailsClock};
+    ghost use Rattle.task_table.specs.own.Formed.{IsFormed};
+    ghost use Rattle.task_table.specs.own.Heads.{HeadsQueue};
+
+    /// The clock shows a moment, in nanoseconds: it is moved there.
+    ///
+    /// # Errors
+    ///
+    /// [`EventError::Backward`] where that is before [`now`](TaskTable::now), and [`EventError::TooFar`] where it is past
+    /// 2^62. The table is then as it was.
+    pub fn clock(&mut self, moment: u64) -> Result<(), EventError>
+        ensures accepted { IsOk result ↔ (is_accepted self.old.moment moment ≡ true) }
+        ensures moved { IfOk result (λ _. self.new ≡ changes.at_moment self.old moment) }
+        ensures steps { IfOk result (λ _. EventSteps self.old self.new (happening.Clock moment) (bare answer.Clock)) }
+        ensures unchanged { OnErr result (self.new ≡ self.old) }
+        ensures failed { IfErr result (λ error. FailsClock self.old moment error) }
+    {
+        if moment < self.moment {
+            return Err(EventError::Backward);
+        }
+        if moment > LONGEST {
+            return Err(EventError::TooFar);
+        }
+        self.moment = moment;
+        Ok(())
+    }
+
+    /// The due moment of the first task that waits, in nanoseconds: before it no start gets a task. `None` where none waits.
+    ///
+    /// A kept task is not counted, since no start gets it.
+    pub fn next_due(&self) -> Option<u64>
+        ensures first { IfSome result (λ due. IsEarliest self.now due) }
+        ensures none { IfNone result (NoneWaits self.now) }
+    {
+        let least = self.queue.peek()?;
+        Some(least.due)
+    }
+
+    /// The entry of the first task that waits and is due, and `None` where none is.
+    pub(crate) fn first_due(&self) -> Option<Entry<u64>>
+        ensures first { IfSome result (λ entry. HeadsQueue self.now entry.slot entry.due entry.rank) }
+        ensures none { IfNone result (NoneDue self.now) }
+        ensures formed { IsFormed self.now }
+    {
+        let first = self.queue.peek()?;
+        if first.due > self.moment {
+            return None;
+        }
+        Some(first)
+    }
+
+    /// Why a start by a worker is refused, and `None` where it is not: then the worker begins a run, or is idle.
+    pub fn start_error(&self, worker: u8) -> Option<EventError>
+        ensures free { IfNone result (IsFree self.now worker) }
+        ensures refused { IfSome result (λ error. IsStartError self.now worker error) }
+    {
+        let place = worker as usize;
+        if place >= self.work.len() {
+            return Some(EventError::NoWorker);
+        }
+        match self.work[place] {
+            Some(_) => Some(EventError::Busy),
+            None => None,
+        }
+    }
+
+    /// A worker asks for work: it begins a run of the first task that is due, or none, where none is.
+    ///
+    /// The kept tasks that it meets were dropped before, as [`drop_met`](TaskTable::drop_met) tells, unless it is refused.
+    ///
+    /// # Errors
+    ///
+    /// [`StartError::Refused`] where there is no such worker, or it has a run under way, and [`StartError::Full`] where else
+    /// the first task that is due has had 2^64 - 1 runs. The table is then as it was.
+    pub fn start(&mut self, worker: u8) -> Result<Option<Begun>, StartError>
+        requires { IsFree self.old worker → NoneMet self.old }
+        ensures started { IfOk result (λ begun. Starts self.old self.new worker begun) }
+        ensures unchanged { OnErr result (self.new ≡ self.old) }
+        ensures failed { IfErr result (λ error. FailsStart self.old worker error) }
+    {
+        match self.start_error(worker) {
+            Some(error) => Err(StartError::Refused(error)),
+            None => self.start_free(worker),
+        }
+    }
+
+    /// A worker that has no work asks for some.
+    fn start_free(&mut self, worker: u8) -> Result<Option<Begun>, StartError>
+        requires free { IsFree self.old worker }
+        requires met { NoneMet self.old }
+        ensures started { IfOk result (λ begun. Starts self.old self.new worker begun) }
+        ensures unchanged { OnErr result (self.new ≡ self.old) }
+        ensures failed { IfErr result (λ error. FailsStart self.old worker error) }
+    {
+        match self.first_due() {
+            Some(first) => self.start_first(worker, first.slot),
+            None => Ok(None),
+        }
+    }
+
+    /// A worker that has no work begins a run of the first task that is due, in this slot.
+    fn start_first(&mut self, worker: u8, slot: u32) -> Result<Option<Begun>, StartError>
+        requires free { IsFree self.old worker }
+        requires met { NoneMet self.old }
+        requires first { (x : seats.Seat) × IsFirstDue self.old slot x }
+        ensures started { IfOk result (λ begun. Starts self.old self.new worker begun) }
+        ensures unchanged { OnErr result (self.new ≡ self.old) }
+        ensures failed { IfErr result (λ error. FailsStart self.old worker error) }
+    {
+        let seat = self.held(slot);
+        if seat.run == u64::MAX {
+            return Err(StartError::Full);
+        }
+        let number = seat.number;
+        let run = seat.run;
+        let due = seat.due;
+        self.begin(worker, slot, seat);
+        let task = TaskRef { number, slot };
+        Ok(Some(Begun { task, run, due }))
+    }
+
+    /// What a slot holds that is not empty.
+    pub(crate) fn held(&self, slot: u32) -> Seat
+        requires { (x : seats.Seat) × (slot_of self.now.slots slot ≡ Some x) }
+        ensures held { slot_of self.now.slots slot ≡ Some result }
+        ensures formed { IsFormed self.now }
+    {
+        match self.slots[slot as usize] {
+            Some(seat) => seat,
+            None => unreachable!(),
+        }
+    }
+
+    /// A worker that has no work runs the first task that is due.
+    fn begin(&mut self, worker: u8, slot: u32, seat: Seat)
+        requires free { IsFree self.old worker }
+        requires first { IsFirstDue self.old slot seat }
+        requires room { seat.run + 1 < 2 ^ 64 }
+        ensures { self.new ≡ changes.started self.old worker slot seat }
+    {
+        self.queue.remove(slot);
+        let phase = Stage::Running;
+        self.slots[slot as usize] = Some(Seat { phase, ..seat });
+        self.work[worker as usize] = Some(slot);
+    }
+}
