@@ -132,7 +132,7 @@ clock_comes calls workers past t true o q =
     λ accepted m p is l.
     let there : made (happenings (history_from calls workers past (replicate n h.Call))) ≡ n + made (happenings past) =
     ap made (happenings_from calls workers past (replicate n h.Call)) ∙ made-calls n (happenings past) in
-    omega (arith, there, all_reached 0 0 t calls (made (happenings past)) m p o.1 is l)
+    omega (arith, there, all_reached 0 0 t calls (made (happenings past)) m p o is l)
 clock_comes calls workers past t false o q = λ accepted m p is l. absurd (false≢true (sym q ∙ accepted))
 
 part_means : (calls : List Planned) (workers : ℕ) (past : List HistoryEntry) (event : Event) → IsOrderly calls → IsHistoryOf calls workers past →

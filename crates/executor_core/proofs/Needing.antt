@@ -82,7 +82,7 @@ needs_of m old happening need same is = sym is ∙ ap (λ (x : CoreView). need_o
 pub all_made : (calls : List Planned) (made t : ℕ) (p : Planned) → IsOrderly calls → slice_get calls made ≡ Some p → t < p.0 → AreMade calls made t
 all_made calls made t p orderly is later i q there l =
     let none = tells_none calls made t p orderly is (le-ltb' p.0 t later) in
-    omega (arith, none, all_reached 0 0 t calls made i q orderly.1 there l)
+    omega (arith, none, all_reached 0 0 t calls made i q orderly there l)
   where
     le-ltb' : (a b : ℕ) → b < a → nat_le a b ≡ false
     le-ltb' a b l = grind (arith, nat_tests)

@@ -8,7 +8,7 @@ use Rattle.std.proofs.lemmas.List.{length-replicate}
 use Rattle.sched_time.specs.declared.policies.Policies.{Policies}
 use Rattle.executor_core.specs.declared.task.Task.{Task}
 use Rattle.executor_core.specs.declared.task.Stage.TheVariants as ph
-use Rattle.queue_code.specs.Calls.{Planned, IsOrderly, IsOrderlyFrom, count_after, how_many, task_count}
+use Rattle.queue_code.specs.Calls.{Planned, IsOrderly, IsPlanned, IsOrderlyFrom, count_after, how_many, task_count}
 use Rattle.executor_core.specs.Flows.{reached, ReachesNext}
 use Rattle.sched_time.specs.Policies.{default_policies}
 use Rattle.executor_core.specs.State.{opening, vacant, view_of_state}
@@ -48,7 +48,7 @@ opening_is calls count workers limit tasks work policies is free unset = record 
 }
 
 -- a core that was just made is well formed
-pub opening_kept : (calls : List Planned) (count workers limit : ℕ) (tasks : List Task) (work entries keeps : List (Option ℕ)) (policies : Policies) (sought : Sought) → IsOrderly calls → count ≡ task_count calls → 0 < workers → workers ≤ 64 →
+pub opening_kept : (calls : List Planned) (count workers limit : ℕ) (tasks : List Task) (work entries keeps : List (Option ℕ)) (policies : Policies) (sought : Sought) → IsPlanned calls → count ≡ task_count calls → 0 < workers → workers ≤ 64 →
     tasks ≡ replicate count vacant → work ≡ replicate workers None → entries ≡ replicate count None → keeps ≡ replicate count None → policies ≡ default_policies →
     sought.delayed ≡ false → sought.periodic ≡ false → sought.going ≡ [] → workers ≤ sought.room →
     IsWellFormedCore (opening_machine calls limit tasks work policies) entries keeps sought
@@ -123,10 +123,10 @@ end_reached (x ∷ calls) (suc n) t is = end_reached calls n t is
 pub tells_next : (calls : List Planned) (n moment : ℕ) (p : Planned) → IsOrderly calls → slice_get calls n ≡ Some p → IsTrue (nat_le p.0 moment) → ReachesNext calls n moment
 tells_next calls n moment p o is test =
     let low = slice_get_within calls n p is in
-    (low, (next_reached 0 0 moment calls n p p o.1 low (sym (get_or_from_slice_get calls n p p is))).0 (leb-true p.0 moment test))
+    (low, (next_reached 0 0 moment calls n p p o low (sym (get_or_from_slice_get calls n p p is))).0 (leb-true p.0 moment test))
 
 -- a next call whose moment is above that of a clock is not reached, nor any behind it
 pub tells_none : (calls : List Planned) (n moment : ℕ) (p : Planned) → IsOrderly calls → slice_get calls n ≡ Some p → nat_le p.0 moment ≡ false → reached calls n moment ≡ 0
 tells_none calls n moment p o is test =
-    (next_reached 0 0 moment calls n p p o.1 (slice_get_within calls n p is) (sym (get_or_from_slice_get calls n p p is))).1
+    (next_reached 0 0 moment calls n p p o (slice_get_within calls n p is) (sym (get_or_from_slice_get calls n p p is))).1
     (elim (cases_lt moment p.0) [ inl beyond ↦ beyond | inr within ↦ absurd (false≢true (sym test ∙ le-leb p.0 moment within)) ])

@@ -36,7 +36,7 @@ none_reached calls n t o made = by (slice_get calls n) refl
 
 -- where none is reached, each was made
 pub none_made : (calls : List Planned) (n t : ℕ) → IsOrderly calls → reached calls n t ≡ 0 → AreMade calls n t
-none_made calls n t o none i p is low = omega (arith, none, all_reached 0 0 t calls n i p o.1 is low)
+none_made calls n t o none i p is low = omega (arith, none, all_reached 0 0 t calls n i p o is low)
 
 -- where the next call is reached, it was not made
 pub next_left : (calls : List Planned) (n t : ℕ) → IsOrderly calls → ReachesNext calls n t → AreMade calls n t → ⊥

@@ -13,7 +13,7 @@ use Rattle.executor_core.specs.declared.task.Stage.{Stage}
 use Rattle.executor_core.specs.declared.task.Stage.TheVariants as ph
 use Rattle.executor_core.specs.declared.task.Task.{Task}
 use Rattle.executor_core.specs.declared.types.Line.{Line}
-use Rattle.queue_code.specs.Calls.{Planned, Terms, terms_of, task_count, submits_task, IsOrderly, how_many}
+use Rattle.queue_code.specs.Calls.{Planned, Terms, terms_of, task_count, submits_task, AreFew, how_many}
 use Rattle.executor_core.specs.View.{is_waiting}
 use Rattle.executor_core.specs.Answers.{is_swept, is_ended_by, swept, bars_runs}
 use Rattle.executor_core.specs.Histories.{is_end}
@@ -124,9 +124,9 @@ tasks_within (p ∷ calls) =
     let pick : (b : Bool) → cond b (1 + task_count calls) (task_count calls) ≤ suc (length calls) = elim [ true ↦ omega (arith, rest) | false ↦ omega (arith, rest) ] in
     pick (submits_task p.1)
 
--- orderly calls submit no more tasks than there may be calls
-pub few_tasks : (calls : List Planned) → IsOrderly calls → task_count calls ≤ 65536
-few_tasks calls orderly = omega (arith, orderly.0, tasks_within calls)
+-- few calls submit no more tasks than there may be calls
+pub few_tasks : (calls : List Planned) → AreFew calls → task_count calls ≤ 65536
+few_tasks calls few = omega (arith, few, tasks_within calls)
 
 -- a task that is seen to wait
 

@@ -54,7 +54,7 @@ timed_within count moment (x ∷ calls) k o = call_timed count k x.0 x.1 (terms_
 moment_within : (calls : List Planned) (n now : ℕ) (y : Happening) → IsOrderly calls → now ≤ 2 ^ 62 → moment_after now (slice_get calls n) y ≤ 2 ^ 62
 moment_within calls n now h.Call o l =
     let pick : (q : Option Planned) → slice_get calls n ≡ q → moment_after now q h.Call ≤ 2 ^ 62 =
-    elim [ None ↦ λ is. l | Some p ↦ λ is. grind (arith, nat_tests, l, call_moment calls 0 0 n p.0 p.1 o.1 is) ]
+    elim [ None ↦ λ is. l | Some p ↦ λ is. grind (arith, nat_tests, l, call_moment calls 0 0 n p.0 p.1 o is) ]
     in
     pick (slice_get calls n) refl
 moment_within calls n now (h.Clock t) o l =
@@ -107,7 +107,7 @@ first_due terms l = by terms.timing
 
 -- each due moment that a history shows is at most 2^63
 pub answered_within : (calls : List Planned) (workers : ℕ) (past : List HistoryEntry) → IsOrderly calls → IsAnsweredByTable calls workers past → IsWithin calls past
-answered_within calls workers [] o m k = first_due (terms_of calls k) (first_within 0 0 calls k o.1)
+answered_within calls workers [] o m k = first_due (terms_of calls k) (first_within 0 0 calls k o)
 answered_within calls workers (e ∷ past) o m k =
     let terms = terms_of calls k in
     let now = now_of calls (happenings past) in
@@ -115,7 +115,7 @@ answered_within calls workers (e ∷ past) o m k =
     let c = is_finish k e.answer in
     let moved = due_moves terms (starts k past) now (last_finish calls k past) b c in
     subst (λ d. d ≤ 2 ^ 63) moved
-    (after_within terms.timing (due_of calls past k) now b c (timed_within 0 0 calls k o.1) (answered_within calls workers past o m.0 k) (now_within calls (happenings past) o)
+    (after_within terms.timing (due_of calls past k) now b c (timed_within 0 0 calls k o) (answered_within calls workers past o m.0 k) (now_within calls (happenings past) o)
     (λ q. start_was_due calls workers (view_of_history calls past) e.happening k e.answer m.1 q))
 
 -- as in a history that means the calls
@@ -138,8 +138,8 @@ next_within calls past k o within =
     let terms = terms_of calls k in
     let now = now_of calls (happenings past) in
     subst (λ d. d ≤ 2 ^ 63) (due_moves terms (starts k past) now (last_finish calls k past) false true)
-    (after_within terms.timing (due_of calls past k) now false true (timed_within 0 0 calls k o.1) (within k) (now_within calls (happenings past) o) (λ q. absurd (false≢true q)))
+    (after_within terms.timing (due_of calls past k) now false true (timed_within 0 0 calls k o) (within k) (now_within calls (happenings past) o) (λ q. absurd (false≢true q)))
 
 -- the first due moment of each task is at most 2^63
 pub none_within : (calls : List Planned) (k : ℕ) → IsOrderly calls → due_at (terms_of calls k) 0 None ≤ 2 ^ 63
-none_within calls k o = first_due (terms_of calls k) (first_within 0 0 calls k o.1)
+none_within calls k o = first_due (terms_of calls k) (first_within 0 0 calls k o)

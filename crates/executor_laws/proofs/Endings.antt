@@ -142,7 +142,7 @@ over_of calls workers (e ∷ past) k m once l =
 pub one_shots_run_once : OneShotsRunOnce
 one_shots_run_once calls workers past e w k n d place moment delay orderly is s =
     let start = started_so calls workers past e w k n d s in
-    let terms = (submission calls 0 0 place moment k t.Once delay orderly.1 is).terms in
+    let terms = (submission calls 0 0 place moment k t.Once delay orderly is).terms in
     let even = waits_even calls past k start.waiting in
     let means = (means_front calls workers s.later (e ∷ past) s.means).0 in
     let on = on_of calls past k start.waiting in

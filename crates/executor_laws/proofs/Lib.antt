@@ -25,3 +25,14 @@ pub mod CancelledTasks
 pub mod CancelAnswers
 pub mod CancelNeeds
 pub mod CancelSteps
+pub mod Numbering
+pub mod AddedCalls
+pub mod AddedAnswers
+pub mod AddedSteps
+pub mod Adding
+pub mod Armed
+pub mod NoLoss
+pub mod TurnCounts
+pub mod NextCalls
+pub mod TurnSteps
+pub mod TurnLaw

@@ -129,7 +129,7 @@ reply_in_range calls workers past view h.Call orderly seen ended = by (slice_get
   where
     by : (found : Option Planned) → slice_get calls view.made ≡ found → IsAnswerInRange calls workers past (option_map_or (λ p. called calls (record view { moment = max view.moment p.0 }) p.1) found (bare a.Clock)).answer
     by (Some p) is =
-        let order = call_in_order calls 0 0 view.made p orderly.1 is in
+        let order = call_in_order calls 0 0 view.made p orderly is in
         called_in_range calls workers past (record view { moment = max view.moment p.0 }) order.0 p.1 orderly (omega (arith, order.1)) order.2
     by None is = tt
 reply_in_range calls workers past view (h.Clock moment) orderly seen ended = by _ _

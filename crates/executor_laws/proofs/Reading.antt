@@ -65,7 +65,7 @@ left_below count moment t (x ∷ calls) (suc a) (suc n) p o q m l = left_below (
 -- the law that the calls that a clock reaches are a front of those left
 pub reached_is_a_front : ReachedIsAFront
 reached_is_a_front calls first t o = (
-  λ n p m q. (λ l. left_below 0 0 t calls first n p o.1 q m l, λ l. omega (arith, all_reached 0 0 t calls first n p o.1 q l)),
+  λ n p m q. (λ l. left_below 0 0 t calls first n p o q m l, λ l. omega (arith, all_reached 0 0 t calls first n p o q l)),
   λ l. omega (arith, reached_within calls first t l),
 )
 
@@ -158,21 +158,21 @@ submitted_at count moment (x ∷ calls) k o l m =
 pub tasks_are_submitted : TasksAreSubmitted
 tasks_are_submitted calls k o = (
   λ l.
-      let s = submitted_at 0 0 calls k o.1 (omega arith) (omega (arith, l)) in
+      let s = submitted_at 0 0 calls k o (omega arith) (omega (arith, l)) in
       record {
         place = s.place;
         call = s.call;
         there = s.there;
         submits = s.submits;
-        number = omega (arith, (numbered 0 0 calls s.place k s.call o.1 s.there s.submits).0);
-        only = λ n p q w. only_one 0 0 calls n s.place k p s.call o.1 q w s.there s.submits;
+        number = omega (arith, (numbered 0 0 calls s.place k s.call o s.there s.submits).0);
+        only = λ n p q w. only_one 0 0 calls n s.place k p s.call o q w s.there s.submits;
       },
-  λ n p q s. omega (arith, (numbered 0 0 calls n k p o.1 q s).1),
+  λ n p q s. omega (arith, (numbered 0 0 calls n k p o q s).1),
 )
 
 -- the law that the terms of a task are those of its submission
 pub terms_are_its_own : TermsAreItsOwn
-terms_are_its_own calls n moment k timing delay o q = (submission calls 0 0 n moment k timing delay o.1 q).terms
+terms_are_its_own calls n moment k timing delay o q = (submission calls 0 0 n moment k timing delay o q).terms
 
 -- ---- the flow of events
 

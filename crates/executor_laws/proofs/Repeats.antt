@@ -100,7 +100,7 @@ due_by calls past k terms e = ap (λ x. due_at x (starts k past) (last_finish ca
 pub rate_runs_are_due : RateRunsAreDue
 rate_runs_are_due calls workers past e w k n d place moment initial period o is s =
     let start = started_so calls workers past e w k n d s in
-    let terms = (submission calls 0 0 place moment k (t.Rate period) initial o.1 is).terms in
+    let terms = (submission calls 0 0 place moment k (t.Rate period) initial o is).terms in
     start.due ∙ (due_by calls past k _ terms ∙ ap (λ i. moment + initial + i * period) (sym start.run))
 
 -- where a task finished there is a last finish
@@ -125,7 +125,7 @@ no_finish calls k (e ∷ past) q =
 pub fixed_runs_are_due : FixedRunsAreDue
 fixed_runs_are_due calls workers past e w k n d place moment initial delay o is s =
     let start = started_so calls workers past e w k n d s in
-    let terms = (submission calls 0 0 place moment k (t.Fixed delay) initial o.1 is).terms in
+    let terms = (submission calls 0 0 place moment k (t.Fixed delay) initial o is).terms in
     let even = waits_even calls past k start.waiting in
     let due = start.due ∙ due_by calls past k _ terms in (
       λ none. due ∙ ap (λ last. due_at (record { timing = t.Fixed delay; first = moment + initial }) (starts k past) last) (no_finish calls k past (omega (arith, none, even, start.run))),

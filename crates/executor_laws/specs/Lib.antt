@@ -12,3 +12,5 @@ pub mod Asks
 pub mod NeedWrites
 pub mod Cancels
 pub mod Lines
+pub mod Additions
+pub mod Turns

@@ -14,7 +14,12 @@
 //! answer lowers the rank of a word or changes a cancelled one, that an error changes nothing, and that a need names what a
 //! step moves. The fourth one is on cancels from outside, as a layer needs them that meets them in words first: the word of a
 //! task decides the answer, and a cancel with an effect touches its task alone. The fifth one is on policies, the shutdown,
-//! sweeps and kept tasks. The last one says that `==` of the executor's types is true exactly of the same values.
+//! sweeps and kept tasks. The sixth one is on calls that are added while the executor runs: a history of the calls before
+//! is one of the longer calls too, with the same lines, and leads to the same state and moment. The seventh one is on tasks
+//! that were accepted: none is lost, and the turn of each that is due comes. The last one says that `==` of the executor's
+//! types is true exactly of the same values.
+//!
+//! No law bounds how many calls there are: where one asks for their order, it is for any number of them in order.
 //!
 //! # Order and ties
 //!
@@ -30,13 +35,16 @@
 //! None stand here: a law is proved. The tests of the definitions that the laws are about stand in `executor_plain`.
 #![tactic(auto)]
 
+mod additions;
 mod cancels;
 mod equality;
 mod laws;
 mod positions;
 mod states;
 mod sweeps;
+mod turns;
 
+pub use additions::{calls_may_be_added, many_calls_may_be_added};
 pub use cancels::{
     cancels_go_by_words, cancels_touch_one_task, only_calls_sweep, outside_needs_its_cancel,
 };
@@ -70,3 +78,4 @@ pub use sweeps::{
     policies_are_the_last_set, queued_and_running_are_tasks, refused_tasks_do_not_start,
     shut_is_a_shutdown, sweeps_end_those, swept_are_those, tasks_are_cancelled_once,
 };
+pub use turns::{no_task_is_lost, turns_come};

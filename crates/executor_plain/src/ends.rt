@@ -1,5 +1,5 @@
 ghost use Rattle.std.specs.Prelude.{◌≡◌, IfOk};
-ghost use Rattle.queue_code.specs.Calls.{IsOrderly};
+ghost use Rattle.queue_code.specs.Calls.{IsPlanned};
 ghost use Rattle.executor_core.specs.Answers as answers;
 ghost use Rattle.executor_core.specs.Histories as histories;
 ghost use Rattle.executor_core.specs.Within.{IsAnsweredByTable};
@@ -27,7 +27,7 @@ pub fn ends_after<A: Allocator>(
     past: &[Past<A>],
     happening: Happening,
 ) -> Result<Vec<u32, A>, AllocError>
-    requires orderly { IsOrderly calls.now }
+    requires orderly { IsPlanned calls.now }
     requires answered { IsAnsweredByTable calls.now workers past.now }
     ensures { IfOk result (λ ends. ends.items ≡ (histories.answer calls.now workers past.now happening).ends) }
 {
@@ -52,7 +52,7 @@ fn ends_of_call<A: Allocator>(
     now: u64,
     call: CodeCall,
 ) -> Result<Vec<u32, A>, AllocError>
-    requires orderly { IsOrderly calls.now }
+    requires orderly { IsPlanned calls.now }
     requires answered { IsAnsweredBySome calls.now past.now }
     ensures { IfOk result (λ ends. ends.items ≡ (answers.called calls.now (record (histories.view_of_history calls.now past.now) { moment = now }) call).ends) }
 {
@@ -78,7 +78,7 @@ fn swept<A: Allocator>(
     stopped: bool,
     policies: Policies,
 ) -> Result<Vec<u32, A>, AllocError>
-    requires orderly { IsOrderly calls.now }
+    requires orderly { IsPlanned calls.now }
     requires answered { IsAnsweredBySome calls.now past.now }
     ensures { IfOk result (λ ends. ends.items ≡ answers.swept calls.now (record (histories.view_of_history calls.now past.now) { moment = now; stopped = stopped }) policies) }
 {
@@ -100,7 +100,7 @@ fn is_swept<A: Allocator>(
     policies: Policies,
     k: u32,
 ) -> bool
-    requires orderly { IsOrderly calls.now }
+    requires orderly { IsPlanned calls.now }
     requires answered { IsAnsweredBySome calls.now past.now }
     ensures { result ≡ answers.is_swept calls.now (record (histories.view_of_history calls.now past.now) { moment = now; stopped = stopped }) policies k }
 {

@@ -1,5 +1,5 @@
 ghost use Rattle.std.specs.Prelude.{◌≡◌};
-ghost use Rattle.queue_code.specs.Calls.{IsOrderly};
+ghost use Rattle.queue_code.specs.Calls.{IsPlanned};
 ghost use Rattle.executor_core.specs.Histories as histories;
 ghost use Rattle.executor_plain.specs.own.Plain.{IsAnsweredBySome};
 
@@ -13,7 +13,7 @@ use std::alloc::Allocator;
 
 /// Whether a start that has this answer meets a task, where the task is kept.
 fn meets<A: Allocator>(calls: &[(u64, CodeCall)], past: &[Past<A>], k: u32, answer: Answer) -> bool
-    requires orderly { IsOrderly calls.now }
+    requires orderly { IsPlanned calls.now }
     requires answered { IsAnsweredBySome calls.now past.now }
     ensures { result ≡ histories.meets (histories.view_of_history calls.now past.now) (histories.due_of calls.now past.now k) k answer }
 {
@@ -34,7 +34,7 @@ fn kept_after<A: Allocator>(
     k: u32,
     answer: Answer,
 ) -> bool
-    requires orderly { IsOrderly calls.now }
+    requires orderly { IsPlanned calls.now }
     requires answered { IsAnsweredBySome calls.now past.now }
     requires kept { kept ≡ histories.is_kept calls.now past.now k }
     ensures { result ≡ histories.kept_after (histories.view_of_history calls.now past.now) k answer }
@@ -48,7 +48,7 @@ fn kept_after<A: Allocator>(
 
 /// Whether a task was cancelled while it waited, and still stands in the queue.
 pub(crate) fn is_kept<A: Allocator>(calls: &[(u64, CodeCall)], past: &[Past<A>], k: u32) -> bool
-    requires orderly { IsOrderly calls.now }
+    requires orderly { IsPlanned calls.now }
     requires answered { IsAnsweredBySome calls.now past.now }
     ensures { result ≡ histories.is_kept calls.now past.now k }
 {

@@ -1,7 +1,7 @@
 ghost use Rattle.std.specs.Prelude.{◌≡◌, ℕ, ◌+◌, ◌≤◌};
 ghost use Rattle.std.specs.List.{range_with_len};
 ghost use Rattle.queue_code.specs.declared.call.CodeCall.TheVariants as call;
-ghost use Rattle.queue_code.specs.Calls.{IsOrderly, how_many, most_calls_of_code};
+ghost use Rattle.queue_code.specs.Calls.{IsPlanned, how_many, most_calls_of_code};
 ghost use Rattle.executor_core.specs.View as views;
 ghost use Rattle.executor_core.specs.Answers as answers;
 ghost use Rattle.executor_core.specs.Histories as histories;
@@ -16,7 +16,7 @@ use std::alloc::Allocator;
 
 /// Whether a task stands in the queue.
 fn is_queued<A: Allocator>(calls: &[(u64, CodeCall)], past: &[Past<A>], k: u32) -> bool
-    requires orderly { IsOrderly calls.now }
+    requires orderly { IsPlanned calls.now }
     requires answered { IsAnsweredBySome calls.now past.now }
     ensures { result ≡ answers.is_queued ((histories.view_of_history calls.now past.now).fate k) }
 {
@@ -30,7 +30,7 @@ fn count_queued<A: Allocator>(
     from: u32,
     count: u32,
 ) -> u32
-    requires orderly { IsOrderly calls.now }
+    requires orderly { IsPlanned calls.now }
     requires answered { IsAnsweredBySome calls.now past.now }
     requires within { from + count ≤ most_calls_of_code }
     ensures { result ≡ how_many (λ k. answers.is_queued ((histories.view_of_history calls.now past.now).fate k)) (range_with_len from count) }
@@ -76,7 +76,7 @@ fn is_terminated(shut: bool, queue: u32, running: u32) -> bool
 
 /// How far the executor is.
 pub(crate) fn answer_ask<A: Allocator>(calls: &[(u64, CodeCall)], past: &[Past<A>]) -> Answer
-    requires orderly { IsOrderly calls.now }
+    requires orderly { IsPlanned calls.now }
     requires answered { IsAnsweredBySome calls.now past.now }
     ensures { (moment : ℕ) → result ≡ (answers.called calls.now (record (histories.view_of_history calls.now past.now) { moment = moment }) call.Ask).answer }
 {

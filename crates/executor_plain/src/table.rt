@@ -1,7 +1,7 @@
 ghost use Rattle.std.specs.Prelude.{◌≡◌, ℕ};
 ghost use Rattle.queue_code.specs.declared.call.CodeCall.TheVariants as call;
 ghost use Rattle.executor_core.specs.declared.types.Happening.TheVariants as happening;
-ghost use Rattle.queue_code.specs.Calls.{IsOrderly, terms_of};
+ghost use Rattle.queue_code.specs.Calls.{IsPlanned, terms_of};
 ghost use Rattle.executor_core.specs.Answers as answers;
 ghost use Rattle.executor_core.specs.Histories as histories;
 ghost use Rattle.executor_core.specs.Within.{IsAnsweredByTable};
@@ -29,7 +29,7 @@ pub fn answer_after<A: Allocator>(
     past: &[Past<A>],
     happening: Happening,
 ) -> Answer
-    requires orderly { IsOrderly calls.now }
+    requires orderly { IsPlanned calls.now }
     requires answered { IsAnsweredByTable calls.now workers past.now }
     ensures { result ≡ (histories.answer calls.now workers past.now happening).answer }
 {
@@ -47,7 +47,7 @@ pub fn answer_after<A: Allocator>(
 
 /// The answer to a call.
 fn answer_call<A: Allocator>(calls: &[(u64, CodeCall)], past: &[Past<A>], call: CodeCall) -> Answer
-    requires orderly { IsOrderly calls.now }
+    requires orderly { IsPlanned calls.now }
     requires answered { IsAnsweredBySome calls.now past.now }
     ensures { (moment : ℕ) → result ≡ (answers.called calls.now (record (histories.view_of_history calls.now past.now) { moment = moment }) call).answer }
 {
@@ -76,7 +76,7 @@ fn answer_submission<A: Allocator>(
     task: u32,
     timing: Timing,
 ) -> Answer
-    requires { IsOrderly calls.now }
+    requires { IsPlanned calls.now }
     ensures { (delay : ℕ) → (moment : ℕ) → result ≡ (answers.called calls.now (record (histories.view_of_history calls.now past.now) { moment = moment }) (call.Submit task timing delay)).answer }
 {
     if was_shut(past) {
@@ -94,7 +94,7 @@ fn answer_submission<A: Allocator>(
 
 /// The answer to a cancel from outside the plan.
 fn answer_cancel<A: Allocator>(calls: &[(u64, CodeCall)], past: &[Past<A>], task: u32) -> Answer
-    requires { IsOrderly calls.now }
+    requires { IsPlanned calls.now }
     ensures { (workers : ℕ) → result ≡ (histories.answer calls.now workers past.now (happening.Cancel task)).answer }
 {
     if task >= count_tasks(calls) {
@@ -126,7 +126,7 @@ fn answer_start<A: Allocator>(
     past: &[Past<A>],
     worker: u8,
 ) -> Answer
-    requires orderly { IsOrderly calls.now }
+    requires orderly { IsPlanned calls.now }
     requires answered { IsAnsweredBySome calls.now past.now }
     ensures { result ≡ (histories.answer calls.now workers past.now (happening.Start worker)).answer }
 {
@@ -155,7 +155,7 @@ fn answer_finish<A: Allocator>(
     worker: u8,
     ending: Ending,
 ) -> Answer
-    requires orderly { IsOrderly calls.now }
+    requires orderly { IsPlanned calls.now }
     requires answered { IsAnsweredBySome calls.now past.now }
     ensures { result ≡ (histories.answer calls.now workers past.now (happening.Finish worker ending)).answer }
 {
@@ -175,7 +175,7 @@ fn answer_finish<A: Allocator>(
 
 /// The due moment of the run of a task that would come after a finish now.
 fn due_next<A: Allocator>(calls: &[(u64, CodeCall)], past: &[Past<A>], k: u32) -> u64
-    requires orderly { IsOrderly calls.now }
+    requires orderly { IsPlanned calls.now }
     requires answered { IsAnsweredBySome calls.now past.now }
     ensures { result ≡ answers.due_next calls.now (histories.view_of_history calls.now past.now) k }
 {
@@ -200,7 +200,7 @@ fn outcome_in<A: Allocator>(
     k: u32,
     ending: Ending,
 ) -> Outcome
-    requires orderly { IsOrderly calls.now }
+    requires orderly { IsPlanned calls.now }
     requires answered { IsAnsweredBySome calls.now past.now }
     ensures { result ≡ answers.outcome_in (histories.was_cancelled k past.now) (answers.stops_periodic (histories.was_shut past.now) (histories.was_stopped past.now) (histories.policies_of past.now)) (terms_of calls.now k).timing (answers.due_next calls.now (histories.view_of_history calls.now past.now) k) ending }
 {

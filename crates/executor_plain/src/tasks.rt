@@ -1,6 +1,6 @@
 ghost use Rattle.std.specs.Prelude.{◌≡◌, ◌+◌, ◌≤◌, length, nat_le};
 ghost use Rattle.std.specs.List.{range_with_len};
-ghost use Rattle.queue_code.specs.Calls.{IsOrderly, most_calls_of_code, task_count, terms_of, due_at};
+ghost use Rattle.queue_code.specs.Calls.{IsPlanned, most_calls_of_code, task_count, terms_of, due_at};
 ghost use Rattle.executor_core.specs.View as views;
 ghost use Rattle.executor_core.specs.Answers as answers;
 ghost use Rattle.executor_core.specs.Histories as histories;
@@ -52,7 +52,7 @@ fn first_due(calls: &[(u64, CodeCall)], k: u32) -> u64
 
 /// When the next run of task `k` is due, after `starts` starts and with its last finish at `last`.
 pub(crate) fn due_at(calls: &[(u64, CodeCall)], k: u32, starts: u64, last: Option<u64>) -> u64
-    requires orderly { IsOrderly calls.now }
+    requires orderly { IsPlanned calls.now }
     requires within { due_at (terms_of calls.now k) starts last ≤ latest_due }
     ensures { result ≡ due_at (terms_of calls.now k) starts last }
 {
@@ -69,7 +69,7 @@ pub(crate) fn due_at(calls: &[(u64, CodeCall)], k: u32, starts: u64, last: Optio
 
 /// When the next run of a task is due.
 pub(crate) fn due_of<A: Allocator>(calls: &[(u64, CodeCall)], past: &[Past<A>], k: u32) -> u64
-    requires orderly { IsOrderly calls.now }
+    requires orderly { IsPlanned calls.now }
     requires answered { IsAnsweredBySome calls.now past.now }
     ensures { result ≡ histories.due_of calls.now past.now k }
 {
@@ -120,7 +120,7 @@ fn is_live<A: Allocator>(calls: &[(u64, CodeCall)], past: &[Past<A>], k: u32) ->
 
 /// Whether a task waits and its due moment is reached.
 fn is_enabled<A: Allocator>(calls: &[(u64, CodeCall)], past: &[Past<A>], k: u32) -> bool
-    requires orderly { IsOrderly calls.now }
+    requires orderly { IsPlanned calls.now }
     requires answered { IsAnsweredBySome calls.now past.now }
     ensures { result ≡ views.is_enabled (histories.view_of_history calls.now past.now) k }
 {
@@ -129,7 +129,7 @@ fn is_enabled<A: Allocator>(calls: &[(u64, CodeCall)], past: &[Past<A>], k: u32)
 
 /// Whether the due moment of a task is reached.
 pub(crate) fn is_reached<A: Allocator>(calls: &[(u64, CodeCall)], past: &[Past<A>], k: u32) -> bool
-    requires orderly { IsOrderly calls.now }
+    requires orderly { IsPlanned calls.now }
     requires answered { IsAnsweredBySome calls.now past.now }
     ensures { result ≡ nat_le (histories.due_of calls.now past.now k) (histories.now_of calls.now (histories.happenings past.now)) }
 {
@@ -143,7 +143,7 @@ pub(crate) fn precedes<A: Allocator>(
     j: u32,
     k: u32,
 ) -> bool
-    requires orderly { IsOrderly calls.now }
+    requires orderly { IsPlanned calls.now }
     requires answered { IsAnsweredBySome calls.now past.now }
     ensures { result ≡ views.precedes (histories.view_of_history calls.now past.now) j k }
 {
@@ -159,7 +159,7 @@ fn earlier<A: Allocator>(
     k: u32,
     other: Option<u32>,
 ) -> u32
-    requires orderly { IsOrderly calls.now }
+    requires orderly { IsPlanned calls.now }
     requires answered { IsAnsweredBySome calls.now past.now }
     ensures { result ≡ views.earlier (histories.view_of_history calls.now past.now) k other }
 {
@@ -176,7 +176,7 @@ pub(crate) fn first_enabled<A: Allocator>(
     from: u32,
     count: u32,
 ) -> Option<u32>
-    requires orderly { IsOrderly calls.now }
+    requires orderly { IsPlanned calls.now }
     requires answered { IsAnsweredBySome calls.now past.now }
     requires within { from + count ≤ most_calls_of_code }
     ensures { result ≡ views.first_enabled (histories.view_of_history calls.now past.now) (range_with_len from count) }

@@ -1,6 +1,6 @@
 ghost use Rattle.std.specs.Prelude.{◌≡◌, ◌-◌, [], ◌∷◌, ◌++◌, drop, nat_le, reverse, replicate, OnOk, IfOk};
 ghost use Rattle.executor_core.specs.declared.types.Happening.TheVariants as happening;
-ghost use Rattle.queue_code.specs.Calls.{IsOrderly, how_many};
+ghost use Rattle.queue_code.specs.Calls.{IsPlanned, how_many};
 ghost use Rattle.executor_core.specs.Histories as histories;
 ghost use Rattle.executor_core.specs.Flows as flows;
 ghost use Rattle.executor_core.specs.Within.{IsAnsweredByTable};
@@ -22,7 +22,7 @@ pub fn trace<A: Allocator + Copy>(
     workers: u8,
     events: &[Event],
 ) -> Result<Vec<Line, A>, AllocError>
-    requires { IsOrderly calls.now }
+    requires { IsPlanned calls.now }
     ensures { IfOk result (λ lines. lines.items ≡ flows.lines_of calls.now (flows.history_of calls.now workers (reverse events.now))) }
 {
     let past = history_of(alloc, calls, workers, events)?;
@@ -40,7 +40,7 @@ pub fn trace_of_happenings<A: Allocator + Copy>(
     workers: u8,
     happenings: &[Happening],
 ) -> Result<Vec<Line, A>, AllocError>
-    requires { IsOrderly calls.now }
+    requires { IsPlanned calls.now }
     ensures { IfOk result (λ lines. lines.items ≡ flows.lines_of calls.now (flows.history_from calls.now workers [] (reverse happenings.now))) }
 {
     let past = happened(alloc, calls, workers, happenings)?;
@@ -110,7 +110,7 @@ fn happen<A: Allocator + Copy>(
     past: &mut Vec<Past<A>, A>,
     happening: Happening,
 ) -> Result<(), AllocError>
-    requires orderly { IsOrderly calls.now }
+    requires orderly { IsPlanned calls.now }
     requires answered { IsAnsweredByTable calls.now workers past.old.items }
     ensures { OnOk result (past.new.items ≡ flows.history_from calls.now workers past.old.items (happening ∷ [])) }
 {
@@ -133,7 +133,7 @@ fn make_calls<A: Allocator + Copy>(
     past: &mut Vec<Past<A>, A>,
     count: usize,
 ) -> Result<(), AllocError>
-    requires orderly { IsOrderly calls.now }
+    requires orderly { IsPlanned calls.now }
     requires answered { IsAnsweredByTable calls.now workers past.old.items }
     ensures { OnOk result (past.new.items ≡ flows.history_from calls.now workers past.old.items (replicate count happening.Call)) }
 {
@@ -151,7 +151,7 @@ fn take_event<A: Allocator + Copy>(
     past: &mut Vec<Past<A>, A>,
     event: Event,
 ) -> Result<(), AllocError>
-    requires orderly { IsOrderly calls.now }
+    requires orderly { IsPlanned calls.now }
     requires answered { IsAnsweredByTable calls.now workers past.old.items }
     ensures { OnOk result (past.new.items ≡ flows.history_from calls.now workers past.old.items
         (flows.part_of calls.now (histories.made (histories.happenings past.old.items)) (histories.now_of calls.now (histories.happenings past.old.items)) event)) }
@@ -168,7 +168,7 @@ fn history_of<A: Allocator + Copy>(
     workers: u8,
     events: &[Event],
 ) -> Result<Vec<Past<A>, A>, AllocError>
-    requires { IsOrderly calls.now }
+    requires { IsPlanned calls.now }
     ensures { IfOk result (λ past. past.items ≡ flows.history_of calls.now workers (reverse events.now)) }
 {
     let mut past = Vec::new(alloc);
@@ -185,7 +185,7 @@ fn happened<A: Allocator + Copy>(
     workers: u8,
     happenings: &[Happening],
 ) -> Result<Vec<Past<A>, A>, AllocError>
-    requires { IsOrderly calls.now }
+    requires { IsPlanned calls.now }
     ensures { IfOk result (λ past. past.items ≡ flows.history_from calls.now workers [] (reverse happenings.now)) }
 {
     let mut past = Vec::new(alloc);

@@ -7,7 +7,7 @@ use Rattle.std.proofs.lemmas.Option.{slice_get_within}
 use Rattle.sched_time.specs.Times.{longest}
 use Rattle.queue_code.specs.declared.call.CodeCall.{CodeCall}
 use Rattle.queue_code.specs.declared.call.CodeCall.TheVariants as c
-use Rattle.queue_code.specs.Calls.{Planned, IsOrderlyFrom, IsOrderlyCall, count_after, submits_task, task_count}
+use Rattle.queue_code.specs.Calls.{Planned, IsOrderly, IsOrderlyFrom, IsOrderlyCall, count_after, submits_task, task_count}
 use Rattle.executor_core.specs.declared.types.Happening.{Happening}
 use Rattle.executor_core.specs.declared.types.Happening.TheVariants as h
 use Rattle.executor_core.specs.declared.types.Answer.{Answer}
@@ -16,9 +16,9 @@ use Rattle.executor_core.specs.Histories.{HistoryEntry, entry_of, happenings, ma
 use Rattle.executor_core.specs.State.{after}
 use Rattle.executor_core.specs.Flows.{lines_at}
 use Rattle.executor_core.proofs.Agree.{after_agrees}
-use Rattle.live_laws.specs.Additions.{LooksBelow, AllLookBelow, StandsFor}
-use Rattle.live_laws.proofs.AddedCalls.{counted, task_one}
-use Rattle.live_laws.proofs.Adding.{calls_may_be_added}
+use Rattle.executor_laws.specs.Additions.{LooksBelow, AllLookBelow, StandsFor}
+use Rattle.executor_laws.proofs.AddedCalls.{counted, task_one}
+use Rattle.executor_laws.proofs.Adding.{calls_may_be_added}
 use Rattle.task_table.specs.Tables as tables
 use Rattle.task_table.specs.Tables.{TableView, workers_of, Shows, IsNextCall, Takes, CallSteps}
 use Rattle.live_core.specs.Lives.{LiveView, Stands, Makes, Calls, never}
@@ -135,7 +135,7 @@ pub record MayAdd (m : LiveView) (p : Planned) : Type 0 where
   pub few : count_after m.count p.1 ≤ never
 
 -- the longer calls are in order
-longer_orderly : (m : LiveView) (calls : List Planned) (past : List HistoryEntry) (p : Planned) → Stands m calls past → MayAdd m p → IsOrderlyFrom 0 0 (calls ++ p ∷ [])
+longer_orderly : (m : LiveView) (calls : List Planned) (past : List HistoryEntry) (p : Planned) → Stands m calls past → MayAdd m p → IsOrderly (calls ++ p ∷ [])
 longer_orderly m calls past p st may =
     let now = now_there m.table calls past st.table.means st.table.shows in
     let same : m.count ≡ 0 + task_count calls = omega (arith, st.count) in

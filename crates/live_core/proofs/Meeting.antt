@@ -15,7 +15,7 @@ use Rattle.executor_core.specs.View.{View}
 use Rattle.executor_core.specs.Answers.{Reply, reply, effect_on, start_answer, finish_answer}
 use Rattle.executor_core.specs.Histories.{HistoryEntry, entry_of, happenings, made, now_of, is_call, is_submit, was_accepted, view_of_history, MayFrom, IsHistoryOf}
 use Rattle.executor_core.specs.Flows.{lines_of, lines_at}
-use Rattle.live_laws.specs.Additions.{LooksBelow}
+use Rattle.executor_laws.specs.Additions.{LooksBelow}
 use Rattle.task_table.specs.Tables as tables
 use Rattle.task_table.specs.Tables.{TableView, workers_of, Takes, EventSteps}
 use Rattle.live_core.specs.Lives.{LiveView, Stands, Makes, Meets, Happens, never}

@@ -13,7 +13,7 @@ use Rattle.executor_core.specs.declared.types.Refusal.TheVariants as refusal
 use Rattle.executor_core.specs.declared.types.Answer.TheVariants as a
 use Rattle.executor_core.specs.Answers.{Reply, bare, kind_of}
 use Rattle.executor_core.specs.Histories.{is_submit, is_call}
-use Rattle.live_laws.specs.Additions.{LooksBelow}
+use Rattle.executor_laws.specs.Additions.{LooksBelow}
 use Rattle.task_table.specs.declared.seat.TaskRef.{TaskRef}
 use Rattle.task_table.specs.Tables.{TableView, workers_of, CallSteps, EventSteps}
 use Rattle.live_core.specs.Lives.{LiveView, Calls, Happens, never, quiet, moment_of_call}

@@ -7,7 +7,7 @@ use Rattle.executor_core.specs.declared.types.Happening.TheVariants as h
 use Rattle.executor_core.specs.Answers.{Reply}
 use Rattle.executor_core.specs.Histories.{HistoryEntry, entry_of, happenings, made, was_accepted}
 use Rattle.executor_core.specs.Flows.{lines_of, lines_at}
-use Rattle.live_laws.specs.Additions.{AllLookBelow}
+use Rattle.executor_laws.specs.Additions.{AllLookBelow}
 use Rattle.task_table.specs.declared.seat.TaskRef.{TaskRef}
 use Rattle.task_table.specs.Tables as tables
 use Rattle.task_table.specs.Tables.{TableView}

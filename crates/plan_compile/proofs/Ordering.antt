@@ -4,7 +4,7 @@ use Rattle.std.specs.Prelude.{slice_get}
 use Rattle.std.proofs.lemmas.Bool.{cases_Bool}
 use Rattle.std.proofs.lemmas.Nat.{mul-le}
 use Rattle.std.proofs.lemmas.Option.{slice_get_within, slice_get_past}
-use Rattle.queue_code.specs.Calls.{count_after, IsOrderlyCall, IsOrderly}
+use Rattle.queue_code.specs.Calls.{count_after, IsOrderlyCall, IsPlanned}
 use Rattle.plan_read.specs.declared.plans.Call.{Call}
 use Rattle.plan_read.specs.declared.plans.Header.{Header}
 use Rattle.plan_read.specs.declared.plans.Op.{Op}
@@ -217,8 +217,8 @@ made_within earlier [] ordered few = few
 made_within earlier (b ∷ bs) ordered few =
     rw (made_from_one_more 0 earlier b) at (made_within (earlier ++ b ∷ []) bs ordered.1 (rw (made_from_one_more 0 earlier b) ordered.0.total))
 
--- the calls of a plan are in order
-pub plan_orderly : (blocks : PlanTree) → IsOrdered blocks → IsOrderly (calls_of_plan blocks)
+-- the calls of a plan are few enough, and in order
+pub plan_orderly : (blocks : PlanTree) → IsOrdered blocks → IsPlanned (calls_of_plan blocks)
 plan_orderly blocks ordered =
     let all = blocks_run [] blocks [] 0 ordered.1 firsts_start in
     (omega (arith, length-calls_from [] 0 0 blocks, made_within [] blocks ordered.1 (omega arith)), runs_orderly 0 0 (calls_of_plan blocks) all.0 all.1 all.2)

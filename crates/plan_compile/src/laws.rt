@@ -1,7 +1,7 @@
 //! What holds of the calls of each plan, and of the limits on its text and its calls.
 ghost use Rattle.std.specs.Prelude.{◌≡◌, ◌↔◌, ℕ, List, true};
 ghost use Rattle.plan_read.specs.Data.{Members};
-ghost use Rattle.queue_code.specs.Calls.{IsOrderly, most_calls_of_code};
+ghost use Rattle.queue_code.specs.Calls.{IsPlanned, most_calls_of_code};
 ghost use Rattle.plan_read.specs.Plans.{PlanTree, most_calls as most_calls_of_plan};
 ghost use Rattle.plan_read.specs.Migrating.{migrated, in_nanoseconds};
 ghost use Rattle.plan_read.specs.Texts.{TextWrites, longest_text};
@@ -12,9 +12,9 @@ ghost use Rattle.plan_compile.specs.PlanCalls.{calls_of_plan};
 use crate::fault::CompileFault;
 use plan_read::{LONGEST_TEXT, migrated_trees_write, plans_are_ordered};
 
-/// The calls of each plan that a text writes are in order, as the executor takes them and as its laws ask.
+/// The calls of each plan that a text writes are few enough, and in order, as the executor takes them and as its laws ask.
 pub fn calls_are_in_order()
-    ensures { (text : List ℕ) (plan : PlanTree) → TextWrites text plan → IsOrderly (calls_of_plan plan) }
+    ensures { (text : List ℕ) (plan : PlanTree) → TextWrites text plan → IsPlanned (calls_of_plan plan) }
 {
     plans_are_ordered();
 }

@@ -1,7 +1,7 @@
 -- What holds of each run by a pool.
 -- All of it is this project's rule.
 use Rattle.std.specs.Prelude.{ℕ, List, ◌⊎◌}
-use Rattle.queue_code.specs.Calls.{Planned, IsOrderly}
+use Rattle.queue_code.specs.Calls.{Planned, IsPlanned}
 use Rattle.executor_core.specs.Counts.{IsWorkerCount}
 use Rattle.executor_core.specs.Histories.{HistoryEntry}
 use Rattle.trace_check.specs.Findings.{Conforms}
@@ -10,5 +10,5 @@ use Rattle.pool_engine.specs.PoolRuns.{RunsToLimit, RunsToRest}
 
 -- what a run by a pool wrote conforms, where it ended well or with as many events as the limit allows
 abbrev pub PoolRunsConform : Type 0
-PoolRunsConform = (calls : List Planned) (workers limit : ℕ) (moments : List ℕ) (past : List HistoryEntry) → IsOrderly calls → IsWorkerCount workers
+PoolRunsConform = (calls : List Planned) (workers limit : ℕ) (moments : List ℕ) (past : List HistoryEntry) → IsPlanned calls → IsWorkerCount workers
     → RunsToRest calls workers limit moments past ⊎ RunsToLimit calls workers limit past → Conforms calls workers (text_of calls past)

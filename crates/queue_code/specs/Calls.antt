@@ -67,9 +67,17 @@ IsOrderlyFrom count moment [] = Unit {0}
 IsOrderlyFrom count moment (p ∷ calls) =
     (moment ≤ p.0) × (p.0 ≤ longest) × IsOrderlyCall count p.1 × IsOrderlyFrom (count_after count p.1) p.0 calls
 
--- the calls are in the order in which they are made, and few enough (this project's limits)
+-- the calls are in the order in which they are made
 abbrev pub IsOrderly : List Planned → Type 0
-IsOrderly calls = (length calls ≤ most_calls_of_code) × IsOrderlyFrom 0 0 calls
+IsOrderly calls = IsOrderlyFrom 0 0 calls
+
+-- the calls are few enough for a plan (this project's limit)
+abbrev pub AreFew : List Planned → Type 0
+AreFew calls = length calls ≤ most_calls_of_code
+
+-- the calls are those that a plan may have: few enough, and in order
+abbrev pub IsPlanned : List Planned → Type 0
+IsPlanned calls = AreFew calls × IsOrderly calls
 
 -- how a task is timed, and when its first run is due
 pub record Terms : Type 0 where

@@ -6,7 +6,7 @@ use Rattle.queue_code.specs.declared.instr.Instr.TheVariants.{CancelHere, Loop, 
 use Rattle.sched_time.specs.Times.{longest}
 use Rattle.sched_time.specs.Dues.{next_due}
 use Rattle.sched_time.specs.declared.timing.Timing.TheVariants.{Rate, Fixed}
-use Rattle.queue_code.specs.Calls.{most_calls_of_code, IsOrderly}
+use Rattle.queue_code.specs.Calls.{most_calls_of_code, IsPlanned}
 use Rattle.queue_code.specs.Codes.{calls_of}
 use Rattle.queue_code.specs.Checks.{fault_at, code_fault, AreTimed}
 use Rattle.queue_code.specs.Cursors.{BeginsWithCall}
@@ -21,9 +21,9 @@ LeastIndex =
 abbrev pub NothingWrong : Type 0
 NothingWrong = (code : List Instr) → code_fault code ≡ None → (index : ℕ) → index ≤ length code → fault_at code index ≡ None
 
--- the calls of a list without a fault are in order
+-- the calls of a list without a fault are few enough, and in order
 abbrev pub CodesAreOrderly : Type 0
-CodesAreOrderly = (code : List Instr) → AreTimed code → code_fault code ≡ None → IsOrderly (calls_of code)
+CodesAreOrderly = (code : List Instr) → AreTimed code → code_fault code ≡ None → IsPlanned (calls_of code)
 
 -- the shape of a code, in a loop or in none: loops are closed and not nested, begin with a call, and are made 1 to 65,536
 -- times, with a step within the limit; a task of the same iteration is cancelled in a loop alone; and the last instruction
@@ -39,9 +39,10 @@ IsShaped true (Halt ∷ is) = ⊥
 IsShaped false (CancelHere offset nth ∷ is) = ⊥
 IsShaped inside (i ∷ is) = IsShaped inside is
 
--- a list is accepted exactly where it has the shape of a code, and its calls, with each loop written out, are in order
+-- a list is accepted exactly where it has the shape of a code, and its calls, with each loop written out, are few enough, and
+-- in order
 abbrev pub AcceptedExactly : Type 0
-AcceptedExactly = (code : List Instr) → AreTimed code → (code_fault code ≡ None) ↔ (IsShaped false code × IsOrderly (calls_of code))
+AcceptedExactly = (code : List Instr) → AreTimed code → (code_fault code ≡ None) ↔ (IsShaped false code × IsPlanned (calls_of code))
 
 -- after a period of 0 the next run is due where the one before was due, and after a fixed delay of 0 where it ended
 abbrev pub ZeroNeverWaits : Type 0

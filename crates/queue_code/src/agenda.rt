@@ -1,5 +1,5 @@
 ghost use Rattle.std.specs.Prelude.{◌≡◌, ◌+◌, ◌-◌, ◌<◌, Some, length, slice_get};
-ghost use Rattle.queue_code.specs.Calls.{IsOrderly, Planned};
+ghost use Rattle.queue_code.specs.Calls.{IsPlanned, Planned};
 ghost use Rattle.queue_code.specs.Codes.{calls_of};
 
 use crate::call::CodeCall;
@@ -35,7 +35,7 @@ impl<A: Allocator> Agenda<A> {
     /// The calls of a code, of which none was made.
     pub fn new(code: Code<A>) -> Agenda<A>
         ensures start { result ≡ record { items = calls_of code; made = 0 } }
-        ensures orderly { IsOrderly (calls_of code) }
+        ensures orderly { IsPlanned (calls_of code) }
     {
         let left = code.calls() as usize;
         let mut cursor = Cursor::new(&code);

@@ -1,5 +1,5 @@
 ghost use Rattle.std.specs.Prelude.{◌≡◌, ℕ, ◌^◌, ◌<◌, ◌⊎◌, length, slice_get, Some, None, IfOk, IfErr};
-ghost use Rattle.queue_code.specs.Calls.{IsOrderly, task_count};
+ghost use Rattle.queue_code.specs.Calls.{IsPlanned, task_count};
 ghost use Rattle.queue_code.specs.Codes.{calls_of};
 ghost use Rattle.queue_code.specs.Checks.{code_fault};
 ghost use Rattle.queue_code.specs.Cursors.{Enclosing, loop_around};
@@ -47,7 +47,7 @@ impl<A: Allocator> Code<A> {
     pub fn check(alloc: A, instrs: Vec<Instr, A>) -> Result<Code<A>, CodeFault>
         ensures code { IfOk result (λ code. (code ≡ instrs.items) × (code_fault instrs.items ≡ None)) }
         ensures fault { IfErr result (λ e. (code_fault instrs.items ≡ Some e) ⊎ ((e ≡ CodeFault.Memory) × (code_fault instrs.items ≡ None))) }
-        ensures orderly { IfOk result (λ code. IsOrderly (calls_of code)) }
+        ensures orderly { IfOk result (λ code. IsPlanned (calls_of code)) }
     {
         let progress = walk(&instrs)?;
         let loops = loop_table(alloc, &instrs)?;
@@ -62,7 +62,7 @@ impl<A: Allocator> Code<A> {
     /// How many calls it makes, at most 65,536. They are in order.
     pub fn calls(&self) -> u32
         ensures count { result ≡ length (calls_of self.now) }
-        ensures orderly { IsOrderly (calls_of self.now) }
+        ensures orderly { IsPlanned (calls_of self.now) }
     {
         self.calls
     }

@@ -37,13 +37,13 @@ pub fn faults_are_the_first()
     ensures none { NothingWrong }
 {}
 
-/// The calls of a list of instructions without a fault are in order.
+/// The calls of a list of instructions without a fault are few enough, and in order.
 pub fn codes_are_orderly()
     ensures { CodesAreOrderly }
 {}
 
-/// A list of instructions is accepted exactly where it has the shape of a code, and its calls are in order with each
-/// loop written out: nothing else is refused.
+/// A list of instructions is accepted exactly where it has the shape of a code, and its calls, with each loop written
+/// out, are few enough, and in order: nothing else is refused.
 pub fn codes_are_accepted_exactly()
     ensures { AcceptedExactly }
 {}

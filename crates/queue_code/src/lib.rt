@@ -42,8 +42,8 @@
 //!
 //! Submissions are numbered 0, 1, .. in the order of their calls, those of an illegal period or fixed delay
 //! among them. Calls are *in order* where their moments do not fall, where moments, delays and periods are at most
-//! 2^62 nanoseconds, where a cancel names an earlier submission, and where there are at most 65,536 of them. Calls of
-//! one moment are made in the order of the list. The calls of a code are in order.
+//! 2^62 nanoseconds, and where a cancel names an earlier submission. Calls of one moment are made in the order of the
+//! list. The calls of a code are in order, and there are at most 65,536 of them.
 //!
 //! # Errors
 //!

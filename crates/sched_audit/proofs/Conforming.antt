@@ -2,7 +2,7 @@
 use Rattle.std.proofs.Common.{◌≡◌, ℕ, zero, suc, ◌^◌, ◌<◌, ◌≤◌, List, [], ◌∷◌, ◌++◌, length, replicate, Result, Ok, Err, sym, ap, subst, arith}
 use Rattle.std.specs.Prelude.{All}
 use Rattle.std.proofs.lemmas.List.Elements.{All-nil, All-cons, All-head, All-tail}
-use Rattle.queue_code.specs.Calls.{Planned, IsOrderly}
+use Rattle.queue_code.specs.Calls.{Planned, IsPlanned}
 use Rattle.executor_core.specs.declared.types.Event.{Event}
 use Rattle.executor_core.specs.declared.types.Event.TheVariants as v
 use Rattle.executor_core.specs.declared.types.Happening.{Happening}
@@ -50,7 +50,7 @@ flow_fits calls (event ∷ before) fit =
     All-cons FitsHappening (happening_of event) (replicate n h.Call ++ past) (event_fits event (All-head FitsEvent event before fit)) (calls_fit n past (flow_fits calls before (All-tail FitsEvent event before fit)))
 
 -- the text of the trace of some events conforms
-trace_conforms : (calls : List Planned) (workers : ℕ) (events : List Event) (past : List HistoryEntry) → IsOrderly calls → IsWorkerCount workers → AreEvents events → length events < 2 ^ 32 → IsTrace calls workers events past →
+trace_conforms : (calls : List Planned) (workers : ℕ) (events : List Event) (past : List HistoryEntry) → IsPlanned calls → IsWorkerCount workers → AreEvents events → length events < 2 ^ 32 → IsTrace calls workers events past →
     Conforms calls workers (text_of calls past)
 trace_conforms calls workers events past o count fit few trace =
     let short : length past ≤ 2 ^ 64 = omega (
@@ -68,9 +68,9 @@ trace_conforms calls workers events past o count fit few trace =
 
 -- ---- what is found
 
--- the calls of each plan that a text writes are in order
+-- the calls of each plan that a text writes are few enough, and in order
 abbrev pub AreInOrder : Type 0
-AreInOrder = (text : List ℕ) (plan : PlanTree) → TextWrites text plan → IsOrderly (calls_of_plan plan)
+AreInOrder = (text : List ℕ) (plan : PlanTree) → TextWrites text plan → IsPlanned (calls_of_plan plan)
 
 -- a text conforms, by the plan that a plan text writes
 record ConformsByText (plan_text : List ℕ) (workers : ℕ) (text : List ℕ) : Type 0 where
@@ -81,7 +81,7 @@ record ConformsByText (plan_text : List ℕ) (workers : ℕ) (text : List ℕ) :
 wrote : (plan_text : List ℕ) (workers limit : ℕ) (calls : List Planned) (events : List Event) (past : List HistoryEntry) (output : List ℕ) → AreInOrder → limit < 2 ^ 32 → IsAccepted plan_text calls workers limit →
     AreEvents events → length events ≤ limit → IsTrace calls workers events past → output ≡ text_of calls past → ConformsByText plan_text workers output
 wrote plan_text workers limit calls events past output ordered small accepted fit within trace is =
-    let o : IsOrderly calls = subst IsOrderly (sym accepted.makes) (ordered plan_text accepted.plan accepted.reads) in
+    let o : IsPlanned calls = subst IsPlanned (sym accepted.makes) (ordered plan_text accepted.plan accepted.reads) in
     let conforms : Conforms calls workers (text_of calls past) = trace_conforms calls workers events past o accepted.counted fit (omega (arith, within, small)) trace in
     record {
       plan = accepted.plan;

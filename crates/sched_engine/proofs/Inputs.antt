@@ -9,7 +9,7 @@ use Rattle.executor_core.specs.declared.Event.TheVariants as v
 use Rattle.executor_core.specs.declared.Happening.{Happening}
 use Rattle.executor_core.specs.declared.Happening.TheVariants as h
 use Rattle.executor_core.specs.declared.Line.{Line}
-use Rattle.queue_code.specs.Calls.{Planned, IsOrderly}
+use Rattle.queue_code.specs.Calls.{Planned, IsOrderly, IsPlanned}
 use Rattle.executor_core.specs.Histories.{HistoryEntry, happenings, made, now_of, IsHistoryOf}
 use Rattle.executor_core.specs.Flows.{flow, part_of, calls_before, history_from, history_of, lines_from, lines_of}
 use Rattle.executor_core.specs.CoreView.{CoreView, state_of, workers_of, Stands, Continues}
@@ -58,14 +58,14 @@ pub flow_happens : (calls : List Planned) (workers : ℕ) (events : List Event) 
 flow_happens calls workers events = happenings_from calls workers [] (flow calls events) ∙ append-nil (flow calls events)
 
 -- a trace has a line for each event and for each call made, and for each such call at most one for each task
-pub lines_few : (calls : List Planned) (workers : ℕ) (events : List Event) → IsOrderly calls → length (lines_of calls (history_of calls workers events)) ≤ length events + 65536 * 65537
+pub lines_few : (calls : List Planned) (workers : ℕ) (events : List Event) → IsPlanned calls → length (lines_of calls (history_of calls workers events)) ≤ length events + 65536 * 65537
 lines_few calls workers events o =
     let past = history_of calls workers events in
-    let means = flow_means calls workers events o in
+    let means = flow_means calls workers events o.1 in
     let same = flow_happens calls workers events in
     omega (
       arith,
-      lines_by_calls calls workers past o means,
+      lines_by_calls calls workers past o.0 means,
       length-happenings past,
       ap length same,
       ap made same,
@@ -206,5 +206,5 @@ answered_none m held before = record {
 -- the count of lines fits, where the answers to the events so far stand
 pub count_fits : (old mid : CoreView) (held : List ℕ) (before put : Output) (taken count : ℕ) → StandsAfterEvents old → IsAnswered old mid held taken before put count → mid.taken ≤ mid.limit → count < 2 ^ 34
 count_fits old mid held before put taken count s a within =
-    let all = a.extends s.orderly s.events s.stands in
+    let all = a.extends s.orderly.1 s.events s.stands in
     omega (arith, all.counted, lines_few old.calls (workers_of old) (a.more ++ s.events) s.orderly, length-append a.more s.events, a.events, s.taken, s.small, within, a.limit)

@@ -6,7 +6,7 @@ use Rattle.std.proofs.lemmas.List.{length-map}
 use Rattle.std.proofs.lemmas.List.FromFn.{length-range_with_len}
 use Rattle.std.proofs.lemmas.List.Sums.{length-filter, count_by-le-length}
 use Rattle.queue_code.specs.declared.CodeCall.{CodeCall}
-use Rattle.queue_code.specs.Calls.{Planned, IsOrderly, submits_task, task_count, numbers}
+use Rattle.queue_code.specs.Calls.{Planned, AreFew, submits_task, task_count, numbers}
 use Rattle.executor_core.specs.declared.Happening.{Happening}
 use Rattle.executor_core.specs.declared.Happening.TheVariants as h
 use Rattle.executor_core.specs.declared.Answer.TheVariants as a
@@ -48,14 +48,14 @@ ends_more calls (h.Finish w ending) past n few l = omega (arith, l)
 ends_more calls (h.Cancel k) past n few l = omega (arith, l)
 
 -- a history has a line for each happening, and for each call at most one for each task
-pub lines_by_calls : (calls : List Planned) (workers : ℕ) (past : List HistoryEntry) → IsOrderly calls → IsHistoryOf calls workers past → length (lines_of calls past) ≤ length past + made (happenings past) * 65536
-lines_by_calls calls workers [] o means = omega arith
-lines_by_calls calls workers (e ∷ past) o means =
+pub lines_by_calls : (calls : List Planned) (workers : ℕ) (past : List HistoryEntry) → AreFew calls → IsHistoryOf calls workers past → length (lines_of calls past) ≤ length past + made (happenings past) * 65536
+lines_by_calls calls workers [] few means = omega arith
+lines_by_calls calls workers (e ∷ past) few means =
     let now = now_of calls (happenings (e ∷ past)) in
     omega (
       arith,
-      lines_by_calls calls workers past o means.0,
+      lines_by_calls calls workers past few means.0,
       length-append (lines_of calls past) (lines_at now (reply_in e)),
       length-map e.ends (end_line now),
-      ends_more calls e.happening (happenings past) (length e.ends) (omega (arith, tasks_few calls, o.0)) (omega (arith, ap length means.3, reply_few calls workers (view_of_history calls past) e.happening)),
+      ends_more calls e.happening (happenings past) (length e.ends) (omega (arith, tasks_few calls, few)) (omega (arith, ap length means.3, reply_few calls workers (view_of_history calls past) e.happening)),
     )

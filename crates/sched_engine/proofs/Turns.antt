@@ -3,7 +3,7 @@ use Rattle.std.proofs.Common.{◌≡◌, ℕ, zero, suc, ◌+◌, ◌-◌, ◌*�
 use Rattle.std.proofs.lemmas.List.Elements.{All-append, All-cons, All-nil}
 use Rattle.std.specs.Io.KnownBytes.{Consumes, Appends, Keeps, IsAtEnd, prepend_known}
 use Rattle.executor_core.specs.declared.Event.{Event}
-use Rattle.queue_code.specs.Calls.{Planned, IsOrderly}
+use Rattle.queue_code.specs.Calls.{Planned, IsOrderly, IsPlanned}
 use Rattle.executor_core.specs.Flows.{history_of, lines_of, part_of}
 use Rattle.executor_core.specs.CoreView.{CoreView, workers_of, Stands}
 use Rattle.executor_core.proofs.Flowing.{flow_means}
@@ -37,7 +37,7 @@ standing run at done =
     let P : List Planned → ℕ → Type 0 = λ calls workers. Stands at.core (history_of calls workers done.events) in
     record {
       events = done.events;
-      orderly = subst IsOrderly (sym done.calls) done.orderly;
+      orderly = subst IsPlanned (sym done.calls) done.orderly;
       stands = subst (P at.core.calls) (sym done.workers) (subst (λ calls. P calls run.workers) (sym done.calls) done.stands);
       taken = done.taken;
       within = omega (arith, done.within, done.limit);
@@ -73,7 +73,7 @@ pub answered : (run : Setting) (at : Progress) (core : CoreView) (taken count : 
     Done run (record { left = at.left; held = drop taken at.held; text = out.text; contents = out.contents; core = core; count = at.count + count })
 answered run at core taken count out done a within =
     let P : List Planned → ℕ → Type 0 = λ calls workers. Stands at.core (history_of calls workers done.events) → Extends calls workers core a.more done.events a.text count in
-    let goes : P run.calls run.workers = subst (P run.calls) done.workers (subst (λ calls. P calls (workers_of at.core)) done.calls (a.extends (subst IsOrderly (sym done.calls) done.orderly) done.events)) in
+    let goes : P run.calls run.workers = subst (P run.calls) done.workers (subst (λ calls. P calls (workers_of at.core)) done.calls (a.extends (subst IsOrderly (sym done.calls) done.orderly.1) done.events)) in
     let more = goes done.stands in
     let written = a.written.0 in
     record {
@@ -181,7 +181,7 @@ taken_so_far : (run : Setting) (at : Progress) (IsAhead IsRest : List ℕ → Ty
     Gives (length done.events) (length (lines_of run.calls (history_of run.calls run.workers done.events))) (text_of run.calls (history_of run.calls run.workers done.events)) →
     Taken run.calls run.workers run.limit run.input at.left IsAhead IsRest Gives
 taken_so_far run at IsAhead IsRest Gives done near stops rest gives =
-    taken_of run at.left at.held done.events IsAhead IsRest Gives done.fit done.read (omega (arith, done.taken, done.within)) done.orderly near stops rest gives
+    taken_of run at.left at.held done.events IsAhead IsRest Gives done.fit done.read (omega (arith, done.taken, done.within)) done.orderly.1 near stops rest gives
 
 -- the same where the input has ended
 taken_at_end : (run : Setting) (at : Progress) (IsAhead IsRest : List ℕ → Type 0) (Gives : ℕ → ℕ → List ℕ → Type 0) → (done : Done run at) → IsAtEnd at.left → length at.held ≤ piece → IsAhead at.held → IsRest at.held →
@@ -191,7 +191,7 @@ taken_at_end run at IsAhead IsRest Gives done end near stops rest gives = record
   events = done.events;
   fit = done.fit;
   past = history_of run.calls run.workers done.events;
-  trace = trace_of run.calls run.workers done.events done.orderly;
+  trace = trace_of run.calls run.workers done.events done.orderly.1;
   ahead = at.held;
   read = read_so_far run.input at.left at.held (input_of done.events) done.read;
   near = near;
@@ -265,13 +265,13 @@ cut_in run at contents event rest done near below fits further cut =
     let P : List Planned → ℕ → Type 0 = λ calls workers. Stands at.core (history_of calls workers done.events)
     → text_of calls (history_of calls workers events) ≡ text_of calls (history_of calls workers done.events) ++ text in
     let more : P run.calls run.workers =
-    subst (P run.calls) done.workers (subst (λ calls. P calls (workers_of at.core)) done.calls (event_says at.core event done.events (subst IsOrderly (sym done.calls) done.orderly))) in
+    subst (P run.calls) done.workers (subst (λ calls. P calls (workers_of at.core)) done.calls (event_says at.core event done.events (subst IsOrderly (sym done.calls) done.orderly.1))) in
     let says : text_of run.calls (history_of run.calls run.workers events) ≡ done.before ++ (at.text ++ text) = more done.stands ∙ (ap (λ l. l ++ text) done.says ∙ append_assoc done.before at.text text) in
     let read : Consumes run.input (prepend_known rest at.left) (input_of events) =
     subst (λ (l : List ℕ). Consumes run.input (prepend_known l at.left) (input_of events)) (next_is event at.held rest further)
     (took run.input at.left at.held (input_of done.events) (event_line event) (length (event_line event)) done.read (line_is event at.held rest further)) in
     taken_of run at.left rest events (λ ahead. Unit {0}) (λ rest. Unit {0}) (λ events lines trace. (k : ℕ) × Appends run.contents contents (take k trace)) (All-cons FitsEvent event done.events fits done.fit) read
-    (omega (arith, below, done.limit, done.taken)) done.orderly (omega (arith, near, ap length further, length-append (event_line event) rest)) tt (λ more. tt)
+    (omega (arith, below, done.limit, done.taken)) done.orderly.1 (omega (arith, near, ap length further, length-append (event_line event) rest)) tt (λ more. tt)
     (length done.before + cut.0, subst (λ (l : List ℕ). Appends run.contents contents (take (length done.before + cut.0) l)) (sym says) (gave_front run.contents at.contents contents done.before (at.text ++ text) cut.0 done.written cut.1))
 
 -- a fault of the writer, after a front of the text at hand and of the text of more events

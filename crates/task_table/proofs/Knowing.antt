@@ -2,7 +2,7 @@
 use Rattle.std.proofs.Common.{◌≡◌, ◌≢◌, ℕ, ◌+◌, ◌<◌, ◌≤◌, ◌==◌, nat_le, zero, suc, Bool, true, false, cond, List, [], ◌∷◌, take, Some, refl, sym, ap, ◌∙◌, arith, subst}
 use Rattle.std.proofs.lemmas.Bool.{eqb-true, false_from_ne_true, leb-true}
 use Rattle.std.proofs.lemmas.Bool.Decides.{nat_tests}
-use Rattle.queue_code.specs.Calls.{Planned, IsOrderlyFrom, Terms, task_count, terms_of, submits_task}
+use Rattle.queue_code.specs.Calls.{Planned, IsOrderly, Terms, task_count, terms_of, submits_task}
 use Rattle.executor_core.specs.declared.types.Happening.{Happening}
 use Rattle.executor_core.specs.declared.types.Happening.TheVariants as h
 use Rattle.executor_core.specs.declared.types.Answer.{Answer}
@@ -68,7 +68,7 @@ timings calls workers (e ∷ past) means = λ k.
 -- ---- what no call made submits is vacant
 
 -- a submission that is next has a number below those that are not submitted after it
-next_is_other : (calls : List Planned) (s : State) (n : ℕ) (y : Happening) → IsOrderlyFrom 0 0 calls → task_count (take (made_after s.made y) calls) ≤ n → NextIsOther calls s n y
+next_is_other : (calls : List Planned) (s : State) (n : ℕ) (y : Happening) → IsOrderly calls → task_count (take (made_after s.made y) calls) ≤ n → NextIsOther calls s n y
 next_is_other calls s n h.Call orderly above = λ p is task timing delay e.
     let sub = submission calls 0 0 s.made p.0 task timing delay orderly (is ∙ ap (λ call. Some (p.0, call)) e) in
     let one : 1 + s.made ≡ suc s.made = omega arith in
@@ -89,7 +89,7 @@ count_later calls count y = by (is_call y)
         omega (arith, front, count_grows calls count)
     by false = omega arith
 
-fresh_there : (calls : List Planned) (workers : ℕ) (past : List HistoryEntry) → IsOrderlyFrom 0 0 calls → IsHistoryOf calls workers past → (k : ℕ) →
+fresh_there : (calls : List Planned) (workers : ℕ) (past : List HistoryEntry) → IsOrderly calls → IsHistoryOf calls workers past → (k : ℕ) →
     task_count (take (made (happenings past)) calls) ≤ k → (after calls workers (happenings past)).tasks k ≡ vacant
 fresh_there calls workers [] orderly means k above = refl
 fresh_there calls workers (e ∷ past) orderly means k above =
@@ -99,7 +99,7 @@ fresh_there calls workers (e ∷ past) orderly means k above =
     still_vacant calls workers s k e.happening (after_agrees calls workers past means.0).sound before (next_is_other calls s k e.happening orderly now)
 
 -- what is known where a history of some calls leads
-pub known : (calls : List Planned) (workers : ℕ) (past : List HistoryEntry) → IsOrderlyFrom 0 0 calls → IsHistoryOf calls workers past → Known calls (after calls workers (happenings past))
+pub known : (calls : List Planned) (workers : ℕ) (past : List HistoryEntry) → IsOrderly calls → IsHistoryOf calls workers past → Known calls (after calls workers (happenings past))
 known calls workers past orderly means = record {
   sound = (after_agrees calls workers past means).sound;
   timing = timings calls workers past means;

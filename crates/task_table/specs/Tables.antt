@@ -4,7 +4,7 @@ use Rattle.std.specs.Prelude.{◌≡◌, ℕ, Bool, true, false, List, ◌∷◌
 use Rattle.sched_time.specs.declared.policies.Policies.{Policies}
 use Rattle.executor_core.specs.declared.types.Happening.{Happening}
 use Rattle.executor_core.specs.declared.types.Happening.TheVariants as h
-use Rattle.queue_code.specs.Calls.{Planned, IsOrderlyFrom}
+use Rattle.queue_code.specs.Calls.{Planned, IsOrderly}
 use Rattle.executor_core.specs.Answers.{Reply}
 use Rattle.executor_core.specs.Histories.{HistoryEntry, happenings, made, answer, kept_after, view_of_history, IsHistoryOf}
 use Rattle.executor_core.specs.State.{State, after}
@@ -42,7 +42,7 @@ pub record Shows (m : TableView) (s : State) : Type 0 where
 
 -- the table shows where a history of some calls leads
 pub record Stands (m : TableView) (calls : List Planned) (past : List HistoryEntry) : Type 0 where
-  pub orderly : IsOrderlyFrom 0 0 calls
+  pub orderly : IsOrderly calls
   pub means : IsHistoryOf calls (workers_of m) past
   pub shows : Shows m (after calls (workers_of m) (happenings past))
 
@@ -53,7 +53,7 @@ keeping s kept = record s { tasks = λ k. record (s.tasks k) { kept = kept k } }
 -- the table shows where a history of some calls leads, but that of the tasks which this happening would drop from the queue some
 -- may be dropped already
 pub record StandsBefore (m : TableView) (calls : List Planned) (past : List HistoryEntry) (y : Happening) : Type 0 where
-  pub orderly : IsOrderlyFrom 0 0 calls
+  pub orderly : IsOrderly calls
   pub means : IsHistoryOf calls (workers_of m) past
   pub kept : ℕ → Bool
   pub shows : Shows m (keeping (after calls (workers_of m) (happenings past)) kept)

@@ -63,8 +63,8 @@ pub histories_fit : HistoriesFit
 histories_fit calls workers past orderly count means fit short = λ n line within.
     let lines = lines_of calls past in
     let there = get_or lines n line in
-    let range = lines_are_in_range calls workers past n there orderly means (slice_get-get_or lines n line within) in
-    (omega (arith, range.0), message_fits calls workers past there.message (few_tasks calls orderly) count.1 fit short range.1)
+    let range = lines_are_in_range calls workers past n there orderly.1 means (slice_get-get_or lines n line within) in
+    (omega (arith, range.0), message_fits calls workers past there.message (few_tasks calls orderly.0) count.1 fit short range.1)
 
 -- the text of a history conforms
 pub histories_conform : HistoriesConform

@@ -7,7 +7,7 @@ use Rattle.executor_core.specs.declared.types.Happening.{Happening}
 use Rattle.executor_core.specs.declared.types.Line.{Line}
 use Rattle.executor_core.specs.declared.types.Answer.{Answer}
 use Rattle.executor_core.specs.declared.types.Answer.TheVariants as a
-use Rattle.queue_code.specs.Calls.{Planned, IsOrderly, task_count, submits_task}
+use Rattle.queue_code.specs.Calls.{Planned, IsPlanned, task_count, submits_task}
 use Rattle.executor_core.specs.View.{View}
 use Rattle.executor_core.specs.Answers.{Reply, reply, moment_after}
 use Rattle.executor_core.specs.Histories.{HistoryEntry, entry_of, happenings, is_call, view_of_history, now_of, answer, work_of, work_after, policies_after, is_shutdown, is_stop, IsHistoryOf, MayFrom}
@@ -116,7 +116,7 @@ one_more calls workers past y few tasks within may alike =
       busy = λ w. busy_behind (line ∷ alike.lines) now r.ends w ∙ (ap (busy_by w r.answer) (alike.busy w) ∙ busy_works w r.answer (work_of w past));
     }
 
-alike : (calls : List Planned) (workers : ℕ) (past : List HistoryEntry) → IsOrderly calls → workers ≤ 64 → IsHistoryOf calls workers past → Alike calls workers past
+alike : (calls : List Planned) (workers : ℕ) (past : List HistoryEntry) → IsPlanned calls → workers ≤ 64 → IsHistoryOf calls workers past → Alike calls workers past
 alike calls workers [] orderly few means = record {
   lines = [];
   goes = record { past = []; means = tt; representative = refl; owed = []; front = refl };
@@ -128,7 +128,7 @@ alike calls workers [] orderly few means = record {
 alike calls workers (e ∷ past) orderly few means =
     let tasks : task_count calls ≤ 65536 = omega (arith, how_many-le (λ (p : Planned). submits_task p.1) calls, orderly.0) in
     subst (λ x. Alike calls workers (x ∷ past)) (λ i. record { happening = e.happening; answer = sym means.2 i; ends = sym means.3 i })
-    (one_more calls workers past e.happening few tasks (now_within calls (happenings past) orderly) means.1 (alike calls workers past orderly few means.0))
+    (one_more calls workers past e.happening few tasks (now_within calls (happenings past) orderly.1) means.1 (alike calls workers past orderly few means.0))
 
 -- the lines of each history go, and are whole
 pub traces_go : TracesGo

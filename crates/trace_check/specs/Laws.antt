@@ -1,7 +1,7 @@
 -- What holds of the lines that go, and of what is found of a text. Lines and histories stand the newest first.
 -- All of it is this project's rule.
 use Rattle.std.specs.Prelude.{◌≡◌, ℕ, ◌^◌, ◌≤◌, ◌↔◌, List, ◌∷◌, All, length, reverse}
-use Rattle.queue_code.specs.Calls.{Planned, IsOrderly}
+use Rattle.queue_code.specs.Calls.{Planned, IsPlanned}
 use Rattle.executor_core.specs.declared.types.Happening.{Happening}
 use Rattle.executor_core.specs.declared.types.Happening.TheVariants as h
 use Rattle.executor_core.specs.declared.types.Line.{Line}
@@ -29,7 +29,7 @@ FrontsGo = (calls : List Planned) (workers : ℕ) (lines : List Line) (line : Li
 
 -- the lines of each history go, and are whole
 abbrev pub TracesGo : Type 0
-TracesGo = (calls : List Planned) (workers : ℕ) (past : List HistoryEntry) → IsOrderly calls → IsWorkerCount workers → IsHistoryOf calls workers past
+TracesGo = (calls : List Planned) (workers : ℕ) (past : List HistoryEntry) → IsPlanned calls → IsWorkerCount workers → IsHistoryOf calls workers past
     → AreWhole calls workers (reverse (lines_of calls past))
 
 -- a text is that of a history, whose lines can be spelled
@@ -41,7 +41,7 @@ pub record IsTraceText (calls : List Planned) (workers : ℕ) (text : List ℕ) 
 
 -- a text conforms exactly where it is that of a history
 abbrev pub TracesConform : Type 0
-TracesConform = (calls : List Planned) (workers : ℕ) (text : List ℕ) → IsOrderly calls → IsWorkerCount workers
+TracesConform = (calls : List Planned) (workers : ℕ) (text : List ℕ) → IsPlanned calls → IsWorkerCount workers
     → Conforms calls workers text ↔ IsTraceText calls workers text
 
 -- what a happening hands in fits: the value, or the code, with which a run ended is one of its type. A moment, a worker or a
@@ -53,12 +53,12 @@ FitsHappening _ = Unit {0}
 -- each line of a history fits, where its happenings fit and are no more than 2^64: the number of a run is below theirs, and
 -- where a period is 0 there is no other bound on it
 abbrev pub HistoriesFit : Type 0
-HistoriesFit = (calls : List Planned) (workers : ℕ) (past : List HistoryEntry) → IsOrderly calls → IsWorkerCount workers → IsHistoryOf calls workers past
+HistoriesFit = (calls : List Planned) (workers : ℕ) (past : List HistoryEntry) → IsPlanned calls → IsWorkerCount workers → IsHistoryOf calls workers past
     → All FitsHappening (happenings past) → length past ≤ 2 ^ 64 → All FitsLine (lines_of calls past)
 
 -- the text of such a history conforms, also where a cancel from outside stands between two calls that one clock reaches
 abbrev pub HistoriesConform : Type 0
-HistoriesConform = (calls : List Planned) (workers : ℕ) (past : List HistoryEntry) → IsOrderly calls → IsWorkerCount workers → IsHistoryOf calls workers past
+HistoriesConform = (calls : List Planned) (workers : ℕ) (past : List HistoryEntry) → IsPlanned calls → IsWorkerCount workers → IsHistoryOf calls workers past
     → All FitsHappening (happenings past) → length past ≤ 2 ^ 64 → Conforms calls workers (lines_text (lines_of calls past))
 
 -- of a text one thing is found at most

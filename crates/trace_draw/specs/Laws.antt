@@ -1,7 +1,7 @@
 -- What holds of the pictures of a trace. The lines stand in the order of the trace, the oldest first.
 -- All of it is this project's rule.
 use Rattle.std.specs.Prelude.{◌≡◌, ℕ, ◌+◌, ◌<◌, ◌≤◌, ◌==◌, ◌&&◌, Bool, true, false, List, ◌∷◌, ◌++◌, length, Some, slice_get, is_some}
-use Rattle.queue_code.specs.Calls.{Planned, IsOrderly, how_many}
+use Rattle.queue_code.specs.Calls.{Planned, IsOrderly, IsPlanned, how_many}
 use Rattle.executor_core.specs.Counts.{IsWorkerCount}
 use Rattle.executor_core.specs.declared.types.Answer.{Answer}
 use Rattle.executor_core.specs.declared.types.Answer.TheVariants as a
@@ -28,7 +28,7 @@ pub record IsTraceOf (calls : List Planned) (workers : ℕ) (lines : List Line) 
 
 -- the lines of a text that conforms are such
 abbrev pub ConformingTextsAreTraces : Type 0
-ConformingTextsAreTraces = (calls : List Planned) (workers : ℕ) (text : List ℕ) (lines : List Line) → IsOrderly calls → IsWorkerCount workers
+ConformingTextsAreTraces = (calls : List Planned) (workers : ℕ) (text : List ℕ) (lines : List Line) → IsPlanned calls → IsWorkerCount workers
     → Conforms calls workers text → AreSpelled text lines → IsTraceOf calls workers lines
 
 -- ---- moments

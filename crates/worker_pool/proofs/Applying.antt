@@ -87,11 +87,11 @@ verdict_fits cells old core seat happened lines event verdict book t said =
     let rest = t.took.between ++ past_of old in
     let e = t.took.last in
     let means = subst (IsHistoryOf calls workers) t.took.past (history_same old core seat happened lines event t) in (
-      (ended_ran calls workers rest e verdict.task verdict.ending book.orderly means said).task,
+      (ended_ran calls workers rest e verdict.task verdict.ending book.orderly.1 means said).task,
       λ note there.
           let knows = book.notes verdict.task note there in
           let still = knows_still cells t.took.between (past_of old) verdict.task note knows in
-          ends_once calls workers rest e verdict.task verdict.ending still.ending book.orderly means said still.ended,
+          ends_once calls workers rest e verdict.task verdict.ending still.ending book.orderly.1 means said still.ended,
     )
 
 -- what became of the notes: each stays as it is, or there was none, and the answer tells of its task; and a new one is that of the

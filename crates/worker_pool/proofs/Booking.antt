@@ -13,7 +13,7 @@ use Rattle.task_word.specs.declared.phases.Phase.TheVariants as wp
 use Rattle.task_word.specs.Views.{entry, new_core}
 use Rattle.task_word.specs.declared.views.CoreSeatView.{CoreSeatView}
 use Rattle.result_cell.specs.declared.verdict.Verdict.{Verdict}
-use Rattle.queue_code.specs.Calls.{Planned, IsOrderly, task_count}
+use Rattle.queue_code.specs.Calls.{Planned, IsOrderly, IsPlanned, task_count}
 use Rattle.executor_core.specs.declared.types.Answer.{Answer}
 use Rattle.executor_core.specs.declared.types.Answer.TheVariants as a
 use Rattle.executor_core.specs.declared.types.Outcome.{Outcome}
@@ -155,10 +155,10 @@ vacant_at zero k = refl
 vacant_at (suc n) zero = refl
 vacant_at (suc n) (suc k) = vacant_at n k
 
-pub opening_book : (cells : List ℕ) (table : TableId) (calls : List Planned) (workers limit n tasks : ℕ) (m : CoreView) (v : CoreSeatView) (notes : List (Option (Note Verdict))) → IsOrderly calls → IsOpening m calls workers limit → v ≡ new_core n → n ≡ task_count calls →
+pub opening_book : (cells : List ℕ) (table : TableId) (calls : List Planned) (workers limit n tasks : ℕ) (m : CoreView) (v : CoreSeatView) (notes : List (Option (Note Verdict))) → IsPlanned calls → IsOpening m calls workers limit → v ≡ new_core n → n ≡ task_count calls →
     notes ≡ replicate tasks None → IsBook cells (record { core = m; seat = v; table = table; happened = []; lines = []; notes = notes })
 opening_book cells table calls workers limit n tasks m v notes orderly opens seat count none = record {
-  orderly = subst IsOrderly (sym opens.calls) orderly;
+  orderly = subst IsPlanned (sym opens.calls) orderly;
   means = tt;
   stands = opens.stands;
   written = refl;

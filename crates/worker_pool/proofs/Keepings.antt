@@ -86,7 +86,7 @@ keeps_step m next_m v next_v happened items lines next_lines y kept may plain st
     let workers = workers_of m in
     let past = past_in m happened in
     let same = need_after m v happened lines y kept in
-    let agrees = stepped calls workers past y v kept.orderly kept.means kept.agrees (λ q. plain (same ∙ q)) in
+    let agrees = stepped calls workers past y v kept.orderly.1 kept.means kept.agrees (λ q. plain (same ∙ q)) in
     keeps_more m next_m v next_v happened items lines next_lines y kept may steps more
     (subst (Agrees calls workers (longer calls workers past y)) (sym (is ∙ ap (moves_made v) same)) agrees)
 
@@ -102,7 +102,7 @@ kept_can_move m v happened lines y kept counted small =
     let low = counted k in
     omega (arith, is, low, small)
     in
-    subst (CanMove (task_count calls) v) (sym same) (can_move calls workers past y v kept.orderly kept.means kept.agrees (λ k q. runs k))
+    subst (CanMove (task_count calls) v) (sym same) (can_move calls workers past y v kept.orderly.1 kept.means kept.agrees (λ k q. runs k))
 
 -- ---- who stands in the way
 
@@ -135,10 +135,10 @@ notes_one m next_m v next_v happened items lines next_lines k kept was steps mor
     let workers = workers_of m in
     let s = state_of m in
     let past = past_in m happened in
-    let note = noted calls workers past v next_v k kept.orderly kept.means kept.agrees was in
+    let note = noted calls workers past v next_v k kept.orderly.1 kept.means kept.agrees was in
     let reply : reply_of calls workers s (h.Cancel k) ≡ bare (a.Outside k f.Yes) = ap (λ x. reply_of calls workers x (h.Cancel k)) kept.stands ∙ note.reply in
     let gives = effective (ap (λ (r : Reply). r.answer) reply) in
-    let touches = cancels_touch_one_task calls workers past k kept.orderly kept.means (ap (λ (r : Reply). r.answer) note.reply) in
+    let touches = cancels_touch_one_task calls workers past k kept.orderly.1 kept.means (ap (λ (r : Reply). r.answer) note.reply) in
     let stepped_to : state_of next_m ≡ next calls workers (state_at calls workers past) (h.Cancel k) = steps.state ∙ ap (λ x. next calls workers x (h.Cancel k)) kept.stands in
     let at : (y : Happening) (P : Reply → Bool) → P (reply_of next_m.calls (workers_of next_m) (state_of next_m) y) ≡ P (reply_of calls workers (next calls workers (state_at calls workers past) (h.Cancel k)) y) =
     λ y P. (λ i. P (reply_of (steps.calls i) (steps.workers i) (stepped_to i) y))

@@ -252,7 +252,7 @@ all_ahead own m v happened lines tasks same up sweeps k =
     let workers = workers_of m in
     let past = past_in m happened in
     let ends = (reply_of calls workers (state_at calls workers past) h.Call).ends in
-    let writes : MakesWrites calls workers (state_at calls workers past) h.Call (map (λ k. (k, core_cancel)) ends) = writes_at calls workers past h.Call n.Sweep up.kept.orderly up.kept.means sweeps in
+    let writes : MakesWrites calls workers (state_at calls workers past) h.Call (map (λ k. (k, core_cancel)) ends) = writes_at calls workers past h.Call n.Sweep up.kept.orderly.1 up.kept.means sweeps in
     let ends_same : is_end k (ends_of m) ≡ is_end k ends = ap (λ x. is_end k (reply_of calls workers x h.Call).ends) up.kept.stands in
     let within : is_end k ends ≡ true → k < task_count calls = λ q. (written_in (Written calls workers past h.Call) ends k writes.made q).0 in
     elim (low_or k tasks) [
@@ -271,6 +271,6 @@ sweeps_all own m next_m v happened items lines next_lines tasks same up need may
     let sweeps : needs calls workers past h.Call ≡ n.Sweep = ap (λ x. need_of calls workers x h.Call) (sym up.kept.stands) ∙ need in
     let whole = all_ahead own m v happened lines tasks same up sweeps in (
       keeps_more m next_m up.base v happened items lines next_lines h.Call up.kept may steps more
-          (stepped_sweep calls workers past up.base v up.ahead up.kept.orderly up.kept.means up.kept.agrees up.far sweeps whole),
+          (stepped_sweep calls workers past up.base v up.ahead up.kept.orderly.1 up.kept.means up.kept.agrees up.far sweeps whole),
       λ k. up.far.own k ∙ ((λ i. (whole k ∙ sym (sweep_cancels calls workers past k up.kept.means sweeps)) i || stands_in k (up.own i))),
     )

@@ -10,7 +10,7 @@ use Rattle.task_word.specs.Words.{Parts, is_cancelled}
 use Rattle.task_word.specs.Views.{entry}
 use Rattle.task_word.specs.declared.views.CoreSeatView.{CoreSeatView}
 use Rattle.result_cell.specs.declared.verdict.Verdict.{Verdict}
-use Rattle.queue_code.specs.Calls.{Planned, IsOrderly, task_count}
+use Rattle.queue_code.specs.Calls.{Planned, IsPlanned, task_count}
 use Rattle.executor_core.specs.declared.types.Outcome.{Outcome}
 use Rattle.executor_core.specs.declared.types.Outcome.TheVariants as o
 use Rattle.executor_core.specs.declared.types.Answer.{Answer}
@@ -86,7 +86,7 @@ pub record KnowsVerdict (cells : List ℕ) (past : List HistoryEntry) (k : ℕ) 
 
 -- what a book keeps, with these cells
 pub record IsBook (cells : List ℕ) (b : BookView) : Type 0 where
-  pub orderly : IsOrderly b.core.calls
+  pub orderly : IsPlanned b.core.calls
   -- what happened is a history of the plan, with the one list of answers
   pub means : IsHistoryOf b.core.calls (workers_of b.core) (past_of b)
   -- the core stands after it

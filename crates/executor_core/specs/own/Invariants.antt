@@ -6,7 +6,7 @@ use Rattle.sched_time.specs.declared.timing.Timing.TheVariants as t
 use Rattle.executor_core.specs.declared.task.Stage.{Stage}
 use Rattle.executor_core.specs.declared.task.Stage.TheVariants as ph
 use Rattle.executor_core.specs.declared.task.Task.{Task}
-use Rattle.queue_code.specs.Calls.{Planned, IsOrderly, task_count, terms_of, due_at}
+use Rattle.queue_code.specs.Calls.{Planned, IsPlanned, task_count, terms_of, due_at}
 use Rattle.executor_core.specs.Counts.{most_workers}
 use Rattle.executor_core.specs.View.{View}
 use Rattle.executor_core.specs.State.{State, view_of_state, vacant}
@@ -55,7 +55,7 @@ pub record RunsBelow (count : ℕ) (tasks : List Task) : Type 0 where
 
 -- what stays true of a core, with the entries of its two queues by task number, and what sweeps have looked for
 pub record IsWellFormedCore (m : CoreView) (entries kept : List (Option ℕ)) (sought : Sought) : Type 0 where
-  pub orderly : IsOrderly m.calls
+  pub orderly : IsPlanned m.calls
   pub made : m.made ≤ length m.calls
   pub some : 0 < workers_of m
   pub few : workers_of m ≤ most_workers

@@ -3,7 +3,7 @@
 use Rattle.std.specs.Prelude.{◌≡◌, ℕ, ◌<◌, ◌≤◌, Bool, true, false, List, [], ◌∷◌, Option, Some, length, slice_get}
 use Rattle.queue_code.specs.declared.instr.Instr.{Instr}
 use Rattle.queue_code.specs.declared.instr.Instr.TheVariants.{Loop, EndLoop, Halt}
-use Rattle.queue_code.specs.Calls.{IsOrderly}
+use Rattle.queue_code.specs.Calls.{IsPlanned}
 use Rattle.queue_code.specs.Codes.{calls_of}
 use Rattle.queue_code.specs.Cursors.{Enclosing, loop_around, BeginsWithCall}
 
@@ -20,10 +20,10 @@ IsCodeForm false (Halt ∷ is) = is ≡ []
 IsCodeForm true (Halt ∷ is) = ⊥
 IsCodeForm inside (i ∷ is) = IsCodeForm inside is
 
--- a list of instructions is a code: it is well formed, and its calls are in order
+-- a list of instructions is a code: it is well formed, and its calls are few enough, and in order
 pub record IsCode (code : List Instr) : Type 0 where
   pub form : IsCodeForm false code
-  pub order : IsOrderly (calls_of code)
+  pub order : IsPlanned (calls_of code)
 
 -- the table has, at each index within a loop, the index at which the loop begins
 abbrev pub IsLoopTable : List Instr → List ℕ → Type 0

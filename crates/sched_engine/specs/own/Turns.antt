@@ -5,7 +5,7 @@ use Rattle.std.specs.Io.KnownBytes.{Appends, Consumes, prepend_known}
 use Rattle.executor_core.specs.declared.Event.{Event}
 use Rattle.executor_core.specs.declared.Happening.{Happening}
 use Rattle.executor_core.specs.declared.Line.{Line}
-use Rattle.queue_code.specs.Calls.{Planned, IsOrderly}
+use Rattle.queue_code.specs.Calls.{Planned, IsOrderly, IsPlanned}
 use Rattle.executor_core.specs.Histories.{HistoryEntry, IsHistoryOf}
 use Rattle.executor_core.specs.Flows.{history_of, lines_from, lines_of, part_of}
 use Rattle.executor_core.specs.CoreView.{CoreView, room_of, state_of, workers_of, Stands, Steps, Continues}
@@ -107,7 +107,7 @@ pub record IsCut (old : CoreView) (held : List ℕ) (before : Output) (contents 
 -- the core is where some events led it
 pub record StandsAfterEvents (core : CoreView) : Type 0 where
   pub events : List Event
-  pub orderly : IsOrderly core.calls
+  pub orderly : IsPlanned core.calls
   pub stands : Stands core (history_of core.calls (workers_of core) events)
   pub taken : core.taken ≡ length events
   pub within : core.taken ≤ core.limit
@@ -148,7 +148,7 @@ pub record Done (run : Setting) (at : Progress) : Type 0 where
   pub calls : at.core.calls ≡ run.calls
   pub workers : workers_of at.core ≡ run.workers
   pub limit : at.core.limit ≡ run.limit
-  pub orderly : IsOrderly run.calls
+  pub orderly : IsPlanned run.calls
   pub small : run.limit < 2 ^ 32
 
 -- between two turns each event that was read is answered and the answers are written: what is held is a part of one line

@@ -1,7 +1,7 @@
 //! Traces with one byte changed, left out or doubled, at each place, and with one line left out, doubled or put behind the
 //! next one, beside the slow program.
 ghost use Rattle.std.specs.Prelude.{◌≡◌, ◌<◌, length, IfOk};
-ghost use Rattle.queue_code.specs.Calls.{IsOrderly};
+ghost use Rattle.queue_code.specs.Calls.{IsPlanned};
 ghost use Rattle.queue_code.specs.Codes.{calls_of};
 
 use super::plainly::plain_finding;
@@ -25,7 +25,7 @@ fn found_by_both(
     workers: u8,
     text: &[u8],
 ) -> Result<Option<Finding>, AllocError>
-    requires { IsOrderly calls.now }
+    requires { IsPlanned calls.now }
 {
     let finding = plain_finding(alloc, calls, workers, text)?;
     if text.len() > MOST_BYTES || check(alloc, plan, workers, text) != Ok(finding) {
@@ -54,7 +54,7 @@ fn conforms_with(
     at: usize,
     instead: &[u8],
 ) -> Result<bool, Fail>
-    requires orderly { IsOrderly calls.now }
+    requires orderly { IsPlanned calls.now }
     requires within { at < length trace.now }
 {
     let text = changed(rt.alloc(), trace, at, instead)?;
@@ -72,7 +72,7 @@ fn conforming_at(
     trace: &[u8],
     at: usize,
 ) -> Result<usize, Fail>
-    requires orderly { IsOrderly calls.now }
+    requires orderly { IsPlanned calls.now }
     requires within { at < length trace.now }
 {
     let code = trace[at];
@@ -142,7 +142,7 @@ fn finds_line_change(
     at: usize,
     change: LineChange,
 ) -> Result<(), Fail>
-    requires { IsOrderly calls.now }
+    requires { IsPlanned calls.now }
 {
     let text = with_line_changed(rt.alloc(), trace, at, change)?;
     let found = found_by_both(rt.alloc(), plan, calls, workers, text.as_bytes())?;
@@ -158,7 +158,7 @@ fn finds_line_changes(
     workers: u8,
     trace: &str,
 ) -> Result<(), Fail>
-    requires { IsOrderly calls.now }
+    requires { IsPlanned calls.now }
 {
     for at in 0..trace.lines().count() {
         for change in [

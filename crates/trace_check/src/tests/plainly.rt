@@ -1,6 +1,6 @@
 //! What is found of a text by a slow program, which follows the definitions word by word: the text is cut at its newlines,
 //! and for each number of its lines all representatives are answered from the beginning, by the plain executor.
-ghost use Rattle.queue_code.specs.Calls.{IsOrderly};
+ghost use Rattle.queue_code.specs.Calls.{IsPlanned};
 
 use crate::Finding;
 use executor_core::{Answer, EventError, Happening, Line, Message, Outcome};
@@ -17,7 +17,7 @@ pub fn plain_finding(
     workers: u8,
     text: &[u8],
 ) -> Result<Finding, AllocError>
-    requires { IsOrderly calls.now }
+    requires { IsPlanned calls.now }
 {
     let (lines, is_whole) = lines_in_front(alloc, text)?;
     let mut owed = 0;
@@ -59,7 +59,7 @@ fn owed_after(
     workers: u8,
     lines: &[Line],
 ) -> Result<Option<usize>, AllocError>
-    requires { IsOrderly calls.now }
+    requires { IsPlanned calls.now }
 {
     let mut happened = Vec::new(alloc);
     if !happen_plainly(calls, workers, lines, &mut happened)? {

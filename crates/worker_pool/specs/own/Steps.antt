@@ -5,7 +5,7 @@ use Rattle.task_word.specs.Words.{marked}
 use Rattle.task_word.specs.Views.{entry}
 use Rattle.task_word.specs.declared.views.CoreSeatView.{CoreSeatView}
 use Rattle.task_word.specs.declared.views.HandleSeatView.{HandleSeatView}
-use Rattle.queue_code.specs.Calls.{Planned, IsOrderly, task_count}
+use Rattle.queue_code.specs.Calls.{Planned, IsPlanned, task_count}
 use Rattle.executor_core.specs.declared.types.Happening.{Happening}
 use Rattle.executor_core.specs.declared.types.Happening.TheVariants as h
 use Rattle.executor_core.specs.declared.types.Line.{Line}
@@ -30,7 +30,7 @@ pub record Agrees (calls : List Planned) (workers : ℕ) (past : List HistoryEnt
 
 -- a state, a seat, what happened and some lines agree
 pub record Keeps (calls : List Planned) (workers : ℕ) (s : State) (v : CoreSeatView) (happened : List Happening) (lines : List Line) : Type 0 where
-  pub orderly : IsOrderly calls
+  pub orderly : IsPlanned calls
   pub means : IsHistoryOf calls workers (history_for calls workers happened)
   pub stands : s ≡ after calls workers (happenings (history_for calls workers happened))
   pub written : lines ≡ lines_of calls (history_for calls workers happened)

@@ -12,5 +12,5 @@ due_at-requires-clause-within g c =
     let past = c.args.past.now in
     let k = c.args.k in
     let same : due_at (terms_of calls k) c.starts.result (Some c.now_of.result) ≡ due_next calls (view_of_history calls past) k = λ i. due_at (terms_of calls k) (c.starts.ensures i) (Some (c.now_of.ensures i)) in
-    let within = answered_within calls c.requires.answered.0 past c.requires.orderly c.requires.answered.1 in
-    subst (λ (due : ℕ). due ≤ latest_due) (sym same) (next_within calls past k c.requires.orderly within)
+    let within = answered_within calls c.requires.answered.0 past c.requires.orderly.1 c.requires.answered.1 in
+    subst (λ (due : ℕ). due ≤ latest_due) (sym same) (next_within calls past k c.requires.orderly.1 within)

@@ -11,4 +11,4 @@ due_at-requires-clause-within g c =
     let past = c.args.past.now in
     let k = c.args.k in
     let same : due_at (terms_of calls k) c.starts.result c.last_finish.result ≡ due_of calls past k = λ i. due_at (terms_of calls k) (c.starts.ensures i) (c.last_finish.ensures i) in
-    subst (λ (due : ℕ). due ≤ latest_due) (sym same) (answered_within calls c.requires.answered.0 past c.requires.orderly c.requires.answered.1 k)
+    subst (λ (due : ℕ). due ≤ latest_due) (sym same) (answered_within calls c.requires.answered.0 past c.requires.orderly.1 c.requires.answered.1 k)

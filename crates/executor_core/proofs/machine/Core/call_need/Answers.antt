@@ -18,7 +18,7 @@ pub returns-then-moment-at-clause-last : goal.returns-then-moment-at-clause-last
 returns-then-moment-at-clause-last g c = λ q far.
     let old = c.args.self.now in
     let is : slice_get old.calls old.made ≡ Some (c.in_ok-at.at, c.in_ok-at.call) = search rules in
-    absurd (omega (arith, far, c.if-moment-at.true, call_moment old.calls 0 0 old.made c.in_ok-at.at c.in_ok-at.call c.next_call.ensures.orderly.1 is))
+    absurd (omega (arith, far, c.if-moment-at.true, call_moment old.calls 0 0 old.made c.in_ok-at.at c.in_ok-at.call c.next_call.ensures.orderly is))
 
 pub returns-clause-left : goal.returns-clause-left
 returns-clause-left g c =

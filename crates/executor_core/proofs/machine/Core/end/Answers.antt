@@ -10,12 +10,12 @@ use Rattle.executor_core.proofs.machine.Core.end.Goals as goal
 pub overflow_cast-task : goal.overflow_cast-task
 overflow_cast-task g c =
     let low : c.args.task < length c.self.inside.tasks = subst (λ (x : CoreView). c.args.task < length x.tasks) (sym c.self.view_is) c.requires.known in
-    omega (arith, low, few_tasks c.self.inside.calls.items c.self.invariant.orderly, c.self.invariant.count)
+    omega (arith, low, few_tasks c.self.inside.calls.items c.self.invariant.orderly.0, c.self.invariant.count)
 
 pub overflow_cast-task-2 : goal.overflow_cast-task-2
 overflow_cast-task-2 g c =
     let low : c.args.task < length c.self.inside.tasks = subst (λ (x : CoreView). c.args.task < length x.tasks) (sym c.self.view_is) c.requires.known in
-    omega (arith, low, few_tasks c.self.inside.calls.items c.self.invariant.orderly, c.self.invariant.count)
+    omega (arith, low, few_tasks c.self.inside.calls.items c.self.invariant.orderly.0, c.self.invariant.count)
 
 pub invariant_of-self : goal.invariant_of-self
 invariant_of-self g c =

@@ -65,7 +65,7 @@ returns-clause-steps g c =
     subst (λ l. Steps old new c.args.out.now.items c.happen-2.new.out.items l) (sym all) (steps_then old mid new c.args.out.now.items c.loop-self.out.items c.happen-2.new.out.items hs (event ∷ []) kept.steps.1 last)
 
 pub returns-clause-history : goal.returns-clause-history
-returns-clause-history g c = event_continues c.args.self.now _ _ c.args.out.now.items c.happen-2.new.out.items c.args.event c.self.invariant.orderly c.self.view_is (returns-clause-steps g c)
+returns-clause-history g c = event_continues c.args.self.now _ _ c.args.out.now.items c.happen-2.new.out.items c.args.event c.self.invariant.orderly.1 c.self.view_is (returns-clause-steps g c)
 
 pub returns-clause-errors : goal.returns-clause-errors
 returns-clause-errors g c =

@@ -11,7 +11,7 @@ note_periodic-requires-clause-none g c = c.self.invariant.noted.none
 pub note_periodic-requires-clause-few : goal.note_periodic-requires-clause-few
 note_periodic-requires-clause-few g c =
     let m = c.self.inside in
-    omega (arith, few_tasks m.calls.items c.self.invariant.orderly, c.self.invariant.count)
+    omega (arith, few_tasks m.calls.items c.self.invariant.orderly.0, c.self.invariant.count)
 
 pub note_periodic-requires-clause-room : goal.note_periodic-requires-clause-room
 note_periodic-requires-clause-room g c =

@@ -38,7 +38,7 @@ now_stays calls n now h.Call q o may before next = by (slice_get calls n) refl
     by (Some p) is =
         let low : now ≤ p.0 = before p is in
         let shift : suc n ≡ 1 + n = omega arith in
-        let rise : p.0 ≤ q.0 = next_later calls 0 0 n p q o.1 is (ap (slice_get calls) shift ∙ next) in
+        let rise : p.0 ≤ q.0 = next_later calls 0 0 n p q o is (ap (slice_get calls) shift ∙ next) in
         grind (arith, nat_tests, low, rise)
 now_stays calls n now (h.Clock moment) q o may before next = by (is_accepted now moment) refl
   where

@@ -17,7 +17,7 @@ use Rattle.executor_core.specs.Answers.{Reply}
 use Rattle.executor_core.specs.Histories.{HistoryEntry, IsHistoryOf, happenings, is_start}
 use Rattle.executor_core.specs.State.{after, reply_of, move_task, submit_phase, end_task, due_past}
 use Rattle.executor_core.proofs.Agree.{after_agrees, answers_alike}
-use Rattle.live_laws.specs.Turns.{arms}
+use Rattle.executor_laws.specs.Turns.{arms}
 
 -- ---- one answer
 

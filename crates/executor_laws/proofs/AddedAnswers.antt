@@ -16,20 +16,19 @@ use Rattle.executor_core.specs.declared.types.Refusal.TheVariants as refusal
 use Rattle.executor_core.specs.declared.types.Answer.TheVariants as a
 use Rattle.executor_core.specs.declared.task.Stage.TheVariants as ph
 use Rattle.executor_core.specs.declared.task.Task.{Task}
-use Rattle.queue_code.specs.Calls.{Planned, IsOrderlyCall, task_count, numbers, how_many, Terms, terms_of, due_at}
-use Rattle.live_laws.specs.Orders.{IsInOrder}
+use Rattle.queue_code.specs.Calls.{Planned, IsOrderly, IsOrderlyCall, task_count, numbers, how_many, Terms, terms_of, due_at}
 use Rattle.executor_core.specs.View.{Fate, View, is_waiting, is_running, is_enabled, earlier, first_enabled}
 use Rattle.executor_core.specs.Answers.{Reply, bare, called, kind_of, is_swept, swept, is_ended_by, is_queued, is_terminated, setting_sweeps, start_answer, finish_answer, outcome_in, stops_periodic, effect_on}
 use Rattle.executor_core.specs.State.{State, vacant, view_of_state, seen_task, seen_phase, reply_of}
 use Rattle.executor_core.specs.Queues.{comes_before}
 use Rattle.executor_core.proofs.Sound.{first_is_enabled}
 use Rattle.executor_laws.specs.Positions.{IsSubmissionOf}
-use Rattle.live_laws.proofs.Numbering.{submits_below}
-use Rattle.live_laws.proofs.AddedCalls.{not_it, same_call, same_terms, same_of_numbers, task_grows, last_filtered, last_counted, last_not_first}
+use Rattle.executor_laws.proofs.Numbering.{submits_below}
+use Rattle.executor_laws.proofs.AddedCalls.{not_it, same_call, same_terms, same_of_numbers, task_grows, last_filtered, last_counted, last_not_first}
 
 -- what a call may be added behind: the calls before it are in order, and it is in order behind them
 pub record IsNext (calls : List Planned) (p : Planned) : Type 0 where
-  pub orderly : IsInOrder calls
+  pub orderly : IsOrderly calls
   pub last : IsOrderlyCall (task_count calls) p.1
 
 -- the state knows nothing of task n
@@ -46,7 +45,7 @@ by_number P n here other k = pick (k == n) refl
     pick false q = other k q
 
 -- the number of a submission is below their count
-pub submits_in : (calls : List Planned) (n k : ℕ) (p : Planned) → IsInOrder calls → slice_get calls n ≡ Some p → IsSubmissionOf k p.1 → k < task_count calls
+pub submits_in : (calls : List Planned) (n k : ℕ) (p : Planned) → IsOrderly calls → slice_get calls n ≡ Some p → IsSubmissionOf k p.1 → k < task_count calls
 submits_in calls n k p o q s = let low = submits_below 0 0 n k calls p o q s in omega (arith, low)
 
 -- a task that is not there is vacant, and not kept

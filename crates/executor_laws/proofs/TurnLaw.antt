@@ -18,13 +18,13 @@ use Rattle.executor_core.specs.Answers.{bare, reply, called, start_answer, finis
 use Rattle.executor_core.specs.Histories.{HistoryEntry, IsHistoryOf, view_of_history, due_of, is_start, cancels}
 use Rattle.executor_core.proofs.Replies.{IsAnswerTo, by_answer}
 use Rattle.executor_laws.specs.Laws.{Starts}
-use Rattle.live_laws.specs.Turns.{puts_ahead, serves, turns, ahead, TurnsCome}
+use Rattle.executor_laws.specs.Turns.{puts_ahead, serves, turns, ahead, TurnsCome}
 use Rattle.executor_laws.proofs.StartLaws.{starts_are_in_order}
 use Rattle.executor_laws.proofs.Places.{none_is_enabled}
 use Rattle.executor_laws.proofs.Repeats.{started_so}
 use Rattle.executor_laws.proofs.Waiting.{waiting_is_a_task}
-use Rattle.live_laws.proofs.TurnCounts.{counts_le, counts_apart, counts_grow, at_most_one, at_least_one}
-use Rattle.live_laws.proofs.TurnSteps.{stays_enabled, in_front, brings, front_before}
+use Rattle.executor_laws.proofs.TurnCounts.{counts_le, counts_apart, counts_grow, at_most_one, at_least_one}
+use Rattle.executor_laws.proofs.TurnSteps.{stays_enabled, in_front, brings, front_before}
 
 -- ---- a worker is idle only where no task is enabled
 

@@ -13,17 +13,16 @@ use Rattle.executor_core.specs.declared.types.Happening.TheVariants as h
 use Rattle.executor_core.specs.declared.types.EventError.TheVariants as x
 use Rattle.executor_core.specs.declared.types.Answer.{Answer}
 use Rattle.executor_core.specs.declared.types.Answer.TheVariants as a
-use Rattle.queue_code.specs.Calls.{Planned, IsOrderlyFrom, IsOrderlyCall, count_after, task_count}
-use Rattle.live_laws.specs.Orders.{IsInOrder}
+use Rattle.queue_code.specs.Calls.{Planned, IsOrderly, IsOrderlyFrom, IsOrderlyCall, count_after, task_count}
 use Rattle.executor_core.specs.Answers.{Reply, moment_after, is_accepted}
 use Rattle.executor_core.specs.Histories.{HistoryEntry, happenings, made, now_of, answer, AreMade, MayFrom, IsHistoryOf}
 use Rattle.executor_core.specs.State.{after, next, reply_of}
 use Rattle.executor_core.specs.Flows.{lines_at, reply_in}
 use Rattle.executor_core.proofs.Agree.{after_agrees, answers_alike}
-use Rattle.live_laws.specs.Additions.{LooksBelow, AllLookBelow, StandsFor, CallsMayBeAdded, ManyCallsMayBeAdded}
-use Rattle.live_laws.proofs.AddedCalls.{split_orderly, task_grows}
-use Rattle.live_laws.proofs.AddedAnswers.{IsNext, NotThere, Admits, reply_alike}
-use Rattle.live_laws.proofs.AddedSteps.{next_alike, moment_alike, passed_before, still_not_there}
+use Rattle.executor_laws.specs.Additions.{LooksBelow, AllLookBelow, StandsFor, CallsMayBeAdded, ManyCallsMayBeAdded}
+use Rattle.executor_laws.proofs.AddedCalls.{split_orderly, task_grows}
+use Rattle.executor_laws.proofs.AddedAnswers.{IsNext, NotThere, Admits, reply_alike}
+use Rattle.executor_laws.proofs.AddedSteps.{next_alike, moment_alike, passed_before, still_not_there}
 
 -- ---- one call more
 
@@ -175,7 +174,7 @@ many_calls_may_be_added calls workers past never [] m open_for = subst (λ cs. S
 many_calls_may_be_added calls workers past never (p ∷ more) m open_for =
     let mid = calls ++ p ∷ [] in
     let whole : mid ++ more ≡ calls ++ p ∷ more = append_assoc calls (p ∷ []) more in
-    let orderly : IsInOrder (mid ++ more) = subst IsInOrder (sym whole) open_for.orderly in
+    let orderly : IsOrderly (mid ++ more) = subst IsOrderly (sym whole) open_for.orderly in
     let numbers : task_count (mid ++ more) ≤ never = subst (λ cs. task_count cs ≤ never) (sym whole) open_for.numbers in
     let first : StandsFor calls mid workers past = calls_may_be_added calls workers past never p m (record {
       orderly = front_orderly 0 0 mid more orderly;

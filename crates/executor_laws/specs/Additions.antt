@@ -6,8 +6,7 @@ use Rattle.executor_core.specs.declared.types.Happening.{Happening}
 use Rattle.executor_core.specs.declared.types.Happening.TheVariants as h
 use Rattle.executor_core.specs.declared.types.Answer.{Answer}
 use Rattle.executor_core.specs.declared.types.Answer.TheVariants as a
-use Rattle.queue_code.specs.Calls.{Planned, task_count}
-use Rattle.live_laws.specs.Orders.{IsInOrder}
+use Rattle.queue_code.specs.Calls.{Planned, IsOrderly, task_count}
 use Rattle.executor_core.specs.Histories.{HistoryEntry, happenings, now_of, IsHistoryOf}
 use Rattle.executor_core.specs.State.{after}
 use Rattle.executor_core.specs.Flows.{lines_of}
@@ -27,14 +26,14 @@ AllLookBelow moment count never past = All (λ e. LooksBelow moment count never 
 -- after a history of some calls one call more may be added behind them: they are in order with it, their tasks have numbers
 -- below `never`, and nothing that happened looks at it
 pub record IsOpenFor (calls : List Planned) (past : List HistoryEntry) (never : ℕ) (p : Planned) : Type 0 where
-  pub orderly : IsInOrder (calls ++ p ∷ [])
+  pub orderly : IsOrderly (calls ++ p ∷ [])
   pub numbers : task_count (calls ++ p ∷ []) ≤ never
   pub below : AllLookBelow p.0 (task_count calls) never past
 
 -- after a history of some calls more of them may be added: all are in order, their tasks have numbers below `never`, and
 -- nothing that happened looks at one of those that are added
 pub record IsOpenForAll (calls : List Planned) (past : List HistoryEntry) (never : ℕ) (more : List Planned) : Type 0 where
-  pub orderly : IsInOrder (calls ++ more)
+  pub orderly : IsOrderly (calls ++ more)
   pub numbers : task_count (calls ++ more) ≤ never
   pub below : All (λ p. AllLookBelow p.0 (task_count calls) never past) more
 

@@ -1,5 +1,5 @@
 //! What holds of a history where calls are added behind the ones that it means, as while the executor runs.
-ghost use Rattle.live_laws.specs.Additions.{CallsMayBeAdded, ManyCallsMayBeAdded};
+ghost use Rattle.executor_laws.specs.Additions.{CallsMayBeAdded, ManyCallsMayBeAdded};
 
 /// A history of some calls is one of those and one call more, with the same lines, and leads to the same state and moment:
 /// where the calls are in order with it, each accepted clock was before its moment, and each cancel from outside named a

@@ -16,8 +16,7 @@ use Rattle.executor_core.specs.declared.types.Answer.{Answer}
 use Rattle.executor_core.specs.declared.types.Answer.TheVariants as a
 use Rattle.executor_core.specs.declared.task.Stage.TheVariants as ph
 use Rattle.executor_core.specs.declared.task.Task.{Task}
-use Rattle.queue_code.specs.Calls.{Planned, task_count, numbers, Terms, terms_of, due_at}
-use Rattle.live_laws.specs.Orders.{IsInOrder}
+use Rattle.queue_code.specs.Calls.{Planned, IsOrderly, task_count, numbers, Terms, terms_of, due_at}
 use Rattle.executor_core.specs.View.{Fate, is_waiting}
 use Rattle.executor_core.specs.Answers.{Reply, bare, called, kind_of, swept, start_answer, finish_answer, effect_on, moment_after}
 use Rattle.executor_core.specs.Histories.{is_submit, is_start, is_finish, is_cancel, is_end, is_ended, is_finish_with, had_effect, is_sweep, meets, kept_after, work_after, made_after, policies_after, is_shutdown, is_stop, cancels}
@@ -28,8 +27,8 @@ use Rattle.executor_core.proofs.Sound.{Finds, reply_finds}
 use Rattle.executor_core.proofs.Replies.{IsAnswerTo, by_answer, call_ends_waiting}
 -- ---- what it does
 use Rattle.executor_laws.specs.Positions.{IsSubmissionOf}
-use Rattle.live_laws.proofs.AddedCalls.{not_it, same_call, same_terms}
-use Rattle.live_laws.proofs.AddedAnswers.{IsNext, NotThere, Admits, by_number, submits_in, no_phase, no_kept, not_waiting, same_fate, reply_alike}
+use Rattle.executor_laws.proofs.AddedCalls.{not_it, same_call, same_terms}
+use Rattle.executor_laws.proofs.AddedAnswers.{IsNext, NotThere, Admits, by_number, submits_in, no_phase, no_kept, not_waiting, same_fate, reply_alike}
 
 -- an answer is of other tasks than n
 pub record Passes (n : ℕ) (answer : Answer) : Type 0 where
@@ -112,7 +111,7 @@ passed_by calls made n (h.Finish w ending) passed = tt
 passed_by calls made n (h.Cancel k) passed = tt
 
 -- no call before the one that is added submits its task
-pub passed_before : (calls : List Planned) (made : ℕ) (happening : Happening) → IsInOrder calls → Passed calls made (task_count calls) happening
+pub passed_before : (calls : List Planned) (made : ℕ) (happening : Happening) → IsOrderly calls → Passed calls made (task_count calls) happening
 passed_before calls made happening o = passed_by calls made (task_count calls) happening (λ y q k submits. not_it (task_count calls) k (submits_in calls made k y o q submits))
 
 -- then no answer submits it

@@ -1,5 +1,5 @@
 //! What becomes of a task that was accepted.
-ghost use Rattle.live_laws.specs.Turns.{NoTaskIsLost, TurnsCome};
+ghost use Rattle.executor_laws.specs.Turns.{NoTaskIsLost, TurnsCome};
 
 /// A task that was accepted, and neither cancelled nor ended, is never lost: it stands in line, or a run of it is under way,
 /// or its one run was finished with a value, or a run of it failed.

@@ -9,10 +9,10 @@ use Rattle.executor_core.specs.Histories.{happenings, view_of_history, was_done,
 use Rattle.executor_core.specs.State.{State, after, view_of_state, seen_phase, was_submitted, is_done_phase, is_failed_phase}
 use Rattle.executor_core.proofs.Agree.{Agrees, after_agrees}
 use Rattle.executor_core.proofs.Sound.{is_seen_waiting}
-use Rattle.live_laws.specs.Turns.{IsInLine, IsAtWork, NoTaskIsLost}
+use Rattle.executor_laws.specs.Turns.{IsInLine, IsAtWork, NoTaskIsLost}
 use Rattle.executor_laws.proofs.Places.{work_is_the_last_start}
 use Rattle.executor_laws.proofs.Waiting.{waiting_is_a_task, waiting_is_due_in_time}
-use Rattle.live_laws.proofs.Armed.{waits_armed}
+use Rattle.executor_laws.proofs.Armed.{waits_armed}
 
 -- the law
 pub no_task_is_lost : NoTaskIsLost

@@ -21,8 +21,8 @@ use Rattle.executor_core.proofs.Agree.{Agrees, after_agrees}
 use Rattle.executor_core.proofs.Sound.{Finds, reply_finds, waits_in, enabled_in, is_seen_waiting}
 use Rattle.executor_core.proofs.SoundSteps.{later}
 use Rattle.executor_laws.proofs.Repeats.{again_is_due}
-use Rattle.live_laws.proofs.Armed.{comes_to_wait, said, said_ends}
-use Rattle.live_laws.proofs.NextCalls.{accepted_behind}
+use Rattle.executor_laws.proofs.Armed.{comes_to_wait, said, said_ends}
+use Rattle.executor_laws.proofs.NextCalls.{accepted_behind}
 
 -- ---- the task itself
 

@@ -1,0 +1,5 @@
+use Rattle.executor_laws.proofs.Adding
+use Rattle.executor_laws.proofs.additions.many_calls_may_be_added.Goals as goal
+
+pub returns : goal.returns
+returns c = Adding.many_calls_may_be_added

@@ -1,5 +1,0 @@
-use Rattle.live_laws.proofs.Adding
-use Rattle.live_laws.proofs.additions.many_calls_may_be_added.Goals as goal
-
-pub returns : goal.returns
-returns c = Adding.many_calls_may_be_added

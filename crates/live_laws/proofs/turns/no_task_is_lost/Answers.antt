@@ -1,5 +1,0 @@
-use Rattle.live_laws.proofs.NoLoss
-use Rattle.live_laws.proofs.turns.no_task_is_lost.Goals as goal
-
-pub returns : goal.returns
-returns c = NoLoss.no_task_is_lost

@@ -1,4 +1,0 @@
-pub use Rattle.executor_laws.specs.Positions
-pub mod Orders
-pub mod Additions
-pub mod Turns
