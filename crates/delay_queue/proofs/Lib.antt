@@ -1,10 +1,3 @@
-pub mod Order
-pub mod Digits
-pub mod Lookups
-pub mod Holes
-pub mod Dues
-pub mod Places
-pub mod Tables
+pub mod Keys
+pub mod Heaps
 pub mod Counts
-pub mod Calls
-pub mod Touched

@@ -59,7 +59,6 @@
 
 mod entry;
 mod error;
-mod heap;
 pub mod laws;
 #[cfg(test)]
 mod plain;

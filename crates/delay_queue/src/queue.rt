@@ -1,12 +1,12 @@
-//! The queue: a binary heap of entries, with the place of each task's entry beside it.
+//! The queue: a queue of slots, one for each task, whose entries have no rank.
 ghost use Rattle.std.specs.Prelude.{◌≡◌, ℕ, ◌+◌, ◌-◌, ◌<◌, ◌≤◌, ◌==◌, true, false, min, Some, None, length, replicate, slice_set, is_some, IfOk, IsOk, IfSome, IfNone};
 ghost use Rattle.delay_queue.specs.Queues.{due_in, entry_count, most_touches, greatest_count, IsLeast, IsEmpty, NoneIsDue, Touches};
 ghost use Rattle.delay_queue.specs.Touches.{insert_touches, take_touches, CountsTouches, RemovalMakes};
 
 use crate::entry::Entry;
 use crate::error::QueueError;
-use crate::heap::{place_of, rise, take_out};
-use std::alloc::{AllocError, Allocator};
+use slot_queue::{NoRank, SlotQueue};
+use std::alloc::Allocator;
 use std::marker::Model;
 
 /// The entries of tasks, at most one for each task below a fixed count.
@@ -15,23 +15,21 @@ use std::marker::Model;
 /// [`touched`](DelayQueue::touched).
 #[derive(Drop)]
 pub struct DelayQueue<A: Allocator> {
-    heap: Vec<Entry, A>,
-    /// Where the entry of each task stands in the heap. A task without an entry has any place.
-    places: Vec<u32, A>,
-    touched: u64,
+    /// The slot of a task has its number.
+    slots: SlotQueue<NoRank, A>,
 }
 
 impl<A: Allocator> Model for DelayQueue<A> {
-    ghost use Rattle.std.specs.Prelude.{vec_capacity};
+    ghost use Rattle.std.specs.Prelude.{map};
+    ghost use Rattle.slot_queue.specs.Queues.{due_by};
     ghost use Rattle.delay_queue.specs.Queues.{Queue};
-    ghost use Rattle.delay_queue.specs.Heaps.{table};
-    ghost use Rattle.delay_queue.specs.own.Heaps.{IsWellFormedQueue};
+    ghost use Rattle.delay_queue.specs.own.Unranked.{IsUnranked};
 
     ghost Value = { Queue };
 
-    ghost view = { λ q. record { entries = table q.heap.items q.places.items; touched = q.touched } };
+    ghost view = { λ q. record { entries = map due_by q.slots.entries; touched = q.slots.touched } };
 
-    ghost invariant = { λ q. IsWellFormedQueue q.heap.items q.places.items (vec_capacity q.heap) };
+    ghost invariant = { λ q. IsUnranked q.slots.entries };
 }
 
 impl<A: Allocator> DelayQueue<A> {
@@ -47,25 +45,10 @@ impl<A: Allocator> DelayQueue<A> {
         ensures untouched { IfOk result (λ q. q.touched ≡ 0) }
         ensures no_room { tasks ≡ 0 → IsOk result }
     {
-        DelayQueue::with_tables(alloc, tasks).map_err(|_| QueueError::Memory)
-    }
-
-    /// The empty queue, where there is memory for its tables.
-    fn with_tables(alloc: A, tasks: u32) -> Result<DelayQueue<A>, AllocError>
-    where
-        A: Copy,
-        ensures empty { IfOk result (λ q. q.entries ≡ replicate tasks None) }
-        ensures untouched { IfOk result (λ q. q.touched ≡ 0) }
-        ensures no_room { tasks ≡ 0 → IsOk result }
-    {
-        let heap = Vec::with_capacity(alloc, tasks as usize)?;
-        let mut places = Vec::with_capacity(alloc, tasks as usize)?;
-        places.resize(tasks as usize, 0)?;
-        Ok(DelayQueue {
-            heap,
-            places,
-            touched: 0,
-        })
+        match SlotQueue::new(alloc, tasks) {
+            Ok(slots) => Ok(DelayQueue { slots }),
+            Err(slot_queue::QueueError::Memory) => Err(QueueError::Memory),
+        }
     }
 
     /// Adds an entry, whose task is below the count of tasks and has no entry yet.
@@ -76,10 +59,7 @@ impl<A: Allocator> DelayQueue<A> {
         ensures touched { Touches self.old.touched self.new.touched (min 1 (entry_count self.old.entries)) (most_touches (entry_count self.old.entries)) }
         ensures counted { CountsTouches self.old self.new.touched (λ heap times. times ≡ insert_touches heap entry) }
     {
-        let place = self.heap.len();
-        self.heap.push_reserved(entry);
-        let touches = rise(&mut self.heap, &mut self.places, place, entry);
-        count(&mut self.touched, touches);
+        self.slots.insert(in_slot(entry));
     }
 
     /// The least entry, due or not, or `None` where the queue is empty. The entry stays.
@@ -87,7 +67,7 @@ impl<A: Allocator> DelayQueue<A> {
         ensures least { IfSome result (λ e. IsLeast self.now.entries e.due e.task) }
         ensures empty { IfNone result (IsEmpty self.now.entries) }
     {
-        self.heap.first().copied()
+        Some(of_task(self.slots.peek()?))
     }
 
     /// Takes out the least entry, if it is due at the moment `now`, in nanoseconds.
@@ -103,13 +83,7 @@ impl<A: Allocator> DelayQueue<A> {
         ensures counted { IfSome result (λ _. CountsTouches self.old self.new.touched (λ heap times. times ≡ take_touches heap 0)) }
         ensures untouched { IfNone result (self.new.touched ≡ self.old.touched) }
     {
-        let least = *self.heap.first()?;
-        if now < least.due {
-            return None;
-        }
-        let touches = take_out(&mut self.heap, &mut self.places, 0);
-        count(&mut self.touched, touches);
-        Some(least)
+        Some(of_task(self.slots.poll(now)?))
     }
 
     /// Takes out the entry of a task, and says whether there was one. Where there was none the queue is unchanged.
@@ -122,41 +96,35 @@ impl<A: Allocator> DelayQueue<A> {
         ensures counted { result ≡ true → CountsTouches self.old self.new.touched (RemovalMakes task) }
         ensures untouched { result ≡ false → self.new.touched ≡ self.old.touched }
     {
-        let Some(place) = place_of(&self.heap, &self.places, task) else {
-            return false;
-        };
-        let touches = take_out(&mut self.heap, &mut self.places, place);
-        count(&mut self.touched, touches);
-        true
+        self.slots.remove(task)
     }
 
     /// The moment at which a task is due, in nanoseconds, or `None` where it has no entry, as a task past the count.
     pub fn due_of(&self, task: u32) -> Option<u64>
         ensures { result ≡ due_in self.now.entries task }
     {
-        let place = place_of(&self.heap, &self.places, task)?;
-        Some(self.heap[place].due)
+        self.slots.due_of(task)
     }
 
     /// Whether a task has an entry. A task past the count has none.
     pub fn contains(&self, task: u32) -> bool
         ensures { result ≡ is_some (due_in self.now.entries task) }
     {
-        self.due_of(task).is_some()
+        self.slots.contains(task)
     }
 
     /// How many entries there are.
     pub fn len(&self) -> usize
         ensures { result ≡ entry_count self.now.entries }
     {
-        self.heap.len()
+        self.slots.len()
     }
 
     /// Whether there is no entry.
     pub fn is_empty(&self) -> bool
         ensures { result ≡ (entry_count self.now.entries == 0) }
     {
-        self.len() == 0
+        self.slots.is_empty()
     }
 
     /// How often the calls so far compared two entries, or changed the index of an entry that stays. It stays at
@@ -164,13 +132,29 @@ impl<A: Allocator> DelayQueue<A> {
     pub fn touched(&self) -> u64
         ensures { result ≡ self.now.touched }
     {
-        self.touched
+        self.slots.touched()
     }
 }
 
-/// Adds to a count of touches, which stays at its greatest value.
-fn count(touched: &mut u64, touches: u64)
-    ensures { touched.new ≡ min (touched.old + touches) greatest_count }
+/// A task's entry as that of its slot.
+fn in_slot(entry: Entry) -> slot_queue::Entry<NoRank>
+    ensures due { result.due ≡ entry.due }
+    ensures slot { result.slot ≡ entry.task }
 {
-    *touched = touched.saturating_add(touches);
+    slot_queue::Entry {
+        due: entry.due,
+        rank: NoRank {},
+        slot: entry.task,
+    }
+}
+
+/// A slot's entry as that of the task with its number.
+fn of_task(entry: slot_queue::Entry<NoRank>) -> Entry
+    ensures due { result.due ≡ entry.due }
+    ensures task { result.task ≡ entry.slot }
+{
+    Entry {
+        due: entry.due,
+        task: entry.slot,
+    }
 }

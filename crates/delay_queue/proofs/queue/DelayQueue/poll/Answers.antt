@@ -1,69 +1,55 @@
--- The first entry is the least, and is taken out.
-use Rattle.std.proofs.Common.{◌≡◌, ℕ, ◌+◌, ◌<◌, ◌≤◌, Option, None, length, set, min, ap, sym, subst, ◌∙◌, arith}
+-- The least entry of the slots is the least of the tasks, and is taken out.
+use Rattle.std.proofs.Common.{◌≡◌, ℕ, ◌-◌, Option, None, set, min, ap, sym, subst, subst₂, ◌∙◌}
 use Rattle.std.specs.Prelude.{IfNone}
-use Rattle.delay_queue.specs.Queues.{Queue, IsLeast, NoneIsDue, entry_count, most_touches, greatest_count}
+use Rattle.slot_queue.specs.Touches.{take_touches as slot_touches}
+use Rattle.delay_queue.specs.Queues.{Queue, IsLeast, NoneIsDue}
+use Rattle.delay_queue.specs.Touches.{take_touches}
 use Rattle.delay_queue.specs.declared.entry.Entry.{Entry}
-use Rattle.delay_queue.proofs.Counts.{count_placed, count_within, some_touched}
-use Rattle.delay_queue.proofs.Calls.{entries_of, least, empty, nothing_first, none_due, first_read, removed_lent}
-use Rattle.delay_queue.specs.Touches.{CountsTouches}
+use Rattle.delay_queue.proofs.Keys.{entries_of, slots_are, keys_set, table_shown, unranked, least_is, none_due_is, touches_are}
+use Rattle.delay_queue.proofs.Counts.{counts_is, take_is}
 use Rattle.delay_queue.proofs.queue.DelayQueue.poll.Goals as goal
 
-pub returns-in_err-least-clause-none_due : goal.returns-in_err-least-clause-none_due
-returns-in_err-least-clause-none_due g c =
-    let q = c.self.inside in
-    let none = nothing_first q.heap.items c.deref.result.now c.deref.ensures.value c.in_err-least.ensures.value in
-    subst (λ (o : Option Entry). IfNone o (NoneIsDue c.args.self.now.entries c.args.now)) (sym c.from_residual.ensures)
-    (λ j d there. absurd (empty q.heap.items q.places.items c.args.self.now.entries (ap entries_of c.self.view_is) none j d there))
+pub returns-in_err-poll-clause-none_due : goal.returns-in_err-poll-clause-none_due
+returns-in_err-poll-clause-none_due g c =
+    let q = c.self.inside.slots in
+    let entries = c.args.self.now.entries in
+    subst (λ (o : Option Entry). IfNone o (NoneIsDue entries c.args.now)) (sym c.from_residual.ensures)
+    (none_due_is q.entries entries c.args.now (slots_are q.entries entries c.self.invariant (ap entries_of c.self.view_is)) c.in_err-poll.ensures.none_due)
 
-pub returns-then-now-least-clause-none_due : goal.returns-then-now-least-clause-none_due
-returns-then-now-least-clause-none_due g c =
-    let q = c.self.inside in
-    let e = c.in_ok-least.field-0.now in
-    let f = first_read q.heap.items c.deref.result.now e c.deref.ensures.value c.in_ok-least.ensures.value in
-    none_due q.heap.items q.places.items c.args.self.now.entries c.args.now (ap entries_of c.self.view_is) c.self.invariant.heap
-    (subst (λ (x : Entry). c.args.now < x.due) (sym f.1) c.if-now-least.true)
-
-pub take_out-touches-requires-clause-few : goal.take_out-touches-requires-clause-few
-take_out-touches-requires-clause-few g c =
-    let q = c.self.inside in
-    omega (arith, count_within q.heap.items q.places.items c.self.invariant.placed, c.self.invariant.few)
+pub invariant_of-self-2 : goal.invariant_of-self-2
+invariant_of-self-2 g c =
+    let q = c.self.inside.slots in
+    let entries = c.args.self.now.entries in
+    let e = c.in_ok-poll.field-0 in
+    unranked c.poll.new.self.entries (set entries e.slot None)
+    (keys_set q.entries c.poll.new.self.entries entries e.slot None (slots_are q.entries entries c.self.invariant (ap entries_of c.self.view_is)) c.in_ok-poll.ensures.removed)
 
 pub returns-clause-least : goal.returns-clause-least
 returns-clause-least g c =
-    let q = c.self.inside in
-    let f = first_read q.heap.items c.deref.result.now c.in_ok-least.field-0.now c.deref.ensures.value c.in_ok-least.ensures.value in
-    subst (λ (x : Entry). IsLeast c.args.self.now.entries x.due x.task) f.1
-    (least q.heap.items q.places.items c.args.self.now.entries (ap entries_of c.self.view_is) c.self.invariant.heap c.self.invariant.placed f.0)
+    let q = c.self.inside.slots in
+    let entries = c.args.self.now.entries in
+    let e = c.in_ok-poll.field-0 in
+    subst₂ (λ (due task : ℕ). IsLeast entries due task) (sym c.of_task.ensures.due) (sym c.of_task.ensures.task)
+    (least_is q.entries entries e.due e.slot (slots_are q.entries entries c.self.invariant (ap entries_of c.self.view_is)) c.in_ok-poll.ensures.least)
 
 pub returns-clause-removed : goal.returns-clause-removed
 returns-clause-removed g c =
-    let q = c.self.inside in
-    let r = c.take_out-touches in
-    let f = first_read q.heap.items c.deref.result.now c.in_ok-least.field-0.now c.deref.ensures.value c.in_ok-least.ensures.value in
-    removed_lent q.heap.items r.new.heap.items q.places.items c.deref_mut.result.now r.new.places c.args.self.now.entries 0 q.places.len (ap entries_of c.self.view_is) c.self.invariant.placed f.0
-    c.deref_mut.ensures.value q.places.ok.0 r.ensures.places_length r.ensures.taken r.ensures.others
-    ∙ ap (λ (x : Entry). set c.args.self.now.entries x.task None) f.1
+    let q = c.self.inside.slots in
+    let entries = c.args.self.now.entries in
+    let e = c.in_ok-poll.field-0 in
+    table_shown c.poll.new.self.entries (set entries e.slot None)
+    (keys_set q.entries c.poll.new.self.entries entries e.slot None (slots_are q.entries entries c.self.invariant (ap entries_of c.self.view_is)) c.in_ok-poll.ensures.removed)
+    ∙ ap (λ (n : ℕ). set entries n None) (sym c.of_task.ensures.task)
 
 pub returns-clause-touched : goal.returns-clause-touched
 returns-clause-touched g c =
-    let q = c.self.inside in
-    let size : length q.heap.items ≡ entry_count c.args.self.now.entries =
-    sym (count_placed q.heap.items q.places.items c.self.invariant.placed) ∙ ap entry_count (ap entries_of c.self.view_is) in
-    record {
-      times = c.take_out-touches.result;
-      many = some_touched (entry_count c.args.self.now.entries) c.take_out-touches.result (subst (λ (n : ℕ). 0 + 1 < n → 0 < c.take_out-touches.result) size c.take_out-touches.ensures.many);
-      few = subst (λ (n : ℕ). c.take_out-touches.result ≤ most_touches n) size c.take_out-touches.ensures.few;
-      counted = c.count.ensures ∙ ap (λ (v : Queue). min (v.touched + c.take_out-touches.result) greatest_count) c.self.view_is;
-    }
+    let q = c.self.inside.slots in
+    touches_are q.entries c.args.self.now.entries q.touched c.args.self.now.touched c.poll.new.self.touched (λ (n : ℕ). min 1 (n - 1))
+    (slots_are q.entries c.args.self.now.entries c.self.invariant (ap entries_of c.self.view_is)) (ap (λ (v : Queue). v.touched) c.self.view_is) c.in_ok-poll.ensures.touched
 
 pub returns-clause-counted : goal.returns-clause-counted
-unfolding CountsTouches
 returns-clause-counted g c =
-    let q = c.self.inside in
-    record {
-      heap = q.heap.items;
-      is = record { places = q.places.items; ordered = c.self.invariant.heap; placed = c.self.invariant.placed; holds = ap entries_of c.self.view_is };
-      times = c.take_out-touches.result;
-      makes = c.take_out-touches.ensures.exact;
-      counted = c.count.ensures ∙ ap (λ (v : Queue). min (v.touched + c.take_out-touches.result) greatest_count) c.self.view_is;
-    }
+    let q = c.self.inside.slots in
+    counts_is q c.args.self.now c.poll.new.self.touched (λ heap times. times ≡ slot_touches heap 0) (λ heap times. times ≡ take_touches heap 0)
+    (slots_are q.entries c.args.self.now.entries c.self.invariant (ap entries_of c.self.view_is)) (ap (λ (v : Queue). v.touched) c.self.view_is)
+    (λ heap times makes. makes ∙ take_is heap 0) c.in_ok-poll.ensures.counted

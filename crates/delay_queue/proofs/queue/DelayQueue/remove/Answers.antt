@@ -1,94 +1,43 @@
--- The place of a task's entry, from which it is taken out, or that it has none.
-use Rattle.std.proofs.Common.{◌≡◌, ℕ, ◌+◌, ◌<◌, ◌≤◌, None, length, is_some, set, min, ap, sym, subst, subst₂, ◌∙◌, arith}
-use Rattle.std.proofs.lemmas.Option.{none-some}
-use Rattle.delay_queue.specs.Queues.{Queue, IsLeast, entry_count, most_touches, greatest_count}
-use Rattle.delay_queue.proofs.Counts.{count_placed, count_within, some_touched}
-use Rattle.delay_queue.proofs.Calls.{entries_of, least_place, place_found, place_missing, nothing_there, removed_lent}
-use Rattle.delay_queue.specs.Touches.{CountsTouches}
+-- The entry leaves the slot of its task.
+use Rattle.std.proofs.Common.{ℕ, ◌-◌, None, set, min, ap}
+use Rattle.slot_queue.specs.Touches.{RemovalMakes as SlotMakes}
+use Rattle.delay_queue.specs.Queues.{Queue}
+use Rattle.delay_queue.specs.Touches.{RemovalMakes}
+use Rattle.delay_queue.specs.own.Unranked.{key_due}
+use Rattle.delay_queue.proofs.Keys.{entries_of, slots_are, keys_set, table_shown, unranked, least_slot, touches_are}
+use Rattle.delay_queue.proofs.Counts.{counts_is, removal_is}
 use Rattle.delay_queue.proofs.queue.DelayQueue.remove.Goals as goal
 
-pub returns-in_default-clause-there : goal.returns-in_default-clause-there
-returns-in_default-clause-there g c =
-    let q = c.self.inside in
-    sym (ap is_some (place_missing q.heap.items c.deref.result.now q.places.items c.deref-2.result.now c.args.self.now.entries c.args.task (ap entries_of c.self.view_is) c.deref.ensures.value
-    c.deref-2.ensures.value c.in_default.ensures.missing))
-
-pub returns-in_default-clause-removed : goal.returns-in_default-clause-removed
-returns-in_default-clause-removed g c =
-    let q = c.self.inside in
-    nothing_there c.args.self.now.entries c.args.task
-    (place_missing q.heap.items c.deref.result.now q.places.items c.deref-2.result.now c.args.self.now.entries c.args.task (ap entries_of c.self.view_is) c.deref.ensures.value
-    c.deref-2.ensures.value c.in_default.ensures.missing)
-
-pub returns-in_default-clause-least : goal.returns-in_default-clause-least
-returns-in_default-clause-least g c due h =
-    let q = c.self.inside in
-    absurd (none-some due (sym (place_missing q.heap.items c.deref.result.now q.places.items c.deref-2.result.now c.args.self.now.entries c.args.task (ap entries_of c.self.view_is)
-    c.deref.ensures.value c.deref-2.ensures.value c.in_default.ensures.missing) ∙ h.there))
-
-pub take_out-touches-requires-clause-few : goal.take_out-touches-requires-clause-few
-take_out-touches-requires-clause-few g c =
-    let q = c.self.inside in
-    omega (arith, count_within q.heap.items q.places.items c.self.invariant.placed, c.self.invariant.few)
-
-pub returns-clause-there : goal.returns-clause-there
-returns-clause-there g c =
-    let q = c.self.inside in
-    let f = place_found q.heap.items c.deref.result.now q.places.items c.args.self.now.entries c.args.task c.in-Some.place (ap entries_of c.self.view_is) c.self.invariant.placed
-    c.deref.ensures.value c.in-Some.ensures.found in
-    sym (ap is_some f.2)
+pub invariant_of-self : goal.invariant_of-self
+invariant_of-self g c =
+    let q = c.self.inside.slots in
+    let entries = c.args.self.now.entries in
+    unranked c.remove.new.self.entries (set entries c.args.task None)
+    (keys_set q.entries c.remove.new.self.entries entries c.args.task None (slots_are q.entries entries c.self.invariant (ap entries_of c.self.view_is)) c.remove.ensures.removed)
 
 pub returns-clause-removed : goal.returns-clause-removed
 returns-clause-removed g c =
-    let q = c.self.inside in
-    let r = c.take_out-touches in
-    let k = c.in-Some.place in
-    let f = place_found q.heap.items c.deref.result.now q.places.items c.args.self.now.entries c.args.task k (ap entries_of c.self.view_is) c.self.invariant.placed c.deref.ensures.value
-    c.in-Some.ensures.found in
-    removed_lent q.heap.items r.new.heap.items q.places.items c.deref_mut.result.now r.new.places c.args.self.now.entries k q.places.len (ap entries_of c.self.view_is) c.self.invariant.placed f.0
-    c.deref_mut.ensures.value q.places.ok.0 r.ensures.places_length r.ensures.taken r.ensures.others
-    ∙ ap (λ (n : ℕ). set c.args.self.now.entries n None) f.1
+    let q = c.self.inside.slots in
+    let entries = c.args.self.now.entries in
+    table_shown c.remove.new.self.entries (set entries c.args.task None)
+    (keys_set q.entries c.remove.new.self.entries entries c.args.task None (slots_are q.entries entries c.self.invariant (ap entries_of c.self.view_is)) c.remove.ensures.removed)
 
 pub returns-clause-touched : goal.returns-clause-touched
 returns-clause-touched g c =
-    let q = c.self.inside in
-    let size : length q.heap.items ≡ entry_count c.args.self.now.entries =
-    sym (count_placed q.heap.items q.places.items c.self.invariant.placed) ∙ ap entry_count (ap entries_of c.self.view_is) in
-    record {
-      times = c.take_out-touches.result;
-      many = omega arith;
-      few = subst (λ (n : ℕ). c.take_out-touches.result ≤ most_touches n) size c.take_out-touches.ensures.few;
-      counted = c.count.ensures ∙ ap (λ (v : Queue). min (v.touched + c.take_out-touches.result) greatest_count) c.self.view_is;
-    }
+    let q = c.self.inside.slots in
+    touches_are q.entries c.args.self.now.entries q.touched c.args.self.now.touched c.remove.new.self.touched (λ (n : ℕ). 0)
+    (slots_are q.entries c.args.self.now.entries c.self.invariant (ap entries_of c.self.view_is)) (ap (λ (v : Queue). v.touched) c.self.view_is) c.remove.ensures.touched
 
 pub returns-clause-least : goal.returns-clause-least
 returns-clause-least g c due h =
-    let q = c.self.inside in
-    let k = c.in-Some.place in
-    let t = c.take_out-touches in
-    let queue = c.args.self.now.entries in
-    let size : length q.heap.items ≡ entry_count queue = sym (count_placed q.heap.items q.places.items c.self.invariant.placed) ∙ ap entry_count (ap entries_of c.self.view_is) in
-    let f = place_found q.heap.items c.deref.result.now q.places.items queue c.args.task k (ap entries_of c.self.view_is) c.self.invariant.placed c.deref.ensures.value
-    c.in-Some.ensures.found in
-    let first : k ≡ 0 = least_place q.heap.items q.places.items queue k due (ap entries_of c.self.view_is) c.self.invariant.heap c.self.invariant.placed f.0
-    (subst (λ (n : ℕ). IsLeast queue due n) (sym f.1) h) in
-    record {
-      times = t.result;
-      many = some_touched (entry_count queue) t.result (subst₂ (λ (n k : ℕ). k + 1 < n → 0 < t.result) size first t.ensures.many);
-      few = subst (λ (n : ℕ). t.result ≤ most_touches n) size t.ensures.few;
-      counted = c.count.ensures ∙ ap (λ (v : Queue). min (v.touched + t.result) greatest_count) c.self.view_is;
-    }
+    let q = c.self.inside.slots in
+    let is = slots_are q.entries c.args.self.now.entries c.self.invariant (ap entries_of c.self.view_is) in
+    touches_are q.entries c.args.self.now.entries q.touched c.args.self.now.touched c.remove.new.self.touched (λ (n : ℕ). min 1 (n - 1)) is (ap (λ (v : Queue). v.touched) c.self.view_is)
+    (c.remove.ensures.least (key_due due) (least_slot q.entries c.args.self.now.entries due c.args.task is h))
 
 pub returns-clause-counted : goal.returns-clause-counted
-unfolding CountsTouches
-returns-clause-counted g c there =
-    let q = c.self.inside in
-    let f = place_found q.heap.items c.deref.result.now q.places.items c.args.self.now.entries c.args.task c.in-Some.place (ap entries_of c.self.view_is) c.self.invariant.placed
-    c.deref.ensures.value c.in-Some.ensures.found in
-    record {
-      heap = q.heap.items;
-      is = record { places = q.places.items; ordered = c.self.invariant.heap; placed = c.self.invariant.placed; holds = ap entries_of c.self.view_is };
-      times = c.take_out-touches.result;
-      makes = record { place = c.in-Some.place; inside = f.0; own = f.1; makes = c.take_out-touches.ensures.exact };
-      counted = c.count.ensures ∙ ap (λ (v : Queue). min (v.touched + c.take_out-touches.result) greatest_count) c.self.view_is;
-    }
+returns-clause-counted g c done =
+    let q = c.self.inside.slots in
+    counts_is q c.args.self.now c.remove.new.self.touched (SlotMakes c.args.task) (RemovalMakes c.args.task)
+    (slots_are q.entries c.args.self.now.entries c.self.invariant (ap entries_of c.self.view_is)) (ap (λ (v : Queue). v.touched) c.self.view_is) (removal_is c.args.task)
+    (c.remove.ensures.counted done)
