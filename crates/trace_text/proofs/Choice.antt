@@ -2,9 +2,7 @@
 use Rattle.std.proofs.Common.{◌≡◌, ℕ, ◌^◌, ◌<◌, ◌≤◌, List, [], ◌∷◌, ◌++◌, length, sym, ◌∙◌, arith, append_assoc}
 use Rattle.std.specs.Fmt.{decimal}
 use Rattle.std.proofs.lemmas.List.{append_cancel_left}
-use Rattle.trace_text.specs.own.Spelling.{EndsNumber}
-use Rattle.trace_text.specs.Reading.{IsUnread}
-use Rattle.trace_text.specs.own.Reading.{number_then, Below}
+use Rattle.trace_text.specs.Reading.{IsUnread, EndsNumber, number_then, Below}
 use Rattle.trace_text.proofs.Digits.{one_number}
 
 -- a number ends before a word that begins with no digit, whatever follows

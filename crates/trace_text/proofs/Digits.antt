@@ -6,7 +6,7 @@ use Rattle.std.specs.Str.Parse.{AllDigits}
 use Rattle.std.proofs.lemmas.Fmt.{decimal_injective, digits_decimal}
 use Rattle.std.proofs.lemmas.Str.Parse.{digit_from_value}
 use Rattle.std.proofs.lemmas.List.{take-append-drop}
-use Rattle.trace_text.specs.own.Spelling.{EndsNumber}
+use Rattle.trace_text.specs.Reading.{EndsNumber}
 use Rattle.trace_text.proofs.Numbers.{numerals}
 
 -- the digits in front, all of them, are the same in two equal texts

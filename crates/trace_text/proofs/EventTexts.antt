@@ -11,9 +11,7 @@ use Rattle.sched_time.specs.declared.timing.Ending.TheVariants.{Value, Fault}
 use Rattle.executor_core.specs.declared.Event.{Event}
 use Rattle.executor_core.specs.declared.Event.TheVariants.{Clock, Start, Finish, Cancel}
 use Rattle.trace_text.specs.Spelling.{IsLine, event_line, ending_line, FitsEvent, FitsEnding}
-use Rattle.trace_text.specs.own.Spelling.{EndsNumber}
-use Rattle.trace_text.specs.Reading.{IsUnread}
-use Rattle.trace_text.specs.own.Reading.{number_then}
+use Rattle.trace_text.specs.Reading.{IsUnread, EndsNumber, number_then}
 use Rattle.trace_text.proofs.Digits.{one_number}
 use Rattle.trace_text.proofs.Numbers.{numerals}
 use Rattle.trace_text.proofs.Choice.{one_before}

@@ -9,8 +9,7 @@ use Rattle.executor_core.specs.declared.Outcome.{Outcome}
 use Rattle.trace_text.specs.Spelling.{kind_text, refusal_text, effect_text, whether_text, cancel_text, FitsOutcome}
 use Rattle.trace_text.specs.own.Spelling.{FitsCancel}
 use Rattle.sched_time.specs.Policies.{policy_text, truth_text}
-use Rattle.trace_text.specs.Reading.{IsRead, IsUnread}
-use Rattle.trace_text.specs.own.Reading.{Below, Any, text_then}
+use Rattle.trace_text.specs.Reading.{IsRead, IsUnread, Below, Any, text_then}
 use Rattle.trace_text.proofs.Clashes.{clashes}
 use Rattle.trace_text.proofs.Parts.{IsOnce, text_and, BothFit, then_part, once_part}
 use Rattle.trace_text.proofs.LineWords.{worker_task_once, worker_once, task_run_once, task_once, run_due_once, run_once, last_number_once, queue_once, running_once, kind_once, refusal_once, effect_once, policy_once, truth_once, whether_once, outcome_words, outcome_once}

@@ -10,9 +10,8 @@ use Rattle.executor_core.specs.declared.Message.{Message}
 use Rattle.executor_core.specs.declared.Message.TheVariants.{Answer, End}
 use Rattle.executor_core.specs.declared.Line.{Line}
 use Rattle.trace_text.specs.Spelling.{message_text, error_text, outcome_text, cancel_text, line_text, FitsMessage, FitsLine}
-use Rattle.trace_text.specs.own.Spelling.{EndsNumber, FitsCancel}
-use Rattle.trace_text.specs.Reading.{IsUnread, LinesAreOne}
-use Rattle.trace_text.specs.own.Reading.{Below, Any, text_then}
+use Rattle.trace_text.specs.own.Spelling.{FitsCancel}
+use Rattle.trace_text.specs.Reading.{IsUnread, LinesAreOne, EndsNumber, Below, Any, text_then}
 use Rattle.trace_text.proofs.Digits.{one_number}
 use Rattle.trace_text.proofs.Clashes.{clash, clashes}
 use Rattle.trace_text.proofs.Parts.{IsOnce}

@@ -12,8 +12,7 @@ use Rattle.executor_core.specs.declared.Outcome.{Outcome}
 use Rattle.executor_core.specs.declared.Outcome.TheVariants as outcome
 use Rattle.trace_text.specs.Spelling.{kind_text, refusal_text, error_text, effect_text, whether_text, outcome_text, FitsOutcome}
 use Rattle.sched_time.specs.Policies.{policy_text, truth_text}
-use Rattle.trace_text.specs.Reading.{IsRead, IsUnread}
-use Rattle.trace_text.specs.own.Reading.{Below, Any, text_then}
+use Rattle.trace_text.specs.Reading.{IsRead, IsUnread, Below, Any, text_then}
 use Rattle.trace_text.proofs.Clashes.{clashes}
 use Rattle.trace_text.proofs.Parts.{IsOnce, number_once}
 

@@ -7,7 +7,7 @@ use Rattle.std.specs.Str.Parse.{digits_value, AllDigits}
 use Rattle.std.proofs.lemmas.Bool.{cases_lt}
 use Rattle.std.proofs.lemmas.List.{take-append-le, take-append-drop, get_or_append_left, get_or-append_right, get_or-take, get_or_past, length-take, length-drop, take_all}
 use Rattle.std.proofs.lemmas.Str.Parse.{digit_at}
-use Rattle.trace_text.specs.own.Spelling.{EndsNumber}
+use Rattle.trace_text.specs.Reading.{EndsNumber}
 use Rattle.std.proofs.lemmas.Fmt.{length-decimal-le}
 use Rattle.trace_text.proofs.Numbers.{front_fits, value_of_digit, value_next, digits_next, of_value, none_of_empty, none_of_leading_zero}
 use Rattle.trace_text.proofs.Counts.{power_le, power_next}

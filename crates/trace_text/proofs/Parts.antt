@@ -1,9 +1,7 @@
 -- Parts: texts that are read part by part, each part with a word behind it.
 use Rattle.std.proofs.Common.{◌≡◌, ℕ, ◌^◌, ◌<◌, ◌≤◌, List, ◌++◌, length, ap, sym, ◌∙◌, arith, append_assoc}
 use Rattle.std.specs.Fmt.{decimal}
-use Rattle.trace_text.specs.own.Spelling.{EndsNumber}
-use Rattle.trace_text.specs.Reading.{IsUnread}
-use Rattle.trace_text.specs.own.Reading.{Below, text_then}
+use Rattle.trace_text.specs.Reading.{IsUnread, EndsNumber, Below, text_then}
 use Rattle.trace_text.proofs.Choice.{one_before}
 
 -- one value alone that fits is spelled at the front of some bytes, and one rest follows it

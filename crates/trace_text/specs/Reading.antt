@@ -1,5 +1,7 @@
 -- Reading: what stands at the front of some bytes (this project's rule).
-use Rattle.std.specs.Prelude.{◌≡◌, ◌≢◌, ℕ, ◌<◌, ◌≤◌, List, ◌++◌, drop, length, codes}
+use Rattle.std.specs.Prelude.{◌≡◌, ◌≢◌, ℕ, ◌<◌, ◌≤◌, List, ◌++◌, drop, length, codes, slice_index}
+use Rattle.std.specs.Fmt.{decimal}
+use Rattle.std.specs.Int.{IsInRange}
 use Rattle.executor_core.specs.declared.Event.{Event}
 use Rattle.executor_core.specs.declared.Line.{Line}
 use Rattle.trace_text.specs.declared.front.Front.{Front}
@@ -17,6 +19,26 @@ IsRead spell fits bytes v rest = fits v × (bytes ≡ spell v ++ rest)
 -- no spelling of a value that fits stands at the front
 abbrev pub IsUnread : {V : Type 0} → (V → List ℕ) → (V → Type 0) → List ℕ → Type 0
 IsUnread {V} spell fits bytes = (v : V) (rest : List ℕ) → fits v → bytes ≢ spell v ++ rest
+
+-- a number, and a word behind it
+abbrev pub number_then : List ℕ → ℕ → List ℕ
+number_then word n = decimal n ++ word
+
+-- what is said of a value, and a word behind it
+abbrev pub text_then : {V : Type 0} → (V → List ℕ) → List ℕ → V → List ℕ
+text_then text word v = text v ++ word
+
+-- below a limit
+abbrev pub Below : ℕ → ℕ → Type 0
+Below limit n = n < limit
+
+-- each value fits
+abbrev pub Any : {V : Type 0} → V → Type 0
+Any v = Unit {0}
+
+-- no digit stands in front, so that a number before these bytes ends there: past the last byte stands 0, which is no digit
+abbrev pub EndsNumber : List ℕ → Type 0
+EndsNumber rest = IsInRange 48 57 (slice_index rest 0) → ⊥
 
 -- no newline yet, and fewer bytes than an event's line may have
 abbrev pub IsPart : List ℕ → Type 0

@@ -1,8 +1,7 @@
 //! The events that lines spell.
 ghost use Rattle.std.specs.Prelude.{◌≡◌, ◌≢◌, ℕ, ◌^◌, ◌++◌, MatchOption, codes};
 ghost use Rattle.trace_text.specs.Spelling.{Spells, event_line, ending_line, FitsEvent, FitsEnding};
-ghost use Rattle.trace_text.specs.Reading.{IsRead, IsUnread};
-ghost use Rattle.trace_text.specs.own.Reading.{number_then, Below};
+ghost use Rattle.trace_text.specs.Reading.{IsRead, IsUnread, number_then, Below};
 
 use crate::scan::{split_number, strip, strip_word};
 use executor_core::Event;

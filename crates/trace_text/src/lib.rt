@@ -9,6 +9,8 @@
 //! - [`write_line`] appends to a `Vec<u8>`: it makes room and calls [`put_line`], which writes at a place of any slice. In a
 //!   buffer that keeps its bytes [`put_line`] alone is the faster of the two, as none is cleared before it is written.
 //!   Its [`Stamp`] keeps the digits of the last line's moment, so that lines of one moment, one behind the other, copy them.
+//! - [`strip_word`], [`number_before`], [`code_before`], [`split_which`] and [`split_truth`] read one word or number at the front
+//!   of some bytes, and what follows it: lines of other forms are read with them.
 //!
 //! ```rust
 //! read_event(b"finish 0 ok 7\n");    // Some(Event::Finish(0, Ending::Value(7)))
@@ -106,5 +108,7 @@ pub use laws::{
 };
 pub use line::{read_line, split_line};
 pub use line_text::{LINE_ROOM, put_line, write_line};
+pub use scan::{code_before, number_before, strip_word};
 pub use stamp::Stamp;
 pub use text_error::TextError;
+pub use words::{split_truth, split_which};

@@ -3,9 +3,7 @@ ghost use Rattle.std.specs.Prelude.{◌≡◌, ◌≢◌, ℕ, ◌^◌, ◌<◌,
 ghost use Rattle.std.specs.Fmt.{decimal};
 ghost use Rattle.std.specs.Int.{IsInRange, w32, from_le_bytes};
 ghost use Rattle.std.specs.Str.Parse.{AllDigits, digits_value};
-ghost use Rattle.trace_text.specs.own.Spelling.{EndsNumber};
-ghost use Rattle.trace_text.specs.Reading.{IsRead, IsUnread};
-ghost use Rattle.trace_text.specs.own.Reading.{number_then, Below};
+ghost use Rattle.trace_text.specs.Reading.{IsRead, IsUnread, EndsNumber, number_then, Below};
 
 /// The code of the digit 0.
 const ZERO: u64 = b'0' as u64;

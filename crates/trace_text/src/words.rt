@@ -2,8 +2,7 @@
 ghost use Rattle.std.specs.Prelude.{MatchOption, ◌++◌, codes};
 ghost use Rattle.trace_text.specs.Spelling.{message_text, FitsMessage, outcome_text, FitsOutcome, kind_text, refusal_text, effect_text, whether_text};
 ghost use Rattle.sched_time.specs.Policies.{policy_text, truth_text};
-ghost use Rattle.trace_text.specs.Reading.{IsRead, IsUnread};
-ghost use Rattle.trace_text.specs.own.Reading.{Any, text_then};
+ghost use Rattle.trace_text.specs.Reading.{IsRead, IsUnread, Any, text_then};
 
 use crate::scan::{code_before, number_before, strip, strip_word};
 use executor_core::{Answer, CancelEffect, EventError, Kind, Message, Outcome, Refusal};

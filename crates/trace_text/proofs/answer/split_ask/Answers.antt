@@ -1,7 +1,7 @@
 use Rattle.std.proofs.Common.{◌^◌, codes}
 use Rattle.std.specs.Fmt.{decimal}
 use Rattle.trace_text.specs.Spelling.{whether_text}
-use Rattle.trace_text.specs.own.Reading.{Below, Any, text_then}
+use Rattle.trace_text.specs.Reading.{Below, Any, text_then}
 use Rattle.trace_text.proofs.Parts.{first_part}
 use Rattle.trace_text.proofs.LineForms.{running_text, FitsRunning, ends_text, FitsEnds, behind_queue, behind_running, behind_shutdown}
 use Rattle.trace_text.proofs.LineTexts.{unread_ask}

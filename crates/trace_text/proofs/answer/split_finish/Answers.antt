@@ -1,7 +1,7 @@
 use Rattle.std.proofs.Common.{◌^◌, codes}
 use Rattle.std.specs.Fmt.{decimal}
 use Rattle.trace_text.specs.Spelling.{FitsOutcome}
-use Rattle.trace_text.specs.own.Reading.{Below}
+use Rattle.trace_text.specs.Reading.{Below}
 use Rattle.trace_text.proofs.Parts.{first_part}
 use Rattle.trace_text.proofs.LineForms.{task_ended_text, FitsTaskEnded, ended_text, FitsEnded, behind_ended_worker, behind_ended_task, behind_ended_run}
 use Rattle.trace_text.proofs.LineWords.{outcome_words, unread_outcome}

@@ -1,6 +1,6 @@
 use Rattle.std.proofs.Common.{codes}
 use Rattle.sched_time.specs.Policies.{policy_text, truth_text}
-use Rattle.trace_text.specs.own.Reading.{Any, text_then}
+use Rattle.trace_text.specs.Reading.{Any, text_then}
 use Rattle.trace_text.proofs.Parts.{first_part}
 use Rattle.trace_text.proofs.LineTexts.{unread_policy}
 use Rattle.trace_text.proofs.answer.split_policy.Goals as goal

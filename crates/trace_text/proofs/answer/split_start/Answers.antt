@@ -1,6 +1,6 @@
 use Rattle.std.proofs.Common.{◌^◌, codes}
 use Rattle.std.specs.Fmt.{decimal}
-use Rattle.trace_text.specs.own.Reading.{Below, text_then}
+use Rattle.trace_text.specs.Reading.{Below, text_then}
 use Rattle.trace_text.proofs.Parts.{first_part}
 use Rattle.trace_text.proofs.LineForms.{given_text, FitsGiven, due_text, FitsDue, behind_worker, behind_task, behind_run, unread_given, unread_task}
 use Rattle.trace_text.proofs.LineTexts.{unread_start}

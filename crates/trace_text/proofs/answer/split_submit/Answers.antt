@@ -1,7 +1,7 @@
 use Rattle.std.proofs.Common.{◌^◌, codes}
 use Rattle.std.specs.Fmt.{decimal}
 use Rattle.trace_text.specs.Spelling.{kind_text}
-use Rattle.trace_text.specs.own.Reading.{Below, Any, text_then}
+use Rattle.trace_text.specs.Reading.{Below, Any, text_then}
 use Rattle.trace_text.proofs.Parts.{first_part}
 use Rattle.trace_text.proofs.LineForms.{kind_due_text, FitsKindDue, behind_submitted, behind_kind}
 use Rattle.trace_text.proofs.LineTexts.{unread_submit}

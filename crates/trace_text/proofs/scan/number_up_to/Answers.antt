@@ -1,6 +1,6 @@
 use Rattle.std.proofs.Common.{◌≡◌, ◌≤◌, ◌++◌, ap, sym, ◌∙◌, subst, arith, get_or}
 use Rattle.std.specs.Fmt.{decimal}
-use Rattle.trace_text.specs.own.Spelling.{EndsNumber}
+use Rattle.trace_text.specs.Reading.{EndsNumber}
 use Rattle.trace_text.proofs.OnePass.{no_digits, leading_zero, the_number, from_end}
 use Rattle.trace_text.proofs.scan.number_up_to.Goals.{else-bytes-eq48-via-then-bytes-eq48+else-end-gt1, else-bytes-eq48-via-else-bytes-eq48}
 use Rattle.trace_text.proofs.scan.number_up_to.Goals as goal

@@ -1,0 +1,3 @@
+pub mod CallTexts
+pub mod CallEnds
+pub mod LiveFronts
