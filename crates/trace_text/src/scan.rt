@@ -16,7 +16,8 @@ pub fn strip<'a>(bytes: &'a [u8], word: &[u8]) -> Option<&'a [u8]>
     bytes.strip_prefix(word)
 }
 
-/// What follows `word`, of 4 bytes or more, at the front of `bytes`, as [`strip`] has it: its first four are compared at once.
+/// What follows `word`, of 4 bytes or more, at the front of `bytes`. `None` exactly when `bytes` does not begin with it. Its first
+/// four are compared at once.
 #[inline(always)]
 pub fn strip_word<const N: usize>(bytes: &[u8], word: [u8; N]) -> Option<&[u8]>
     requires { 4 ≤ N }

@@ -93,7 +93,7 @@ pub fn split_effect(bytes: &[u8]) -> Option<(CancelEffect, &[u8])>
     None
 }
 
-/// A policy, to the space behind it, and what follows that.
+/// A policy, to the space behind it, and what follows that. `None` exactly when they are not there.
 pub fn split_which(bytes: &[u8]) -> Option<(Which, &[u8])>
     ensures { MatchOption result (IsUnread (text_then policy_text (codes " ")) Any bytes.now) (λ r. IsRead (text_then policy_text (codes " ")) Any bytes.now r.0 r.1.now) }
 {
@@ -118,7 +118,7 @@ fn split_policy_word(bytes: &[u8]) -> Option<(Which, &[u8])>
     None
 }
 
-/// What a policy is set to, to the newline, and what follows it.
+/// What a policy is set to, to the newline, and what follows it. `None` exactly when they are not there.
 pub fn split_truth(bytes: &[u8]) -> Option<(bool, &[u8])>
     ensures { MatchOption result (IsUnread (text_then truth_text (codes "\n")) Any bytes.now) (λ r. IsRead (text_then truth_text (codes "\n")) Any bytes.now r.0 r.1.now) }
 {

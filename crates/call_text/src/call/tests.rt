@@ -11,7 +11,7 @@ fn refuses(rt: &impl Abort, lines: &[&str]) {
     }
 }
 
-/// Checks what each of the lines spells, alone and before more.
+/// Checks what each of the lines spells.
 fn reads(rt: &impl Abort, lines: &[(&str, CallLine)]) {
     for (line, call) in lines {
         let read = read_call(line.as_bytes());
