@@ -10,3 +10,10 @@ pub mod Living
 pub mod Filtered
 pub mod Compacted
 pub mod Ranged
+pub mod Shedding
+pub mod Workers
+pub mod Occurring
+pub mod Seated
+pub mod Cancelled
+pub mod Swept
+pub mod Called

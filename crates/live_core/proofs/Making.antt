@@ -66,7 +66,7 @@ one_longer calls p = let more = one_more calls p in omega (arith, more)
 
 -- ---- the moments of the calls that were made
 
-now_later : (now : ℕ) (call : Option Planned) (y : Happening) → now ≤ moment_after now call y
+pub now_later : (now : ℕ) (call : Option Planned) (y : Happening) → now ≤ moment_after now call y
 now_later now None h.Call = omega arith
 now_later now (Some p) h.Call = grind arith
 now_later now call (h.Clock t) = by (is_accepted now t) refl
@@ -194,6 +194,16 @@ longer_now : (old new : LiveView) (calls : List Planned) (past : List HistoryEnt
 longer_now old new calls past p r st may width takes =
     now_there new.table (calls ++ p ∷ []) (entry_of h.Call r ∷ past) (longer_means old new calls past p r st may width takes) takes.shows
 
+-- the call that comes next is at most 1 ns after now still, as now does not go back
+longer_behind : (old new : LiveView) (calls : List Planned) (past : List HistoryEntry) (p : Planned) (r : Reply) → Stands old calls past → MayAdd old p → Leaves old new p r →
+    Takes new.table (calls ++ p ∷ []) past h.Call r → new.earliest ≤ new.table.moment + 1
+longer_behind old new calls past p r st may leaves takes =
+    let more = calls ++ p ∷ [] in
+    let before : now_of more (happenings past) ≡ old.table.moment = (longer_stands old calls past p st may).now ∙ now_there old.table calls past st.table.means st.table.shows in
+    let after : now_of more (h.Call ∷ happenings past) ≡ new.table.moment = longer_now old new calls past p r st may leaves.workers takes in
+    let grows : now_of more (happenings past) ≤ now_of more (h.Call ∷ happenings past) = now_later (now_of more (happenings past)) (slice_get more (made (happenings past))) h.Call in
+    omega (arith, before, after, grows, leaves.earliest, st.behind)
+
 -- what happened looks below what comes next
 longer_below : (old new : LiveView) (past : List HistoryEntry) (p : Planned) (r : Reply) → Leaves old new p r → AllLookBelow old.earliest old.count never past → AllLookBelow new.earliest new.count never (entry_of h.Call r ∷ past)
 longer_below old new past p r leaves below =
@@ -228,6 +238,7 @@ makes_there old new calls past p r may leaves st steps =
         count = counts_more calls p ∙ (ap (λ (n : ℕ). count_after n p.1) st.count ∙ sym leaves.count);
         few = subst (λ n. n ≤ never) (sym leaves.count) may.few;
         below = longer_below old new past p r leaves st.below;
+        behind = longer_behind old new calls past p r st may leaves takes;
         accepted = λ k. ap (λ b. is_submit k r.answer || b) (st.accepted k) ∙ leaves.accepted k;
       };
       lines = λ i. longer.lines i ++ lines_at (longer_now old new calls past p r st may leaves.workers takes i) r;

@@ -1,6 +1,6 @@
 -- Where an executor stands after one event more, by the step of its table, and where it stands before any.
 use Rattle.std.proofs.Common.{◌≡◌, ℕ, ◌+◌, ◌≤◌, ◌||◌, Bool, true, false, cond, List, [], ◌∷◌, ◌++◌, length, Option, Some, None, refl, sym, ap, ◌∙◌, arith, subst}
-use Rattle.std.specs.Prelude.{nat_lt}
+use Rattle.std.specs.Prelude.{slice_get, nat_lt}
 use Rattle.std.specs.Option.{option_map_or}
 use Rattle.std.proofs.lemmas.Bool.{false≢true}
 use Rattle.std.proofs.lemmas.Bool.Decides.{nat_tests}
@@ -19,7 +19,7 @@ use Rattle.executor_laws.specs.Additions.{LooksBelow}
 use Rattle.task_table.specs.Tables as tables
 use Rattle.task_table.specs.Tables.{TableView, workers_of, Takes, EventSteps}
 use Rattle.live_core.specs.Lives.{LiveView, Stands, Makes, Meets, Happens, never}
-use Rattle.live_core.proofs.Making.{all_look_higher, now_there}
+use Rattle.live_core.proofs.Making.{all_look_higher, now_later, now_there}
 
 -- ---- an event submits no task
 
@@ -61,12 +61,14 @@ may_come calls made now (h.Cancel k) all event = tt
 
 -- ---- one event more
 
--- what an event leaves behind, once its table has taken the step: the numbers stay, and the call that comes next is behind it
+-- what an event leaves behind, once its table has taken the step: the numbers stay, and the call that comes next is behind it, by
+-- at most 1 ns, where it was
 pub record Passes (old new : LiveView) (y : Happening) (r : Reply) : Type 0 where
   pub workers : workers_of new.table ≡ workers_of old.table
   pub count : new.count ≡ old.count
   pub accepted : new.accepted ≡ old.accepted
   pub earliest : old.earliest ≤ new.earliest
+  pub behind : old.earliest ≤ new.table.moment + 1 → new.earliest ≤ new.table.moment + 1
   pub looks : LooksBelow new.earliest old.count never y r.answer
 
 -- the history is one event longer
@@ -83,6 +85,15 @@ event_means old new calls past y r event width takes st = (
 event_submits : (new : TableView) (calls : List Planned) (past : List HistoryEntry) (y : Happening) (r : Reply) (k : ℕ) → is_call y ≡ false → Takes new calls past y r → is_submit k r.answer ≡ false
 event_submits new calls past y r k event takes = sym (ap (λ (q : Reply). is_submit k q.answer) takes.said) ∙ unsubmitted calls (workers_of new) (view_of_history calls past) y k event
 
+-- the call that comes next is at most 1 ns after now still, as now does not go back
+event_behind : (old new : LiveView) (calls : List Planned) (past : List HistoryEntry) (y : Happening) (r : Reply) → Passes old new y r → Stands old calls past → IsHistoryOf calls (workers_of new.table) (entry_of y r ∷ past) →
+    Takes new.table calls past y r → new.earliest ≤ new.table.moment + 1
+event_behind old new calls past y r passes st means takes =
+    let before : now_of calls (happenings past) ≡ old.table.moment = now_there old.table calls past st.table.means st.table.shows in
+    let after : now_of calls (y ∷ happenings past) ≡ new.table.moment = now_there new.table calls (entry_of y r ∷ past) means takes.shows in
+    let grows : now_of calls (happenings past) ≤ now_of calls (y ∷ happenings past) = now_later (now_of calls (happenings past)) (slice_get calls (made (happenings past))) y in
+    passes.behind (omega (arith, before, after, grows, st.behind))
+
 -- an event comes: where its table takes the step after this history, the executor stands where the longer history leads
 pub meets_there : (old new : LiveView) (calls : List Planned) (past : List HistoryEntry) (y : Happening) (r : Reply) → is_call y ≡ false → Passes old new y r → Stands old calls past → Takes new.table calls past y r → Meets new calls past y r
 meets_there old new calls past y r event passes st takes =
@@ -96,6 +107,7 @@ meets_there old new calls past y r event passes st takes =
         below = All-cons (λ (e : HistoryEntry). LooksBelow new.earliest new.count never e.happening e.answer) (entry_of y r) past
             (subst (λ n. LooksBelow new.earliest n never y r.answer) (sym passes.count) passes.looks)
             (all_look_higher old.earliest new.earliest old.count new.count never past passes.earliest (omega (arith, passes.count)) st.below);
+        behind = event_behind old new calls past y r passes st means takes;
         accepted = λ k. ap (λ b. b || was_accepted k past) (event_submits new.table calls past y r k event takes)
             ∙ (st.accepted k ∙ ap (nat_lt k) (sym passes.accepted));
       };
@@ -116,6 +128,7 @@ opening table st = record {
   count = refl;
   few = omega arith;
   below = All-nil (λ (e : HistoryEntry). LooksBelow 0 0 never e.happening e.answer);
+  behind = omega arith;
   accepted = λ k. none k;
 }
   where
@@ -140,6 +153,7 @@ stays old new calls past carries st = record {
   count = st.count ∙ sym carries.count;
   few = subst (λ n. n ≤ never) (sym carries.count) st.few;
   below = all_look_higher old.earliest new.earliest old.count new.count never past (omega (arith, carries.earliest)) (omega (arith, carries.count)) st.below;
+  behind = omega (arith, carries.earliest, carries.moment, st.behind);
   accepted = λ k. st.accepted k ∙ ap (nat_lt k) (sym carries.accepted);
 }
 

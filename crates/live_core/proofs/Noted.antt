@@ -9,7 +9,7 @@ use Rattle.task_table.specs.declared.seat.TaskRef.{TaskRef}
 use Rattle.task_table.specs.Seats.{slot_of, IsNew}
 use Rattle.live_core.specs.own.Slots.{held_numbers, AreEmpty, IsIndex}
 use Rattle.live_core.specs.own.Formed.{AreNoted}
-use Rattle.live_core.proofs.Emptied.{taken, released, last_empty, length_set}
+use Rattle.live_core.proofs.Emptied.{taken, released, has_room, last_empty, length_set}
 use Rattle.live_core.proofs.Indexed.{indexed_new, indexed_emptied, number_given}
 use Rattle.live_core.proofs.Held.{number_there, none_there, held_length, held_set, held_grown, new_number}
 
@@ -117,3 +117,9 @@ noted_later old new count free entries free_room ended_room more_ended same room
       room = noted.room;
       spare = noted.spare;
     }))
+
+-- where a slot holds a task, there is room to note that it is empty
+pub noted_room : (slots : List (Option Seat)) (count : ℕ) (free : List ℕ) (slot : ℕ) (x : Seat) (entries : List TaskRef) (free_room ended_room : ℕ) → slot_of slots slot ≡ Some x → AreNoted slots count free entries free_room ended_room → length free < free_room
+noted_room slots count free slot x entries free_room ended_room there noted =
+    let few = has_room (held_numbers slots) free slot x.number (number_there slots slot x there) noted.empty in
+    omega (arith, few, held_length slots, noted.room)

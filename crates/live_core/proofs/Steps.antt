@@ -79,10 +79,10 @@ makes_other m table ended at call r may same none width steps =
 -- ---- events
 
 -- a clock that is accepted
-pub meets_clock : (m : LiveView) (table : TableView) (t : ℕ) (r : Reply) → m.earliest ≤ t + 1 → workers_of table ≡ workers_of m.table → EventSteps m.table table (h.Clock t) r → Happens m (clocking m table t) (h.Clock t) r
-meets_clock m table t r later width steps =
+pub meets_clock : (m : LiveView) (table : TableView) (t : ℕ) (r : Reply) → m.earliest ≤ t + 1 → t ≤ table.moment → workers_of table ≡ workers_of m.table → EventSteps m.table table (h.Clock t) r → Happens m (clocking m table t) (h.Clock t) r
+meets_clock m table t r later there width steps =
     meets m (clocking m table t) (h.Clock t) r refl
-    (record { workers = width; count = refl; accepted = refl; earliest = later; looks = λ accepted. omega arith })
+    (record { workers = width; count = refl; accepted = refl; earliest = later; behind = λ _. omega (arith, there); looks = λ accepted. omega arith })
     steps
 
 -- an event that is answered so that it looks at no number and no moment
@@ -90,7 +90,7 @@ pub meets_other : (m : LiveView) (table : TableView) (y : Happening) (r : Reply)
     Happens m (quiet m table) y r
 meets_other m table y r event looks width steps =
     meets m (quiet m table) y r event
-    (record { workers = width; count = refl; accepted = refl; earliest = omega arith; looks = looks })
+    (record { workers = width; count = refl; accepted = refl; earliest = omega arith; behind = λ q. q; looks = looks })
     steps
 
 -- ---- submissions, as the code makes them

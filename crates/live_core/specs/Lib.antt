@@ -3,4 +3,8 @@ pub use Rattle.task_table.specs.Tables
 pub use Rattle.executor_laws.specs.Additions
 pub mod Said
 pub mod Lives
+pub mod Events
+pub mod Cancels
+pub mod Shutting
+pub mod Lined
 pub mod own

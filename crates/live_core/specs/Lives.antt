@@ -1,6 +1,6 @@
 -- What contracts see of an executor whose calls are made while it runs, and where it stands.
 -- All of it is this project's rule.
-use Rattle.std.specs.Prelude.{◌≡◌, ℕ, ◌^◌, ◌≤◌, max, nat_lt, List, [], ◌∷◌, ◌++◌, length}
+use Rattle.std.specs.Prelude.{◌≡◌, ℕ, ◌+◌, ◌^◌, ◌≤◌, max, nat_lt, List, [], ◌∷◌, ◌++◌, length}
 use Rattle.queue_code.specs.Calls.{Planned, task_count}
 use Rattle.executor_core.specs.declared.types.Happening.{Happening}
 use Rattle.executor_core.specs.declared.types.Happening.TheVariants as h
@@ -10,7 +10,7 @@ use Rattle.executor_core.specs.Flows.{lines_of, lines_at}
 use Rattle.executor_laws.specs.Additions.{AllLookBelow}
 use Rattle.task_table.specs.declared.seat.TaskRef.{TaskRef}
 use Rattle.task_table.specs.Tables as tables
-use Rattle.task_table.specs.Tables.{TableView}
+use Rattle.task_table.specs.Tables.{TableView, workers_of}
 
 -- a number that no task ever has: tasks are numbered by 64 bits
 abbrev pub never : ℕ
@@ -35,14 +35,15 @@ abbrev pub moment_of_call : LiveView → ℕ → ℕ
 moment_of_call m at = max at (max m.table.moment m.earliest)
 
 -- The executor stands where this history of the calls made so far leads: all calls were made in it; each accepted clock was
--- before the least moment of the call that comes next, and each cancel from outside named a number that was given out, or one
--- that no task ever has.
+-- before the least moment of the call that comes next, which is at most 1 ns after now; and each cancel from outside named a
+-- number that was given out, or one that no task ever has.
 pub record Stands (m : LiveView) (calls : List Planned) (past : List HistoryEntry) : Type 0 where
   pub table : tables.Stands m.table calls past
   pub made : made (happenings past) ≡ length calls
   pub count : task_count calls ≡ m.count
   pub few : m.count ≤ never
   pub below : AllLookBelow m.earliest m.count never past
+  pub behind : m.earliest ≤ m.table.moment + 1
   pub accepted : (k : ℕ) → was_accepted k past ≡ nat_lt k m.accepted
 
 -- a call is made: the executor stands where the longer history of the longer calls leads, and the lines of this reply are added
@@ -62,3 +63,14 @@ Calls old new p r = (calls : List Planned) (past : List HistoryEntry) → Stands
 -- the same of an event
 abbrev pub Happens : LiveView → LiveView → Happening → Reply → Type 0
 Happens old new y r = (calls : List Planned) (past : List HistoryEntry) → Stands old calls past → Meets new calls past y r
+
+-- what each call leaves, and each event but an accepted clock: as many workers as there were, and the least moment of the call that
+-- comes next
+pub record Stays (old new : LiveView) : Type 0 where
+  pub workers : workers_of new.table ≡ workers_of old.table
+  pub earliest : new.earliest ≡ old.earliest
+
+-- and no task was ended
+pub record StaysQuiet (old new : LiveView) : Type 0 where
+  pub stays : Stays old new
+  pub ended : new.ended ≡ []

@@ -2,3 +2,5 @@
 pub mod Slots
 pub mod Changes
 pub mod Formed
+pub mod Shed
+pub mod Places

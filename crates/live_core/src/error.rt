@@ -1,4 +1,4 @@
-//! Why no executor is made, and why a call is not.
+//! Why no executor is made, why a call is not, and why no lines are added.
 
 use thiserror::Error;
 
@@ -31,6 +31,17 @@ pub enum CallError {
     /// No submission was given this number yet.
     #[error("no task has this number")]
     NoTask,
+    /// The allocator refused the memory.
+    #[error("out of memory")]
+    Memory,
+}
+
+/// Why the lines of what happened last are not added. They are as they were then.
+#[derive(Clone, Copy, Debug, PartialEq, Eq, Error)]
+pub enum LinesError {
+    /// A task that was ended has a number of 2^32 or more, which a line can not spell.
+    #[error("a line can not spell the number of a task")]
+    Number,
     /// The allocator refused the memory.
     #[error("out of memory")]
     Memory,

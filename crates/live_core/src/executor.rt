@@ -1,5 +1,5 @@
 //! The executor, and what it tells.
-ghost use Rattle.std.specs.Prelude.{◌≡◌, ℕ, ◌≤◌, List, [], IfOk, IfErr};
+ghost use Rattle.std.specs.Prelude.{◌≡◌, ℕ, ◌≤◌, List, [], IfOk, IfErr, OnOk};
 ghost use Rattle.sched_time.specs.Times.{longest};
 ghost use Rattle.executor_core.specs.Counts.{IsWorkerCount};
 
@@ -53,6 +53,8 @@ impl<A: Allocator> ScheduledExecutor<A> {
         ensures stands { IfOk result (λ e. Stands e [] []) }
         ensures workers { IfOk result (λ e. workers_of e.table ≡ workers) }
         ensures first { IfOk result (λ e. e.count ≡ 0) }
+        ensures earliest { IfOk result (λ e. e.earliest ≡ 0) }
+        ensures range { OnOk result (IsWorkerCount workers) }
         ensures failed { IfErr result (λ error. IsMakeError workers error) }
     {
         if workers < 1 || workers > 64 {
@@ -77,6 +79,13 @@ impl<A: Allocator> ScheduledExecutor<A> {
         ensures limit { result ≤ longest }
     {
         self.table.now()
+    }
+
+    /// How many numbers were given out: one to each submission, whether it was accepted or not.
+    pub fn numbers(&self) -> u64
+        ensures { result ≡ self.now.count }
+    {
+        self.count
     }
 
     /// How many tasks have a slot: those that wait or are kept, and those whose run is under way.

@@ -2,18 +2,28 @@
 #![tactic(auto)]
 
 mod answers;
+mod cancels;
 mod error;
+mod events;
 mod executor;
+mod finding;
 mod index;
+mod lines;
 mod notes;
 mod place;
+mod releasing;
 mod reserving;
 mod room;
+mod running;
+mod shutting;
+mod spent;
 mod submissions;
 mod submitting;
+mod sweeps;
 #[cfg(test)]
 mod tests;
 
 pub use answers::Submitted;
-pub use error::{CallError, MakeError};
+pub use error::{CallError, LinesError, MakeError};
 pub use executor::ScheduledExecutor;
+pub use task_table::{Asked, Begun, Ended, StartError, TaskRef};

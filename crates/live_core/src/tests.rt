@@ -1,4 +1,9 @@
 //! Tests of the executor.
+mod cancels;
+mod events;
+mod lines;
+mod shutting;
+
 use crate::{CallError, MakeError, ScheduledExecutor, Submitted};
 use std::alloc::Global;
 use std::process::Abort;

@@ -1,13 +1,13 @@
 -- The steps of a finish: by a worker that there is not, by one without work, and by one that works.
 use Rattle.std.proofs.Common.{◌≡◌, ℕ, ◌+◌, ◌<◌, ◌≤◌, ◌==◌, ◌&&◌, ◌||◌, Bool, true, false, cond, List, length, Option, Some, None, refl, sym, ap, ◌∙◌, arith, subst}
-use Rattle.std.specs.Prelude.{slice_index_or, slice_set}
-use Rattle.std.proofs.lemmas.Bool.{eq-eqb, lt-ltb, le-ltb}
+use Rattle.std.specs.Prelude.{slice_index_or, slice_set, not}
+use Rattle.std.proofs.lemmas.Bool.{eq-eqb, lt-ltb, le-ltb, false_from_ne_true}
 use Rattle.std.proofs.lemmas.List.{length-set}
 use Rattle.std.proofs.lemmas.Option.{same_Some}
 use Rattle.sched_time.specs.declared.timing.Ending.{Ending}
 use Rattle.executor_core.specs.declared.types.EventError.{EventError}
 use Rattle.executor_core.specs.declared.types.EventError.TheVariants as x
-use Rattle.task_table.specs.Runs.{IsFinishError}
+use Rattle.task_table.specs.Runs.{IsFinishError, IsLeft}
 use Rattle.executor_core.specs.declared.types.Happening.TheVariants as h
 use Rattle.executor_core.specs.declared.types.Outcome.{Outcome}
 use Rattle.executor_core.specs.declared.types.Outcome.TheVariants as o
@@ -151,3 +151,27 @@ finish_refused m w ending x.Backward is = absurd is
 finish_refused m w ending x.TooFar is = absurd is
 finish_refused m w ending x.Busy is = absurd is
 finish_refused m w ending x.NoTask is = absurd is
+
+-- ---- what is left of the task
+
+-- a task whose run is under way is not kept
+pub kept_not : (m : TableView) (slot : ℕ) (x : Seat) → IsFormed m → slot_of m.slots slot ≡ Some x → x.phase ≡ ph.Running → x.kept ≡ false
+kept_not m slot x formed there runs = false_from_ne_true x.kept (λ kept. absurd (clash (sym runs ∙ ((formed.seated slot x there).kept kept).0)))
+  where
+    clash : ph.Running ≡ ph.Waiting → ⊥
+    clash q = cc
+
+-- where a run comes after it, it was not cancelled, and waits; else nothing may come of it any more
+pub finish_leaves : (x : Seat) (stops : Bool) (due : ℕ) (ending : Ending) (outcome : Outcome) → x.kept ≡ false → outcome ≡ outcome_in x.cancelled stops x.timing due ending → IsLeft outcome (ended outcome due x)
+finish_leaves x stops due ending (o.Done value) kept is = ap (λ b. b || false) kept
+finish_leaves x stops due ending (o.Failed code) kept is = ap (λ b. b || false) kept
+finish_leaves x stops due ending o.Dropped kept is = ap (λ b. b || false) kept
+finish_leaves x stops due ending o.Ended kept is = ap (λ b. b || false) kept
+finish_leaves x stops due ending (o.Again next) kept is = by x.cancelled is
+  where
+    clash : o.Again next ≡ o.Dropped → ⊥
+    clash q = cc
+
+    by : (b : Bool) → o.Again next ≡ outcome_in b stops x.timing due ending → not b ≡ true
+    by true q = absurd (clash q)
+    by false q = refl

@@ -1,17 +1,17 @@
 -- Which kept tasks a start meets, and what becomes of one that is dropped.
-use Rattle.std.proofs.Common.{◌≡◌, ℕ, ◌+◌, ◌<◌, ◌≤◌, nat_le, ◌&&◌, ◌||◌, zero, suc, Bool, true, false, cond, inl, inr, List, [], ◌∷◌, Option, Some, None, refl, sym, ap, ◌∙◌, arith, subst}
+use Rattle.std.proofs.Common.{◌≡◌, ℕ, ◌+◌, ◌-◌, ◌^◌, ◌<◌, ◌≤◌, nat_le, ◌&&◌, ◌||◌, zero, suc, Bool, true, false, cond, inl, inr, List, [], ◌∷◌, Option, Some, None, refl, sym, ap, ◌∙◌, arith, subst}
 use Rattle.std.specs.Prelude.{not, IfSome, IfNone}
 use Rattle.std.proofs.Math.ListN.{set}
 use Rattle.std.proofs.lemmas.Bool.Decides.{nat_tests}
-use Rattle.std.proofs.lemmas.Option.{none-some}
+use Rattle.std.proofs.lemmas.Option.{none-some, same_Some}
 use Rattle.delay_queue.specs.Queues.{comes_before}
 use Rattle.queue_code.specs.Calls.{how_many}
 use Rattle.task_table.specs.declared.seat.Seat.{Seat}
 use Rattle.task_table.specs.Seats.{task_in, slot_of, waits, is_alive, is_waiting_in, is_running_in}
 use Rattle.task_table.specs.Tables.{TableView}
-use Rattle.task_table.specs.Firsts.{NoneDue, FirstIs, MeetsNone, NoneMet, NoneKept, holds_kept, kept_in, IsEarliest, NoneWaits}
+use Rattle.task_table.specs.Firsts.{IsFirstDue, NoneDue, FirstIs, MeetsNone, NoneMet, NoneKept, holds_kept, kept_in, IsEarliest, NoneWaits}
 use Rattle.task_table.specs.Changes.{put, unkept}
-use Rattle.task_table.specs.Runs.{Drops}
+use Rattle.task_table.specs.Runs.{Drops, IsFull}
 use Rattle.task_table.specs.own.Formed.{IsFormed, IsSeated}
 use Rattle.task_table.specs.own.Queues.{keys, IsTable}
 use Rattle.task_table.specs.own.Heads.{HeadsQueue, HeadsKept, IsMetBy}
@@ -97,7 +97,7 @@ not_both : (due number later other : ℕ) → comes_before due number later othe
 not_both due number later other p q = grind (arith, nat_tests)
 
 -- the first task that is due is one alone
-first_same : (m : TableView) (one other : Option Seat) → FirstIs m one → FirstIs m other → one ≡ other
+pub first_same : (m : TableView) (one other : Option Seat) → FirstIs m one → FirstIs m other → one ≡ other
 first_same m None None p q = refl
 first_same m None (Some y) p q = absurd (p q.0 y q.1.there q.1.waiting q.1.due)
 first_same m (Some x) None p q = absurd (q p.0 x p.1.there p.1.waiting p.1.due)
@@ -172,3 +172,20 @@ drops m n slot due number formed head is = record {
   over = over_now m.moment head.task (formed.seated slot head.task head.there) head.kept;
   fewer = ap (λ (u : TableView). kept_in u.slots + 1) is ∙ fewer m.slots slot head.task head.there head.kept;
 }
+
+-- ---- the first task that is due has had so many runs that no number is left
+
+-- not where none is due
+pub none_full : (m : TableView) → NoneDue m → IsFull m → ⊥
+none_full m none full = none full.slot full.task full.first.there full.first.waiting full.first.due
+
+-- what a slot says that holds it
+pub full_there : (m : TableView) (slot due number : ℕ) (x : Seat) → HeadsQueue m slot due number → slot_of m.slots slot ≡ Some x → x.run ≡ 2 ^ 64 - 1 → IsFull m
+full_there m slot due number x head there last =
+    record { slot = slot; task = x; first = subst (IsFirstDue m slot) (same_Some head.task x (sym head.first.there ∙ there)) head.first; last = last }
+
+pub not_full : (m : TableView) (slot due number : ℕ) (x : Seat) → HeadsQueue m slot due number → slot_of m.slots slot ≡ Some x → (x.run ≡ 2 ^ 64 - 1 → ⊥) → IsFull m → ⊥
+not_full m slot due number x head there less full =
+    let one : head.task ≡ x = same_Some head.task x (sym head.first.there ∙ there) in
+    let same : head.task ≡ full.task = same_Some head.task full.task (first_same m (Some head.task) (Some full.task) (slot, head.first) (full.slot, full.first)) in
+    less (ap (λ (z : Seat). z.run) (sym one ∙ same) ∙ full.last)

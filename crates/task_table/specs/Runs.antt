@@ -6,6 +6,8 @@ use Rattle.sched_time.specs.declared.timing.Ending.{Ending}
 use Rattle.executor_core.specs.declared.types.EventError.{EventError}
 use Rattle.executor_core.specs.declared.types.EventError.TheVariants as x
 use Rattle.executor_core.specs.declared.types.Happening.TheVariants as h
+use Rattle.executor_core.specs.declared.types.Outcome.{Outcome}
+use Rattle.executor_core.specs.declared.types.Outcome.TheVariants as o
 use Rattle.executor_core.specs.declared.types.Answer.TheVariants as a
 use Rattle.executor_core.specs.Answers.{bare, outcome_in, stops_periodic}
 use Rattle.executor_core.specs.State.{due_past}
@@ -14,10 +16,10 @@ use Rattle.task_table.specs.declared.answers.Begun.{Begun}
 use Rattle.task_table.specs.declared.answers.Ended.{Ended}
 use Rattle.task_table.specs.declared.answers.StartError.{StartError}
 use Rattle.task_table.specs.declared.answers.StartError.TheVariants as e
-use Rattle.task_table.specs.Seats.{task_in, slot_of, is_alive}
+use Rattle.task_table.specs.Seats.{task_in, slot_of, waits, is_alive, is_running_in}
 use Rattle.task_table.specs.Tables.{TableView, workers_of, EventSteps, EventStepsBefore}
 use Rattle.task_table.specs.Firsts.{IsFirstDue, NoneDue, kept_in}
-use Rattle.task_table.specs.Changes.{put, started, finished, unkept}
+use Rattle.task_table.specs.Changes.{put, started, ended, finished, unkept}
 
 -- there is this worker, and it has no run under way
 abbrev pub IsFree : TableView → ℕ → Type 0
@@ -70,6 +72,11 @@ abbrev pub FailsStart : TableView → ℕ → StartError → Type 0
 FailsStart m worker (e.Refused error) = IsStartError m worker error × EventSteps m m (h.Start worker) (bare (a.Error error))
 FailsStart m worker e.Full = IsFree m worker × IsFull m
 
+-- what is left of a task whose run ended so: it waits for its next run, or nothing may come of it any more
+abbrev pub IsLeft : Outcome → Seat → Type 0
+IsLeft (o.Again next) x = waits (task_in x) ≡ true
+IsLeft _ x = is_alive (task_in x) ≡ false
+
 -- a worker ends this run: the one that it has under way
 pub record Ends (old new : TableView) (worker : ℕ) (ending : Ending) (e : Ended) : Type 0 where
   pub task : Seat
@@ -79,6 +86,8 @@ pub record Ends (old new : TableView) (worker : ℕ) (ending : Ending) (e : Ende
   pub run : e.run ≡ task.run
   pub outcome : e.outcome ≡ outcome_in task.cancelled (stops_periodic old.shut old.stopped old.policies) task.timing (due_past task.timing task.due old.moment) ending
   pub is : new ≡ finished old worker e.task.slot task e.outcome (due_past task.timing task.due old.moment)
+  pub runs : is_running_in task.phase ≡ true
+  pub left : IsLeft e.outcome (ended e.outcome (due_past task.timing task.due old.moment) task)
   pub steps : EventSteps old new (h.Finish worker ending) (bare (a.Finish worker e.task.number e.run e.outcome))
 
 -- why a finish had no effect, and the error that answers it

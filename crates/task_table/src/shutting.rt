@@ -28,7 +28,7 @@ impl<A: Allocator> TaskTable<A> {
     /// A call sets a policy, at the moment `at`. Where that sweeps, `ends` holds the tasks that it ends, ascending by number,
     /// and else none; no task was kept before it then, as [`drop_kept`](TaskTable::drop_kept) tells.
     ///
-    /// `ends` has room for as many tasks as there are slots.
+    /// `ends` has room for as many tasks as there are slots, and the room stays.
     pub fn set_policy<B: Allocator>(
         &mut self,
         at: u64,
@@ -40,6 +40,7 @@ impl<A: Allocator> TaskTable<A> {
         requires limit { at ≤ longest }
         requires kept { replies.setting_sweeps self.old.shut which value ≡ true → NoneKept self.old }
         requires room { length self.old.slots ≤ vec_capacity ends.old }
+        ensures room { vec_capacity ends.new ≡ vec_capacity ends.old }
         ensures none { replies.setting_sweeps self.old.shut which value ≡ false → ends.new.items ≡ [] }
         ensures set { replies.setting_sweeps self.old.shut which value ≡ false → self.new ≡ record (changes.at_moment self.old at) { policies = settings.set_policy which value self.old.policies } }
         ensures steps { replies.setting_sweeps self.old.shut which value ≡ false → CallSteps self.old self.new (at, call.SetPolicy which value) (replies.bare (answer.Policy which value)) }
@@ -60,12 +61,13 @@ impl<A: Allocator> TaskTable<A> {
     /// that it ends, ascending by number, and else none; no task was kept before it then, as
     /// [`drop_kept`](TaskTable::drop_kept) tells.
     ///
-    /// `ends` has room for as many tasks as there are slots.
+    /// `ends` has room for as many tasks as there are slots, and the room stays.
     pub fn shut_down<B: Allocator>(&mut self, at: u64, ends: &mut Vec<TaskRef, B>) -> bool
         requires moment { self.old.moment ≤ at }
         requires limit { at ≤ longest }
         requires kept { self.old.shut ≡ false → NoneKept self.old }
         requires room { length self.old.slots ≤ vec_capacity ends.old }
+        ensures room { vec_capacity ends.new ≡ vec_capacity ends.old }
         ensures first { result ≡ not self.old.shut }
         ensures none { self.old.shut ≡ true → ends.new.items ≡ [] }
         ensures again { self.old.shut ≡ true → self.new ≡ changes.at_moment self.old at }
@@ -87,12 +89,13 @@ impl<A: Allocator> TaskTable<A> {
     /// A call shuts the executor down at once, at the moment `at`: `ends` holds the tasks that it ends, ascending by number.
     /// No task was kept before it, as [`drop_kept`](TaskTable::drop_kept) tells.
     ///
-    /// `ends` has room for as many tasks as there are slots.
+    /// `ends` has room for as many tasks as there are slots, and the room stays.
     pub fn shut_down_now<B: Allocator>(&mut self, at: u64, ends: &mut Vec<TaskRef, B>)
         requires moment { self.old.moment ≤ at }
         requires limit { at ≤ longest }
         requires kept { NoneKept self.old }
         requires room { length self.old.slots ≤ vec_capacity ends.old }
+        ensures room { vec_capacity ends.new ≡ vec_capacity ends.old }
         ensures swept { SweepEnds (record (changes.at_moment self.old at) { shut = true; stopped = true }) self.new ends.new.items }
         ensures sweeps { CallStepsBefore self.old self.new (at, call.ShutdownNow) (record { answer = answer.ShutdownNow; ends = numbers_of ends.new.items }) }
     {

@@ -1,5 +1,5 @@
 //! What the clock and the starts of the workers do to a table.
-ghost use Rattle.std.specs.Prelude.{◌≡◌, ℕ, ◌+◌, ◌<◌, ◌^◌, ◌≤◌, ◌↔◌, true, Some, None, slice_index_or, IsOk, IfOk, IfErr, OnErr, IfSome, IfNone};
+ghost use Rattle.std.specs.Prelude.{◌≡◌, ℕ, ◌+◌, ◌<◌, ◌^◌, ◌≤◌, ◌↔◌, true, false, Some, None, slice_index_or, IsOk, IfOk, IfErr, OnErr, IfSome, IfNone};
 ghost use Rattle.executor_core.specs.Answers.{bare, is_accepted};
 ghost use Rattle.executor_core.specs.declared.types.Answer.TheVariants as answer;
 ghost use Rattle.executor_core.specs.declared.types.Happening.TheVariants as happening;
@@ -18,7 +18,7 @@ impl<A: Allocator> TaskTable<A> {
     ghost use Rattle.task_table.specs.Tables.{EventSteps};
     ghost use Rattle.task_table.specs.Seats.{slot_of};
     ghost use Rattle.task_table.specs.Firsts.{IsFirstDue, NoneDue, NoneMet, IsEarliest, NoneWaits};
-    ghost use Rattle.task_table.specs.Runs.{IsFree, IsStartError, Starts, FailsStart, FailsClock};
+    ghost use Rattle.task_table.specs.Runs.{IsFree, IsFull, IsStartError, Starts, FailsStart, FailsClock};
     ghost use Rattle.task_table.specs.own.Formed.{IsFormed};
     ghost use Rattle.task_table.specs.own.Heads.{HeadsQueue};
 
@@ -82,6 +82,17 @@ impl<A: Allocator> TaskTable<A> {
             Some(_) => Some(EventError::Busy),
             None => None,
         }
+    }
+
+    /// Whether the first task that is due has had 2^64 - 1 runs: then no number is left for a run that a start would begin.
+    pub fn is_spent(&self) -> bool
+        ensures spent { result ≡ true → IsFull self.now }
+        ensures fresh { result ≡ false → (IsFull self.now → ⊥) }
+    {
+        let Some(first) = self.first_due() else {
+            return false;
+        };
+        self.held(first.slot).run == u64::MAX
     }
 
     /// A worker asks for work: it begins a run of the first task that is due, or none, where none is.

@@ -21,7 +21,8 @@ impl<A: Allocator> TaskTable<A> {
     pub(crate) fn sweep<B: Allocator>(&mut self, ends: &mut Vec<TaskRef, B>)
         requires room { length self.old.slots ≤ vec_capacity ends.old }
         requires empty { ends.old.items ≡ [] }
-        ensures { SweepEnds self.old self.new ends.new.items }
+        ensures ends { SweepEnds self.old self.new ends.new.items }
+        ensures room { vec_capacity ends.new ≡ vec_capacity ends.old }
     {
         let count = self.count();
         for slot in 0..count {
@@ -92,6 +93,7 @@ fn bars_runs(seat: &Seat, policies: Policies, now: u64) -> bool
 fn sort_by_number<B: Allocator>(ends: &mut Vec<TaskRef, B>)
     ensures moved { IsPermutation ends.old.items ends.new.items }
     ensures sorted { IsNonDecreasingBy (λ (r : refs.TaskRef). r.number) ends.new.items }
+    ensures room { vec_capacity ends.new ≡ vec_capacity ends.old }
 {
     ends.sort_unstable_by_key(|task: &TaskRef| task.number);
 }

@@ -5,8 +5,10 @@ use Rattle.executor_core.specs.declared.types.Happening.TheVariants as h
 use Rattle.executor_core.specs.Answers.{bare, outcome_in, stops_periodic}
 use Rattle.executor_core.specs.State.{due_past}
 use Rattle.task_table.specs.Tables.{EventSteps}
-use Rattle.task_table.specs.Changes.{finished}
-use Rattle.task_table.proofs.Finishes.{finish_steps}
+use Rattle.task_table.specs.Changes.{ended, finished}
+use Rattle.task_table.specs.Runs.{IsLeft}
+use Rattle.task_table.specs.Seats.{is_running_in}
+use Rattle.task_table.proofs.Finishes.{finish_steps, kept_not, finish_leaves}
 use Rattle.task_table.proofs.table.TaskTable.end_run.Goals as goal
 
 pub returns : goal.returns
@@ -27,6 +29,9 @@ returns g k =
       number = refl;
       run = refl;
       outcome = is ∙ ap (λ d. outcome_in x.seat.cancelled (stops_periodic n.shut n.stopped n.policies) x.seat.timing d x.ending) dues;
+      runs = ap is_running_in k.requires.runs.runs;
+      left = subst (λ d. IsLeft o (ended o d x.seat)) dues
+          (finish_leaves x.seat (stops_periodic n.shut n.stopped n.policies) due x.ending o (kept_not n x.slot x.seat k.requires.formed k.requires.there k.requires.runs.runs) is);
       is = k.end.ensures ∙ ap (λ d. finished n x.worker x.slot x.seat o d) dues;
       steps = subst (λ v. EventSteps n v (h.Finish x.worker x.ending) (bare (a.Finish x.worker x.seat.number x.seat.run o))) (sym k.end.ensures) steps;
     }

@@ -15,11 +15,11 @@ returns-then-still-clause-steps g k = λ q.
     subst (λ v. CallSteps x.self.now v (x.at, c.SetPolicy x.which x.value) (bare (a.Policy x.which x.value))) (sym k.set.ensures) (policy_steps x.self.now x.at x.which x.value q k.requires.moment)
 
 pub returns-clause-swept : goal.returns-clause-swept
-returns-clause-swept g k = λ q. subst (λ m. SweepEnds m k.sweep.new.self k.sweep.new.ends.items) k.set.ensures k.sweep.ensures
+returns-clause-swept g k = λ q. subst (λ m. SweepEnds m k.sweep.new.self k.sweep.new.ends.items) k.set.ensures k.sweep.ensures.ends
 
 pub returns-clause-sweeps : goal.returns-clause-sweeps
 returns-clause-sweeps g k = λ q.
     let x = k.args in
-    let s = subst (λ m. SweepEnds m k.sweep.new.self k.sweep.new.ends.items) k.set.ensures k.sweep.ensures in
+    let s = subst (λ m. SweepEnds m k.sweep.new.self k.sweep.new.ends.items) k.set.ensures k.sweep.ensures.ends in
     subst (λ v. CallStepsBefore x.self.now v (x.at, c.SetPolicy x.which x.value) (record { answer = a.Policy x.which x.value; ends = numbers_of k.sweep.new.ends.items })) (sym s.is)
     (policy_sweeps x.self.now x.at x.which x.value (numbers_of k.sweep.new.ends.items) q (k.requires.kept q) k.requires.moment s.ended)

@@ -18,8 +18,8 @@ loop-slot-preserved g k =
     let more = sweep_more k.args.self.now l.self s.new.self l.slot l.ends.items s.new.ends.items (omega (arith, k.loop-slot-test.true, k.count-count.ensures.count)) l.invariant.swept l.invariant.found s.ensures.swept s.ensures.found in
     record { swept = more.0; found = more.1; room = s.ensures.room ∙ l.invariant.room }
 
-pub returns : goal.returns
-returns g k =
+pub returns-clause-ends : goal.returns-clause-ends
+returns-clause-ends g k =
     let n = k.args.self.now in
     let l = k.loop-slot in
     let last : l.slot ≡ length n.slots = omega (arith, k.loop-slot-test.false, l.auto.slot-end, k.count-count.ensures.count) in

@@ -1,0 +1,128 @@
+-- What a start and a finish leave behind, as the table tells of them.
+use Rattle.std.proofs.Common.{◌≡◌, ℕ, ◌+◌, ◌<◌, ◌≤◌, ◌==◌, ◌&&◌, ◌||◌, Bool, true, false, cond, List, [], ◌∷◌, length, Option, Some, None, refl, sym, ap, ◌∙◌, arith, subst}
+use Rattle.std.specs.Prelude.{slice_index_or, slice_set, IfSome}
+use Rattle.std.specs.Option.{option_map_or}
+use Rattle.std.proofs.lemmas.Bool.{eq-eqb}
+use Rattle.std.proofs.lemmas.List.{length-set}
+use Rattle.std.proofs.lemmas.Option.{none-some}
+use Rattle.sched_time.specs.declared.timing.Ending.{Ending}
+use Rattle.queue_code.specs.Calls.{Planned}
+use Rattle.executor_core.specs.declared.types.EventError.{EventError}
+use Rattle.executor_core.specs.declared.types.EventError.TheVariants as x
+use Rattle.executor_core.specs.declared.types.Happening.{Happening}
+use Rattle.executor_core.specs.declared.types.Happening.TheVariants as h
+use Rattle.executor_core.specs.declared.types.Outcome.{Outcome}
+use Rattle.executor_core.specs.declared.types.Outcome.TheVariants as o
+use Rattle.executor_core.specs.Answers.{Reply}
+use Rattle.executor_core.specs.Histories.{HistoryEntry, entry_of, happenings, answer, MayFrom, IsHistoryOf}
+use Rattle.executor_core.specs.State.{after, due_past}
+use Rattle.executor_core.proofs.Tables.{at_set}
+use Rattle.task_table.specs.declared.answers.Begun.{Begun}
+use Rattle.task_table.specs.declared.answers.Ended.{Ended}
+use Rattle.task_table.specs.declared.answers.StartError.{StartError}
+use Rattle.task_table.specs.declared.answers.StartError.TheVariants as e
+use Rattle.task_table.specs.declared.seat.Seat.{Seat}
+use Rattle.task_table.specs.declared.seat.TaskRef.{TaskRef}
+use Rattle.task_table.specs.Seats.{task_in, slot_of, waits, is_alive, is_running_in}
+use Rattle.task_table.specs.Tables.{TableView, workers_of, Shows, Stands, StandsBefore, Takes, EventSteps, EventStepsBefore}
+use Rattle.task_table.specs.Runs.{IsFree, IsFull, IsStartError, Starts, FailsStart, IsLeft, Ends}
+use Rattle.task_table.specs.Changes.{put, begun, started, ended, finished, emptied}
+use Rattle.task_table.proofs.Slots.{set_writes, slot_within}
+use Rattle.task_table.proofs.Starts.{stands_before}
+use Rattle.live_core.specs.Events.{start_reply, finish_reply, IsRunBy, IsLeftThere}
+use Rattle.live_core.specs.Said.{is_waiting_there}
+use Rattle.live_core.specs.own.Slots.{held_numbers}
+use Rattle.live_core.specs.own.Formed.{AreNoted}
+use Rattle.live_core.specs.own.Shed.{Sheds, released}
+use Rattle.live_core.proofs.Held.{held_put}
+use Rattle.live_core.proofs.Noted.{noted_still}
+
+-- ---- a start
+
+-- the numbers in the slots stay
+start_numbers : (m new : TableView) (worker : ℕ) (b : Option Begun) → Starts m new worker b → held_numbers new.slots ≡ held_numbers m.slots
+start_numbers m new worker None s = ap (λ (v : TableView). held_numbers v.slots) s.is
+start_numbers m new worker (Some b) s = ap (λ (v : TableView). held_numbers v.slots) s.is ∙ held_put m.slots b.task.slot s.task (begun s.task) s.first.there refl
+
+pub noted_started : (m new : TableView) (worker : ℕ) (b : Option Begun) (count : ℕ) (free : List ℕ) (entries : List TaskRef) (free_room ended_room : ℕ) → Starts m new worker b →
+    AreNoted m.slots count free entries free_room ended_room → AreNoted new.slots count free entries free_room ended_room
+noted_started m new worker b count free entries free_room ended_room s noted =
+    noted_still m.slots new.slots count free entries free_room ended_room (start_numbers m new worker b s) noted
+
+-- the worker runs the task
+pub runs_started : (m new : TableView) (worker : ℕ) (b : Option Begun) → Starts m new worker b → IfSome b (λ r. IsRunBy new worker r.task)
+runs_started m new worker None s = tt
+runs_started m new worker (Some b) s =
+    let slot = b.task.slot in
+    let works : slice_index_or (slice_set m.work worker (Some slot)) worker None ≡ Some slot =
+    at_set m.work worker worker (Some slot) None s.free.0 ∙ ap (λ c. cond c (Some slot) (slice_index_or m.work worker None)) (eq-eqb worker worker refl)
+    in
+    record {
+      works = ap (λ (v : TableView). slice_index_or v.work worker None) s.is ∙ works;
+      task = begun s.task;
+      there = ap (λ (v : TableView). slot_of v.slots slot) s.is ∙ (set_writes m.slots slot (begun s.task) (slot_within m.slots slot s.task s.first.there)).here;
+      named = sym s.number;
+      runs = refl;
+    }
+
+-- it takes its step, once the kept tasks that it meets are gone
+pub steps_started : (old m new : TableView) (worker : ℕ) (b : Option Begun) → IsFree old worker → Sheds old m → Starts m new worker b → EventSteps old new (h.Start worker) (start_reply worker b)
+steps_started old m new worker b free sheds s calls past st = by b s calls past (sheds.before worker free calls past (stands_before old calls past (h.Start worker) st))
+  where
+    by : (b : Option Begun) → Starts m new worker b → EventStepsBefore m new (h.Start worker) (start_reply worker b)
+    by None s = s.steps
+    by (Some b) s = s.steps
+
+-- ---- a finish
+
+-- what the slot of its task holds
+left_there : (m new : TableView) (worker : ℕ) (ending : Ending) (e : Ended) → (s : Ends m new worker ending e) → slot_of new.slots e.task.slot ≡ Some (ended e.outcome (due_past s.task.timing s.task.due m.moment) s.task)
+left_there m new worker ending e s =
+    let y = ended e.outcome (due_past s.task.timing s.task.due m.moment) s.task in
+    ap (λ (v : TableView). slot_of v.slots e.task.slot) s.is ∙ (set_writes m.slots e.task.slot y (slot_within m.slots e.task.slot s.task s.there)).here
+
+-- a task whose run ended keeps its number
+same_number : (outcome : Outcome) (due : ℕ) (x : Seat) → (ended outcome due x).number ≡ x.number
+same_number (o.Done value) due x = refl
+same_number (o.Failed code) due x = refl
+same_number o.Dropped due x = refl
+same_number o.Ended due x = refl
+same_number (o.Again next) due x = refl
+
+pub noted_finished : (m new : TableView) (worker : ℕ) (ending : Ending) (e : Ended) (count : ℕ) (free : List ℕ) (entries : List TaskRef) (free_room ended_room : ℕ) → Ends m new worker ending e →
+    AreNoted m.slots count free entries free_room ended_room → AreNoted new.slots count free entries free_room ended_room
+noted_finished m new worker ending e count free entries free_room ended_room s noted =
+    let due = due_past s.task.timing s.task.due m.moment in
+    noted_still m.slots new.slots count free entries free_room ended_room
+    (ap (λ (v : TableView). held_numbers v.slots) s.is ∙ held_put m.slots e.task.slot s.task (ended e.outcome due s.task) s.there (same_number e.outcome due s.task)) noted
+
+-- the workers stay
+workers_released : (outcome : Outcome) (m : TableView) (slot : ℕ) → workers_of (released outcome m slot) ≡ workers_of m
+workers_released (o.Done value) m slot = refl
+workers_released (o.Failed code) m slot = refl
+workers_released o.Dropped m slot = refl
+workers_released o.Ended m slot = refl
+workers_released (o.Again next) m slot = refl
+
+workers_ended : (old m : TableView) (worker : ℕ) (ending : Ending) (e : Ended) → Ends old m worker ending e → workers_of m ≡ workers_of old
+workers_ended old m worker ending e s = ap workers_of s.is ∙ length-set old.work worker None
+
+-- it takes its step, also once the slot is emptied
+pub steps_finished : (old m new : TableView) (worker : ℕ) (ending : Ending) (e : Ended) → Ends old m worker ending e → new ≡ released e.outcome m e.task.slot →
+    ((calls : List Planned) (past : List HistoryEntry) → Stands m calls past → Stands new calls past) → EventSteps old new (h.Finish worker ending) (finish_reply worker e)
+steps_finished old m new worker ending e s is carries calls past st =
+    let takes = s.steps calls past st in
+    let there : Stands m calls (entry_of (h.Finish worker ending) (finish_reply worker e) ∷ past) = record {
+      orderly = st.orderly;
+      means = (
+        subst (λ n. IsHistoryOf calls n past) (sym (workers_ended old m worker ending e s)) st.means,
+        tt,
+        sym (ap (λ (q : Reply). q.answer) takes.said),
+        sym (ap (λ (q : Reply). q.ends) takes.said),
+      );
+      shows = takes.shows;
+    } in
+    record {
+      said = subst (λ n. answer calls n past (h.Finish worker ending) ≡ finish_reply worker e) (sym (ap workers_of is ∙ workers_released e.outcome m e.task.slot)) takes.said;
+      shows = (carries calls (entry_of (h.Finish worker ending) (finish_reply worker e) ∷ past) there).shows;
+    }

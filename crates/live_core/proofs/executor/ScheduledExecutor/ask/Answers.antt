@@ -1,0 +1,39 @@
+-- The table answers, and stays as it is.
+use Rattle.std.proofs.Common.{◌≡◌, ◌∙◌, ℕ, true, false, vec_capacity, refl, sym, ap, List, length, arith, subst}
+use Rattle.std.specs.Prelude.{is_some}
+use Rattle.queue_code.specs.Calls.{how_many}
+use Rattle.queue_code.specs.declared.call.CodeCall.TheVariants as call
+use Rattle.executor_core.specs.declared.types.Answer.TheVariants as answer
+use Rattle.executor_core.specs.Answers.{bare, is_terminated}
+use Rattle.task_table.specs.Firsts.{queue_in}
+use Rattle.task_table.specs.Tables.{TableView, workers_of}
+use Rattle.live_core.specs.Lives.{LiveView}
+use Rattle.live_core.proofs.Called.{SubmitsNone, calls_other, live_other, noted_same_room}
+use Rattle.live_core.proofs.executor.ScheduledExecutor.ask.Goals as goal
+
+pub invariant_of-self : goal.invariant_of-self
+invariant_of-self g c =
+    let e = c.self.inside in
+    let m : LiveView = record { table = e.table; count = e.count; accepted = e.accepted; earliest = e.earliest; ended = e.ended.items } in
+    let s = c.ask in
+    let none : SubmitsNone e.count call.Ask (bare (answer.Ask s.result.queue s.result.running s.result.shutdown s.result.terminated)) = record { orderly = tt; same = refl; none = λ k. refl } in
+    live_other m c.args.self.now s.new.self c.clear.new.self.items c.args.at c.moment_of-moment.result call.Ask (bare (answer.Ask s.result.queue s.result.running s.result.shutdown s.result.terminated)) e.notes.free e.notes.entries e.notes.free_room (vec_capacity e.ended) e.notes.free e.notes.entries e.notes.free_room (vec_capacity c.clear.new.self)
+    c.self.view_is c.moment_of-moment.ensures c.if-moment-gt-LONGEST.false none (ap workers_of s.ensures.slots) s.ensures.steps (λ q. sym (ap (λ (t : TableView). t.shut) s.ensures.slots) ∙ q) c.self.invariant
+    (noted_same_room e.table.slots s.new.self.slots e.count e.notes.free e.notes.entries e.notes.free_room (vec_capacity e.ended) (vec_capacity c.clear.new.self) (ap (λ (t : TableView). t.slots) s.ensures.slots) c.clear.ensures.capacity c.self.invariant.noted)
+
+pub returns-clause-made : goal.returns-clause-made
+returns-clause-made g c =
+    let e = c.self.inside in
+    let m : LiveView = record { table = e.table; count = e.count; accepted = e.accepted; earliest = e.earliest; ended = e.ended.items } in
+    let s = c.ask in
+    let none : SubmitsNone e.count call.Ask (bare (answer.Ask s.result.queue s.result.running s.result.shutdown s.result.terminated)) = record { orderly = tt; same = refl; none = λ k. refl } in
+    let makes = calls_other m c.args.self.now s.new.self c.clear.new.self.items c.args.at c.moment_of-moment.result call.Ask (bare (answer.Ask s.result.queue s.result.running s.result.shutdown s.result.terminated))
+    c.self.view_is c.moment_of-moment.ensures c.if-moment-gt-LONGEST.false c.self.invariant.stands.few none (ap workers_of s.ensures.slots) s.ensures.steps in
+    record {
+      queue = s.ensures.queue ∙ ap (λ (v : LiveView). queue_in v.table.slots) c.self.view_is;
+      running = s.ensures.running ∙ ap (λ (v : LiveView). how_many is_some v.table.work) c.self.view_is;
+      shutdown = s.ensures.shutdown ∙ ap (λ (v : LiveView). v.table.shut) c.self.view_is;
+      ended = c.clear.ensures.items;
+      terminated = s.ensures.terminated ∙ ap (λ b. is_terminated b s.result.queue s.result.running) (sym s.ensures.shutdown);
+      makes = makes;
+    }

@@ -1,0 +1,17 @@
+-- Its history tells what a cancel does to it.
+use Rattle.std.proofs.Common.{sym, subst}
+use Rattle.task_table.specs.Seats.{IsNew}
+use Rattle.live_core.specs.Lives.{LiveView}
+use Rattle.live_core.proofs.Cancelled.{outside_gone}
+use Rattle.live_core.proofs.Seated.{new_alive}
+use Rattle.live_core.proofs.executor.ScheduledExecutor.cancel_gone.Goals as goal
+
+pub returns-clause-happens : goal.returns-clause-happens
+returns-clause-happens g c =
+    let e = c.self.inside in
+    let m : LiveView = record { table = e.table; count = e.count; accepted = e.accepted; earliest = e.earliest; ended = e.ended.items } in
+    outside_gone m c.args.self.now c.clear.new.self.items c.args.number c.effect_without.result c.self.view_is c.clear.ensures.items c.effect_without.ensures c.requires.gone c.requires.given
+
+pub returns-clause-held : goal.returns-clause-held
+returns-clause-held g c =
+    new_alive c.self.inside.table c.args.number (subst (λ (v : LiveView). IsNew v.table.slots c.args.number) (sym c.self.view_is) c.requires.gone)

@@ -1,0 +1,37 @@
+-- Its history tells what a cancel does to it, and the call moves the moment.
+use Rattle.std.proofs.Common.{refl, ap, ◌∙◌, sym, subst, vec_capacity}
+use Rattle.queue_code.specs.declared.call.CodeCall.TheVariants as call
+use Rattle.executor_core.specs.declared.types.Answer.TheVariants as answer
+use Rattle.executor_core.specs.Answers.{bare}
+use Rattle.task_table.specs.Tables.{TableView}
+use Rattle.live_core.specs.Lives.{LiveView, Calls}
+use Rattle.live_core.specs.own.Formed.{AreNoted}
+use Rattle.live_core.proofs.Cancelled.{may_cancel, by_call_gone}
+use Rattle.live_core.proofs.Living.{live_call}
+use Rattle.live_core.proofs.executor.ScheduledExecutor.cancel_gone_by_call.Goals as goal
+
+pub invariant_of-self : goal.invariant_of-self
+invariant_of-self g c =
+    let e = c.self.inside in
+    let m : LiveView = record { table = e.table; count = e.count; accepted = e.accepted; earliest = e.earliest; ended = e.ended.items } in
+    let table = c.pass.new.self in
+    let k = c.args.number in
+    let new : LiveView = record m { table = table; ended = c.clear.new.self.items } in
+    let may = may_cancel m c.args.self.now c.args.moment k c.self.view_is c.self.invariant.stands.few c.requires.given c.requires.early c.requires.ahead c.requires.limit in
+    live_call m new (c.args.moment, call.Cancel k) (bare (answer.Cancel k c.effect_without.result)) e.notes.free e.notes.entries e.notes.free_room (vec_capacity e.ended)
+    e.notes.free e.notes.entries e.notes.free_room (vec_capacity c.clear.new.self) c.self.invariant
+    (by_call_gone m c.args.self.now table c.clear.new.self.items c.args.moment k c.effect_without.result c.self.view_is c.pass.ensures.slots c.clear.ensures.items c.effect_without.ensures c.requires.gone may)
+    (λ q. c.self.invariant.unshut (sym (ap (λ (t : TableView). t.shut) c.pass.ensures.slots) ∙ q)) refl
+    (subst (λ room. AreNoted table.slots e.count e.notes.free e.notes.entries e.notes.free_room room) (sym c.clear.ensures.capacity)
+    (subst (λ slots. AreNoted slots e.count e.notes.free e.notes.entries e.notes.free_room (vec_capacity e.ended)) (sym (ap (λ (t : TableView). t.slots) c.pass.ensures.slots)) c.self.invariant.noted))
+
+pub returns-clause-makes : goal.returns-clause-makes
+returns-clause-makes g c =
+    let e = c.self.inside in
+    let m : LiveView = record { table = e.table; count = e.count; accepted = e.accepted; earliest = e.earliest; ended = e.ended.items } in
+    let table = c.pass.new.self in
+    let k = c.args.number in
+    let new : LiveView = record m { table = table; ended = c.clear.new.self.items } in
+    let may = may_cancel m c.args.self.now c.args.moment k c.self.view_is c.self.invariant.stands.few c.requires.given c.requires.early c.requires.ahead c.requires.limit in
+    subst (λ (v : LiveView). Calls v new (c.args.moment, call.Cancel k) (bare (answer.Cancel k c.effect_without.result))) c.self.view_is
+    (by_call_gone m c.args.self.now table c.clear.new.self.items c.args.moment k c.effect_without.result c.self.view_is c.pass.ensures.slots c.clear.ensures.items c.effect_without.ensures c.requires.gone may)

@@ -1,0 +1,64 @@
+-- The table takes the step, and the slot is emptied where its task is over.
+use Rattle.std.proofs.Common.{◌<◌, Some, refl, sym, subst, vec_capacity}
+use Rattle.executor_core.specs.declared.types.Happening.TheVariants as happening
+use Rattle.executor_core.specs.declared.types.Answer.TheVariants as answer
+use Rattle.executor_core.specs.Answers.{bare}
+use Rattle.live_core.specs.Lives.{LiveView, Happens}
+use Rattle.live_core.specs.own.Places.{IsSlotOf}
+use Rattle.live_core.proofs.Cancelled.{outside_held, unshut_held}
+use Rattle.live_core.proofs.Living.{live_event}
+use Rattle.live_core.proofs.Seated.{cancelled_outside, cancelled_noted, cancelled_there}
+use Rattle.live_core.proofs.executor.ScheduledExecutor.cancel_held.Goals as goal
+
+pub release_spent-requires : goal.release_spent-requires
+release_spent-requires g c =
+    let e = c.self.inside in
+    let m : LiveView = record { table = e.table; count = e.count; accepted = e.accepted; earliest = e.earliest; ended = e.ended.items } in
+    let k = c.args.number in
+    let mid = c.cancel-effect.new.self in
+    let own = subst (λ (v : LiveView). IsSlotOf v.table.slots k (Some c.args.slot)) (sym c.self.view_is) c.requires.held in
+    let is = cancelled_outside e.table mid c.args.slot own.0 (c.cancel-effect.ensures.slots own.0 own.1) in
+    let room = vec_capacity e.ended in
+    (e.count, room, cancelled_noted e.table mid c.args.slot own.0 e.count e.notes.free e.notes.entries e.notes.free_room room room is own.1 refl c.self.invariant.noted)
+
+pub invariant_of-self : goal.invariant_of-self
+invariant_of-self g c =
+    let e = c.self.inside in
+    let m : LiveView = record { table = e.table; count = e.count; accepted = e.accepted; earliest = e.earliest; ended = e.ended.items } in
+    let k = c.args.number in
+    let mid = c.cancel-effect.new.self in
+    let own = subst (λ (v : LiveView). IsSlotOf v.table.slots k (Some c.args.slot)) (sym c.self.view_is) c.requires.held in
+    let is = cancelled_outside e.table mid c.args.slot own.0 (c.cancel-effect.ensures.slots own.0 own.1) in
+    let table = c.release_spent.new.table in
+    let new : LiveView = record m { table = table; ended = c.clear.new.self.items } in
+    let low = subst (λ (v : LiveView). k < v.count) (sym c.self.view_is) c.requires.given in
+    let notes = c.release_spent.new.notes in
+    let room = vec_capacity c.clear.new.self in
+    live_event m new (happening.Cancel k) (bare (answer.Outside k c.cancel-effect.result)) e.notes.free e.notes.entries e.notes.free_room (vec_capacity e.ended) notes.free notes.entries notes.free_room room c.self.invariant
+    (outside_held m mid table c.clear.new.self.items c.args.slot k own.0 c.cancel-effect.result is own.2 low c.release_spent.ensures.stands (c.cancel-effect.ensures.steps own.0 own.1))
+    (unshut_held m mid table c.args.slot own.0 is c.release_spent.ensures.stands c.self.invariant.unshut) c.self.invariant.earliest
+    (c.release_spent.ensures.noted e.count room (cancelled_noted e.table mid c.args.slot own.0 e.count e.notes.free e.notes.entries e.notes.free_room (vec_capacity e.ended) room is own.1 c.clear.ensures.capacity c.self.invariant.noted))
+
+pub returns-clause-happens : goal.returns-clause-happens
+returns-clause-happens g c =
+    let e = c.self.inside in
+    let m : LiveView = record { table = e.table; count = e.count; accepted = e.accepted; earliest = e.earliest; ended = e.ended.items } in
+    let k = c.args.number in
+    let mid = c.cancel-effect.new.self in
+    let own = subst (λ (v : LiveView). IsSlotOf v.table.slots k (Some c.args.slot)) (sym c.self.view_is) c.requires.held in
+    let is = cancelled_outside e.table mid c.args.slot own.0 (c.cancel-effect.ensures.slots own.0 own.1) in
+    let table = c.release_spent.new.table in
+    let new : LiveView = record m { table = table; ended = c.clear.new.self.items } in
+    let low = subst (λ (v : LiveView). k < v.count) (sym c.self.view_is) c.requires.given in
+    subst (λ (v : LiveView). Happens v new (happening.Cancel k) (bare (answer.Outside k c.cancel-effect.result))) c.self.view_is
+    (outside_held m mid table c.clear.new.self.items c.args.slot k own.0 c.cancel-effect.result is own.2 low c.release_spent.ensures.stands (c.cancel-effect.ensures.steps own.0 own.1))
+
+pub returns-clause-held : goal.returns-clause-held
+returns-clause-held g c =
+    let e = c.self.inside in
+    let m : LiveView = record { table = e.table; count = e.count; accepted = e.accepted; earliest = e.earliest; ended = e.ended.items } in
+    let k = c.args.number in
+    let mid = c.cancel-effect.new.self in
+    let own = subst (λ (v : LiveView). IsSlotOf v.table.slots k (Some c.args.slot)) (sym c.self.view_is) c.requires.held in
+    let is = cancelled_outside e.table mid c.args.slot own.0 (c.cancel-effect.ensures.slots own.0 own.1) in
+    c.release_spent.ensures.alive k (cancelled_there e.table mid c.args.slot k own.0 is own.1 own.2)

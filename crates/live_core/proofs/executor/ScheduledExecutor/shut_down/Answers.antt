@@ -1,0 +1,36 @@
+-- The executor is shut from then on.
+use Rattle.std.proofs.Common.{◌≡◌, ◌∙◌, ℕ, true, false, vec_capacity, refl, sym, ap, Bool}
+use Rattle.std.specs.Prelude.{not}
+use Rattle.std.proofs.lemmas.Bool.{false≢true}
+use Rattle.queue_code.specs.declared.call.CodeCall.TheVariants as call
+use Rattle.executor_core.specs.declared.types.Answer.TheVariants as answer
+use Rattle.executor_core.specs.Histories.{is_submit}
+use Rattle.live_core.specs.Lives.{LiveView}
+use Rattle.live_core.specs.Said.{ending}
+use Rattle.live_core.specs.Shutting.{shutdown_answer}
+use Rattle.live_core.proofs.Called.{SubmitsNone, calls_other, live_other}
+use Rattle.live_core.proofs.executor.ScheduledExecutor.shut_down.Goals as goal
+
+-- the answer names no submission
+unsubmitted : (first : Bool) (k : ℕ) → is_submit k (shutdown_answer first) ≡ false
+unsubmitted true k = refl
+unsubmitted false k = refl
+
+pub invariant_of-self : goal.invariant_of-self
+invariant_of-self g c =
+    let e = c.self.inside in
+    let m : LiveView = record { table = e.table; count = e.count; accepted = e.accepted; earliest = e.earliest; ended = e.ended.items } in
+    let s = c.shut_down in
+    let none : SubmitsNone e.count call.Shutdown (ending (shutdown_answer s.result) s.new.ended.items) = record { orderly = tt; same = refl; none = unsubmitted s.result } in
+    live_other m c.args.self.now s.new.table s.new.ended.items c.args.at c.moment_of-moment.result call.Shutdown (ending (shutdown_answer s.result) s.new.ended.items) e.notes.free e.notes.entries e.notes.free_room (vec_capacity e.ended) s.new.notes.free s.new.notes.entries s.new.notes.free_room (vec_capacity s.new.ended)
+    c.self.view_is c.moment_of-moment.ensures c.if-moment-gt-LONGEST.false none s.ensures.workers s.ensures.steps (λ q. absurd (false≢true (sym q ∙ s.ensures.shut))) c.self.invariant (s.ensures.noted e.count c.self.invariant.noted)
+
+pub returns-clause-made : goal.returns-clause-made
+returns-clause-made g c =
+    let e = c.self.inside in
+    let m : LiveView = record { table = e.table; count = e.count; accepted = e.accepted; earliest = e.earliest; ended = e.ended.items } in
+    let s = c.shut_down in
+    let none : SubmitsNone e.count call.Shutdown (ending (shutdown_answer s.result) s.new.ended.items) = record { orderly = tt; same = refl; none = unsubmitted s.result } in
+    let makes = calls_other m c.args.self.now s.new.table s.new.ended.items c.args.at c.moment_of-moment.result call.Shutdown (ending (shutdown_answer s.result) s.new.ended.items)
+    c.self.view_is c.moment_of-moment.ensures c.if-moment-gt-LONGEST.false c.self.invariant.stands.few none s.ensures.workers s.ensures.steps in
+    record { first = s.ensures.first ∙ ap (λ (v : LiveView). not v.table.shut) c.self.view_is; makes = makes }

@@ -1,0 +1,27 @@
+-- The executor is shut from then on.
+use Rattle.std.proofs.Common.{◌≡◌, ◌∙◌, ℕ, true, false, vec_capacity, refl, sym, ap}
+use Rattle.std.proofs.lemmas.Bool.{false≢true}
+use Rattle.queue_code.specs.declared.call.CodeCall.TheVariants as call
+use Rattle.executor_core.specs.declared.types.Answer.TheVariants as answer
+use Rattle.live_core.specs.Lives.{LiveView}
+use Rattle.live_core.specs.Said.{ending}
+use Rattle.live_core.proofs.Called.{SubmitsNone, calls_other, live_other}
+use Rattle.live_core.proofs.executor.ScheduledExecutor.shut_down_now.Goals as goal
+
+pub invariant_of-self : goal.invariant_of-self
+invariant_of-self g c =
+    let e = c.self.inside in
+    let m : LiveView = record { table = e.table; count = e.count; accepted = e.accepted; earliest = e.earliest; ended = e.ended.items } in
+    let s = c.shut_down_now in
+    let none : SubmitsNone e.count call.ShutdownNow (ending answer.ShutdownNow s.new.ended.items) = record { orderly = tt; same = refl; none = λ k. refl } in
+    live_other m c.args.self.now s.new.table s.new.ended.items c.args.at c.moment_of-moment.result call.ShutdownNow (ending answer.ShutdownNow s.new.ended.items) e.notes.free e.notes.entries e.notes.free_room (vec_capacity e.ended) s.new.notes.free s.new.notes.entries s.new.notes.free_room (vec_capacity s.new.ended)
+    c.self.view_is c.moment_of-moment.ensures c.if-moment-gt-LONGEST.false none s.ensures.workers s.ensures.steps (λ q. absurd (false≢true (sym q ∙ s.ensures.shut))) c.self.invariant (s.ensures.noted e.count c.self.invariant.noted)
+
+pub returns-clause-made : goal.returns-clause-made
+returns-clause-made g c =
+    let e = c.self.inside in
+    let m : LiveView = record { table = e.table; count = e.count; accepted = e.accepted; earliest = e.earliest; ended = e.ended.items } in
+    let s = c.shut_down_now in
+    let none : SubmitsNone e.count call.ShutdownNow (ending answer.ShutdownNow s.new.ended.items) = record { orderly = tt; same = refl; none = λ k. refl } in
+    calls_other m c.args.self.now s.new.table s.new.ended.items c.args.at c.moment_of-moment.result call.ShutdownNow (ending answer.ShutdownNow s.new.ended.items)
+    c.self.view_is c.moment_of-moment.ensures c.if-moment-gt-LONGEST.false c.self.invariant.stands.few none s.ensures.workers s.ensures.steps

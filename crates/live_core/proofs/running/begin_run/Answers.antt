@@ -1,0 +1,14 @@
+-- The kept tasks that the start meets are gone, and it takes its step.
+use Rattle.live_core.proofs.Workers.{noted_started, runs_started, steps_started}
+use Rattle.live_core.proofs.running.begin_run.Goals as goal
+
+pub returns-clause-noted : goal.returns-clause-noted
+returns-clause-noted g c = λ count ended_room noted.
+    let n = c.drop_met.new.notes in
+    noted_started c.drop_met.new.table c.start.new.self c.args.worker c.in-Ok.begun count n.free n.entries n.free_room ended_room c.in-Ok.ensures.started (c.drop_met.ensures.noted count ended_room noted)
+
+pub returns-clause-runs : goal.returns-clause-runs
+returns-clause-runs g c = runs_started c.drop_met.new.table c.start.new.self c.args.worker c.in-Ok.begun c.in-Ok.ensures.started
+
+pub returns-clause-steps : goal.returns-clause-steps
+returns-clause-steps g c = steps_started c.args.table.now c.drop_met.new.table c.start.new.self c.args.worker c.in-Ok.begun c.requires.free c.drop_met.ensures.sheds c.in-Ok.ensures.started

@@ -1,0 +1,38 @@
+-- The slot of each task that is dropped is emptied.
+use Rattle.std.proofs.Common.{sym, subst}
+use Rattle.task_table.specs.Tables.{TableView}
+use Rattle.live_core.specs.own.Formed.{AreNoted}
+use Rattle.live_core.specs.own.Shed.{Sheds}
+use Rattle.live_core.proofs.Shedding.{sheds_none, sheds_more, fewer_shed, over_dropped, noted_dropped}
+use Rattle.live_core.proofs.running.drop_met.Goals as goal
+
+pub loop-slot-init : goal.loop-slot-init
+loop-slot-init g c = record { sheds = sheds_none c.args.table.now; noted = λ count ended_room noted. noted }
+
+pub release-requires-clause-noted : goal.release-requires-clause-noted
+release-requires-clause-noted g c =
+    let known = c.requires.noted in
+    let n = c.loop-slot.notes in
+    (known.0, known.1, noted_dropped c.loop-slot.table c.drop_met.new.self c.in-Some.slot known.0 n.free n.entries n.free_room known.1 c.in-Some.ensures.dropped (c.loop-slot.invariant.noted known.0 known.1 known.2))
+
+pub release-requires-clause-over : goal.release-requires-clause-over
+release-requires-clause-over g c = over_dropped c.loop-slot.table c.drop_met.new.self c.in-Some.slot c.in-Some.ensures.dropped
+
+pub loop-slot-smaller : goal.loop-slot-smaller
+loop-slot-smaller g c = fewer_shed c.loop-slot.table c.drop_met.new.self c.release.new.table c.in-Some.slot c.in-Some.ensures.dropped c.release.ensures.slots
+
+pub loop-slot-preserved : goal.loop-slot-preserved
+loop-slot-preserved g c =
+    let n = c.loop-slot.notes in
+    record {
+      sheds = sheds_more c.args.table.now c.loop-slot.table c.drop_met.new.self c.release.new.table c.in-Some.slot c.loop-slot.invariant.sheds c.in-Some.ensures.dropped c.release.ensures.slots c.in-Some.ensures.steps c.release.ensures.stands_before;
+      noted = λ count ended_room noted. c.release.ensures.noted count ended_room (noted_dropped c.loop-slot.table c.drop_met.new.self c.in-Some.slot count n.free n.entries n.free_room ended_room c.in-Some.ensures.dropped (c.loop-slot.invariant.noted count ended_room noted));
+    }
+
+pub returns-clause-noted : goal.returns-clause-noted
+returns-clause-noted g c = λ count ended_room noted.
+    let n = c.loop-slot.notes in
+    subst (λ (m : TableView). AreNoted m.slots count n.free n.entries n.free_room ended_room) (sym c.in_default.ensures.none.0) (c.loop-slot.invariant.noted count ended_room noted)
+
+pub returns-clause-sheds : goal.returns-clause-sheds
+returns-clause-sheds g c = subst (Sheds c.args.table.now) (sym c.in_default.ensures.none.0) c.loop-slot.invariant.sheds

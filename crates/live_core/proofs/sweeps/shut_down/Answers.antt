@@ -1,0 +1,46 @@
+-- At the first call the tasks that are kept leave their slots before it, and those that it ends after it.
+use Rattle.std.proofs.Common.{◌≡◌, ◌∙◌, ℕ, true, false, vec_capacity, refl, sym, ap}
+use Rattle.std.specs.Prelude.{not}
+use Rattle.queue_code.specs.declared.call.CodeCall.TheVariants as call
+use Rattle.executor_core.specs.declared.types.Answer.TheVariants as answer
+use Rattle.task_table.specs.Tables.{TableView, workers_of}
+use Rattle.task_table.specs.Changes.{at_moment}
+use Rattle.live_core.specs.Said.{ending}
+use Rattle.live_core.proofs.Swept.{noted_swept, sweep_steps}
+use Rattle.live_core.proofs.sweeps.shut_down.Goals as goal
+
+pub shut_down-requires-2-clause-room : goal.shut_down-requires-2-clause-room
+shut_down-requires-2-clause-room g c = (c.drop_kept.ensures.noted c.requires.noted.0 (vec_capacity c.args.ended.now) c.requires.noted.1).spare
+
+pub release_each-requires-clause-noted : goal.release_each-requires-clause-noted
+release_each-requires-clause-noted g c =
+    let mid = c.drop_kept.new.table in
+    let n = c.drop_kept.new.notes in
+    let room = vec_capacity c.args.ended.now in
+    let count = c.requires.noted.0 in
+    let m : TableView = record (at_moment mid c.args.at) { shut = true } in
+    let open_then : mid.shut ≡ false = ap (λ (v : TableView). v.shut) c.drop_kept.ensures.rest ∙ (sym c.is_shut.ensures ∙ c.if-is_shut.false) in
+    (count, room, noted_swept m c.shut_down-2.new.self c.shut_down-2.new.ends.items count n.free n.entries n.free_room room room (c.shut_down-2.ensures.swept open_then) refl (c.drop_kept.ensures.noted count room c.requires.noted.1))
+
+pub returns-clause-noted : goal.returns-clause-noted
+returns-clause-noted g c =
+    let mid = c.drop_kept.new.table in
+    let n = c.drop_kept.new.notes in
+    let room = vec_capacity c.args.ended.now in
+    let more = vec_capacity c.shut_down-2.new.ends in
+    let m : TableView = record (at_moment mid c.args.at) { shut = true } in
+    let open_then : mid.shut ≡ false = ap (λ (v : TableView). v.shut) c.drop_kept.ensures.rest ∙ (sym c.is_shut.ensures ∙ c.if-is_shut.false) in
+    λ count before. c.release_each.ensures.noted count more
+    (noted_swept m c.shut_down-2.new.self c.shut_down-2.new.ends.items count n.free n.entries n.free_room room more (c.shut_down-2.ensures.swept open_then) c.shut_down-2.ensures.room (c.drop_kept.ensures.noted count room before))
+
+pub returns-clause-steps : goal.returns-clause-steps
+returns-clause-steps g c =
+    let old = c.args.table.now in
+    let mid = c.drop_kept.new.table in
+    let swept = c.shut_down-2.new.self in
+    let new = c.release_each.new.table in
+    let first : old.shut ≡ false = sym c.is_shut.ensures ∙ c.if-is_shut.false in
+    let open_then : mid.shut ≡ false = ap (λ (v : TableView). v.shut) c.drop_kept.ensures.rest ∙ first in
+    let width : workers_of swept ≡ workers_of old = ap workers_of (c.shut_down-2.ensures.swept open_then).is ∙ ap workers_of c.drop_kept.ensures.rest in
+    sweep_steps old mid swept new (c.args.at, call.Shutdown) (ending answer.Shutdown c.shut_down-2.new.ends.items) width (ap workers_of c.release_each.ensures.rest)
+    (λ calls past next before. c.drop_kept.ensures.stands calls past (c.args.at, call.Shutdown) next (ap not first) before) (c.shut_down-2.ensures.sweeps open_then) c.release_each.ensures.stands

@@ -1,0 +1,54 @@
+-- What the calls that shut the executor down, set a policy, or ask how far it is answer, as the lines of a trace have it.
+-- All of it is this project's rule.
+use Rattle.std.specs.Prelude.{◌≡◌, ℕ, ◌<◌, not, Bool, if◌then◌else◌, [], None, is_some}
+use Rattle.sched_time.specs.Times.{longest}
+use Rattle.sched_time.specs.declared.policies.Which.{Which}
+use Rattle.queue_code.specs.declared.call.CodeCall.TheVariants as c
+use Rattle.queue_code.specs.Calls.{how_many}
+use Rattle.executor_core.specs.declared.types.Answer.{Answer}
+use Rattle.executor_core.specs.declared.types.Answer.TheVariants as a
+use Rattle.executor_core.specs.Answers.{bare, is_terminated}
+use Rattle.task_table.specs.declared.seat.TaskRef.{TaskRef}
+use Rattle.task_table.specs.declared.answers.Asked.{Asked}
+use Rattle.task_table.specs.Seats.{slot_of}
+use Rattle.task_table.specs.Tables.{TableView}
+use Rattle.task_table.specs.Firsts.{queue_in}
+use Rattle.live_core.specs.declared.error.CallError.{CallError}
+use Rattle.live_core.specs.declared.error.CallError.TheVariants as ce
+use Rattle.live_core.specs.Lives.{LiveView, Calls, moment_of_call}
+use Rattle.live_core.specs.Said.{ending}
+
+-- why such a call is not made: its moment would be too late
+abbrev pub IsTooFar : LiveView → ℕ → CallError → Type 0
+IsTooFar m at ce.TooFar = longest < moment_of_call m at
+IsTooFar m at _ = ⊥
+
+-- the slot of a task is empty: nothing comes of it any more
+abbrev pub IsGone : TableView → TaskRef → Type 0
+IsGone m task = slot_of m.slots task.slot ≡ None
+
+-- a policy is set
+abbrev pub Sets : LiveView → LiveView → ℕ → Which → Bool → Type 0
+Sets old new at which value = Calls old new (moment_of_call old at, c.SetPolicy which value) (ending (a.Policy which value) new.ended)
+
+-- the answer to an orderly shutdown, which is the first call to shut down or not
+abbrev pub shutdown_answer : Bool → Answer
+shutdown_answer first = if first then a.Shutdown else a.ShutdownAgain
+
+-- the executor is shut, in order: this says whether it was not shut before
+pub record ShutsDown (old new : LiveView) (at : ℕ) (is_first : Bool) : Type 0 where
+  pub first : is_first ≡ not old.table.shut
+  pub makes : Calls old new (moment_of_call old at, c.Shutdown) (ending (shutdown_answer is_first) new.ended)
+
+-- the executor is shut at once
+abbrev pub Stops : LiveView → LiveView → ℕ → Type 0
+Stops old new at = Calls old new (moment_of_call old at, c.ShutdownNow) (ending a.ShutdownNow new.ended)
+
+-- how far the executor is, where a call asks: that ends no task
+pub record Asks (old new : LiveView) (at : ℕ) (x : Asked) : Type 0 where
+  pub queue : x.queue ≡ queue_in old.table.slots
+  pub running : x.running ≡ how_many is_some old.table.work
+  pub shutdown : x.shutdown ≡ old.table.shut
+  pub ended : new.ended ≡ []
+  pub terminated : x.terminated ≡ is_terminated x.shutdown x.queue x.running
+  pub makes : Calls old new (moment_of_call old at, c.Ask) (bare (a.Ask x.queue x.running x.shutdown x.terminated))
