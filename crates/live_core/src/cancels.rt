@@ -1,5 +1,5 @@
 //! Cancels, from outside and by calls.
-ghost use Rattle.std.specs.Prelude.{◌≡◌, ℕ, ◌<◌, ◌≤◌, [], Some, IfOk, IfErr, OnErr};
+ghost use Rattle.std.specs.Prelude.{◌≡◌, ℕ, ◌<◌, ◌≤◌, Some, IfOk, IfErr, OnErr};
 ghost use Rattle.sched_time.specs.Times.{longest};
 ghost use Rattle.queue_code.specs.declared.call.CodeCall.TheVariants as call;
 ghost use Rattle.executor_core.specs.Answers.{bare};
@@ -19,7 +19,7 @@ use task_table::TaskRef;
 
 impl<A: Allocator> ScheduledExecutor<A> {
     ghost use Rattle.task_table.specs.Seats.{IsNew};
-    ghost use Rattle.live_core.specs.Lives.{Calls, Happens, never, quiet, moment_of_call};
+    ghost use Rattle.live_core.specs.Lives.{Calls, Happens, StaysQuiet, never, quiet, moment_of_call};
     ghost use Rattle.live_core.specs.Cancels.{IsHeldAlive, CancelsOutside, CancelsNone, CancelsByCall, IsCancelError};
     ghost use Rattle.live_core.specs.own.Places.{IsSlotOf};
 
@@ -155,7 +155,7 @@ impl<A: Allocator> ScheduledExecutor<A> {
         requires gone { IsNew self.old.table.slots number }
         ensures happens { Happens self.old self.new (happening.Cancel number) (bare (answer.Outside number result)) }
         ensures held { IsHeldAlive self.new.table number }
-        ensures ended { self.new.ended ≡ [] }
+        ensures stays { StaysQuiet self.old self.new }
     {
         self.ended.clear();
         effect_without(self.accepted, number)
@@ -167,7 +167,7 @@ impl<A: Allocator> ScheduledExecutor<A> {
         requires held { IsSlotOf self.old.table.slots number (Some slot) }
         ensures happens { Happens self.old self.new (happening.Cancel number) (bare (answer.Outside number result)) }
         ensures held { IsHeldAlive self.new.table number }
-        ensures ended { self.new.ended ≡ [] }
+        ensures stays { StaysQuiet self.old self.new }
     {
         let effect = self.table.cancel(slot);
         release_spent(&mut self.table, &mut self.notes, slot);
@@ -184,7 +184,7 @@ impl<A: Allocator> ScheduledExecutor<A> {
         requires limit { moment ≤ longest }
         ensures makes { Calls self.old self.new (moment, call.Cancel number) (bare (answer.Cancel number result)) }
         ensures held { IsHeldAlive self.new.table number }
-        ensures ended { self.new.ended ≡ [] }
+        ensures stays { StaysQuiet self.old self.new }
     {
         self.table.pass(moment);
         self.ended.clear();
@@ -200,7 +200,7 @@ impl<A: Allocator> ScheduledExecutor<A> {
         requires limit { moment ≤ longest }
         ensures makes { Calls self.old self.new (moment, call.Cancel number) (bare (answer.Cancel number result)) }
         ensures held { IsHeldAlive self.new.table number }
-        ensures ended { self.new.ended ≡ [] }
+        ensures stays { StaysQuiet self.old self.new }
     {
         let effect = self.table.cancel_by_call(moment, slot);
         release_spent(&mut self.table, &mut self.notes, slot);

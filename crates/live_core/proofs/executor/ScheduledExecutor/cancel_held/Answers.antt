@@ -1,9 +1,9 @@
 -- The table takes the step, and the slot is emptied where its task is over.
-use Rattle.std.proofs.Common.{◌<◌, Some, refl, sym, subst, vec_capacity}
+use Rattle.std.proofs.Common.{◌<◌, ◌∙◌, Some, refl, sym, subst, vec_capacity}
 use Rattle.executor_core.specs.declared.types.Happening.TheVariants as happening
 use Rattle.executor_core.specs.declared.types.Answer.TheVariants as answer
 use Rattle.executor_core.specs.Answers.{bare}
-use Rattle.live_core.specs.Lives.{LiveView, Happens}
+use Rattle.live_core.specs.Lives.{LiveView, Happens, StaysQuiet}
 use Rattle.live_core.specs.own.Places.{IsSlotOf}
 use Rattle.live_core.proofs.Cancelled.{outside_held, unshut_held}
 use Rattle.live_core.proofs.Living.{live_event}
@@ -62,3 +62,14 @@ returns-clause-held g c =
     let own = subst (λ (v : LiveView). IsSlotOf v.table.slots k (Some c.args.slot)) (sym c.self.view_is) c.requires.held in
     let is = cancelled_outside e.table mid c.args.slot own.0 (c.cancel-effect.ensures.slots own.0 own.1) in
     c.release_spent.ensures.alive k (cancelled_there e.table mid c.args.slot k own.0 is own.1 own.2)
+
+pub returns-clause-stays : goal.returns-clause-stays
+returns-clause-stays g c =
+    let e = c.self.inside in
+    let m : LiveView = record { table = e.table; count = e.count; accepted = e.accepted; earliest = e.earliest; ended = e.ended.items } in
+    let k = c.args.number in
+    let mid = c.cancel-effect.new.self in
+    let own = subst (λ (v : LiveView). IsSlotOf v.table.slots k (Some c.args.slot)) (sym c.self.view_is) c.requires.held in
+    let is = cancelled_outside e.table mid c.args.slot own.0 (c.cancel-effect.ensures.slots own.0 own.1) in
+    let new : LiveView = record m { table = c.release_spent.new.table; ended = c.clear.new.self.items } in
+    subst (λ (v : LiveView). StaysQuiet v new) c.self.view_is (record { stays = record { workers = c.release_spent.ensures.stands.workers ∙ is.workers; earliest = refl }; ended = c.clear.ensures.items })
