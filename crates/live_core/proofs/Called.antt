@@ -1,5 +1,5 @@
 -- Calls that submit nothing, as the code makes them: they are made, and leave an executor that stands.
-use Rattle.std.proofs.Common.{◌≡◌, ℕ, ◌≤◌, false, List, Option, refl, sym, ap, ◌∙◌, arith, subst}
+use Rattle.std.proofs.Common.{◌≡◌, ℕ, ◌≤◌, false, List, Option, refl, sym, ap, ◌∙◌, subst}
 use Rattle.sched_time.specs.Times.{longest}
 use Rattle.queue_code.specs.declared.call.CodeCall.{CodeCall}
 use Rattle.queue_code.specs.Calls.{IsOrderlyCall, count_after}

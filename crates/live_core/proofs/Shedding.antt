@@ -1,6 +1,5 @@
 -- Kept tasks that a start meets are dropped, and their slots emptied.
 use Rattle.std.proofs.Common.{◌≡◌, ℕ, ◌+◌, ◌<◌, ◌≤◌, ◌==◌, ◌||◌, zero, suc, Bool, true, false, cond, List, [], ◌∷◌, Option, Some, None, refl, sym, ap, ◌∙◌, arith, subst}
-use Rattle.std.specs.Prelude.{slice_index_or}
 use Rattle.std.proofs.Math.ListN.{set}
 use Rattle.std.proofs.lemmas.Bool.{false≢true}
 use Rattle.std.proofs.lemmas.Option.{none-some, same_Some}
@@ -12,11 +11,11 @@ use Rattle.executor_core.proofs.Tables.{at_set}
 use Rattle.task_table.specs.declared.seat.Seat.{Seat}
 use Rattle.task_table.specs.declared.seat.TaskRef.{TaskRef}
 use Rattle.task_table.specs.Seats.{task_in, slot_of, waits, is_alive, is_running_in}
-use Rattle.task_table.specs.Tables.{TableView, workers_of, StandsBefore}
+use Rattle.task_table.specs.Tables.{TableView, StandsBefore}
 use Rattle.task_table.specs.Firsts.{IsFirstDue, holds_kept, kept_in}
 use Rattle.task_table.specs.Runs.{IsFree, IsFull, Drops}
 use Rattle.task_table.specs.Changes.{put, unkept, emptied}
-use Rattle.task_table.proofs.Slots.{by_eqb, Writes, set_writes, slot_within}
+use Rattle.task_table.proofs.Slots.{by_eqb, set_writes, slot_within}
 use Rattle.live_core.specs.own.Slots.{held_numbers}
 use Rattle.live_core.specs.own.Formed.{AreNoted}
 use Rattle.live_core.specs.own.Shed.{Sheds}

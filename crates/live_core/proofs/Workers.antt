@@ -1,36 +1,28 @@
 -- What a start and a finish leave behind, as the table tells of them.
-use Rattle.std.proofs.Common.{◌≡◌, ℕ, ◌+◌, ◌<◌, ◌≤◌, ◌==◌, ◌&&◌, ◌||◌, Bool, true, false, cond, List, [], ◌∷◌, length, Option, Some, None, refl, sym, ap, ◌∙◌, arith, subst}
+use Rattle.std.proofs.Common.{◌≡◌, ℕ, cond, List, ◌∷◌, Option, Some, None, refl, sym, ap, ◌∙◌, subst}
 use Rattle.std.specs.Prelude.{slice_index_or, slice_set, IfSome}
-use Rattle.std.specs.Option.{option_map_or}
 use Rattle.std.proofs.lemmas.Bool.{eq-eqb}
 use Rattle.std.proofs.lemmas.List.{length-set}
-use Rattle.std.proofs.lemmas.Option.{none-some}
 use Rattle.sched_time.specs.declared.timing.Ending.{Ending}
 use Rattle.queue_code.specs.Calls.{Planned}
-use Rattle.executor_core.specs.declared.types.EventError.{EventError}
-use Rattle.executor_core.specs.declared.types.EventError.TheVariants as x
-use Rattle.executor_core.specs.declared.types.Happening.{Happening}
 use Rattle.executor_core.specs.declared.types.Happening.TheVariants as h
 use Rattle.executor_core.specs.declared.types.Outcome.{Outcome}
 use Rattle.executor_core.specs.declared.types.Outcome.TheVariants as o
 use Rattle.executor_core.specs.Answers.{Reply}
-use Rattle.executor_core.specs.Histories.{HistoryEntry, entry_of, happenings, answer, MayFrom, IsHistoryOf}
-use Rattle.executor_core.specs.State.{after, due_past}
+use Rattle.executor_core.specs.Histories.{HistoryEntry, entry_of, answer, IsHistoryOf}
+use Rattle.executor_core.specs.State.{due_past}
 use Rattle.executor_core.proofs.Tables.{at_set}
 use Rattle.task_table.specs.declared.answers.Begun.{Begun}
 use Rattle.task_table.specs.declared.answers.Ended.{Ended}
-use Rattle.task_table.specs.declared.answers.StartError.{StartError}
-use Rattle.task_table.specs.declared.answers.StartError.TheVariants as e
 use Rattle.task_table.specs.declared.seat.Seat.{Seat}
 use Rattle.task_table.specs.declared.seat.TaskRef.{TaskRef}
-use Rattle.task_table.specs.Seats.{task_in, slot_of, waits, is_alive, is_running_in}
-use Rattle.task_table.specs.Tables.{TableView, workers_of, Shows, Stands, StandsBefore, Takes, EventSteps, EventStepsBefore}
-use Rattle.task_table.specs.Runs.{IsFree, IsFull, IsStartError, Starts, FailsStart, IsLeft, Ends}
-use Rattle.task_table.specs.Changes.{put, begun, started, ended, finished, emptied}
+use Rattle.task_table.specs.Seats.{slot_of}
+use Rattle.task_table.specs.Tables.{TableView, workers_of, Stands, EventSteps, EventStepsBefore}
+use Rattle.task_table.specs.Runs.{IsFree, Starts, Ends}
+use Rattle.task_table.specs.Changes.{begun, ended}
 use Rattle.task_table.proofs.Slots.{set_writes, slot_within}
 use Rattle.task_table.proofs.Starts.{stands_before}
-use Rattle.live_core.specs.Events.{start_reply, finish_reply, IsRunBy, IsLeftThere}
-use Rattle.live_core.specs.Said.{is_waiting_there}
+use Rattle.live_core.specs.Events.{start_reply, finish_reply, IsRunBy}
 use Rattle.live_core.specs.own.Slots.{held_numbers}
 use Rattle.live_core.specs.own.Formed.{AreNoted}
 use Rattle.live_core.specs.own.Shed.{Sheds, released}

@@ -1,6 +1,6 @@
 -- The lines of what happened last, as a trace has them.
 -- All of it is this project's rule.
-use Rattle.std.specs.Prelude.{◌≡◌, ℕ, ◌^◌, nat_lt, Bool, true, false, List}
+use Rattle.std.specs.Prelude.{◌≡◌, ◌^◌, nat_lt, Bool, true, false, List}
 use Rattle.std.specs.List.{list_all}
 use Rattle.task_table.specs.declared.seat.TaskRef.{TaskRef}
 use Rattle.live_core.specs.declared.error.LinesError.{LinesError}

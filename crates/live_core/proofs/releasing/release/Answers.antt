@@ -1,5 +1,5 @@
 -- The slot is noted as empty, for which there is room.
-use Rattle.std.proofs.Common.{◌++◌, ◌∷◌, [], ℕ, ap}
+use Rattle.std.proofs.Common.{◌++◌, ◌∷◌, [], ap}
 use Rattle.std.specs.Prelude.{slice_set, None}
 use Rattle.task_table.specs.Tables.{TableView}
 use Rattle.live_core.specs.own.Slots.{NotesView}

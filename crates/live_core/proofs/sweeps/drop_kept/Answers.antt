@@ -1,5 +1,5 @@
 -- The task that is dropped leaves its slot.
-use Rattle.std.proofs.Common.{ℕ, ◌∙◌, List, inl, refl, sym, ap, subst}
+use Rattle.std.proofs.Common.{◌∙◌, inl, refl, sym, ap, subst}
 use Rattle.task_table.specs.Tables.{TableView}
 use Rattle.live_core.specs.own.Formed.{AreNoted}
 use Rattle.live_core.proofs.Swept.{noted_dropped, over_dropped, fewer_kept, slots_more, goes_dropped, goes_all}

@@ -1,8 +1,7 @@
 -- The slot of the task holds it still, and those behind it are left where they are.
-use Rattle.std.proofs.Common.{◌≡◌, ◌+◌, ◌<◌, ◌∷◌, ◌∙◌, ℕ, List, length, drop, refl, arith, subst}
+use Rattle.std.proofs.Common.{◌+◌, drop, subst}
 use Rattle.std.specs.Prelude.{slice_index_or, slice_set, None}
 use Rattle.std.proofs.lemmas.List.{drop_more}
-use Rattle.task_table.specs.declared.seat.TaskRef.{TaskRef}
 use Rattle.live_core.proofs.Swept.{AreOver, over_first, over_rest, slots_more, gone_rest}
 use Rattle.live_core.proofs.sweeps.release_each.Goals as goal
 

@@ -1,5 +1,5 @@
 -- Where the call sweeps, the tasks that are kept leave their slots before it, and those that it ends after it.
-use Rattle.std.proofs.Common.{◌≡◌, ◌∙◌, ℕ, true, vec_capacity, refl, sym, ap}
+use Rattle.std.proofs.Common.{◌≡◌, ◌∙◌, true, vec_capacity, refl, sym, ap}
 use Rattle.sched_time.specs.Policies as settings
 use Rattle.queue_code.specs.declared.call.CodeCall.TheVariants as call
 use Rattle.executor_core.specs.declared.types.Answer.TheVariants as answer

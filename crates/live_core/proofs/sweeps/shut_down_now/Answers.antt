@@ -1,5 +1,5 @@
 -- The tasks that are kept leave their slots before the call, and those that it ends after it.
-use Rattle.std.proofs.Common.{◌≡◌, ◌∙◌, ℕ, true, vec_capacity, refl, ap, arith}
+use Rattle.std.proofs.Common.{◌≡◌, ◌∙◌, true, vec_capacity, refl, ap}
 use Rattle.queue_code.specs.declared.call.CodeCall.TheVariants as call
 use Rattle.executor_core.specs.declared.types.Answer.TheVariants as answer
 use Rattle.task_table.specs.Tables.{TableView, workers_of}

@@ -1,5 +1,5 @@
 -- The table answers, and stays as it is.
-use Rattle.std.proofs.Common.{◌≡◌, ◌∙◌, ℕ, true, false, vec_capacity, refl, sym, ap, List, length, arith, subst}
+use Rattle.std.proofs.Common.{◌∙◌, vec_capacity, refl, sym, ap}
 use Rattle.std.specs.Prelude.{is_some}
 use Rattle.queue_code.specs.Calls.{how_many}
 use Rattle.queue_code.specs.declared.call.CodeCall.TheVariants as call

@@ -1,5 +1,5 @@
 -- The policy is set, and whether the executor is shut stays.
-use Rattle.std.proofs.Common.{◌≡◌, ◌∙◌, ℕ, true, false, vec_capacity, refl, sym, ap}
+use Rattle.std.proofs.Common.{◌∙◌, vec_capacity, refl, sym}
 use Rattle.queue_code.specs.declared.call.CodeCall.TheVariants as call
 use Rattle.executor_core.specs.declared.types.Answer.TheVariants as answer
 use Rattle.live_core.specs.Lives.{LiveView}

@@ -3,7 +3,6 @@ use Rattle.std.proofs.Common.{◌≡◌, ◌∙◌, ℕ, true, false, vec_capaci
 use Rattle.std.specs.Prelude.{not}
 use Rattle.std.proofs.lemmas.Bool.{false≢true}
 use Rattle.queue_code.specs.declared.call.CodeCall.TheVariants as call
-use Rattle.executor_core.specs.declared.types.Answer.TheVariants as answer
 use Rattle.executor_core.specs.Histories.{is_submit}
 use Rattle.live_core.specs.Lives.{LiveView}
 use Rattle.live_core.specs.Said.{ending}

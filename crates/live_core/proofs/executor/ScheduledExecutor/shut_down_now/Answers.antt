@@ -1,5 +1,5 @@
 -- The executor is shut from then on.
-use Rattle.std.proofs.Common.{◌≡◌, ◌∙◌, ℕ, true, false, vec_capacity, refl, sym, ap}
+use Rattle.std.proofs.Common.{◌∙◌, vec_capacity, refl, sym}
 use Rattle.std.proofs.lemmas.Bool.{false≢true}
 use Rattle.queue_code.specs.declared.call.CodeCall.TheVariants as call
 use Rattle.executor_core.specs.declared.types.Answer.TheVariants as answer
