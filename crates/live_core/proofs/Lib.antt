@@ -4,6 +4,8 @@ pub mod Gone
 pub mod Emptied
 pub mod Indexed
 pub mod Held
+pub mod Seated
+pub mod Cancelled
 pub mod Steps
 pub mod Noted
 pub mod Living
@@ -13,7 +15,5 @@ pub mod Ranged
 pub mod Shedding
 pub mod Workers
 pub mod Occurring
-pub mod Seated
-pub mod Cancelled
 pub mod Swept
 pub mod Called

@@ -7,7 +7,7 @@ use Rattle.std.proofs.lemmas.Option.{slice_get_within}
 use Rattle.sched_time.specs.Times.{longest}
 use Rattle.queue_code.specs.declared.call.CodeCall.{CodeCall}
 use Rattle.queue_code.specs.declared.call.CodeCall.TheVariants as c
-use Rattle.queue_code.specs.Calls.{Planned, IsOrderly, IsOrderlyFrom, IsOrderlyCall, count_after, submits_task, task_count}
+use Rattle.queue_code.specs.Calls.{Planned, IsOrderlyFrom, IsOrderlyCall, count_after, submits_task, task_count}
 use Rattle.executor_core.specs.declared.types.Happening.{Happening}
 use Rattle.executor_core.specs.declared.types.Happening.TheVariants as h
 use Rattle.executor_core.specs.declared.types.Answer.{Answer}
@@ -135,7 +135,7 @@ pub record MayAdd (m : LiveView) (p : Planned) : Type 0 where
   pub few : count_after m.count p.1 ≤ never
 
 -- the longer calls are in order
-longer_orderly : (m : LiveView) (calls : List Planned) (past : List HistoryEntry) (p : Planned) → Stands m calls past → MayAdd m p → IsOrderly (calls ++ p ∷ [])
+longer_orderly : (m : LiveView) (calls : List Planned) (past : List HistoryEntry) (p : Planned) → Stands m calls past → MayAdd m p → IsOrderlyFrom 0 0 (calls ++ p ∷ [])
 longer_orderly m calls past p st may =
     let now = now_there m.table calls past st.table.means st.table.shows in
     let same : m.count ≡ 0 + task_count calls = omega (arith, st.count) in

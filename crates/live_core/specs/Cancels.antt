@@ -1,6 +1,6 @@
 -- What cancels answer, from outside and by a call.
 -- All of it is this project's rule.
-use Rattle.std.specs.Prelude.{◌≡◌, ℕ, ◌+◌, ◌<◌, ◌≤◌, true, Some}
+use Rattle.std.specs.Prelude.{◌≡◌, ℕ, ◌+◌, ◌<◌, ◌≤◌, true, [], Some}
 use Rattle.sched_time.specs.Times.{longest}
 use Rattle.queue_code.specs.declared.call.CodeCall.TheVariants as c
 use Rattle.executor_core.specs.declared.types.Happening.TheVariants as h
@@ -14,7 +14,7 @@ use Rattle.task_table.specs.Seats.{task_in, slot_of, is_alive}
 use Rattle.task_table.specs.Tables.{TableView}
 use Rattle.live_core.specs.declared.error.CallError.{CallError}
 use Rattle.live_core.specs.declared.error.CallError.TheVariants as ce
-use Rattle.live_core.specs.Lives.{LiveView, Calls, Happens, StaysQuiet, never, quiet, moment_of_call}
+use Rattle.live_core.specs.Lives.{LiveView, Calls, Happens, never, quiet, moment_of_call}
 
 -- the task of this number has a slot only while something may come of it
 abbrev pub IsHeldAlive : TableView → ℕ → Type 0
@@ -25,7 +25,7 @@ pub record CancelsOutside (old new : LiveView) (k : ℕ) (effect : CancelEffect)
   pub given : k < old.count
   pub happens : Happens old new (h.Cancel k) (bare (a.Outside k effect))
   pub held : IsHeldAlive new.table k
-  pub stays : StaysQuiet old new
+  pub ended : new.ended ≡ []
 
 -- one of a number that was not given out is refused, and changes no task: it counts as one of a number that no task ever has
 pub record CancelsNone (old new : LiveView) (k : ℕ) (error : EventError) : Type 0 where
@@ -40,7 +40,7 @@ pub record CancelsByCall (old new : LiveView) (at k : ℕ) (effect : CancelEffec
   pub near : moment_of_call old at ≤ longest
   pub makes : Calls old new (moment_of_call old at, c.Cancel k) (bare (a.Cancel k effect))
   pub held : IsHeldAlive new.table k
-  pub stays : StaysQuiet old new
+  pub ended : new.ended ≡ []
 
 -- why a cancel is no call: its number was not given out, or else its moment would be too late
 abbrev pub IsCancelError : LiveView → ℕ → ℕ → CallError → Type 0

@@ -64,13 +64,14 @@ Calls old new p r = (calls : List Planned) (past : List HistoryEntry) → Stands
 abbrev pub Happens : LiveView → LiveView → Happening → Reply → Type 0
 Happens old new y r = (calls : List Planned) (past : List HistoryEntry) → Stands old calls past → Meets new calls past y r
 
--- what each call leaves, and each event but an accepted clock: as many workers as there were, and the least moment of the call that
--- comes next
-pub record Stays (old new : LiveView) : Type 0 where
+-- what each call leaves, and each event but an accepted clock: as many workers as there were, the least moment of the call that
+-- comes next, and so many numbers that were given out
+pub record Stays (old new : LiveView) (numbers : ℕ) : Type 0 where
   pub workers : workers_of new.table ≡ workers_of old.table
   pub earliest : new.earliest ≡ old.earliest
+  pub count : new.count ≡ numbers
 
 -- and no task was ended
-pub record StaysQuiet (old new : LiveView) : Type 0 where
-  pub stays : Stays old new
+pub record StaysQuiet (old new : LiveView) (numbers : ℕ) : Type 0 where
+  pub stays : Stays old new numbers
   pub ended : new.ended ≡ []

@@ -1,5 +1,5 @@
 //! Cancels, from outside and by calls.
-ghost use Rattle.std.specs.Prelude.{◌≡◌, ℕ, ◌<◌, ◌≤◌, Some, IfOk, IfErr, OnErr};
+ghost use Rattle.std.specs.Prelude.{◌≡◌, ℕ, ◌<◌, ◌≤◌, [], Some, IfOk, IfErr, OnOk, OnErr};
 ghost use Rattle.sched_time.specs.Times.{longest};
 ghost use Rattle.queue_code.specs.declared.call.CodeCall.TheVariants as call;
 ghost use Rattle.executor_core.specs.Answers.{bare};
@@ -19,7 +19,7 @@ use task_table::TaskRef;
 
 impl<A: Allocator> ScheduledExecutor<A> {
     ghost use Rattle.task_table.specs.Seats.{IsNew};
-    ghost use Rattle.live_core.specs.Lives.{Calls, Happens, StaysQuiet, never, quiet, moment_of_call};
+    ghost use Rattle.live_core.specs.Lives.{Calls, Happens, never, StaysQuiet, quiet, moment_of_call};
     ghost use Rattle.live_core.specs.Cancels.{IsHeldAlive, CancelsOutside, CancelsNone, CancelsByCall, IsCancelError};
     ghost use Rattle.live_core.specs.own.Places.{IsSlotOf};
 
@@ -34,6 +34,7 @@ impl<A: Allocator> ScheduledExecutor<A> {
     ///
     /// [`EventError::NoTask`] where no submission was given the number yet: no task has changed then.
     pub fn cancel(&mut self, task: TaskRef) -> Result<CancelEffect, EventError>
+        ensures stays { StaysQuiet self.old self.new self.old.count }
         ensures done { IfOk result (λ effect. CancelsOutside self.old self.new task.number effect) }
         ensures failed { IfErr result (λ error. CancelsNone self.old self.new task.number error) }
     {
@@ -47,6 +48,7 @@ impl<A: Allocator> ScheduledExecutor<A> {
     ///
     /// [`EventError::NoTask`] where no submission was given the number yet: no task has changed then.
     pub fn cancel_number(&mut self, number: u64) -> Result<CancelEffect, EventError>
+        ensures stays { StaysQuiet self.old self.new self.old.count }
         ensures done { IfOk result (λ effect. CancelsOutside self.old self.new number effect) }
         ensures failed { IfErr result (λ error. CancelsNone self.old self.new number error) }
     {
@@ -63,6 +65,7 @@ impl<A: Allocator> ScheduledExecutor<A> {
     /// [`CallError::NoTask`] where no submission was given the number yet, and [`CallError::TooFar`] where the moment of the
     /// call would be above 2^62: nothing has changed then.
     pub fn cancel_by_call(&mut self, at: u64, task: TaskRef) -> Result<CancelEffect, CallError>
+        ensures stays { OnOk result (StaysQuiet self.old self.new self.old.count) }
         ensures made { IfOk result (λ effect. CancelsByCall self.old self.new at task.number effect) }
         ensures refused { OnErr result (self.new ≡ self.old) }
         ensures failed { IfErr result (λ error. IsCancelError self.old at task.number error) }
@@ -78,6 +81,7 @@ impl<A: Allocator> ScheduledExecutor<A> {
     /// [`CallError::NoTask`] where no submission was given the number yet, and [`CallError::TooFar`] where the moment of the
     /// call would be above 2^62: nothing has changed then.
     pub fn cancel_number_by_call(&mut self, at: u64, number: u64) -> Result<CancelEffect, CallError>
+        ensures stays { OnOk result (StaysQuiet self.old self.new self.old.count) }
         ensures made { IfOk result (λ effect. CancelsByCall self.old self.new at number effect) }
         ensures refused { OnErr result (self.new ≡ self.old) }
         ensures failed { IfErr result (λ error. IsCancelError self.old at number error) }
@@ -103,6 +107,7 @@ impl<A: Allocator> ScheduledExecutor<A> {
     /// The task of a number, which this slot holds, or none, is cancelled from outside.
     fn cancel_at(&mut self, number: u64, slot: Option<u32>) -> Result<CancelEffect, EventError>
         requires { IsSlotOf self.old.table.slots number slot }
+        ensures stays { StaysQuiet self.old self.new self.old.count }
         ensures done { IfOk result (λ effect. CancelsOutside self.old self.new number effect) }
         ensures failed { IfErr result (λ error. CancelsNone self.old self.new number error) }
     {
@@ -124,6 +129,7 @@ impl<A: Allocator> ScheduledExecutor<A> {
         slot: Option<u32>,
     ) -> Result<CancelEffect, CallError>
         requires { IsSlotOf self.old.table.slots number slot }
+        ensures stays { OnOk result (StaysQuiet self.old self.new self.old.count) }
         ensures made { IfOk result (λ effect. CancelsByCall self.old self.new at number effect) }
         ensures refused { OnErr result (self.new ≡ self.old) }
         ensures failed { IfErr result (λ error. IsCancelError self.old at number error) }
@@ -153,9 +159,10 @@ impl<A: Allocator> ScheduledExecutor<A> {
     fn cancel_gone(&mut self, number: u64) -> CancelEffect
         requires given { number < self.old.count }
         requires gone { IsNew self.old.table.slots number }
+        ensures stays { StaysQuiet self.old self.new self.old.count }
         ensures happens { Happens self.old self.new (happening.Cancel number) (bare (answer.Outside number result)) }
         ensures held { IsHeldAlive self.new.table number }
-        ensures stays { StaysQuiet self.old self.new }
+        ensures ended { self.new.ended ≡ [] }
     {
         self.ended.clear();
         effect_without(self.accepted, number)
@@ -165,9 +172,10 @@ impl<A: Allocator> ScheduledExecutor<A> {
     fn cancel_held(&mut self, number: u64, slot: u32) -> CancelEffect
         requires given { number < self.old.count }
         requires held { IsSlotOf self.old.table.slots number (Some slot) }
+        ensures stays { StaysQuiet self.old self.new self.old.count }
         ensures happens { Happens self.old self.new (happening.Cancel number) (bare (answer.Outside number result)) }
         ensures held { IsHeldAlive self.new.table number }
-        ensures stays { StaysQuiet self.old self.new }
+        ensures ended { self.new.ended ≡ [] }
     {
         let effect = self.table.cancel(slot);
         release_spent(&mut self.table, &mut self.notes, slot);
@@ -182,9 +190,10 @@ impl<A: Allocator> ScheduledExecutor<A> {
         requires early { self.old.earliest ≤ moment }
         requires ahead { self.old.table.moment ≤ moment }
         requires limit { moment ≤ longest }
+        ensures stays { StaysQuiet self.old self.new self.old.count }
         ensures makes { Calls self.old self.new (moment, call.Cancel number) (bare (answer.Cancel number result)) }
         ensures held { IsHeldAlive self.new.table number }
-        ensures stays { StaysQuiet self.old self.new }
+        ensures ended { self.new.ended ≡ [] }
     {
         self.table.pass(moment);
         self.ended.clear();
@@ -198,9 +207,10 @@ impl<A: Allocator> ScheduledExecutor<A> {
         requires early { self.old.earliest ≤ moment }
         requires ahead { self.old.table.moment ≤ moment }
         requires limit { moment ≤ longest }
+        ensures stays { StaysQuiet self.old self.new self.old.count }
         ensures makes { Calls self.old self.new (moment, call.Cancel number) (bare (answer.Cancel number result)) }
         ensures held { IsHeldAlive self.new.table number }
-        ensures stays { StaysQuiet self.old self.new }
+        ensures ended { self.new.ended ≡ [] }
     {
         let effect = self.table.cancel_by_call(moment, slot);
         release_spent(&mut self.table, &mut self.notes, slot);

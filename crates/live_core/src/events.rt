@@ -1,5 +1,5 @@
 //! Events: the clock, and the starts and finishes of the workers.
-ghost use Rattle.std.specs.Prelude.{◌≡◌, ◌+◌, ◌↔◌, true, [], IsOk, IfOk, IfErr, IfSome, IfNone, OnOk};
+ghost use Rattle.std.specs.Prelude.{◌≡◌, ◌+◌, ◌↔◌, true, [], IsOk, IfOk, OnOk, IfErr, IfSome, IfNone};
 ghost use Rattle.executor_core.specs.Answers.{bare, is_accepted};
 ghost use Rattle.executor_core.specs.declared.types.Answer.TheVariants as answer;
 ghost use Rattle.executor_core.specs.declared.types.Happening.TheVariants as happening;
@@ -14,8 +14,8 @@ use task_table::{Begun, Ended, StartError};
 impl<A: Allocator> ScheduledExecutor<A> {
     ghost use Rattle.task_table.specs.Firsts.{IsEarliest, NoneWaits};
     ghost use Rattle.task_table.specs.Runs.{IsClockError, IsFinishError};
+    ghost use Rattle.live_core.specs.Lives.{Happens, Stays};
     ghost use Rattle.task_table.specs.Tables.{workers_of};
-    ghost use Rattle.live_core.specs.Lives.{Happens, StaysQuiet};
     ghost use Rattle.live_core.specs.Events as events;
 
     /// The clock shows a moment, in nanoseconds: it is now. A call that comes next is made 1 ns later, or after that.
@@ -29,7 +29,8 @@ impl<A: Allocator> ScheduledExecutor<A> {
         ensures accepted { IsOk result ↔ (is_accepted self.old.table.moment moment ≡ true) }
         ensures happens { IfOk result (λ _. Happens self.old self.new (happening.Clock moment) (bare answer.Clock)) }
         ensures earliest { IfOk result (λ _. self.new.earliest ≡ moment + 1) }
-        ensures workers { workers_of self.new.table ≡ workers_of self.old.table }
+        ensures workers { IfOk result (λ _. workers_of self.new.table ≡ workers_of self.old.table) }
+        ensures count { self.new.count ≡ self.old.count }
         ensures ended { self.new.ended ≡ [] }
         ensures failed { IfErr result (λ error. IsClockError self.old.table moment error × events.Fails self.old self.new (happening.Clock moment) error) }
     {
@@ -54,8 +55,9 @@ impl<A: Allocator> ScheduledExecutor<A> {
     /// task that is due has had 2^64 - 1 runs: nothing has happened then, and nothing has changed.
     pub fn start(&mut self, worker: u8) -> Result<Option<Begun>, StartError>
         ensures happens { IfOk result (λ begun. Happens self.old self.new (happening.Start worker) (events.start_reply worker begun)) }
+        ensures stays { OnOk result (Stays self.old self.new self.old.count) }
         ensures runs { IfOk result (λ begun. IfSome begun (λ b. events.IsRunBy self.new.table worker b.task)) }
-        ensures stays { OnOk result (StaysQuiet self.old self.new) }
+        ensures ended { IfOk result (λ _. self.new.ended ≡ []) }
         ensures failed { IfErr result (λ error. events.FailsStart self.old self.new worker error) }
     {
         if let Some(error) = self.table.start_error(worker) {
@@ -78,9 +80,10 @@ impl<A: Allocator> ScheduledExecutor<A> {
     /// The finish has happened then, and the executor is as it was, but that [`ended`](ScheduledExecutor::ended) is empty.
     pub fn finish(&mut self, worker: u8, ending: Ending) -> Result<Ended, EventError>
         ensures happens { IfOk result (λ e. Happens self.old self.new (happening.Finish worker ending) (events.finish_reply worker e)) }
+        ensures stays { OnOk result (Stays self.old self.new self.old.count) }
         ensures ran { IfOk result (λ e. events.IsRunBy self.old.table worker e.task) }
         ensures left { IfOk result (λ e. events.IsLeftThere self.new.table e.outcome e.task) }
-        ensures stays { StaysQuiet self.old self.new }
+        ensures ended { self.new.ended ≡ [] }
         ensures failed { IfErr result (λ error. IsFinishError self.old.table worker error × events.Fails self.old self.new (happening.Finish worker ending) error) }
     {
         self.ended.clear();

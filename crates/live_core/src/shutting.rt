@@ -11,7 +11,7 @@ use std::alloc::Allocator;
 use task_table::Asked;
 
 impl<A: Allocator> ScheduledExecutor<A> {
-    ghost use Rattle.live_core.specs.Lives.{moment_of_call, Stays};
+    ghost use Rattle.live_core.specs.Lives.{Stays, StaysQuiet, moment_of_call};
     ghost use Rattle.live_core.specs.Shutting.{IsTooFar, IsGone, Sets, ShutsDown, Stops, Asks};
 
     /// Sets a policy, at the moment of this call, as [`schedule`](ScheduledExecutor::schedule) has it. Where the executor is
@@ -24,7 +24,7 @@ impl<A: Allocator> ScheduledExecutor<A> {
     pub fn set_policy(&mut self, at: u64, which: Which, value: bool) -> Result<(), CallError>
         ensures made { OnOk result (Sets self.old self.new at which value) }
         ensures gone { OnOk result (All (IsGone self.new.table) self.new.ended) }
-        ensures stays { OnOk result (Stays self.old self.new) }
+        ensures stays { OnOk result (Stays self.old self.new self.old.count) }
         ensures near { OnOk result (moment_of_call self.old at ≤ longest) }
         ensures refused { OnErr result (self.new ≡ self.old) }
         ensures failed { IfErr result (λ error. IsTooFar self.old at error) }
@@ -54,7 +54,7 @@ impl<A: Allocator> ScheduledExecutor<A> {
     pub fn shut_down(&mut self, at: u64) -> Result<bool, CallError>
         ensures made { IfOk result (λ first. ShutsDown self.old self.new at first) }
         ensures gone { OnOk result (All (IsGone self.new.table) self.new.ended) }
-        ensures stays { OnOk result (Stays self.old self.new) }
+        ensures stays { OnOk result (Stays self.old self.new self.old.count) }
         ensures near { OnOk result (moment_of_call self.old at ≤ longest) }
         ensures refused { OnErr result (self.new ≡ self.old) }
         ensures failed { IfErr result (λ error. IsTooFar self.old at error) }
@@ -75,7 +75,7 @@ impl<A: Allocator> ScheduledExecutor<A> {
     pub fn shut_down_now(&mut self, at: u64) -> Result<(), CallError>
         ensures made { OnOk result (Stops self.old self.new at) }
         ensures gone { OnOk result (All (IsGone self.new.table) self.new.ended) }
-        ensures stays { OnOk result (Stays self.old self.new) }
+        ensures stays { OnOk result (Stays self.old self.new self.old.count) }
         ensures near { OnOk result (moment_of_call self.old at ≤ longest) }
         ensures refused { OnErr result (self.new ≡ self.old) }
         ensures failed { IfErr result (λ error. IsTooFar self.old at error) }
@@ -96,7 +96,7 @@ impl<A: Allocator> ScheduledExecutor<A> {
     /// [`CallError::TooFar`] where the moment of the call would be above 2^62: nothing has changed then.
     pub fn ask(&mut self, at: u64) -> Result<Asked, CallError>
         ensures made { IfOk result (λ asked. Asks self.old self.new at asked) }
-        ensures stays { OnOk result (Stays self.old self.new) }
+        ensures stays { OnOk result (StaysQuiet self.old self.new self.old.count) }
         ensures near { OnOk result (moment_of_call self.old at ≤ longest) }
         ensures refused { OnErr result (self.new ≡ self.old) }
         ensures failed { IfErr result (λ error. IsTooFar self.old at error) }

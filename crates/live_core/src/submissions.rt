@@ -1,5 +1,5 @@
 //! Submissions.
-ghost use Rattle.std.specs.Prelude.{◌≡◌, ◌<◌, ◌≤◌, IfOk, IfErr, IfSome, IfNone, OnOk, OnErr};
+ghost use Rattle.std.specs.Prelude.{◌≡◌, ◌+◌, ◌<◌, ◌≤◌, IfOk, IfErr, IfSome, IfNone, OnOk, OnErr};
 ghost use Rattle.sched_time.specs.Times.{longest};
 ghost use Rattle.queue_code.specs.Calls.{IsTimed};
 ghost use Rattle.sched_time.specs.declared.timing.Timing.TheVariants as timings;
@@ -24,7 +24,7 @@ impl<A: Allocator> ScheduledExecutor<A> {
     /// changed then.
     pub fn schedule(&mut self, at: u64, delay: u64) -> Result<Submitted, CallError>
         ensures made { IfOk result (λ s. Submits self.old self.new at timings.Once delay s) }
-        ensures stays { OnOk result (StaysQuiet self.old self.new) }
+        ensures stays { OnOk result (StaysQuiet self.old self.new (self.old.count + 1)) }
         ensures refused { OnErr result (self.new ≡ self.old) }
         ensures failed { IfErr result (λ error. IsSubmitError self.old at timings.Once delay error) }
     {
@@ -34,7 +34,7 @@ impl<A: Allocator> ScheduledExecutor<A> {
     /// Submits a task for one run at once, as [`schedule`](ScheduledExecutor::schedule) does with no delay.
     pub fn execute(&mut self, at: u64) -> Result<Submitted, CallError>
         ensures made { IfOk result (λ s. Submits self.old self.new at timings.Once 0 s) }
-        ensures stays { OnOk result (StaysQuiet self.old self.new) }
+        ensures stays { OnOk result (StaysQuiet self.old self.new (self.old.count + 1)) }
         ensures refused { OnErr result (self.new ≡ self.old) }
         ensures failed { IfErr result (λ error. IsSubmitError self.old at timings.Once 0 error) }
     {
@@ -50,7 +50,7 @@ impl<A: Allocator> ScheduledExecutor<A> {
     /// above 2^62.
     pub fn at_rate(&mut self, at: u64, first: u64, period: u64) -> Result<Submitted, CallError>
         ensures made { IfOk result (λ s. Submits self.old self.new at (timings.Rate period) first s) }
-        ensures stays { OnOk result (StaysQuiet self.old self.new) }
+        ensures stays { OnOk result (StaysQuiet self.old self.new (self.old.count + 1)) }
         ensures refused { OnErr result (self.new ≡ self.old) }
         ensures failed { IfErr result (λ error. IsPeriodicError period self.old at (timings.Rate period) first error) }
     {
@@ -72,7 +72,7 @@ impl<A: Allocator> ScheduledExecutor<A> {
     /// be above 2^62.
     pub fn with_delay(&mut self, at: u64, first: u64, delay: u64) -> Result<Submitted, CallError>
         ensures made { IfOk result (λ s. Submits self.old self.new at (timings.Fixed delay) first s) }
-        ensures stays { OnOk result (StaysQuiet self.old self.new) }
+        ensures stays { OnOk result (StaysQuiet self.old self.new (self.old.count + 1)) }
         ensures refused { OnErr result (self.new ≡ self.old) }
         ensures failed { IfErr result (λ error. IsPeriodicError delay self.old at (timings.Fixed delay) first error) }
     {
@@ -89,7 +89,7 @@ impl<A: Allocator> ScheduledExecutor<A> {
     fn submit(&mut self, at: u64, timing: Timing, delay: u64) -> Result<Submitted, CallError>
         requires { IsTimed timing }
         ensures made { IfOk result (λ s. Submits self.old self.new at timing delay s) }
-        ensures stays { OnOk result (StaysQuiet self.old self.new) }
+        ensures stays { OnOk result (StaysQuiet self.old self.new (self.old.count + 1)) }
         ensures refused { OnErr result (self.new ≡ self.old) }
         ensures failed { IfErr result (λ error. IsSubmitError self.old at timing delay error) }
     {

@@ -31,7 +31,7 @@ impl<A: Allocator> ScheduledExecutor<A> {
         requires spans { (delay ≤ longest) × IsTimed timing }
         requires few { self.old.count + 1 < 2 ^ 64 }
         ensures number { IfOk result (λ s. number_of s ≡ self.old.count) }
-        ensures stays { OnOk result (StaysQuiet self.old self.new) }
+        ensures stays { OnOk result (StaysQuiet self.old self.new (self.old.count + 1)) }
         ensures made { IfOk result (λ s. Calls self.old self.new (moment, call.Submit self.old.count timing delay) (submit_reply timing s)) }
         ensures refused { OnErr result (self.new ≡ self.old) }
     {
@@ -66,7 +66,7 @@ impl<A: Allocator> ScheduledExecutor<A> {
         requires limit { moment ≤ longest }
         requires few { self.old.count + 1 < 2 ^ 64 }
         ensures number { result ≡ submitted.Rejected self.old.count }
-        ensures stays { StaysQuiet self.old self.new }
+        ensures stays { StaysQuiet self.old self.new (self.old.count + 1) }
         ensures made { (timing : timings.Timing) (delay : ℕ) → delay ≤ longest → IsTimed timing → Calls self.old self.new (moment, call.Submit self.old.count timing delay) (submit_reply timing result) }
     {
         let number = self.count;

@@ -1,13 +1,14 @@
 //! Tests of the executor.
-mod cancels;
 mod events;
-mod lines;
-mod shutting;
+mod cancels;
 
 use crate::{CallError, MakeError, ScheduledExecutor, Submitted};
 use std::alloc::Global;
 use std::process::Abort;
 use std::test::Fail;
+
+mod lines;
+mod shutting;
 
 /// An executor with two workers.
 fn executor(alloc: Global) -> Result<ScheduledExecutor<Global>, MakeError> {

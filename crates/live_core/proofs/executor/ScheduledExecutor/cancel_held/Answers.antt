@@ -1,5 +1,5 @@
 -- The table takes the step, and the slot is emptied where its task is over.
-use Rattle.std.proofs.Common.{◌<◌, ◌∙◌, Some, refl, sym, subst, vec_capacity}
+use Rattle.std.proofs.Common.{◌∙◌, ◌<◌, Some, refl, sym, subst, vec_capacity}
 use Rattle.executor_core.specs.declared.types.Happening.TheVariants as happening
 use Rattle.executor_core.specs.declared.types.Answer.TheVariants as answer
 use Rattle.executor_core.specs.Answers.{bare}
@@ -72,4 +72,4 @@ returns-clause-stays g c =
     let own = subst (λ (v : LiveView). IsSlotOf v.table.slots k (Some c.args.slot)) (sym c.self.view_is) c.requires.held in
     let is = cancelled_outside e.table mid c.args.slot own.0 (c.cancel-effect.ensures.slots own.0 own.1) in
     let new : LiveView = record m { table = c.release_spent.new.table; ended = c.clear.new.self.items } in
-    subst (λ (v : LiveView). StaysQuiet v new) c.self.view_is (record { stays = record { workers = c.release_spent.ensures.stands.workers ∙ is.workers; earliest = refl }; ended = c.clear.ensures.items })
+    subst (λ (v : LiveView). StaysQuiet v new v.count) c.self.view_is (record { stays = record { workers = c.release_spent.ensures.stands.workers ∙ is.workers; earliest = refl; count = refl }; ended = c.clear.ensures.items })

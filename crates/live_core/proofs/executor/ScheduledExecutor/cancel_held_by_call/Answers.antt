@@ -72,4 +72,4 @@ returns-clause-stays g c =
     let own = subst (λ (v : LiveView). IsSlotOf v.table.slots k (Some c.args.slot)) (sym c.self.view_is) c.requires.held in
     let is = cancelled_by_call e.table mid c.args.slot c.args.moment own.0 (c.cancel_by_call-effect.ensures.slots own.0 own.1) in
     let new : LiveView = record m { table = c.release_spent.new.table; ended = c.clear.new.self.items } in
-    subst (λ (v : LiveView). StaysQuiet v new) c.self.view_is (record { stays = record { workers = c.release_spent.ensures.stands.workers ∙ is.workers; earliest = refl }; ended = c.clear.ensures.items })
+    subst (λ (v : LiveView). StaysQuiet v new v.count) c.self.view_is (record { stays = record { workers = c.release_spent.ensures.stands.workers ∙ is.workers; earliest = refl; count = refl }; ended = c.clear.ensures.items })
