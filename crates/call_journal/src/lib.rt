@@ -1,0 +1,63 @@
+//! The calls that a live executor was asked for, and the plan that makes them again.
+//!
+//! # Usage
+//!
+//! ```rust
+//! let mut journal = Journal::new(alloc, true);
+//! journal.make_room()?;                                              // before the call is made
+//! journal.note(MadeCall { moment: 7, call: CallLine::Schedule(5) }); // once it is made
+//! journal.make_room()?;
+//! journal.note(MadeCall { moment: 9, call: CallLine::Cancel(0) });
+//! journal.calls();                                                   // both
+//! journal.is_over();                                                 // false
+//! let text = plan_text(alloc, journal.calls())?;                     // "version = 2\n\n[[block]]\n.."
+//! let plan = read_plan(alloc, text.as_bytes())?;                     // of `plan_read`: one block of two calls
+//! ```
+//!
+//! # Behaviour
+//!
+//! A [`Journal`] keeps the calls that were made, each with its moment, where it is told that they are wanted. It keeps at most
+//! 65,536 of them, as many as a plan makes; what is made behind them is not kept, and [`Journal::is_over`] tells that there was some.
+//!
+//! [`plan_text`] prints a plan of version 2 in which each call is made at its moment. All blocks are made once. Each has 256 calls,
+//! and the last one those that are left. The first block begins at 0, so the `at` of its calls is their moment; each other block
+//! begins at the moment of its first call. Without a call there is no block, and the text is `version = 2`. Times are written with
+//! the unit "ns" beside them, and an `at` that is 0 is left out.
+//!
+//! Tasks are named `t0`, `t1` and so on, in the order of all submissions, and a cancel of task K has the name `tK`. A period or a
+//! fixed delay of 0 is written as such, and a plan that is read has none there.
+//!
+//! # Order and ties
+//!
+//! Calls stand in the text in the order in which they were made. `plan_read` refuses a text whose moments fall, whose moments or
+//! spans are above 2^62, or in which a cancel names a task that is not submitted before it: no such calls are made.
+//!
+//! # Errors
+//!
+//! [`Journal::make_room`] fails where the memory is refused, and the journal stays as it is. [`plan_text`] answers a
+//! [`PlanFault`](plan_read::PlanFault) of block 0 and call 0: `TooMany` where there are more than 65,536 calls, `TooLong` where the
+//! text would have more than 1,048,576 bytes, as it has with some 20,000 calls and more, and `Memory`.
+//!
+//! # Memory and cost
+//!
+//! A journal takes memory of its allocator in [`Journal::make_room`] alone, and at least twice as much each time; where no calls are
+//! wanted it takes none. [`plan_text`] takes memory of the heap for a tree of the whole plan and for its text, in the time of n log n
+//! for n calls.
+//!
+//! # Tests
+//!
+//! They stand in `src/tests.rt` and `src/tests/plans.rt`.
+#![tactic(auto)]
+
+mod blocks;
+mod calls;
+mod entries;
+mod journal;
+mod limits;
+mod plans;
+#[cfg(test)]
+mod tests;
+
+pub use call_text::CallLine;
+pub use journal::{Journal, MadeCall};
+pub use plans::plan_text;

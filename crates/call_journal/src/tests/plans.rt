@@ -1,0 +1,330 @@
+//! Tests of the plan's text, and of what is read in it.
+use super::*;
+use plan_read::{Op, Plan, PlanFault, PlanFaultKind};
+use sched_time::{Span, Which};
+use std::alloc::Global;
+
+/// The text of the plan of [`all_kinds`].
+const TEXT_OF_ALL_KINDS: &str = "\
+version = 2\n\
+\n\
+[[block]]\n\
+\n\
+[[block.call]]\n\
+delay = 5\n\
+delay_unit = \"ns\"\n\
+name = \"t0\"\n\
+op = \"schedule\"\n\
+\n\
+[[block.call]]\n\
+name = \"t1\"\n\
+op = \"execute\"\n\
+\n\
+[[block.call]]\n\
+at = 3\n\
+at_unit = \"ns\"\n\
+first = 0\n\
+first_unit = \"ns\"\n\
+name = \"t2\"\n\
+op = \"rate\"\n\
+period = 7\n\
+period_unit = \"ns\"\n\
+\n\
+[[block.call]]\n\
+at = 3\n\
+at_unit = \"ns\"\n\
+delay = 1\n\
+delay_unit = \"ns\"\n\
+first = 4611686018427387904\n\
+first_unit = \"ns\"\n\
+name = \"t3\"\n\
+op = \"fixed\"\n\
+\n\
+[[block.call]]\n\
+at = 4\n\
+at_unit = \"ns\"\n\
+name = \"t2\"\n\
+op = \"cancel\"\n\
+\n\
+[[block.call]]\n\
+at = 4\n\
+at_unit = \"ns\"\n\
+op = \"policy\"\n\
+value = true\n\
+which = \"continue\"\n\
+\n\
+[[block.call]]\n\
+at = 5\n\
+at_unit = \"ns\"\n\
+op = \"policy\"\n\
+value = false\n\
+which = \"execute\"\n\
+\n\
+[[block.call]]\n\
+at = 5\n\
+at_unit = \"ns\"\n\
+op = \"policy\"\n\
+value = true\n\
+which = \"remove\"\n\
+\n\
+[[block.call]]\n\
+at = 6\n\
+at_unit = \"ns\"\n\
+op = \"ask\"\n\
+\n\
+[[block.call]]\n\
+at = 1000000007\n\
+at_unit = \"ns\"\n\
+op = \"shutdown\"\n\
+\n\
+[[block.call]]\n\
+at = 1000000007\n\
+at_unit = \"ns\"\n\
+delay = 0\n\
+delay_unit = \"ns\"\n\
+name = \"t4\"\n\
+op = \"schedule\"\n\
+\n\
+[[block.call]]\n\
+at = 1000000007\n\
+at_unit = \"ns\"\n\
+first = 0\n\
+first_unit = \"ns\"\n\
+name = \"t5\"\n\
+op = \"rate\"\n\
+period = 0\n\
+period_unit = \"ns\"\n\
+\n\
+[[block.call]]\n\
+at = 1000000008\n\
+at_unit = \"ns\"\n\
+name = \"t5\"\n\
+op = \"cancel\"\n\
+\n\
+[[block.call]]\n\
+at = 4611686018427387904\n\
+at_unit = \"ns\"\n\
+op = \"shutdown_now\"\n\
+";
+
+/// A call at a moment.
+fn made(moment: u64, call: CallLine) -> MadeCall {
+    MadeCall { moment, call }
+}
+
+/// Each kind of call, with numbers of all sizes.
+fn all_kinds() -> [MadeCall; 14] {
+    [
+        made(0, CallLine::Schedule(5)),
+        made(0, CallLine::Execute),
+        made(3, CallLine::Rate(0, 7)),
+        made(3, CallLine::Fixed(4_611_686_018_427_387_904, 1)),
+        made(4, CallLine::Cancel(2)),
+        made(4, CallLine::Policy(Which::Continue, true)),
+        made(5, CallLine::Policy(Which::Execute, false)),
+        made(5, CallLine::Policy(Which::Remove, true)),
+        made(6, CallLine::Ask),
+        made(1_000_000_007, CallLine::Shutdown),
+        made(1_000_000_007, CallLine::Schedule(0)),
+        made(1_000_000_007, CallLine::Rate(0, 0)),
+        made(1_000_000_008, CallLine::Cancel(5)),
+        made(4_611_686_018_427_387_904, CallLine::ShutdownNow),
+    ]
+}
+
+/// The plan of a text. All tests read plans through it: what `read_plan` ensures is then looked at once.
+fn read(alloc: Global, text: &str) -> Result<Plan<Global>, PlanFault> {
+    read_plan(alloc, text.as_bytes())
+}
+
+/// The text of calls. All tests print plans through it, for the same end.
+fn printed(alloc: Global, calls: &[MadeCall]) -> Result<String, PlanFault> {
+    plan_text(alloc, calls)
+}
+
+/// The name of a task that a call of a plan submits.
+fn name_of(op: &Op) -> Option<&str> {
+    match op {
+        Op::Schedule { name, .. } => Some(name.as_str()),
+        Op::Execute { name } => Some(name.as_str()),
+        Op::Rate { name, .. } => Some(name.as_str()),
+        Op::Fixed { name, .. } => Some(name.as_str()),
+        _ => None,
+    }
+}
+
+/// The nanoseconds of a period, and 0 where there is none.
+fn nanos(period: &Option<Span>) -> u64 {
+    period.map_or(0, |span| span.nanos())
+}
+
+/// The call of a plan's, where `firsts` has the number of the first task of each block so far.
+fn call_of(firsts: &[u64], op: &Op) -> Result<CallLine, Fail> {
+    let call = match op {
+        Op::Schedule { delay, .. } => CallLine::Schedule(delay.nanos()),
+        Op::Execute { .. } => CallLine::Execute,
+        Op::Rate { first, period, .. } => CallLine::Rate(first.nanos(), nanos(period)),
+        Op::Fixed { first, delay, .. } => CallLine::Fixed(first.nanos(), nanos(delay)),
+        Op::Cancel(target) => {
+            let first = firsts.get(target.block).ok_or("no block")?;
+            CallLine::Cancel(u32::try_from(first.saturating_add(target.sub as u64))?)
+        }
+        Op::Policy { which, value } => CallLine::Policy(*which, *value),
+        Op::Shutdown => CallLine::Shutdown,
+        Op::ShutdownNow => CallLine::ShutdownNow,
+        Op::Ask => CallLine::Ask,
+    };
+    Ok(call)
+}
+
+/// The calls that a plan makes, whose blocks are made once. Tasks are numbered in the order of their submissions, and each is to be
+/// named by its number.
+fn calls_of(alloc: Global, plan: &Plan<Global>) -> Result<Vec<MadeCall>, Fail> {
+    let mut calls = Vec::new(alloc);
+    let mut firsts = Vec::new(alloc);
+    let mut tasks = 0u64;
+    for block in plan.blocks() {
+        firsts.push(tasks)?;
+        for call in block.calls() {
+            if let Some(name) = name_of(&call.op) {
+                if name != format!(in alloc; "t{tasks}")?.as_str() {
+                    return Err("another name".into());
+                }
+                tasks = tasks.saturating_add(1);
+            }
+            let moment = block.at().saturating_add(call.at);
+            calls.push(made(moment, call_of(firsts.as_slice(), &call.op)?))?;
+        }
+    }
+    Ok(calls)
+}
+
+/// Whether the text of calls is that of a plan of so many blocks that makes exactly these calls.
+fn is_read_back(alloc: Global, calls: &[MadeCall], blocks: usize) -> Result<bool, Fail> {
+    let plan = read(alloc, printed(alloc, calls)?.as_str())?;
+    let back = calls_of(alloc, &plan)?;
+    Ok(back.as_slice() == calls && plan.blocks().len() == blocks)
+}
+
+/// So many calls of one kind, at one moment.
+fn many(alloc: Global, count: usize, moment: u64, call: CallLine) -> Result<Vec<MadeCall>, Fail> {
+    let mut calls = Vec::with_capacity(alloc, count)?;
+    for _ in 0..count {
+        calls.push(made(moment, call))?;
+    }
+    Ok(calls)
+}
+
+/// A fault of the text as a whole.
+fn fault(kind: PlanFaultKind) -> Option<PlanFault> {
+    Some(PlanFault {
+        kind,
+        block: 0,
+        call: 0,
+    })
+}
+
+#[test]
+fn each_kind_is_printed(rt: HostRuntime) -> Result<(), Fail> {
+    let text = printed(rt.alloc(), all_kinds().as_slice())?;
+    assert_eq!(rt; text.as_str(), TEXT_OF_ALL_KINDS);
+    Ok(())
+}
+
+#[test]
+fn each_kind_is_read_back(rt: HostRuntime) -> Result<(), Fail> {
+    assert!(rt; is_read_back(rt.alloc(), all_kinds().as_slice(), 1)?);
+    for call in all_kinds() {
+        let fitting = !matches!(call.call, CallLine::Cancel(_));
+        assert!(rt; !fitting || is_read_back(rt.alloc(), [call].as_slice(), 1)?);
+    }
+    Ok(())
+}
+
+#[test]
+fn no_call_is_a_plan_without_blocks(rt: HostRuntime) -> Result<(), Fail> {
+    let text = printed(rt.alloc(), [].as_slice())?;
+    assert_eq!(rt; text.as_str(), "version = 2\n");
+    assert!(rt; is_read_back(rt.alloc(), [].as_slice(), 0)?);
+    Ok(())
+}
+
+#[test]
+fn a_block_has_256_calls(rt: HostRuntime) -> Result<(), Fail> {
+    let alloc = rt.alloc();
+    let mut calls = many(alloc, 256, 3, CallLine::Execute)?;
+    assert!(rt; is_read_back(alloc, calls.as_slice(), 1)?);
+    calls.push(made(7, CallLine::Cancel(255)))?;
+    assert!(rt; is_read_back(alloc, calls.as_slice(), 2)?);
+    for moment in 8..300 {
+        calls.push(made(moment, CallLine::Fixed(moment, 2)))?;
+        calls.push(made(moment, CallLine::Cancel(moment as u32)))?;
+    }
+    assert!(rt; is_read_back(alloc, calls.as_slice(), 4)?);
+    Ok(())
+}
+
+#[test]
+fn a_task_that_no_call_submits_is_unknown(rt: HostRuntime) -> Result<(), Fail> {
+    let calls = [made(3, CallLine::Cancel(0)), made(3, CallLine::Execute)];
+    let text = printed(rt.alloc(), calls.as_slice())?;
+    let told = read(rt.alloc(), text.as_str()).err();
+    let unknown = PlanFault {
+        kind: PlanFaultKind::UnknownName,
+        block: 1,
+        call: 1,
+    };
+    assert_eq!(rt; told, Some(unknown));
+    Ok(())
+}
+
+#[test]
+fn a_span_that_no_call_has_is_too_large(rt: HostRuntime) -> Result<(), Fail> {
+    let too_large = PlanFault {
+        kind: PlanFaultKind::TooLarge,
+        block: 1,
+        call: 1,
+    };
+    for span in [4_611_686_018_427_387_905, u64::MAX] {
+        let text = printed(rt.alloc(), [made(0, CallLine::Schedule(span))].as_slice())?;
+        assert_eq!(rt; read(rt.alloc(), text.as_str()).err(), Some(too_large));
+    }
+    Ok(())
+}
+
+#[test]
+fn as_many_tasks_are_named_as_a_text_has_room_for(rt: HostRuntime) -> Result<(), Fail> {
+    let calls = many(rt.alloc(), 19_000, 1, CallLine::Execute)?;
+    assert!(rt; is_read_back(rt.alloc(), calls.as_slice(), 75)?);
+    Ok(())
+}
+
+/// The calls of a text that is as long as it may be, where the delay has four digits: `version` takes 12 bytes, each of the 152 blocks
+/// 11, each of the 38,771 questions 27, and the submission 71 and the digits.
+fn longest(alloc: Global, delay: u64) -> Result<Vec<MadeCall>, Fail> {
+    let mut calls = many(alloc, 38_771, 0, CallLine::Ask)?;
+    calls.push(made(0, CallLine::Schedule(delay)))?;
+    Ok(calls)
+}
+
+#[test]
+fn a_text_has_at_most_1_048_576_bytes(rt: HostRuntime) -> Result<(), Fail> {
+    let calls = longest(rt.alloc(), 1000)?;
+    assert_eq!(rt; printed(rt.alloc(), calls.as_slice())?.len(), 1_048_576);
+    assert!(rt; is_read_back(rt.alloc(), calls.as_slice(), 152)?);
+    let calls = longest(rt.alloc(), 10_000)?;
+    let told = printed(rt.alloc(), calls.as_slice()).err();
+    assert_eq!(rt; told, fault(PlanFaultKind::TooLong));
+    Ok(())
+}
+
+#[test]
+fn more_calls_than_a_plan_has_are_too_many(rt: HostRuntime) -> Result<(), Fail> {
+    let mut calls = many(rt.alloc(), 65_536, 0, CallLine::Ask)?;
+    let told = printed(rt.alloc(), calls.as_slice()).err();
+    assert_eq!(rt; told, fault(PlanFaultKind::TooLong));
+    calls.push(made(0, CallLine::Ask))?;
+    let told = printed(rt.alloc(), calls.as_slice()).err();
+    assert_eq!(rt; told, fault(PlanFaultKind::TooMany));
+    Ok(())
+}

@@ -1,0 +1,57 @@
+-- Notings: calls that are noted in a journal, whatever room it has.
+use Rattle.std.proofs.Common.{◌≡◌, ℕ, Bool, true, false, cond, List, [], ◌∷◌, ◌++◌, refl, sym, ap, ◌∙◌}
+use Rattle.call_text.specs.declared.call.CallLine.{CallLine}
+use Rattle.call_journal.specs.declared.journal.MadeCall.{MadeCall}
+use Rattle.call_journal.specs.Journals.{JournalView, keeps_more, noted}
+use Rattle.live_engine.specs.declared.live_line.LiveLine.{LiveLine}
+use Rattle.live_engine.specs.declared.live_line.LiveLine.TheVariants as l
+use Rattle.live_core.specs.Lives.{LiveView}
+use Rattle.executor_core.specs.Answers.{Reply}
+use Rattle.live_engine.specs.LiveLines.{live_history, next_moment}
+use Rattle.live_engine.specs.LiveRuns.{Notes, all_noted, made_calls}
+use Rattle.live_engine.specs.own.LiveSteps.{IsAt, Takes, noted_line}
+use Rattle.live_engine.proofs.Steps.{call_moment}
+
+-- the same call is noted whatever room there is
+noted_with_room : (journal : JournalView) (call : MadeCall) (room after : ℕ) → record (noted (record journal { room = room }) call) { room = after } ≡ record (noted journal call) { room = after }
+noted_with_room journal call room after = by (keeps_more journal) journal.is_wanted
+  where
+    by : (keeps wanted : Bool) →
+        record (cond keeps (record journal { room = room; calls = journal.calls ++ call ∷ [] }) (cond wanted (record journal { room = room; is_over = true }) (record journal { room = room }))) { room = after }
+        ≡ record (cond keeps (record journal { calls = journal.calls ++ call ∷ [] }) (cond wanted (record journal { is_over = true }) journal)) { room = after }
+    by true wanted = refl
+    by false true = refl
+    by false false = refl
+
+-- room was made, and a call was noted
+pub noted_after_room : (journal roomy next : JournalView) (moment at : ℕ) (call : CallLine) → roomy ≡ record journal { room = roomy.room } → next ≡ noted roomy (record { moment = at; call = call }) → at ≡ moment →
+    next ≡ record (noted journal (record { moment = moment; call = call })) { room = next.room }
+noted_after_room journal roomy next moment at call room is now =
+    ap (λ (j : JournalView). record j { room = next.room }) (is ∙ (ap (λ n. noted roomy (record { moment = n; call = call })) now ∙ ap (λ (j : JournalView). noted j (record { moment = moment; call = call })) room))
+    ∙ noted_with_room journal (record { moment = moment; call = call }) roomy.room next.room
+
+-- room was made, and nothing was noted
+pub same_after_room : (journal roomy next : JournalView) → roomy ≡ record journal { room = roomy.room } → next ≡ roomy → next ≡ record journal { room = next.room }
+same_after_room journal roomy next room is = is ∙ (room ∙ ap (λ (j : JournalView). record journal { room = j.room }) (sym is))
+
+-- nothing was noted yet
+pub notes_none : (journal : JournalView) → Notes journal journal []
+notes_none journal = refl
+
+-- room was made
+pub notes_room : (first journal roomier : JournalView) (calls : List MadeCall) → Notes first journal calls → roomier ≡ record journal { room = roomier.room } → Notes first roomier calls
+notes_room first journal roomier calls notes is = is ∙ ap (λ (j : JournalView). record j { room = roomier.room }) notes
+
+-- one call more was noted
+notes_call : (first journal next : JournalView) (calls : List MadeCall) (call : MadeCall) → Notes first journal calls → next ≡ record (noted journal call) { room = next.room } → Notes first next (call ∷ calls)
+notes_call first journal next calls call notes is =
+    is ∙ (ap (λ (j : JournalView). record (noted j call) { room = next.room }) notes ∙ noted_with_room (all_noted first calls) call journal.room next.room)
+
+-- a line was taken, and the call that it makes was noted
+pub notes_line : (first journal next : JournalView) (old new : LiveView) (line : LiveLine) (r : Reply) (workers : ℕ) (lines : List LiveLine) → Notes first journal (made_calls workers lines) → Takes old new line r → IsAt workers old (live_history workers lines) →
+    next ≡ record (noted_line journal line new.table.moment) { room = next.room } → Notes first next (made_calls workers (line ∷ lines))
+notes_line first journal next old new (l.Event event) r workers lines notes takes at is = notes_room first journal next (made_calls workers lines) notes is
+notes_line first journal next old new (l.Call call) r workers lines notes takes at is =
+    let moment = next_moment (live_history workers lines) in
+    notes_call first journal next (made_calls workers lines) (record { moment = moment; call = call }) notes
+    (is ∙ ap (λ n. record (noted journal (record { moment = n; call = call })) { room = next.room }) (call_moment old new call r workers (live_history workers lines) takes at))

@@ -1,0 +1,167 @@
+-- Steps: the steps of an executor are lines that are taken.
+use Rattle.std.proofs.Common.{◌≡◌, ℕ, zero, suc, ◌<◌, ◌≤◌, Bool, true, false, cond, List, [], ◌∷◌, ◌++◌, length, Some, None, refl, sym, ap, ◌∙◌, arith, subst}
+use Rattle.std.specs.Prelude.{slice_get, max, nat_lt}
+use Rattle.std.proofs.lemmas.Bool.Decides.{nat_tests}
+use Rattle.queue_code.specs.Calls.{Planned, task_count}
+use Rattle.executor_core.specs.declared.Event.{Event}
+use Rattle.executor_core.specs.declared.Happening.{Happening}
+use Rattle.executor_core.specs.declared.Happening.TheVariants as h
+use Rattle.executor_core.specs.declared.Answer.{Answer}
+use Rattle.executor_core.specs.Answers.{Reply, moment_after}
+use Rattle.executor_core.specs.Histories.{HistoryEntry, answer, entry_of, happenings, made, now_of, IsHistoryOf}
+use Rattle.call_text.specs.declared.call.CallLine.{CallLine}
+use Rattle.call_text.specs.declared.call.CallLine.TheVariants as call
+use Rattle.task_table.specs.Tables.{workers_of}
+use Rattle.live_core.specs.Lives.{LiveView, Calls, Happens, Makes, Meets, moment_of_call}
+use Rattle.live_core.proofs.Making.{now_there}
+use Rattle.live_engine.specs.declared.live_line.LiveLine.TheVariants as l
+use Rattle.live_engine.specs.LiveLines.{LiveHistory, MayComeNext, after_call, after_clock, after_happening, code_of, happening_in, next_moment, not_given, passed, planned_of}
+use Rattle.live_engine.specs.LiveRuns.{IsLiveHistory}
+use Rattle.live_engine.specs.own.LiveSteps.{IsAt, IsLonger, Takes}
+
+-- ---- where an executor stands
+
+-- its history is allowed
+pub allowed : (workers : ℕ) (m : LiveView) (so_far : LiveHistory) → IsAt workers m so_far → IsLiveHistory workers so_far
+allowed workers m so_far at = record {
+  orderly = at.stands.table.orderly;
+  means = subst (λ n. IsHistoryOf so_far.calls n so_far.past) at.width at.stands.table.means;
+  made = at.stands.made;
+}
+
+later : (now clock moment earliest : ℕ) → now ≡ moment → clock ≡ earliest → max 0 (max moment earliest) ≡ max now clock
+later now clock moment earliest p q = grind (arith, p, q)
+
+-- the moment of a call at no moment of its own is that of the call that comes next
+pub next_is : (workers : ℕ) (m : LiveView) (so_far : LiveHistory) → IsAt workers m so_far → moment_of_call m 0 ≡ next_moment so_far
+next_is workers m so_far at =
+    later (now_of so_far.calls (happenings so_far.past)) (after_clock so_far.past) m.table.moment m.earliest
+    (now_there m.table so_far.calls so_far.past at.stands.table.means at.stands.table.shows) (sym at.clock)
+
+-- ---- replies
+
+-- a reply that is the answer
+told : (y : Happening) (r s : Reply) → r.answer ≡ s.answer → r.ends ≡ s.ends → entry_of y r ≡ entry_of y s
+told y r s p q = ap (λ (x : Answer). entry_of y (record { answer = x; ends = r.ends })) p ∙ ap (λ (x : List ℕ). entry_of y (record { answer = s.answer; ends = x })) q
+
+-- ---- calls
+
+-- what is known of a call that a line makes, by how many numbers were given out
+abbrev pub IsGiven : ℕ → CallLine → Type 0
+IsGiven count (call.Cancel task) = task < count
+IsGiven count asked = Unit {0}
+
+may_come : (count : ℕ) (so_far : LiveHistory) (asked : CallLine) → task_count so_far.calls ≡ count → IsGiven count asked → MayComeNext so_far (l.Call asked)
+may_come count so_far (call.Cancel task) same given = omega (arith, same, given)
+may_come count so_far (call.Schedule delay) same given = tt
+may_come count so_far call.Execute same given = tt
+may_come count so_far (call.Rate first period) same given = tt
+may_come count so_far (call.Fixed first delay) same given = tt
+may_come count so_far (call.Policy which value) same given = tt
+may_come count so_far call.Shutdown same given = tt
+may_come count so_far call.ShutdownNow same given = tt
+may_come count so_far call.Ask same given = tt
+
+longer_call : (workers : ℕ) (old new : LiveView) (so_far : LiveHistory) (p : Planned) (r : Reply) → IsAt workers old so_far → workers_of new.table ≡ workers_of old.table → new.earliest ≡ old.earliest → Makes new so_far.calls so_far.past p r →
+    IsLonger workers new so_far (after_call workers so_far p) r
+longer_call workers old new so_far p r at width clock makes =
+    let calls = so_far.calls ++ p ∷ [] in
+    let means = makes.stands.table.means in
+    let all = width ∙ at.width in
+    let entry : entry_of h.Call r ≡ entry_of h.Call (answer calls workers so_far.past h.Call) =
+    subst (λ n. entry_of h.Call r ≡ entry_of h.Call (answer calls n so_far.past h.Call)) all (told h.Call r (answer calls (workers_of new.table) so_far.past h.Call) means.2 means.3) in
+    subst (λ (e : HistoryEntry). IsLonger workers new so_far (record { calls = calls; past = e ∷ so_far.past }) r) entry (record {
+      at = record { stands = makes.stands; width = all; clock = clock ∙ at.clock };
+      lines = makes.lines;
+    })
+
+planned_is : (workers : ℕ) (m : LiveView) (so_far : LiveHistory) (asked : CallLine) → IsAt workers m so_far → (moment_of_call m 0, code_of m.count asked) ≡ planned_of so_far asked
+planned_is workers m so_far asked at =
+    ap (λ n. (n, code_of m.count asked)) (next_is workers m so_far at) ∙ ap (λ n. (next_moment so_far, code_of n asked)) (sym at.stands.count)
+
+-- a call that the executor makes at no moment of its own is the line of a call that is taken
+pub takes_call : (old new : LiveView) (asked : CallLine) (r : Reply) → Calls old new (moment_of_call old 0, code_of old.count asked) r → workers_of new.table ≡ workers_of old.table → new.earliest ≡ old.earliest → IsGiven old.count asked →
+    Takes old new (l.Call asked) r
+takes_call old new asked r calls width clock given workers so_far at = record {
+  may = may_come old.count so_far asked at.stands.count given;
+  longer = subst (λ (p : Planned). IsLonger workers new so_far (after_call workers so_far p) r) (planned_is workers old so_far asked at)
+      (longer_call workers old new so_far (moment_of_call old 0, code_of old.count asked) r at width clock (calls so_far.calls so_far.past at.stands));
+}
+
+-- ---- events
+
+longer_event : (workers : ℕ) (old new : LiveView) (so_far : LiveHistory) (y : Happening) (r : Reply) → IsAt workers old so_far → workers_of new.table ≡ workers_of old.table → new.earliest ≡ passed old.earliest y r.answer →
+    Meets new so_far.calls so_far.past y r → IsLonger workers new so_far (after_happening workers so_far y) r
+longer_event workers old new so_far y r at width clock meets =
+    let calls = so_far.calls in
+    let means = meets.stands.table.means in
+    let all = width ∙ at.width in
+    let entry : entry_of y r ≡ entry_of y (answer calls workers so_far.past y) =
+    subst (λ n. entry_of y r ≡ entry_of y (answer calls n so_far.past y)) all (told y r (answer calls (workers_of new.table) so_far.past y) means.2 means.3) in
+    subst (λ (e : HistoryEntry). IsLonger workers new so_far (record { calls = calls; past = e ∷ so_far.past }) r) entry (record {
+      at = record { stands = meets.stands; width = all; clock = clock ∙ ap (λ n. passed n y r.answer) at.clock };
+      lines = meets.lines;
+    })
+
+-- an event that the executor meets is the line of an event that is taken
+pub takes_event : (old new : LiveView) (event : Event) (y : Happening) (r : Reply) → Happens old new y r → workers_of new.table ≡ workers_of old.table → new.earliest ≡ passed old.earliest y r.answer →
+    ((so_far : LiveHistory) → task_count so_far.calls ≡ old.count → y ≡ happening_in so_far event) → Takes old new (l.Event event) r
+takes_event old new event y r happens width clock is workers so_far at = record {
+  may = tt;
+  longer = subst (λ (y : Happening). IsLonger workers new so_far (after_happening workers so_far y) r) (is so_far at.stands.count)
+      (longer_event workers old new so_far y r at width clock (happens so_far.calls so_far.past at.stands));
+}
+
+-- a cancel from outside of a number that was given out
+pub cancel_given : (task count given : ℕ) → task < count → given ≡ count → h.Cancel task ≡ h.Cancel (cond (nat_lt task given) task (not_given task))
+cancel_given task count given low same = by (nat_lt task given) (grind (arith, nat_tests, low, same))
+  where
+    by : (b : Bool) → b ≡ true → h.Cancel task ≡ h.Cancel (cond b task (not_given task))
+    by true q = refl
+    by false q = cc
+
+-- and of one that was not
+pub cancel_none : (task count given : ℕ) → count ≤ task → given ≡ count → h.Cancel (not_given task) ≡ h.Cancel (cond (nat_lt task given) task (not_given task))
+cancel_none task count given high same = by (nat_lt task given) (grind (arith, nat_tests, high, same))
+  where
+    by : (b : Bool) → b ≡ false → h.Cancel (not_given task) ≡ h.Cancel (cond b task (not_given task))
+    by true q = cc
+    by false q = refl
+
+-- ---- the moment of a call that was made
+
+still_there : (calls : List Planned) (p : Planned) (n : ℕ) → n < length calls → slice_get (calls ++ p ∷ []) n ≡ slice_get calls n
+still_there [] p n low = absurd (omega (arith, low))
+still_there (x ∷ calls) p zero low = refl
+still_there (x ∷ calls) p (suc n) low = still_there calls p n (omega (arith, low))
+
+behind_all : (calls : List Planned) (p : Planned) (n : ℕ) → n ≡ length calls → slice_get (calls ++ p ∷ []) n ≡ Some p
+behind_all [] p n is = ap (slice_get (p ∷ [])) is
+behind_all (x ∷ calls) p zero is = absurd (omega (arith, is))
+behind_all (x ∷ calls) p (suc n) is = behind_all calls p n (omega (arith, is))
+
+-- what happened looks at no further call
+now_still : (calls : List Planned) (p : Planned) (past : List Happening) → made past ≤ length calls → now_of (calls ++ p ∷ []) past ≡ now_of calls past
+now_still calls p [] few = refl
+now_still calls p (h.Call ∷ past) few =
+    let before = now_still calls p past (omega (arith, few)) in
+    ap (λ n. moment_after n (slice_get (calls ++ p ∷ []) (made past)) h.Call) before ∙ ap (λ o. moment_after (now_of calls past) o h.Call) (still_there calls p (made past) (omega (arith, few)))
+now_still calls p (h.Clock t ∷ past) few = ap (λ n. moment_after n None (h.Clock t)) (now_still calls p past few)
+now_still calls p (h.Start w ∷ past) few = now_still calls p past few
+now_still calls p (h.Finish w ending ∷ past) few = now_still calls p past few
+now_still calls p (h.Cancel k ∷ past) few = now_still calls p past few
+
+latest : (now clock : ℕ) → max now (max now clock) ≡ max now clock
+latest now clock = grind arith
+
+-- a call that a line makes has the moment of the call that comes next
+pub call_moment : (old new : LiveView) (asked : CallLine) (r : Reply) (workers : ℕ) (so_far : LiveHistory) → Takes old new (l.Call asked) r → IsAt workers old so_far → new.table.moment ≡ next_moment so_far
+call_moment old new asked r workers so_far takes at =
+    let p = planned_of so_far asked in
+    let longer = (takes workers so_far at).longer.at.stands in
+    let past = happenings so_far.past in
+    let now = now_of so_far.calls past in
+    let all = now_there new.table (so_far.calls ++ p ∷ []) (after_call workers so_far p).past longer.table.means longer.table.shows in
+    let before = now_still so_far.calls p past (omega (arith, at.stands.made)) in
+    sym all ∙ (ap (λ n. moment_after n (slice_get (so_far.calls ++ p ∷ []) (made past)) h.Call) before
+    ∙ (ap (λ o. moment_after now o h.Call) (behind_all so_far.calls p (made past) at.stands.made) ∙ latest now (after_clock so_far.past)))

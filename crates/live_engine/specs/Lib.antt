@@ -1,0 +1,12 @@
+pub use Rattle.queue_code.specs.Calls
+pub use Rattle.executor_core.specs.Histories
+pub use Rattle.executor_core.specs.Flows
+pub use Rattle.trace_text.specs.Spelling
+pub use Rattle.call_text.specs.Spelling as CallSpelling
+pub use Rattle.call_text.specs.Reading as CallReading
+pub use Rattle.call_journal.specs.Journals
+pub use Rattle.sched_engine.specs.Ends
+pub use Rattle.sched_engine.specs.Running
+pub mod LiveLines
+pub mod LiveRuns
+pub mod own

@@ -1,0 +1,164 @@
+-- The lines of a live input, and the history that they make.
+-- All of it is this project's rule.
+use Rattle.std.specs.Prelude.{◌≡◌, ℕ, ◌+◌, ◌-◌, ◌^◌, ◌<◌, ◌≤◌, ◌⊎◌, true, max, nat_lt, if◌then◌else◌, List, [], ◌∷◌, ◌++◌, length}
+use Rattle.sched_time.specs.Times.{longest}
+use Rattle.sched_time.specs.declared.timing.Timing.TheVariants as timing
+use Rattle.queue_code.specs.declared.call.CodeCall.{CodeCall}
+use Rattle.queue_code.specs.declared.call.CodeCall.TheVariants as c
+use Rattle.queue_code.specs.Calls.{Planned, submits_task, task_count}
+use Rattle.executor_core.specs.declared.types.Event.{Event}
+use Rattle.executor_core.specs.declared.types.Event.TheVariants as v
+use Rattle.executor_core.specs.declared.types.Happening.{Happening}
+use Rattle.executor_core.specs.declared.types.Happening.TheVariants as h
+use Rattle.executor_core.specs.declared.types.Answer.{Answer}
+use Rattle.executor_core.specs.declared.types.Answer.TheVariants as a
+use Rattle.executor_core.specs.Histories.{HistoryEntry, answer, entry_of, happenings, now_of, starts}
+use Rattle.executor_core.specs.Flows.{happening_of, lines_of}
+use Rattle.trace_text.specs.Spelling.{event_line, FitsEvent, lines_text}
+use Rattle.call_text.specs.declared.call.CallLine.{CallLine}
+use Rattle.call_text.specs.declared.call.CallLine.TheVariants as call
+use Rattle.call_text.specs.Spelling.{call_line, FitsCall}
+use Rattle.live_engine.specs.declared.live_line.LiveLine.{LiveLine}
+use Rattle.live_engine.specs.declared.live_line.LiveLine.TheVariants as l
+
+-- ---- texts
+
+-- the text of a line of the input, with its newline
+abbrev pub live_line : LiveLine → List ℕ
+live_line (l.Event event) = event_line event
+live_line (l.Call made) = call_line made
+
+-- its numbers are in their ranges
+abbrev pub FitsLive : LiveLine → Type 0
+FitsLive (l.Event event) = FitsEvent event
+FitsLive (l.Call made) = FitsCall made
+
+-- the text of some lines, the newest line first in the list
+abbrev pub input_of : List LiveLine → List ℕ
+input_of [] = []
+input_of (line ∷ before) = input_of before ++ live_line line
+
+-- ---- histories
+
+-- the calls made so far with their moments, the oldest first, and what happened so far with its answers, the newest first
+pub record LiveHistory : Type 0 where
+  pub calls : List Planned
+  pub past : List HistoryEntry
+
+-- before any line
+abbrev pub no_history : LiveHistory
+no_history = record { calls = []; past = [] }
+
+-- 1 ns after a clock that was accepted, and as before where there was none
+abbrev pub passed : ℕ → Happening → Answer → ℕ
+passed before (h.Clock t) a.Clock = t + 1
+passed before happening answer = before
+
+-- 1 ns after the last accepted clock, and 0 before any
+abbrev pub after_clock : List HistoryEntry → ℕ
+after_clock [] = 0
+after_clock (e ∷ past) = passed (after_clock past) e.happening e.answer
+
+-- the moment of the call that comes next: now, or 1 ns after the last accepted clock, whichever is later
+abbrev pub next_moment : LiveHistory → ℕ
+next_moment so_far = max (now_of so_far.calls (happenings so_far.past)) (after_clock so_far.past)
+
+-- the call of the executor that a line makes, as the submission of this number where it submits a task
+abbrev pub code_of : ℕ → CallLine → CodeCall
+code_of number (call.Schedule delay) = c.Submit number timing.Once delay
+code_of number call.Execute = c.Submit number timing.Once 0
+code_of number (call.Rate first period) = c.Submit number (timing.Rate period) first
+code_of number (call.Fixed first delay) = c.Submit number (timing.Fixed delay) first
+code_of number (call.Cancel task) = c.Cancel task
+code_of number (call.Policy which value) = c.SetPolicy which value
+code_of number call.Shutdown = c.Shutdown
+code_of number call.ShutdownNow = c.ShutdownNow
+code_of number call.Ask = c.Ask
+
+-- a number that no task ever has, which stands for one that was not given out
+abbrev pub not_given : ℕ → ℕ
+not_given task = 2 ^ 64 + task
+
+-- what happens where an event's line comes: a cancel from outside of a number that was not given out names no task, also none that
+-- is given that number later
+abbrev pub happening_in : LiveHistory → Event → Happening
+happening_in so_far (v.Cancel task) = h.Cancel (if nat_lt task (task_count so_far.calls) then task else not_given task)
+happening_in so_far event = happening_of event
+
+-- something happens after the calls so far
+abbrev pub after_happening : ℕ → LiveHistory → Happening → LiveHistory
+after_happening workers so_far happening =
+    record { calls = so_far.calls; past = entry_of happening (answer so_far.calls workers so_far.past happening) ∷ so_far.past }
+
+-- the next call is made, behind those so far
+abbrev pub after_call : ℕ → LiveHistory → Planned → LiveHistory
+after_call workers so_far planned = after_happening workers (record so_far { calls = so_far.calls ++ planned ∷ [] }) h.Call
+
+-- the call that a line makes, and its moment
+abbrev pub planned_of : LiveHistory → CallLine → Planned
+planned_of so_far made = (next_moment so_far, code_of (task_count so_far.calls) made)
+
+-- one line more
+abbrev pub after_line : ℕ → LiveHistory → LiveLine → LiveHistory
+after_line workers so_far (l.Event event) = after_happening workers so_far (happening_in so_far event)
+after_line workers so_far (l.Call made) = after_call workers so_far (planned_of so_far made)
+
+-- the history of some lines, the newest line first in the list
+abbrev pub live_history : ℕ → List LiveLine → LiveHistory
+live_history workers [] = no_history
+live_history workers (line ∷ before) = after_line workers (live_history workers before) line
+
+-- a line may come: a call that cancels a task names a number that was given out, and all else may come at any time
+abbrev pub MayComeNext : LiveHistory → LiveLine → Type 0
+MayComeNext so_far (l.Call (call.Cancel task)) = task < task_count so_far.calls
+MayComeNext so_far line = Unit {0}
+
+-- each of some lines fits, and may come after those before it
+abbrev pub MayCome : ℕ → List LiveLine → Type 0
+MayCome workers [] = Unit {0}
+MayCome workers (line ∷ before) = MayCome workers before × FitsLive line × MayComeNext (live_history workers before) line
+
+-- the lines of the trace
+abbrev pub trace_of : LiveHistory → List ℕ
+trace_of so_far = lines_text (lines_of so_far.calls so_far.past)
+
+-- how many lines the trace has
+abbrev pub trace_length : LiveHistory → ℕ
+trace_length so_far = length (lines_of so_far.calls so_far.past)
+
+-- ---- limits
+
+-- how many numbers are given out at most, as a line names a task by 32 bits (this project's limit)
+abbrev pub most_numbers : ℕ
+most_numbers = 2 ^ 32
+
+-- the greatest number of lines of a trace, so that there is a number for a further line of the input (this project's limit)
+abbrev pub most_lines : ℕ
+most_lines = 2 ^ 64 - 2
+
+-- how many runs of a task are begun at most, so that each has a number (this project's limit)
+abbrev pub most_runs : ℕ
+most_runs = 2 ^ 64 - 1
+
+-- a line makes a call whose moment would be above the limit
+abbrev pub IsTooLate : LiveHistory → LiveLine → Type 0
+IsTooLate so_far (l.Call made) = longest < next_moment so_far
+IsTooLate so_far (l.Event event) = ⊥
+
+-- a line submits a task, and all numbers were given out
+abbrev pub IsOutOfNumbers : LiveHistory → LiveLine → Type 0
+IsOutOfNumbers so_far (l.Call made) = (submits_task (planned_of so_far made).1 ≡ true) × (most_numbers ≤ task_count so_far.calls)
+IsOutOfNumbers so_far (l.Event event) = ⊥
+
+-- a worker asks for work, and so many runs of a task were begun that no number is left for one more
+abbrev pub IsOutOfRuns : LiveHistory → LiveLine → Type 0
+IsOutOfRuns so_far (l.Event (v.Start worker)) = (task : ℕ) × (starts task so_far.past ≡ most_runs)
+IsOutOfRuns so_far line = ⊥
+
+-- with the lines of its answer the trace would be too long
+abbrev pub IsTooMany : ℕ → LiveHistory → LiveLine → Type 0
+IsTooMany workers so_far line = most_lines < trace_length (after_line workers so_far line)
+
+-- why there is no room for a line
+abbrev pub IsBeyond : ℕ → LiveHistory → LiveLine → Type 0
+IsBeyond workers so_far line = IsTooLate so_far line ⊎ (IsOutOfNumbers so_far line ⊎ (IsOutOfRuns so_far line ⊎ IsTooMany workers so_far line))

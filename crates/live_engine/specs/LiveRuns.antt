@@ -1,0 +1,137 @@
+-- What a live run reads, writes and notes.
+-- All of it is this project's rule.
+use Rattle.std.specs.Prelude.{◌≡◌, ℕ, ◌+◌, ◌<◌, ◌≤◌, List, [], ◌∷◌, ◌++◌, ◌⊎◌, Option, Result, Ok, Err, IfSome, length, take}
+use Rattle.std.specs.Io.KnownBytes.{Appends, Consumes, IsAtEnd}
+use Rattle.queue_code.specs.Calls.{IsOrderlyFrom}
+use Rattle.executor_core.specs.Counts.{IsWorkerCount}
+use Rattle.executor_core.specs.Histories.{happenings, made, IsHistoryOf}
+use Rattle.trace_text.specs.Reading.{IsPart, IsRead, IsUnread}
+use Rattle.call_text.specs.declared.live.LiveFront.TheVariants as front
+use Rattle.call_text.specs.Reading.{IsLiveFront}
+use Rattle.call_journal.specs.declared.journal.MadeCall.{MadeCall}
+use Rattle.call_journal.specs.Journals.{JournalView, noted}
+use Rattle.sched_engine.specs.declared.report.RunError.{RunError}
+use Rattle.sched_engine.specs.declared.report.RunError.TheVariants as x
+use Rattle.sched_engine.specs.Running.{piece, IsUntouched}
+use Rattle.live_engine.specs.declared.live_line.LiveLine.{LiveLine}
+use Rattle.live_engine.specs.declared.live_line.LiveLine.TheVariants as l
+use Rattle.live_engine.specs.declared.report.LiveReport.{LiveReport}
+use Rattle.live_engine.specs.LiveLines.{LiveHistory, FitsLive, IsBeyond, MayCome, MayComeNext, input_of, live_history, live_line, next_moment, trace_length, trace_of}
+
+-- ---- what stands behind the lines that were taken
+
+-- some bytes begin with a line that fits
+pub record BeginsWith (bytes : List ℕ) (IsSo : LiveLine → Type 0) : Type 0 where
+  pub line : LiveLine
+  pub rest : List ℕ
+  pub read : IsRead live_line FitsLive bytes line rest
+  pub so : IsSo line
+
+-- some bytes begin with a line
+abbrev pub BeginsWithLine : List ℕ → Type 0
+BeginsWithLine bytes = BeginsWith bytes (λ line. Unit {0})
+
+-- with one that may not come where this is the history
+abbrev pub BeginsWithBarred : LiveHistory → List ℕ → Type 0
+BeginsWithBarred so_far bytes = BeginsWith bytes (λ line. MayComeNext so_far line → ⊥)
+
+-- with one for which there is no room
+abbrev pub BeginsBeyond : ℕ → LiveHistory → List ℕ → Type 0
+BeginsBeyond workers so_far bytes = BeginsWith bytes (λ line. IsBeyond workers so_far line)
+
+-- some bytes begin with no line, or with one that may not come
+abbrev pub BeginsWithNone : LiveHistory → List ℕ → Type 0
+BeginsWithNone so_far bytes = IsUnread live_line FitsLive bytes ⊎ BeginsWithBarred so_far bytes
+
+-- why the bytes that were read behind the lines are no line: they are refused, or are a part of a line with which the input ends, or
+-- begin with a line that may not come
+abbrev pub IsNoLine : LiveHistory → Option (List ℕ) → List ℕ → Type 0
+IsNoLine so_far left ahead =
+    IsLiveFront front.Refused ahead ⊎ ((IsPart ahead × (0 < length ahead) × IsAtEnd left) ⊎ BeginsWithBarred so_far ahead)
+
+-- ---- the journal
+
+-- the calls that some lines made, with their moments, the newest first
+abbrev pub made_calls : ℕ → List LiveLine → List MadeCall
+made_calls workers [] = []
+made_calls workers (l.Event event ∷ before) = made_calls workers before
+made_calls workers (l.Call call ∷ before) = record { moment = next_moment (live_history workers before); call = call } ∷ made_calls workers before
+
+-- a journal, once some calls were noted one after the other, the newest first in the list
+abbrev pub all_noted : JournalView → List MadeCall → JournalView
+all_noted journal [] = journal
+all_noted journal (call ∷ before) = noted (all_noted journal before) call
+
+-- some calls were noted, whatever room there is for more
+abbrev pub Notes : JournalView → JournalView → List MadeCall → Type 0
+Notes old new calls = new ≡ record (all_noted old calls) { room = new.room }
+
+-- ---- a run
+
+-- a history of some calls that is allowed: the calls are in order, all of them were made, and each answer is the one that it has to be
+pub record IsLiveHistory (workers : ℕ) (so_far : LiveHistory) : Type 0 where
+  pub orderly : IsOrderlyFrom 0 0 so_far.calls
+  pub means : IsHistoryOf so_far.calls workers so_far.past
+  pub made : made (happenings so_far.past) ≡ length so_far.calls
+
+-- the input is the lines, and then a rest of which P holds
+abbrev pub Splits : Option (List ℕ) → List LiveLine → (List ℕ → Type 0) → Type 0
+Splits input lines P = IfSome input (λ xs. (rest : List ℕ) × (xs ≡ input_of lines ++ rest) × P rest)
+
+-- The lines that a run took from its input, the newest first, and their one history. `IsAhead` holds of the history and of the bytes
+-- that were read behind the lines, `IsRest` of it and of all of the input behind them, and `Gives` of the lines and their history.
+pub record Taken (workers : ℕ) (input left : Option (List ℕ)) (old new : JournalView) (IsAhead IsRest : LiveHistory → List ℕ → Type 0)
+    (Gives : List LiveLine → LiveHistory → Type 0) : Type 0 where
+  pub lines : List LiveLine
+  pub come : MayCome workers lines
+  pub allowed : IsLiveHistory workers (live_history workers lines)
+  pub ahead : List ℕ
+  pub read : Consumes input left (input_of lines ++ ahead)
+  -- no more than one piece is read behind the last line taken
+  pub near : length ahead ≤ piece
+  pub stops : IsAhead (live_history workers lines) ahead
+  pub splits : Splits input lines (IsRest (live_history workers lines))
+  pub journal : Notes old new (made_calls workers lines)
+  pub gives : Gives lines (live_history workers lines)
+
+-- what a run had before it, and has after it: what is left of the input, what the writer took, and the journal
+pub record LiveEnds : Type 0 where
+  pub left : Option (List ℕ)
+  pub contents : Option (List ℕ)
+  pub journal : JournalView
+
+-- the whole trace was written, and this is so of the lines and their history
+abbrev pub Writes : LiveEnds → LiveEnds → (List LiveLine → LiveHistory → Type 0) → List LiveLine → LiveHistory → Type 0
+Writes old new IsSo lines so_far = Appends old.contents new.contents (trace_of so_far) × IsSo lines so_far
+
+-- what a run did that had begun
+abbrev pub Runs : Result LiveReport RunError → ℕ → LiveEnds → LiveEnds → Type 0
+Runs (Ok report) workers old new = Taken workers old.left new.left old.journal new.journal (λ _ ahead. ahead ≡ []) (λ _ rest. rest ≡ [])
+    (Writes old new (λ lines so_far. (report.lines_read ≡ length lines) × (report.lines_written ≡ trace_length so_far)))
+Runs (Err (x.EventLine n)) workers old new = Taken workers old.left new.left old.journal new.journal (λ so_far. IsNoLine so_far new.left)
+    (λ so_far rest. BeginsWithNone so_far rest × (0 < length rest)) (Writes old new (λ lines _. n ≡ length lines + 1))
+Runs (Err x.Full) workers old new = Taken workers old.left new.left old.journal new.journal (BeginsBeyond workers) (BeginsBeyond workers)
+    (Writes old new (λ _ _. Unit {0}))
+Runs (Err x.Read) workers old new = Taken workers old.left new.left old.journal new.journal (λ _ ahead. IsPart ahead) (λ _ _. Unit {0})
+    (Writes old new (λ _ _. Unit {0}))
+Runs (Err x.Write) workers old new = Taken workers old.left new.left old.journal new.journal (λ _ _. Unit {0}) (λ _ _. Unit {0})
+    (λ _ so_far. (n : ℕ) × Appends old.contents new.contents (take n (trace_of so_far)))
+Runs (Err x.Memory) workers old new = Taken workers old.left new.left old.journal new.journal (λ _ ahead. BeginsWithLine ahead) (λ _ rest. BeginsWithLine rest)
+    (Writes old new (λ _ _. Unit {0}))
+Runs (Err _) workers old new = ⊥
+
+-- nothing was read, written or noted
+abbrev pub IsIdle : LiveEnds → LiveEnds → Type 0
+IsIdle old new = IsUntouched old.left new.left old.contents new.contents × (new.journal ≡ old.journal)
+
+-- why a run does not begin: the workers are not 1 to 64, or else memory was refused
+abbrev pub RefusesToRun : RunError → ℕ → Type 0
+RefusesToRun x.Workers workers = IsWorkerCount workers → ⊥
+RefusesToRun x.Memory workers = IsWorkerCount workers
+RefusesToRun _ workers = ⊥
+
+-- what a run did: it did not begin, or it ran over the lines of its input
+abbrev pub Ran : Result LiveReport RunError → ℕ → LiveEnds → LiveEnds → Type 0
+Ran (Err x.Workers) workers old new = RefusesToRun x.Workers workers × IsIdle old new
+Ran (Err x.Memory) workers old new = (RefusesToRun x.Memory workers × IsIdle old new) ⊎ (IsWorkerCount workers × Runs (Err x.Memory) workers old new)
+Ran result workers old new = IsWorkerCount workers × Runs result workers old new

@@ -1,0 +1,71 @@
+-- Steps: where an executor stands once some lines were taken, and what one line more makes of it.
+-- All of it is this project's rule.
+use Rattle.std.specs.Prelude.{◌≡◌, ℕ, ◌+◌, List, ◌++◌, length}
+use Rattle.executor_core.specs.declared.Line.{Line}
+use Rattle.executor_core.specs.Answers.{Reply}
+use Rattle.executor_core.specs.Flows.{lines_at, lines_of}
+use Rattle.task_table.specs.Tables.{workers_of}
+use Rattle.live_core.specs.declared.error.CallError.{CallError}
+use Rattle.live_core.specs.declared.error.CallError.TheVariants as ce
+use Rattle.live_core.specs.Lives.{LiveView, Stands}
+use Rattle.live_engine.specs.declared.live_line.LiveLine.{LiveLine}
+use Rattle.call_journal.specs.Journals.{JournalView, noted}
+use Rattle.live_engine.specs.declared.live_line.LiveLine.TheVariants as l
+use Rattle.live_engine.specs.declared.counts.Counts.{Counts}
+use Rattle.live_engine.specs.declared.stops.PieceEnd.{PieceEnd}
+use Rattle.live_engine.specs.declared.stops.PieceEnd.TheVariants as e
+use Rattle.live_engine.specs.LiveLines.{LiveHistory, FitsLive, IsBeyond, MayComeNext, after_clock, after_line}
+
+-- the executor stands where a history leads, and knows the last clock that was accepted
+pub record IsAt (workers : ℕ) (m : LiveView) (so_far : LiveHistory) : Type 0 where
+  pub stands : Stands m so_far.calls so_far.past
+  pub width : workers_of m.table ≡ workers
+  pub clock : m.earliest ≡ after_clock so_far.past
+
+-- one history is another and this reply
+pub record IsLonger (workers : ℕ) (new : LiveView) (so_far longer : LiveHistory) (r : Reply) : Type 0 where
+  pub at : IsAt workers new longer
+  pub lines : lines_of longer.calls longer.past ≡ lines_of so_far.calls so_far.past ++ lines_at new.table.moment r
+
+-- a line is taken after this history, with this reply
+pub record TakesAfter (workers : ℕ) (new : LiveView) (so_far : LiveHistory) (line : LiveLine) (r : Reply) : Type 0 where
+  pub may : MayComeNext so_far line
+  pub longer : IsLonger workers new so_far (after_line workers so_far line) r
+
+-- whatever history led here, a line is taken with this reply
+abbrev pub Takes : LiveView → LiveView → LiveLine → Reply → Type 0
+Takes old new line r = (workers : ℕ) (so_far : LiveHistory) → IsAt workers old so_far → TakesAfter workers new so_far line r
+
+-- why a line is not taken after this history
+abbrev pub Stops : PieceEnd → ℕ → LiveHistory → LiveLine → Type 0
+Stops e.Part workers so_far line = ⊥
+Stops e.Refused workers so_far line = MayComeNext so_far line → ⊥
+Stops e.Full workers so_far line = IsBeyond workers so_far line
+Stops e.Memory workers so_far line = Unit {0}
+
+-- whatever history led here, a line is not taken, for this reason
+abbrev pub Refuses : PieceEnd → LiveView → LiveLine → Type 0
+Refuses end old line = (workers : ℕ) (so_far : LiveHistory) → IsAt workers old so_far → Stops end workers so_far line
+
+-- a journal once a line was taken: with the call that it makes, if it makes one, at this moment
+abbrev pub noted_line : JournalView → LiveLine → ℕ → JournalView
+noted_line journal (l.Event event) moment = journal
+noted_line journal (l.Call call) moment = noted journal (record { moment = moment; call = call })
+
+-- a line was taken: it fits, and these are the lines of its answer; it was counted, and the call that it makes was noted
+pub record Answers (old new : LiveView) (line : LiveLine) (lines : List Line) (before after : Counts) (journal noted : JournalView) : Type 0 where
+  pub reply : Reply
+  pub takes : Takes old new line reply
+  pub fits : FitsLive line
+  pub given : lines ≡ lines_at new.table.moment reply
+  pub counts : after ≡ record { read = before.read + 1; written = before.written + length lines }
+  pub notes : noted ≡ record (noted_line journal line new.table.moment) { room = noted.room }
+
+-- why a line is not taken whose call is not made for this reason
+abbrev pub stop_of : CallError → PieceEnd
+stop_of ce.Illegal = e.Refused
+stop_of ce.TooLong = e.Refused
+stop_of ce.NoTask = e.Refused
+stop_of ce.TooFar = e.Full
+stop_of ce.Full = e.Full
+stop_of ce.Memory = e.Memory

@@ -1,0 +1,62 @@
+//! Runs an executor whose calls come on its input beside the events, and writes its trace.
+//!
+//! # Usage
+//!
+//! ```text
+//! let mut journal = Journal::new(rt.alloc(), false);
+//! let mut reader = Reading::new(rt.reader());
+//! let mut writer = Writing::new(io::writer(&rt));
+//! let report = run(rt.alloc(), 2, &mut journal, &mut reader, &mut writer)?;
+//! ```
+//!
+//! # Behaviour
+//!
+//! A line of the input is that of an event, as in a run of a plan, or that of a call, as `call_text` has them. Each is answered by
+//! lines of the trace as soon as it has come whole, so whoever feeds lines sees each answer before the run waits for more: a turn
+//! reads once, at most 64 KiB, answers each line that has come whole, and writes the answers. Between two reads at most a part of one
+//! line is held.
+//!
+//! A call is made at once: its moment is now, or 1 ns after the last accepted clock, whichever is later. Submissions are numbered 0,
+//! 1, .. in the order of their lines, whether they are accepted or not. An event `cancel K` whose number was not given out yet
+//! is answered `error no task`, and cancels no task, also none that is given that number later.
+//!
+//! # Errors
+//!
+//! | Error | When | What was written |
+//! |---|---|---|
+//! | [`RunError::Workers`] | the workers are not 1 to 64 | nothing, and nothing was read |
+//! | [`RunError::EventLine`] | that line, counted from 1, is no line, or a `call cancel K` of a number that was not given out | the answers to all lines before |
+//! | [`RunError::Full`] | a further line follows for which there is no room: see below | the answers to all lines before |
+//! | [`RunError::Read`] | the reader was at fault, or interrupted 1,000 times in a row | the answers to all whole lines read |
+//! | [`RunError::Write`] | the writer was at fault, took nothing, or was interrupted 1,000 times in a row | a front of some lines' answers |
+//! | [`RunError::Memory`] | memory was refused at the start | nothing, and nothing was read |
+//! | | memory was refused for a further line | the answers to all lines before |
+//!
+//! There is no room for a call whose moment would be above 2^62 ns, for a submission where 2^32 numbers were given out, for a start
+//! of a task that has no number left for the run, and for a line with whose answer the trace would have 2^64 lines.
+//!
+//! # Memory and cost
+//!
+//! A run takes two buffers of 64 KiB, what its executor takes, room for the lines of one answer, and the journal's calls. It takes
+//! memory only for submissions that need a slot, for longer answers than any before, and for calls that are noted.
+#![tactic(auto)]
+
+mod answer_texts;
+mod answering;
+mod counts;
+mod engine;
+mod live_line;
+mod one_line;
+mod replies;
+mod report;
+mod splitting;
+mod step_calls;
+mod step_events;
+mod stepping;
+mod stops;
+#[cfg(test)]
+mod tests;
+
+pub use engine::run;
+pub use live_line::LiveLine;
+pub use report::LiveReport;

@@ -1,0 +1,57 @@
+//! One line: it is taken, noted and counted, and its answer is given out as lines.
+ghost use Rattle.std.specs.Prelude.{◌≡◌, ℕ, ◌≤◌, OnOk, OnErr, IfErr};
+ghost use Rattle.live_engine.specs.LiveLines.{LiveHistory, FitsLive, most_numbers, trace_length};
+ghost use Rattle.live_engine.specs.own.LiveTurns.{AreCounted};
+ghost use Rattle.live_engine.specs.own.LiveSteps.{Answers, IsAt, Stops};
+
+use crate::answer_texts::put_lines;
+use crate::counts::{Counts, MOST_LINES};
+use crate::live_line::LiveLine;
+use crate::stepping::step;
+use crate::stops::PieceEnd;
+use call_journal::{Journal, MadeCall};
+use executor_core::Line;
+use live_core::ScheduledExecutor;
+use std::alloc::Allocator;
+
+/// Takes a line, and writes the lines of its answer in place of those that are there. A call is noted before its answer is given
+/// out. Where the line is not taken, nothing is noted or counted, and the executor is somewhere on the way.
+pub(crate) fn answer_line<A: Allocator>(
+    executor: &mut ScheduledExecutor<A>,
+    journal: &mut Journal<A>,
+    counts: &mut Counts,
+    line: LiveLine,
+    lines: &mut Vec<Line, A>,
+) -> Result<(), PieceEnd>
+    requires fits { FitsLive line }
+    requires few { executor.old.count ≤ most_numbers }
+    requires counted { AreCounted counts.old }
+    ensures answers { OnOk result (Answers executor.old executor.new line lines.new.items counts.old counts.new journal.old journal.new) }
+    ensures few { executor.new.count ≤ most_numbers }
+    ensures counted { OnOk result (AreCounted counts.new) }
+    ensures refuses { IfErr result (λ end. (workers : ℕ) (so_far : LiveHistory) → IsAt workers executor.old so_far → counts.old.written ≡ trace_length so_far → Stops end workers so_far line) }
+    ensures uncounted { OnErr result (counts.new ≡ counts.old) }
+    ensures unnoted { OnErr result (journal.new ≡ record journal.old { room = journal.new.room }) }
+{
+    if journal.make_room().is_err() {
+        return Err(PieceEnd::Memory);
+    }
+    let answer = step(executor, line)?;
+    if !put_lines(executor, answer, lines) {
+        return Err(PieceEnd::Memory);
+    }
+    let more = lines.len() as u64;
+    if more > MOST_LINES - counts.written {
+        return Err(PieceEnd::Full);
+    }
+    match line {
+        LiveLine::Event(_) => {}
+        LiveLine::Call(call) => journal.note(MadeCall {
+            moment: executor.now(),
+            call,
+        }),
+    }
+    counts.written += more;
+    counts.read += 1;
+    Ok(())
+}
