@@ -9,7 +9,7 @@ use Rattle.task_table.specs.declared.seat.Seat.{Seat}
 use Rattle.task_table.specs.declared.seat.TaskRef.{TaskRef}
 use Rattle.task_table.specs.Tables.{TableView, workers_of, CallSteps}
 use Rattle.live_core.specs.Lives.{LiveView, Calls, never, moment_of_call}
-use Rattle.live_core.specs.own.Formed.{AreNoted, IsLive}
+use Rattle.live_core.specs.own.Formed.{AreNoted, AreAlive, IsLive}
 use Rattle.live_core.proofs.Making.{MayAdd}
 use Rattle.live_core.proofs.Steps.{may_add, makes_other}
 use Rattle.live_core.proofs.Living.{live_call}
@@ -37,11 +37,12 @@ calls_other m now table ended at moment call r same is near few none width steps
 -- the executor stands then
 pub live_other : (m now : LiveView) (table : TableView) (ended : List TaskRef) (at moment : ℕ) (call : CodeCall) (r : Reply) (free : List ℕ) (entries : List TaskRef) (free_room ended_room : ℕ) (free' : List ℕ) (entries' : List TaskRef) (free_room' ended_room' : ℕ) →
     m ≡ now → moment ≡ moment_of_call now at → moment ≤ longest → SubmitsNone m.count call r → workers_of table ≡ workers_of m.table → CallSteps m.table table (moment, call) r → (table.shut ≡ false → m.table.shut ≡ false) →
-    IsLive m free entries free_room ended_room → AreNoted table.slots m.count free' entries' free_room' ended_room' → IsLive (record m { table = table; ended = ended }) free' entries' free_room' ended_room'
-live_other m now table ended at moment call r free entries free_room ended_room free' entries' free_room' ended_room' same is near none width steps unshut live noted =
+    IsLive m free entries free_room ended_room → AreNoted table.slots m.count free' entries' free_room' ended_room' → AreAlive table.slots →
+    IsLive (record m { table = table; ended = ended }) free' entries' free_room' ended_room'
+live_other m now table ended at moment call r free entries free_room ended_room free' entries' free_room' ended_room' same is near none width steps unshut live noted alive =
     live_call m (record m { table = table; ended = ended }) (moment, call) r free entries free_room ended_room free' entries' free_room' ended_room' live
     (makes_other m table ended moment call r (may_call m now at moment call r same is near live.stands.few none) none.same none.none width steps)
-    (λ q. live.unshut (unshut q)) refl noted
+    (λ q. live.unshut (unshut q)) refl noted alive
 
 -- the slots are noted as they were, by another name, and the room for ended tasks is as it was
 pub noted_same_room : (old new : List (Option Seat)) (count : ℕ) (free : List ℕ) (entries : List TaskRef) (free_room ended_room more_ended : ℕ) → new ≡ old → more_ended ≡ ended_room → AreNoted old count free entries free_room ended_room →

@@ -8,6 +8,7 @@ pub mod Seated
 pub mod Cancelled
 pub mod Steps
 pub mod Noted
+pub mod Alive
 pub mod Living
 pub mod Filtered
 pub mod Compacted

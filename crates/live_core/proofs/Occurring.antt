@@ -18,7 +18,7 @@ use Rattle.task_table.specs.Runs.{IsFinishError, FailsFinish}
 use Rattle.task_table.specs.Changes.{at_moment}
 use Rattle.live_core.specs.Lives.{LiveView, Happens, never, quiet}
 use Rattle.live_core.specs.Events.{Fails, finish_reply}
-use Rattle.live_core.specs.own.Formed.{AreNoted, IsLive}
+use Rattle.live_core.specs.own.Formed.{AreNoted, AreAlive, IsLive}
 use Rattle.live_core.proofs.Steps.{meets_clock, meets_other}
 use Rattle.live_core.proofs.Living.{live_event}
 use Rattle.live_core.proofs.Noted.{noted_same}
@@ -50,10 +50,10 @@ fails_there m table ended y error event looks none same steps =
 -- what stays true of one whose table took the step of an event
 pub live_steps : (m : LiveView) (table : TableView) (ended : List TaskRef) (y : Happening) (r : Reply) (free : List ℕ) (entries : List TaskRef) (free_room ended_room : ℕ) (free' : List ℕ) (entries' : List TaskRef) (free_room' more_ended : ℕ) →
     IsLive m free entries free_room ended_room → Happens m (record m { table = table; ended = ended }) y r → table.shut ≡ m.table.shut → more_ended ≡ ended_room → AreNoted table.slots m.count free' entries' free_room' ended_room →
-    IsLive (record m { table = table; ended = ended }) free' entries' free_room' more_ended
-live_steps m table ended y r free entries free_room ended_room free' entries' free_room' more_ended live happens same room noted =
+    AreAlive table.slots → IsLive (record m { table = table; ended = ended }) free' entries' free_room' more_ended
+live_steps m table ended y r free entries free_room ended_room free' entries' free_room' more_ended live happens same room noted alive =
     live_event m (record m { table = table; ended = ended }) y r free entries free_room ended_room free' entries' free_room' more_ended live happens
-    (λ q. live.unshut (sym same ∙ q)) live.earliest (subst (λ n. AreNoted table.slots m.count free' entries' free_room' n) (sym room) noted)
+    (λ q. live.unshut (sym same ∙ q)) live.earliest (subst (λ n. AreNoted table.slots m.count free' entries' free_room' n) (sym room) noted) alive
 
 -- ---- a clock
 
@@ -73,6 +73,7 @@ live_clock m table ended t free entries free_room ended_room more_ended live non
     (omega (arith, within.1))
     (subst (λ n. AreNoted table.slots m.count free entries free_room n) (sym room)
     (noted_same m.table.slots table.slots m.count free free entries entries free_room free_room ended_room (ap (λ (v : TableView). v.slots) is) refl refl refl live.noted))
+    (subst (λ (v : TableView). AreAlive v.slots) (sym is) live.alive)
 
 -- ---- a finish, which ends a run or is answered by an error
 
@@ -90,8 +91,8 @@ finish_fails m table ended worker ending (Err error) none same fails = (fails.0,
 pub live_finish : (m : LiveView) (table : TableView) (ended : List TaskRef) (worker : ℕ) (ending : Ending) (r : Result Ended EventError) (free : List ℕ) (entries : List TaskRef) (free_room ended_room : ℕ) (free' : List ℕ) (entries' : List TaskRef) (free_room' more_ended : ℕ) →
     IsLive m free entries free_room ended_room → IfOk r (λ e. Happens m (record m { table = table; ended = ended }) (h.Finish worker ending) (finish_reply worker e)) →
     IfErr r (λ error. IsFinishError m.table worker error × Fails m (record m { table = table; ended = ended }) (h.Finish worker ending) error) →
-    table.shut ≡ m.table.shut → more_ended ≡ ended_room → AreNoted table.slots m.count free' entries' free_room' ended_room → IsLive (record m { table = table; ended = ended }) free' entries' free_room' more_ended
-live_finish m table ended worker ending (Ok e) free entries free_room ended_room free' entries' free_room' more_ended live happens fails same room noted =
-    live_steps m table ended (h.Finish worker ending) (finish_reply worker e) free entries free_room ended_room free' entries' free_room' more_ended live happens same room noted
-live_finish m table ended worker ending (Err error) free entries free_room ended_room free' entries' free_room' more_ended live happens fails same room noted =
-    live_steps m table ended (h.Finish worker ending) (bare (a.Error error)) free entries free_room ended_room free' entries' free_room' more_ended live fails.1.happens same room noted
+    table.shut ≡ m.table.shut → more_ended ≡ ended_room → AreNoted table.slots m.count free' entries' free_room' ended_room → AreAlive table.slots → IsLive (record m { table = table; ended = ended }) free' entries' free_room' more_ended
+live_finish m table ended worker ending (Ok e) free entries free_room ended_room free' entries' free_room' more_ended live happens fails same room noted alive =
+    live_steps m table ended (h.Finish worker ending) (finish_reply worker e) free entries free_room ended_room free' entries' free_room' more_ended live happens same room noted alive
+live_finish m table ended worker ending (Err error) free entries free_room ended_room free' entries' free_room' more_ended live happens fails same room noted alive =
+    live_steps m table ended (h.Finish worker ending) (bare (a.Error error)) free entries free_room ended_room free' entries' free_room' more_ended live fails.1.happens same room noted alive

@@ -15,7 +15,7 @@ use Rattle.queue_code.specs.declared.call.CodeCall.TheVariants as c
 use Rattle.queue_code.specs.Calls.{how_many, IsTimed}
 use Rattle.task_table.specs.declared.seat.Seat.{Seat}
 use Rattle.task_table.specs.declared.seat.TaskRef.{TaskRef}
-use Rattle.task_table.specs.Seats.{task_in, slot_of, waits}
+use Rattle.task_table.specs.Seats.{task_in, slot_of, waits, is_alive}
 use Rattle.task_table.specs.Tables.{TableView}
 use Rattle.live_core.specs.declared.error.MakeError.{MakeError}
 use Rattle.live_core.specs.declared.error.MakeError.TheVariants as me
@@ -50,6 +50,14 @@ IsMakeError workers me.Memory = IsWorkerCount workers
 -- how many tasks have a slot
 abbrev pub tasks_in : List (Option Seat) → ℕ
 tasks_in slots = how_many is_some slots
+
+-- a slot holds a task of which something may come: it waits for a run, or is kept, or a run of it is under way
+abbrev pub holds_alive : Option Seat → Bool
+holds_alive o = option_map_or (λ x. is_alive (task_in x)) o false
+
+-- how many slots do
+abbrev pub alive_in : List (Option Seat) → ℕ
+alive_in slots = how_many holds_alive slots
 
 -- the slot of a task holds it, and it waits for a run
 abbrev pub is_waiting_there : TableView → TaskRef → Bool

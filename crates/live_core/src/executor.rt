@@ -39,7 +39,7 @@ impl<A: Allocator> Model for ScheduledExecutor<A> {
 impl<A: Allocator> ScheduledExecutor<A> {
     ghost use Rattle.task_table.specs.Tables.{workers_of};
     ghost use Rattle.live_core.specs.Lives.{Stands};
-    ghost use Rattle.live_core.specs.Said.{IsMakeError, tasks_in, is_waiting_there};
+    ghost use Rattle.live_core.specs.Said.{IsMakeError, tasks_in, alive_in, is_waiting_there};
 
     /// An executor before anything happened, for 1 to 64 workers, which `alloc` gives its memory.
     ///
@@ -88,9 +88,10 @@ impl<A: Allocator> ScheduledExecutor<A> {
         self.count
     }
 
-    /// How many tasks have a slot: those that wait or are kept, and those whose run is under way.
+    /// How many tasks have a slot: those that wait or are kept, and those whose run is under way, and no others.
     pub fn len(&self) -> usize
-        ensures { result ≡ tasks_in self.now.table.slots }
+        ensures tasks { result ≡ tasks_in self.now.table.slots }
+        ensures alive { result ≡ alive_in self.now.table.slots }
     {
         self.table.slots() - self.notes.free_slots()
     }

@@ -6,7 +6,7 @@ ghost use Rattle.queue_code.specs.declared.call.CodeCall.TheVariants as call;
 ghost use Rattle.executor_core.specs.Answers.{bare, kind_of};
 ghost use Rattle.executor_core.specs.declared.types.Answer.TheVariants as answer;
 ghost use Rattle.task_table.specs.Tables.{workers_of, CallSteps};
-ghost use Rattle.live_core.specs.own.Formed.{AreNoted};
+ghost use Rattle.live_core.specs.own.Formed.{AreNoted, AreAlive};
 
 use crate::notes::Notes;
 use sched_time::Timing;
@@ -41,6 +41,7 @@ pub(crate) fn place<A: Allocator>(
     requires spans { (delay ≤ longest) × IsTimed timing }
     ensures number { result.task.number ≡ count }
     ensures noted { AreNoted table.new.slots (count + 1) notes.new.free notes.new.entries notes.new.free_room (vec_capacity ended.new) }
+    ensures alive { AreAlive table.old.slots → AreAlive table.new.slots }
     ensures workers { workers_of table.new ≡ workers_of table.old }
     ensures shut { table.new.shut ≡ table.old.shut }
     ensures ended { ended.new.items ≡ [] }

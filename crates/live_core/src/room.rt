@@ -1,6 +1,6 @@
 //! Room for one more task.
 ghost use Rattle.std.specs.Prelude.{◌≡◌, ◌<◌, length, OnOk, OnErr, vec_capacity};
-ghost use Rattle.live_core.specs.own.Formed.{AreNoted, IsRoomier};
+ghost use Rattle.live_core.specs.own.Formed.{AreNoted, AreAlive, IsRoomier};
 
 use crate::notes::Notes;
 use std::alloc::{AllocError, Allocator};
@@ -20,6 +20,7 @@ pub(crate) fn make_room<A: Allocator>(
 ) -> Result<(), AllocError>
     requires noted { AreNoted table.old.slots count notes.old.free notes.old.entries notes.old.free_room (vec_capacity ended.old) }
     ensures noted { AreNoted table.new.slots count notes.new.free notes.new.entries notes.new.free_room (vec_capacity ended.new) }
+    ensures alive { AreAlive table.old.slots → AreAlive table.new.slots }
     ensures roomier { IsRoomier table.old table.new }
     ensures refused { OnErr result (table.new ≡ table.old) }
     ensures entry { OnOk result (length notes.new.entries < notes.new.index_room) }
@@ -48,6 +49,7 @@ pub(crate) fn grow<A: Allocator>(
     requires noted { AreNoted table.old.slots count notes.old.free notes.old.entries notes.old.free_room (vec_capacity ended.old) }
     requires more { length table.old.slots < slots }
     ensures noted { AreNoted table.new.slots count notes.new.free notes.new.entries notes.new.free_room (vec_capacity ended.new) }
+    ensures alive { AreAlive table.old.slots → AreAlive table.new.slots }
     ensures roomier { IsRoomier table.old table.new }
     ensures size { OnOk result (length table.new.slots ≡ slots) }
     ensures refused { OnErr result (table.new ≡ table.old) }

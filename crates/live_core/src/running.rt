@@ -9,7 +9,7 @@ ghost use Rattle.task_table.specs.Tables.{workers_of, Stands, EventSteps};
 ghost use Rattle.task_table.specs.Firsts.{NoneMet};
 ghost use Rattle.task_table.specs.Runs.{IsFree, IsFull, IsLeft, FailsFinish};
 ghost use Rattle.live_core.specs.Events.{start_reply, finish_reply, IsRunBy, IsLeftThere};
-ghost use Rattle.live_core.specs.own.Formed.{AreNoted};
+ghost use Rattle.live_core.specs.own.Formed.{AreNoted, AreAlive};
 ghost use Rattle.live_core.specs.own.Shed.{Sheds, released};
 
 use crate::notes::Notes;
@@ -30,6 +30,7 @@ pub(crate) fn begin_run<A: Allocator>(
     requires free { IsFree table.old worker }
     requires fresh { IsFull table.old → ⊥ }
     ensures noted { (count ended_room : ℕ) → AreNoted table.old.slots count notes.old.free notes.old.entries notes.old.free_room ended_room → AreNoted table.new.slots count notes.new.free notes.new.entries notes.new.free_room ended_room }
+    ensures alive { AreAlive table.old.slots → AreAlive table.new.slots }
     ensures workers { workers_of table.new ≡ workers_of table.old }
     ensures shut { table.new.shut ≡ table.old.shut }
     ensures runs { IfSome result (λ b. IsRunBy table.new worker b.task) }
@@ -46,6 +47,7 @@ pub(crate) fn begin_run<A: Allocator>(
 fn drop_met<A: Allocator>(table: &mut TaskTable<A>, notes: &mut Notes<A>)
     requires noted { (count : ℕ) × (ended_room : ℕ) × AreNoted table.old.slots count notes.old.free notes.old.entries notes.old.free_room ended_room }
     ensures noted { (count ended_room : ℕ) → AreNoted table.old.slots count notes.old.free notes.old.entries notes.old.free_room ended_room → AreNoted table.new.slots count notes.new.free notes.new.entries notes.new.free_room ended_room }
+    ensures alive { AreAlive table.old.slots → AreAlive table.new.slots }
     ensures sheds { Sheds table.old table.new }
     ensures met { NoneMet table.new }
 {
@@ -63,6 +65,7 @@ pub(crate) fn end_run<A: Allocator>(
 ) -> Result<Ended, EventError>
     requires noted { (count : ℕ) × (ended_room : ℕ) × AreNoted table.old.slots count notes.old.free notes.old.entries notes.old.free_room ended_room }
     ensures noted { (count ended_room : ℕ) → AreNoted table.old.slots count notes.old.free notes.old.entries notes.old.free_room ended_room → AreNoted table.new.slots count notes.new.free notes.new.entries notes.new.free_room ended_room }
+    ensures alive { AreAlive table.old.slots → AreAlive table.new.slots }
     ensures workers { workers_of table.new ≡ workers_of table.old }
     ensures shut { table.new.shut ≡ table.old.shut }
     ensures ran { IfOk result (λ ended. IsRunBy table.old worker ended.task) }

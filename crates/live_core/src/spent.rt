@@ -2,7 +2,7 @@
 ghost use Rattle.std.specs.Prelude.{◌≡◌, ℕ, not, Some};
 ghost use Rattle.task_table.specs.Seats.{task_in, is_alive};
 ghost use Rattle.live_core.specs.Cancels.{IsHeldAlive};
-ghost use Rattle.live_core.specs.own.Formed.{AreNoted, IsRoomier};
+ghost use Rattle.live_core.specs.own.Formed.{AreNoted, AreAlive, AreAliveBut, IsRoomier};
 ghost use Rattle.live_core.specs.own.Places.{IsSlotOf};
 
 use crate::notes::Notes;
@@ -16,6 +16,7 @@ pub(crate) fn release_spent<A: Allocator>(table: &mut TaskTable<A>, notes: &mut 
     requires { (count : ℕ) × (ended_room : ℕ) × AreNoted table.old.slots count notes.old.free notes.old.entries notes.old.free_room ended_room }
     ensures noted { (count ended_room : ℕ) → AreNoted table.old.slots count notes.old.free notes.old.entries notes.old.free_room ended_room → AreNoted table.new.slots count notes.new.free notes.new.entries notes.new.free_room ended_room }
     ensures alive { (number : ℕ) → IsSlotOf table.old.slots number (Some slot) → IsHeldAlive table.new number }
+    ensures all { AreAliveBut slot table.old.slots → AreAlive table.new.slots }
     ensures stands { IsRoomier table.old table.new }
 {
     if let Some(seat) = table.seat(slot) {

@@ -15,7 +15,7 @@ ghost use Rattle.task_table.specs.declared.seat.Seat as seats;
 ghost use Rattle.task_table.specs.Tables.{workers_of, CallSteps, IsNextCall, Stands, StandsBefore};
 ghost use Rattle.live_core.specs.Said.{ending};
 ghost use Rattle.live_core.specs.Shutting.{shutdown_answer, IsGone};
-ghost use Rattle.live_core.specs.own.Formed.{AreNoted};
+ghost use Rattle.live_core.specs.own.Formed.{AreNoted, AreAlive};
 
 use crate::notes::Notes;
 use crate::releasing::release;
@@ -36,6 +36,7 @@ pub(crate) fn set_policy<A: Allocator>(
     requires moment { table.old.moment ≤ at }
     requires limit { at ≤ longest }
     ensures noted { (count : ℕ) → AreNoted table.old.slots count notes.old.free notes.old.entries notes.old.free_room (vec_capacity ended.old) → AreNoted table.new.slots count notes.new.free notes.new.entries notes.new.free_room (vec_capacity ended.new) }
+    ensures alive { AreAlive table.old.slots → AreAlive table.new.slots }
     ensures workers { workers_of table.new ≡ workers_of table.old }
     ensures gone { All (IsGone table.new) ended.new.items }
     ensures shut { table.new.shut ≡ table.old.shut }
@@ -63,6 +64,7 @@ pub(crate) fn shut_down<A: Allocator>(
     requires limit { at ≤ longest }
     ensures first { result ≡ not table.old.shut }
     ensures noted { (count : ℕ) → AreNoted table.old.slots count notes.old.free notes.old.entries notes.old.free_room (vec_capacity ended.old) → AreNoted table.new.slots count notes.new.free notes.new.entries notes.new.free_room (vec_capacity ended.new) }
+    ensures alive { AreAlive table.old.slots → AreAlive table.new.slots }
     ensures workers { workers_of table.new ≡ workers_of table.old }
     ensures gone { All (IsGone table.new) ended.new.items }
     ensures shut { table.new.shut ≡ true }
@@ -90,6 +92,7 @@ pub(crate) fn shut_down_now<A: Allocator>(
     requires moment { table.old.moment ≤ at }
     requires limit { at ≤ longest }
     ensures noted { (count : ℕ) → AreNoted table.old.slots count notes.old.free notes.old.entries notes.old.free_room (vec_capacity ended.old) → AreNoted table.new.slots count notes.new.free notes.new.entries notes.new.free_room (vec_capacity ended.new) }
+    ensures alive { AreAlive table.old.slots → AreAlive table.new.slots }
     ensures workers { workers_of table.new ≡ workers_of table.old }
     ensures gone { All (IsGone table.new) ended.new.items }
     ensures shut { table.new.shut ≡ true }
@@ -105,6 +108,7 @@ pub(crate) fn drop_kept<A: Allocator>(table: &mut TaskTable<A>, notes: &mut Note
     requires { (count : ℕ) × (ended_room : ℕ) × AreNoted table.old.slots count notes.old.free notes.old.entries notes.old.free_room ended_room }
     ensures none { NoneKept table.new }
     ensures noted { (count ended_room : ℕ) → AreNoted table.old.slots count notes.old.free notes.old.entries notes.old.free_room ended_room → AreNoted table.new.slots count notes.new.free notes.new.entries notes.new.free_room ended_room }
+    ensures alive { AreAlive table.old.slots → AreAlive table.new.slots }
     ensures gone { (i : ℕ) (x : seats.Seat) → slot_of table.old.slots i ≡ Some x → x.kept ≡ true → slot_of table.new.slots i ≡ None }
     ensures rest { table.new ≡ record table.old { slots = table.new.slots } }
     ensures stands { (calls : List Planned) (past : List HistoryEntry) (p : Planned) → IsNextCall calls past p → sweeps_at table.old.shut p.1 ≡ true → StandsBefore table.old calls past happening.Call → StandsBefore table.new calls past happening.Call }
@@ -124,6 +128,7 @@ pub(crate) fn release_each<A: Allocator>(
     requires over { All (IsOverAt table.old) tasks.now }
     requires ascending { IsAscending (numbers_of tasks.now) }
     ensures noted { (count ended_room : ℕ) → AreNoted table.old.slots count notes.old.free notes.old.entries notes.old.free_room ended_room → AreNoted table.new.slots count notes.new.free notes.new.entries notes.new.free_room ended_room }
+    ensures leaves { (i : ℕ) (x : seats.Seat) → slot_of table.new.slots i ≡ Some x → slot_of table.old.slots i ≡ Some x }
     ensures gone { All (IsGone table.new) tasks.now }
     ensures rest { table.new ≡ record table.old { slots = table.new.slots } }
     ensures stands { (calls : List Planned) (past : List HistoryEntry) → Stands table.old calls past → Stands table.new calls past }

@@ -1,11 +1,12 @@
 -- What stays true of each executor. No contract of a public call cites it but through the invariant of the executor.
 -- All of it is this project's rule.
-use Rattle.std.specs.Prelude.{◌≡◌, ℕ, ◌+◌, ◌≤◌, false, Option, List, length}
+use Rattle.std.specs.Prelude.{◌≡◌, ℕ, ◌+◌, ◌≤◌, true, false, Option, Some, List, length}
 use Rattle.sched_time.specs.Times.{longest}
 use Rattle.queue_code.specs.Calls.{Planned}
 use Rattle.executor_core.specs.Histories.{HistoryEntry}
 use Rattle.task_table.specs.declared.seat.Seat.{Seat}
 use Rattle.task_table.specs.declared.seat.TaskRef.{TaskRef}
+use Rattle.task_table.specs.Seats.{task_in, slot_of, is_alive}
 use Rattle.task_table.specs.Tables as tables
 use Rattle.task_table.specs.Tables.{TableView, workers_of}
 use Rattle.live_core.specs.Lives.{LiveView, Stands}
@@ -19,8 +20,16 @@ pub record AreNoted (slots : List (Option Seat)) (count : ℕ) (free : List ℕ)
   pub room : length slots ≤ free_room
   pub spare : length slots ≤ ended_room
 
+-- of each task in a slot something may come: it waits for a run, or is kept, or a run of it is under way
+abbrev pub AreAlive : List (Option Seat) → Type 0
+AreAlive slots = (i : ℕ) (x : Seat) → slot_of slots i ≡ Some x → is_alive (task_in x) ≡ true
+
+-- the same of each but the task in one slot, of which nothing need come
+abbrev pub AreAliveBut : ℕ → List (Option Seat) → Type 0
+AreAliveBut slot slots = (i : ℕ) (x : Seat) → slot_of slots i ≡ Some x → (slot ≡ i → ⊥) → is_alive (task_in x) ≡ true
+
 -- what stays true of each executor: there are calls and a history where it stands; until it is shut, each submission was accepted;
--- and its slots are noted
+-- its slots are noted; and none holds a task of which nothing may come any more
 pub record IsLive (m : LiveView) (free : List ℕ) (entries : List TaskRef) (free_room ended_room : ℕ) : Type 0 where
   pub calls : List Planned
   pub past : List HistoryEntry
@@ -28,6 +37,7 @@ pub record IsLive (m : LiveView) (free : List ℕ) (entries : List TaskRef) (fre
   pub unshut : m.table.shut ≡ false → m.accepted ≡ m.count
   pub earliest : m.earliest ≤ longest + 1
   pub noted : AreNoted m.table.slots m.count free entries free_room ended_room
+  pub alive : AreAlive m.table.slots
 
 -- the table has more slots, or as many, and stands where it stood
 pub record IsRoomier (old new : TableView) : Type 0 where

@@ -6,7 +6,8 @@ use Rattle.task_table.specs.declared.seat.TaskRef.{TaskRef}
 use Rattle.task_table.specs.Tables.{TableView}
 use Rattle.task_table.specs.Changes.{submitted}
 use Rattle.live_core.specs.own.Slots.{NotesView}
-use Rattle.live_core.specs.own.Formed.{AreNoted}
+use Rattle.live_core.specs.own.Formed.{AreNoted, AreAlive}
+use Rattle.live_core.proofs.Alive.{alive_put}
 use Rattle.live_core.proofs.Noted.{noted_number, noted_slot, noted_new, noted_same}
 use Rattle.live_core.proofs.place.place.Goals as goal
 
@@ -48,3 +49,8 @@ returns-clause-noted g c =
     (ap (λ (v : NotesView). v.entries) c.add.ensures ∙ ap (λ (v : NotesView). v.entries ++ own ∷ []) c.in-Some.ensures.rest)
     (ap (λ (v : NotesView). v.free_room) c.add.ensures ∙ ap (λ (v : NotesView). v.free_room) c.in-Some.ensures.rest)
     (noted_new slots count rest slot x n.entries n.free_room spare refl noted))
+
+pub returns-clause-alive : goal.returns-clause-alive
+returns-clause-alive g c =
+    λ alive. subst (λ (m : TableView). AreAlive m.slots) (sym c.admit-due.ensures.slots)
+    (alive_put c.args.table.now.slots c.in-Some.slot (submitted c.args.count c.args.timing (c.args.at + c.args.delay)) refl alive)

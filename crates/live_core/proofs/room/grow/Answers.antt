@@ -4,6 +4,7 @@ use Rattle.std.specs.List.{range_with_len}
 use Rattle.task_table.specs.Tables.{TableView}
 use Rattle.live_core.specs.own.Slots.{NotesView}
 use Rattle.live_core.proofs.Noted.{noted_grown, noted_same}
+use Rattle.live_core.proofs.Alive.{alive_grown}
 use Rattle.live_core.proofs.room.grow.Goals as goal
 
 pub returns-clause-noted : goal.returns-clause-noted
@@ -25,3 +26,6 @@ returns-clause-noted g c =
     (ap (λ (v : NotesView). v.entries) c.add_empty.ensures ∙ ap (λ (v : NotesView). v.entries) c.reserve_free.ensures.rest)
     (ap (λ (v : NotesView). v.free_room) c.add_empty.ensures)
     (noted_grown t.slots c.args.count n.free first (all - first) n.entries n.free_room (vec_capacity c.args.ended.now) c.reserve_free.new.self.free_room spare refl room ended c.requires.noted)
+
+pub returns-clause-alive : goal.returns-clause-alive
+returns-clause-alive g c = alive_grown c.args.table.now c.reserve-2.new.self c.args.slots c.in_ok-reserve-2.ensures.grown

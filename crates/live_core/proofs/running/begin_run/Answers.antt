@@ -1,4 +1,5 @@
 -- The kept tasks that the start meets are gone, and it takes its step.
+use Rattle.live_core.proofs.Alive.{alive_started}
 use Rattle.live_core.proofs.Workers.{noted_started, runs_started, steps_started}
 use Rattle.live_core.proofs.running.begin_run.Goals as goal
 
@@ -12,3 +13,6 @@ returns-clause-runs g c = runs_started c.drop_met.new.table c.start.new.self c.a
 
 pub returns-clause-steps : goal.returns-clause-steps
 returns-clause-steps g c = steps_started c.args.table.now c.drop_met.new.table c.start.new.self c.args.worker c.in-Ok.begun c.requires.free c.drop_met.ensures.sheds c.in-Ok.ensures.started
+
+pub returns-clause-alive : goal.returns-clause-alive
+returns-clause-alive g c = λ alive. alive_started c.drop_met.new.table c.start.new.self c.args.worker c.in-Ok.begun c.in-Ok.ensures.started (c.drop_met.ensures.alive alive)

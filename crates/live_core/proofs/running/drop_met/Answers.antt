@@ -1,13 +1,14 @@
 -- The slot of each task that is dropped is emptied.
 use Rattle.std.proofs.Common.{sym, subst}
 use Rattle.task_table.specs.Tables.{TableView}
-use Rattle.live_core.specs.own.Formed.{AreNoted}
+use Rattle.live_core.specs.own.Formed.{AreNoted, AreAlive}
 use Rattle.live_core.specs.own.Shed.{Sheds}
+use Rattle.live_core.proofs.Alive.{alive_dropped}
 use Rattle.live_core.proofs.Shedding.{sheds_none, sheds_more, fewer_shed, over_dropped, noted_dropped}
 use Rattle.live_core.proofs.running.drop_met.Goals as goal
 
 pub loop-slot-init : goal.loop-slot-init
-loop-slot-init g c = record { sheds = sheds_none c.args.table.now; noted = λ count ended_room noted. noted }
+loop-slot-init g c = record { sheds = sheds_none c.args.table.now; noted = λ count ended_room noted. noted; alive = λ alive. alive }
 
 pub release-requires-clause-noted : goal.release-requires-clause-noted
 release-requires-clause-noted g c =
@@ -27,6 +28,7 @@ loop-slot-preserved g c =
     record {
       sheds = sheds_more c.args.table.now c.loop-slot.table c.drop_met.new.self c.release.new.table c.in-Some.slot c.loop-slot.invariant.sheds c.in-Some.ensures.dropped c.release.ensures.slots c.in-Some.ensures.steps c.release.ensures.stands_before;
       noted = λ count ended_room noted. c.release.ensures.noted count ended_room (noted_dropped c.loop-slot.table c.drop_met.new.self c.in-Some.slot count n.free n.entries n.free_room ended_room c.in-Some.ensures.dropped (c.loop-slot.invariant.noted count ended_room noted));
+      alive = λ alive. alive_dropped c.loop-slot.table c.drop_met.new.self c.release.new.table c.in-Some.slot c.in-Some.ensures.dropped c.release.ensures.slots (c.loop-slot.invariant.alive alive);
     }
 
 pub returns-clause-noted : goal.returns-clause-noted
@@ -36,3 +38,6 @@ returns-clause-noted g c = λ count ended_room noted.
 
 pub returns-clause-sheds : goal.returns-clause-sheds
 returns-clause-sheds g c = subst (Sheds c.args.table.now) (sym c.in_default.ensures.none.0) c.loop-slot.invariant.sheds
+
+pub returns-clause-alive : goal.returns-clause-alive
+returns-clause-alive g c = λ alive. subst (λ (m : TableView). AreAlive m.slots) (sym c.in_default.ensures.none.0) (c.loop-slot.invariant.alive alive)

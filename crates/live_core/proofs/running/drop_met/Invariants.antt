@@ -1,7 +1,7 @@
 -- Some of the kept tasks that the start meets are gone already, and the slots are noted as they are.
 use Rattle.std.proofs.Common.{ℕ}
 use Rattle.task_table.specs.Firsts.{kept_in}
-use Rattle.live_core.specs.own.Formed.{AreNoted}
+use Rattle.live_core.specs.own.Formed.{AreNoted, AreAlive}
 use Rattle.live_core.specs.own.Shed.{Sheds}
 use Rattle.live_core.proofs.running.drop_met.Given as goal
 
@@ -9,6 +9,7 @@ abbrev pub invariant-loop-slot : goal.invariant-loop-slot
 invariant-loop-slot g l = record {
   sheds : Sheds l.fn.table l.table;
   noted : (count ended_room : ℕ) → AreNoted l.fn.table.slots count l.fn.notes.free l.fn.notes.entries l.fn.notes.free_room ended_room → AreNoted l.table.slots count l.notes.free l.notes.entries l.notes.free_room ended_room;
+  alive : AreAlive l.fn.table.slots → AreAlive l.table.slots;
 }
 
 abbrev pub decreases-loop-slot : goal.decreases-loop-slot

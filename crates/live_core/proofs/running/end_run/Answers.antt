@@ -1,4 +1,5 @@
 -- The finish takes its step, also once the slot of the task is emptied.
+use Rattle.live_core.proofs.Alive.{alive_finished}
 use Rattle.live_core.proofs.Workers.{noted_finished, steps_finished}
 use Rattle.live_core.proofs.running.end_run.Goals as goal
 
@@ -17,3 +18,7 @@ returns-in-Ok-clause-noted g c = λ count ended_room noted.
 pub returns-in-Ok-clause-steps : goal.returns-in-Ok-clause-steps
 returns-in-Ok-clause-steps g c =
     steps_finished c.args.table.now c.finish.new.self c.release_left.new.table c.args.worker c.args.ending c.in-Ok.ended c.in-Ok.ensures.ended c.release_left.ensures.slots c.release_left.ensures.stands
+
+pub returns-in-Ok-clause-alive : goal.returns-in-Ok-clause-alive
+returns-in-Ok-clause-alive g c =
+    alive_finished c.args.table.now c.finish.new.self c.release_left.new.table c.args.worker c.args.ending c.in-Ok.ended c.in-Ok.ensures.ended c.release_left.ensures.slots

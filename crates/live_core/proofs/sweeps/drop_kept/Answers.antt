@@ -1,7 +1,8 @@
 -- The task that is dropped leaves its slot.
 use Rattle.std.proofs.Common.{◌∙◌, inl, refl, sym, ap, subst}
 use Rattle.task_table.specs.Tables.{TableView}
-use Rattle.live_core.specs.own.Formed.{AreNoted}
+use Rattle.live_core.specs.own.Formed.{AreNoted, AreAlive}
+use Rattle.live_core.proofs.Alive.{alive_dropped}
 use Rattle.live_core.proofs.Swept.{noted_dropped, over_dropped, fewer_kept, slots_more, goes_dropped, goes_all}
 use Rattle.task_table.specs.Ends.{sweeps_at}
 use Rattle.task_table.specs.Changes.{unkept}
@@ -34,6 +35,7 @@ loop-slot-preserved g c =
       rest = slots_more c.args.table.now mid c.release.new.table (slice_set mid.slots slot None)
           (slots_more c.args.table.now m mid (slice_set m.slots slot (Some (unkept d.task))) kept.rest d.is) c.release.ensures.slots;
       noted = λ count room before. c.release.ensures.noted count room (noted_dropped m mid slot count n.free n.entries n.free_room room d (kept.noted count room before));
+      alive = λ alive. alive_dropped m mid c.release.new.table slot d c.release.ensures.slots (kept.alive alive);
       stands = λ calls past p next sweeps before. c.release.ensures.stands_before calls past _
           (c.in-Some.ensures.steps calls past p next (ap (λ (v : TableView). sweeps_at v.shut p.1) kept.rest ∙ sweeps) (kept.stands calls past p next sweeps before));
     }
@@ -48,8 +50,12 @@ loop-slot-init g c = record {
   goes = λ i x there kept. inl there;
   rest = refl;
   noted = λ count room before. before;
+  alive = λ alive. alive;
   stands = λ calls past p next sweeps before. before;
 }
 
 pub returns-clause-gone : goal.returns-clause-gone
 returns-clause-gone g c = goes_all c.args.table.now c.loop-slot.table c.drop_kept.new.self c.loop-slot.invariant.goes c.in_default.ensures.none.0 c.in_default.ensures.none.1
+
+pub returns-clause-alive : goal.returns-clause-alive
+returns-clause-alive g c = λ alive. subst (λ (v : TableView). AreAlive v.slots) (sym c.in_default.ensures.none.0) (c.loop-slot.invariant.alive alive)

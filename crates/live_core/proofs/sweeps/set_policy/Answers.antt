@@ -1,5 +1,6 @@
 -- Where the call sweeps, the tasks that are kept leave their slots before it, and those that it ends after it.
-use Rattle.std.proofs.Common.{◌≡◌, ◌∙◌, true, vec_capacity, refl, sym, ap}
+use Rattle.std.proofs.Common.{◌≡◌, ◌∙◌, true, vec_capacity, refl, sym, ap, subst}
+use Rattle.std.specs.List.{All}
 use Rattle.sched_time.specs.Policies as settings
 use Rattle.queue_code.specs.declared.call.CodeCall.TheVariants as call
 use Rattle.executor_core.specs.declared.types.Answer.TheVariants as answer
@@ -7,6 +8,8 @@ use Rattle.executor_core.specs.Answers.{setting_sweeps}
 use Rattle.task_table.specs.Tables.{TableView, workers_of}
 use Rattle.task_table.specs.Changes.{at_moment}
 use Rattle.live_core.specs.Said.{ending}
+use Rattle.live_core.specs.Shutting.{IsGone}
+use Rattle.live_core.proofs.Alive.{alive_swept}
 use Rattle.live_core.proofs.Swept.{noted_swept, sweep_steps}
 use Rattle.live_core.proofs.sweeps.set_policy.Goals as goal
 
@@ -48,3 +51,18 @@ returns-then-setting_sweeps-clause-steps g c =
     let width : workers_of swept ≡ workers_of old = ap workers_of (c.set_policy.ensures.swept told).is ∙ ap workers_of c.drop_kept.ensures.rest in
     sweep_steps old mid swept new (x.at, call.SetPolicy x.which x.value) (ending (answer.Policy x.which x.value) c.set_policy.new.ends.items) width (ap workers_of c.release_each.ensures.rest)
     (λ calls past next before. c.drop_kept.ensures.stands calls past (x.at, call.SetPolicy x.which x.value) next asked before) (c.set_policy.ensures.sweeps told) c.release_each.ensures.stands
+
+pub returns-then-setting_sweeps-clause-alive : goal.returns-then-setting_sweeps-clause-alive
+returns-then-setting_sweeps-clause-alive g c =
+    let x = c.args in
+    let mid = c.drop_kept.new.table in
+    let n = c.drop_kept.new.notes in
+    let room = vec_capacity x.ended.now in
+    let count = c.requires.noted.0 in
+    let ends = c.set_policy.new.ends.items in
+    let swept = c.set_policy.new.self in
+    let m : TableView = record (at_moment mid x.at) { policies = settings.set_policy x.which x.value mid.policies } in
+    let told : setting_sweeps mid.shut x.which x.value ≡ true = ap (λ (v : TableView). setting_sweeps v.shut x.which x.value) c.drop_kept.ensures.rest ∙ (sym c.setting_sweeps.ensures ∙ c.if-setting_sweeps.true) in
+    let noted = noted_swept m swept ends count n.free n.entries n.free_room room room (c.set_policy.ensures.swept told) refl (c.drop_kept.ensures.noted count room c.requires.noted.1) in
+    let gone = subst (All (IsGone c.release_each.new.table)) c.deref.ensures.value c.release_each.ensures.gone in
+    λ alive. alive_swept m swept c.release_each.new.table ends n.entries count noted.index (c.set_policy.ensures.swept told) gone c.release_each.ensures.leaves (c.drop_kept.ensures.alive alive)

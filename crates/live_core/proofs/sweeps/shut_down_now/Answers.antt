@@ -1,10 +1,13 @@
 -- The tasks that are kept leave their slots before the call, and those that it ends after it.
-use Rattle.std.proofs.Common.{◌≡◌, ◌∙◌, true, vec_capacity, refl, ap}
+use Rattle.std.proofs.Common.{◌≡◌, ◌∙◌, true, vec_capacity, refl, ap, subst}
+use Rattle.std.specs.List.{All}
 use Rattle.queue_code.specs.declared.call.CodeCall.TheVariants as call
 use Rattle.executor_core.specs.declared.types.Answer.TheVariants as answer
 use Rattle.task_table.specs.Tables.{TableView, workers_of}
 use Rattle.task_table.specs.Changes.{at_moment}
 use Rattle.live_core.specs.Said.{ending}
+use Rattle.live_core.specs.Shutting.{IsGone}
+use Rattle.live_core.proofs.Alive.{alive_swept}
 use Rattle.live_core.proofs.Swept.{noted_swept, sweep_steps}
 use Rattle.live_core.proofs.sweeps.shut_down_now.Goals as goal
 
@@ -39,3 +42,16 @@ returns-clause-steps g c =
     let width : workers_of swept ≡ workers_of old = ap workers_of c.shut_down_now.ensures.swept.is ∙ ap workers_of c.drop_kept.ensures.rest in
     sweep_steps old mid swept new (c.args.at, call.ShutdownNow) (ending answer.ShutdownNow c.shut_down_now.new.ends.items) width (ap workers_of c.release_each.ensures.rest)
     (λ calls past next before. c.drop_kept.ensures.stands calls past (c.args.at, call.ShutdownNow) next refl before) c.shut_down_now.ensures.sweeps c.release_each.ensures.stands
+
+pub returns-clause-alive : goal.returns-clause-alive
+returns-clause-alive g c =
+    let mid = c.drop_kept.new.table in
+    let n = c.drop_kept.new.notes in
+    let room = vec_capacity c.args.ended.now in
+    let count = c.requires.noted.0 in
+    let ends = c.shut_down_now.new.ends.items in
+    let swept = c.shut_down_now.new.self in
+    let m : TableView = record (at_moment mid c.args.at) { shut = true; stopped = true } in
+    let noted = noted_swept m swept ends count n.free n.entries n.free_room room room c.shut_down_now.ensures.swept refl (c.drop_kept.ensures.noted count room c.requires.noted.1) in
+    let gone = subst (All (IsGone c.release_each.new.table)) c.deref.ensures.value c.release_each.ensures.gone in
+    λ alive. alive_swept m swept c.release_each.new.table ends n.entries count noted.index c.shut_down_now.ensures.swept gone c.release_each.ensures.leaves (c.drop_kept.ensures.alive alive)

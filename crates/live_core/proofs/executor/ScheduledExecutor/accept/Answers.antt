@@ -19,7 +19,7 @@ invariant_of-self-2 g c =
     live_call m new (c.args.moment, call.Submit e.count c.args.timing c.args.delay) (bare (answer.Submit placed.result.task.number (kind_of c.args.timing) placed.result.due)) e.notes.free e.notes.entries e.notes.free_room (vec_capacity e.ended)
     placed.new.notes.free placed.new.notes.entries placed.new.notes.free_room (vec_capacity placed.new.ended) c.self.invariant
     (accepts_there m c.make_room.new.table placed.new.table placed.new.ended.items c.args.moment c.args.delay placed.result.due placed.result.task.number c.args.timing may c.make_room.ensures.roomier placed.ensures.workers unshut placed.ensures.ended placed.ensures.number placed.ensures.steps)
-    (λ q. ap (λ (n : ℕ). n + 1) unshut) refl placed.ensures.noted
+    (λ q. ap (λ (n : ℕ). n + 1) unshut) refl placed.ensures.noted (placed.ensures.alive (c.make_room.ensures.alive c.self.invariant.alive))
 
 pub returns-clause-made : goal.returns-clause-made
 returns-clause-made g c =

@@ -1,5 +1,5 @@
 -- The table answers, and stays as it is.
-use Rattle.std.proofs.Common.{◌∙◌, vec_capacity, refl, sym, ap}
+use Rattle.std.proofs.Common.{◌∙◌, vec_capacity, refl, sym, ap, subst}
 use Rattle.std.specs.Prelude.{is_some}
 use Rattle.queue_code.specs.Calls.{how_many}
 use Rattle.queue_code.specs.declared.call.CodeCall.TheVariants as call
@@ -8,6 +8,7 @@ use Rattle.executor_core.specs.Answers.{bare, is_terminated}
 use Rattle.task_table.specs.Firsts.{queue_in}
 use Rattle.task_table.specs.Tables.{TableView, workers_of}
 use Rattle.live_core.specs.Lives.{LiveView}
+use Rattle.live_core.specs.own.Formed.{AreAlive}
 use Rattle.live_core.proofs.Called.{SubmitsNone, calls_other, live_other, noted_same_room}
 use Rattle.live_core.proofs.executor.ScheduledExecutor.ask.Goals as goal
 
@@ -20,6 +21,7 @@ invariant_of-self g c =
     live_other m c.args.self.now s.new.self c.clear.new.self.items c.args.at c.moment_of-moment.result call.Ask (bare (answer.Ask s.result.queue s.result.running s.result.shutdown s.result.terminated)) e.notes.free e.notes.entries e.notes.free_room (vec_capacity e.ended) e.notes.free e.notes.entries e.notes.free_room (vec_capacity c.clear.new.self)
     c.self.view_is c.moment_of-moment.ensures c.if-moment-gt-LONGEST.false none (ap workers_of s.ensures.slots) s.ensures.steps (λ q. sym (ap (λ (t : TableView). t.shut) s.ensures.slots) ∙ q) c.self.invariant
     (noted_same_room e.table.slots s.new.self.slots e.count e.notes.free e.notes.entries e.notes.free_room (vec_capacity e.ended) (vec_capacity c.clear.new.self) (ap (λ (t : TableView). t.slots) s.ensures.slots) c.clear.ensures.capacity c.self.invariant.noted)
+    (subst (λ (t : TableView). AreAlive t.slots) (sym s.ensures.slots) c.self.invariant.alive)
 
 pub returns-clause-made : goal.returns-clause-made
 returns-clause-made g c =

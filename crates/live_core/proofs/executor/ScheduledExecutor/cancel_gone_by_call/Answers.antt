@@ -5,7 +5,7 @@ use Rattle.executor_core.specs.declared.types.Answer.TheVariants as answer
 use Rattle.executor_core.specs.Answers.{bare}
 use Rattle.task_table.specs.Tables.{TableView}
 use Rattle.live_core.specs.Lives.{LiveView, Calls}
-use Rattle.live_core.specs.own.Formed.{AreNoted}
+use Rattle.live_core.specs.own.Formed.{AreNoted, AreAlive}
 use Rattle.live_core.proofs.Cancelled.{may_cancel, by_call_gone}
 use Rattle.live_core.proofs.Living.{live_call}
 use Rattle.live_core.proofs.executor.ScheduledExecutor.cancel_gone_by_call.Goals as goal
@@ -24,6 +24,7 @@ invariant_of-self g c =
     (λ q. c.self.invariant.unshut (sym (ap (λ (t : TableView). t.shut) c.pass.ensures.slots) ∙ q)) refl
     (subst (λ room. AreNoted table.slots e.count e.notes.free e.notes.entries e.notes.free_room room) (sym c.clear.ensures.capacity)
     (subst (λ slots. AreNoted slots e.count e.notes.free e.notes.entries e.notes.free_room (vec_capacity e.ended)) (sym (ap (λ (t : TableView). t.slots) c.pass.ensures.slots)) c.self.invariant.noted))
+    (subst (λ (t : TableView). AreAlive t.slots) (sym c.pass.ensures.slots) c.self.invariant.alive)
 
 pub returns-clause-makes : goal.returns-clause-makes
 returns-clause-makes g c =

@@ -6,6 +6,7 @@ use Rattle.executor_core.specs.Answers.{bare}
 use Rattle.live_core.specs.Lives.{LiveView, Happens, StaysQuiet}
 use Rattle.live_core.specs.own.Places.{IsSlotOf}
 use Rattle.live_core.proofs.Cancelled.{outside_held, unshut_held}
+use Rattle.live_core.proofs.Alive.{alive_cancelled}
 use Rattle.live_core.proofs.Living.{live_event}
 use Rattle.live_core.proofs.Seated.{cancelled_outside, cancelled_noted, cancelled_there}
 use Rattle.live_core.proofs.executor.ScheduledExecutor.cancel_held.Goals as goal
@@ -38,6 +39,7 @@ invariant_of-self g c =
     (outside_held m mid table c.clear.new.self.items c.args.slot k own.0 c.cancel-effect.result is own.2 low c.release_spent.ensures.stands (c.cancel-effect.ensures.steps own.0 own.1))
     (unshut_held m mid table c.args.slot own.0 is c.release_spent.ensures.stands c.self.invariant.unshut) c.self.invariant.earliest
     (c.release_spent.ensures.noted e.count room (cancelled_noted e.table mid c.args.slot own.0 e.count e.notes.free e.notes.entries e.notes.free_room (vec_capacity e.ended) room is own.1 c.clear.ensures.capacity c.self.invariant.noted))
+    (c.release_spent.ensures.all (alive_cancelled e.table mid c.args.slot own.0 is c.self.invariant.alive))
 
 pub returns-clause-happens : goal.returns-clause-happens
 returns-clause-happens g c =

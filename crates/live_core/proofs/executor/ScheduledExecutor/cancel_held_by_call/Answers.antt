@@ -6,6 +6,7 @@ use Rattle.executor_core.specs.Answers.{bare}
 use Rattle.live_core.specs.Lives.{LiveView, Calls, StaysQuiet}
 use Rattle.live_core.specs.own.Places.{IsSlotOf}
 use Rattle.live_core.proofs.Cancelled.{may_cancel, by_call_held, unshut_held}
+use Rattle.live_core.proofs.Alive.{alive_cancelled}
 use Rattle.live_core.proofs.Living.{live_call}
 use Rattle.live_core.proofs.Seated.{cancelled_by_call, cancelled_noted, cancelled_there}
 use Rattle.live_core.proofs.executor.ScheduledExecutor.cancel_held_by_call.Goals as goal
@@ -38,6 +39,7 @@ invariant_of-self g c =
     (by_call_held m mid table c.clear.new.self.items c.args.moment c.args.slot k own.0 c.cancel_by_call-effect.result is own.2 may c.release_spent.ensures.stands (c.cancel_by_call-effect.ensures.steps own.0 own.1))
     (unshut_held m mid table c.args.slot own.0 is c.release_spent.ensures.stands c.self.invariant.unshut) refl
     (c.release_spent.ensures.noted e.count room (cancelled_noted e.table mid c.args.slot own.0 e.count e.notes.free e.notes.entries e.notes.free_room (vec_capacity e.ended) room is own.1 c.clear.ensures.capacity c.self.invariant.noted))
+    (c.release_spent.ensures.all (alive_cancelled e.table mid c.args.slot own.0 is c.self.invariant.alive))
 
 pub returns-clause-makes : goal.returns-clause-makes
 returns-clause-makes g c =

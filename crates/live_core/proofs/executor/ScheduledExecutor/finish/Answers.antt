@@ -18,7 +18,7 @@ invariant_of-self g c =
     r.new.notes.free r.new.notes.entries r.new.notes.free_room (vec_capacity c.clear.new.self) c.self.invariant
     (finish_happens m r.new.table none c.args.worker c.args.ending r.result c.clear.ensures.items r.ensures.workers r.ensures.steps)
     (finish_fails m r.new.table none c.args.worker c.args.ending r.result c.clear.ensures.items r.ensures.unchanged r.ensures.failed)
-    r.ensures.shut c.clear.ensures.capacity (r.ensures.noted e.count (vec_capacity e.ended) c.self.invariant.noted)
+    r.ensures.shut c.clear.ensures.capacity (r.ensures.noted e.count (vec_capacity e.ended) c.self.invariant.noted) (r.ensures.alive c.self.invariant.alive)
 
 pub returns-clause-happens : goal.returns-clause-happens
 returns-clause-happens g c =

@@ -8,6 +8,7 @@ use Rattle.executor_core.specs.declared.types.Refusal.TheVariants as refusal
 use Rattle.executor_core.specs.Answers.{bare}
 use Rattle.task_table.specs.Tables.{TableView}
 use Rattle.live_core.specs.Lives.{LiveView, Calls}
+use Rattle.live_core.specs.own.Formed.{AreAlive}
 use Rattle.live_core.proofs.Living.{live_call}
 use Rattle.live_core.proofs.Noted.{noted_later}
 use Rattle.live_core.proofs.Steps.{may_submit, rejects_there}
@@ -26,6 +27,7 @@ invariant_of-self g c =
     (rejects_there m table c.clear.new.self.items c.args.moment 0 t.Once may c.refuse.ensures.slots c.clear.ensures.items (c.refuse.ensures.steps e.count t.Once 0))
     (λ q. absurd (false≢true (sym q ∙ shut))) refl
     (noted_later e.table.slots table.slots e.count e.notes.free e.notes.entries e.notes.free_room (vec_capacity e.ended) (vec_capacity c.clear.new.self) (ap (λ (x : TableView). x.slots) c.refuse.ensures.slots) c.clear.ensures.capacity c.self.invariant.noted)
+    (subst (λ (x : TableView). AreAlive x.slots) (sym c.refuse.ensures.slots) c.self.invariant.alive)
 
 pub returns-clause-made : goal.returns-clause-made
 returns-clause-made g c =

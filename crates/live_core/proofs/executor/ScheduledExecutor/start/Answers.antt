@@ -25,7 +25,7 @@ invariant_of-self-2 g c =
     live_steps m b.new.table c.clear-2.new.self.items (h.Start c.args.worker) (start_reply c.args.worker b.result) e.notes.free e.notes.entries e.notes.free_room (vec_capacity e.ended)
     b.new.notes.free b.new.notes.entries b.new.notes.free_room (vec_capacity c.clear-2.new.self) c.self.invariant
     (happens_there m b.new.table c.clear-2.new.self.items (h.Start c.args.worker) (start_reply c.args.worker b.result) refl tt c.clear-2.ensures.items b.ensures.workers b.ensures.steps)
-    b.ensures.shut c.clear-2.ensures.capacity (b.ensures.noted e.count (vec_capacity e.ended) c.self.invariant.noted)
+    b.ensures.shut c.clear-2.ensures.capacity (b.ensures.noted e.count (vec_capacity e.ended) c.self.invariant.noted) (b.ensures.alive c.self.invariant.alive)
 
 pub returns-clause-happens : goal.returns-clause-happens
 returns-clause-happens g c =
