@@ -12,6 +12,7 @@ pub unread : (answer : Result ℕ ProgramError) (failed fruitless : ℕ) → (Is
 unread (Ok status) failed fruitless other = no_try failed fruitless
 unread (Err f.Arguments) failed fruitless other = no_try failed fruitless
 unread (Err f.PlanFile) failed fruitless other = no_try failed fruitless
+unread (Err f.PlanUnwritten) failed fruitless other = no_try failed fruitless
 unread (Err f.TraceFile) failed fruitless other = no_try failed fruitless
 unread (Err f.TraceTooLong) failed fruitless other = no_try failed fruitless
 unread (Err f.EndsFirst) failed fruitless other = no_try failed fruitless

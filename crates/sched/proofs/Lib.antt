@@ -4,3 +4,4 @@ pub mod Orders
 pub mod EndCounts
 pub mod Drawings
 pub mod Readings
+pub mod Lived

@@ -383,6 +383,7 @@ names_trace arguments (a.Run asked) asks reads = absurd reads
 names_trace arguments (a.Code asked) asks reads = absurd reads
 names_trace arguments (a.Tasks asked) asks reads = absurd reads
 names_trace arguments (a.Migrate asked) asks reads = absurd reads
+names_trace arguments (a.Live asked) asks reads = absurd reads
 
 -- what one thread is asked ends as the arguments that ask for it may end
 pub end_alone : (arguments : List (List ℕ)) (asked : AskedAlone) (result : Result ℕ ProgramError) → Asks arguments (Alone asked) → EndsAlone asked result → IsEndOf arguments result

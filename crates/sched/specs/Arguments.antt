@@ -1,6 +1,6 @@
 -- Arguments: what a command line asks for.
 -- All of it is this project's rule, in the words that clap has for what a command line holds.
-use Rattle.std.specs.Prelude.{◌≡◌, ◌≢◌, ℕ, ◌^◌, ◌<◌, List, [], Option, Some, None, unwrap_or, codes}
+use Rattle.std.specs.Prelude.{◌≡◌, ◌≢◌, ℕ, ◌^◌, ◌<◌, List, [], Option, Some, None, option_map, unwrap_or, codes}
 use Rattle.std.specs.Str.Parse.{IsNumeral, digits_value, without_leading_plus}
 use Rattle.clap.specs.Words.{Row, Text, first_of, one_of, subcommand_of}
 use Rattle.trace_svg.specs.declared.view.View.{View}
@@ -9,10 +9,11 @@ use Rattle.sched.specs.declared.arguments.RunArguments.{RunArguments}
 use Rattle.sched.specs.declared.arguments.PlanArguments.{PlanArguments}
 use Rattle.sched.specs.declared.arguments.CheckArguments.{CheckArguments}
 use Rattle.sched.specs.declared.arguments.DrawArguments.{DrawArguments}
+use Rattle.sched.specs.declared.arguments.LiveArguments.{LiveArguments}
 use Rattle.sched.specs.declared.arguments.Asked.{Asked}
 use Rattle.sched.specs.declared.arguments.Asked.TheVariants.{Pool, Alone}
 use Rattle.sched.specs.declared.arguments.AskedAlone.{AskedAlone}
-use Rattle.sched.specs.declared.arguments.AskedAlone.TheVariants.{Run, Code, Tasks, Check, Migrate, Draw}
+use Rattle.sched.specs.declared.arguments.AskedAlone.TheVariants.{Run, Code, Tasks, Check, Migrate, Draw, Live}
 
 -- a text writes, in decimal digits, a number that fits `bits` bits
 abbrev pub WritesNumber : ℕ → Text → Type 0
@@ -57,16 +58,22 @@ pub record AsksForDraw (rows : List Row) (asked : DrawArguments) : Type 0 where
   pub check : AsksForCheck rows asked.check
   pub view : AsksForView rows asked.view
 
+-- the number and the name, where there is one, are the values of `live`'s arguments
+pub record AsksForLive (rows : List Row) (asked : LiveArguments) : Type 0 where
+  pub workers : IsNumberOf 8 (one_of (codes "workers") rows) asked.workers
+  pub plan : option_map (λ name. name.now) asked.plan ≡ first_of (codes "plan") rows
+
 -- what is asked of one thread, by the command that is named, with what a command line holds for its arguments: a listing by `code`,
--- the tasks by `tasks`, a check by `check`, a migration by `migrate`, a picture by `draw`, and a run by any other one but `pool`,
--- which is `run`
+-- the tasks by `tasks`, a check by `check`, a migration by `migrate`, a picture by `draw`, a live run by `live`, and a run of a plan by
+-- any other one but `pool`, which is `run`
 abbrev pub AsksAlone : Option (Text × List Row) → AskedAlone → Type 0
 AsksAlone named (Code c) = (rows : List Row) × (named ≡ Some (codes "code", rows)) × AsksForPlan rows c
 AsksAlone named (Tasks t) = (rows : List Row) × (named ≡ Some (codes "tasks", rows)) × AsksForPlan rows t
 AsksAlone named (Check c) = (rows : List Row) × (named ≡ Some (codes "check", rows)) × AsksForCheck rows c
 AsksAlone named (Migrate m) = (rows : List Row) × (named ≡ Some (codes "migrate", rows)) × AsksForPlan rows m
 AsksAlone named (Draw d) = (rows : List Row) × (named ≡ Some (codes "draw", rows)) × AsksForDraw rows d
-AsksAlone named (Run r) = (name : Text) × (rows : List Row) × (named ≡ Some (name, rows)) × (name ≢ codes "code") × (name ≢ codes "tasks") × (name ≢ codes "check") × (name ≢ codes "pool") × (name ≢ codes "migrate") × (name ≢ codes "draw") × AsksForRun rows r
+AsksAlone named (Live l) = (rows : List Row) × (named ≡ Some (codes "live", rows)) × AsksForLive rows l
+AsksAlone named (Run r) = (name : Text) × (rows : List Row) × (named ≡ Some (name, rows)) × (name ≢ codes "code") × (name ≢ codes "tasks") × (name ≢ codes "check") × (name ≢ codes "pool") × (name ≢ codes "migrate") × (name ≢ codes "draw") × (name ≢ codes "live") × AsksForRun rows r
 
 -- what is asked for, by the command that is named: a run by a pool by `pool`, and of one thread what it is asked
 abbrev pub AsksIn : Option (Text × List Row) → Asked → Type 0

@@ -1,6 +1,6 @@
 -- Commands: the command lines that the program takes: `sched run PLAN --workers N [--limit N]`, `sched pool` with the same
--- arguments, `sched code PLAN`, `sched tasks PLAN`, `sched check PLAN TRACE --workers N`, `sched migrate PLAN` and
--- `sched draw PLAN TRACE --workers N [--from T] [--to T] [--marks M]`.
+-- arguments, `sched code PLAN`, `sched tasks PLAN`, `sched check PLAN TRACE --workers N`, `sched migrate PLAN`,
+-- `sched draw PLAN TRACE --workers N [--from T] [--to T] [--marks M]` and `sched live --workers N [--plan FILE]`.
 -- All of it is this project's rule, in the words that clap has for arguments and commands. The texts of help are no part of it.
 use Rattle.std.specs.Prelude.{◌≡◌, ◌≢◌, ◌⊎◌, ℕ, List, [], ◌∷◌, Some, Ok, Err, Result, MatchResult, true, false, pos, codes}
 use Rattle.clap.specs.Words.{App, Row, Rule, Text, IsAmong, fault_of, new_rule, subcommand_of}
@@ -41,6 +41,14 @@ limit_rule = record (new_rule (codes "limit")) {
   action = Some Set;
   defaults = codes "1000000" ∷ [];
   parser = Some (Signed (pos 1) (pos 4294967295));
+}
+
+-- --plan FILE: a text, which may be left out
+abbrev pub plan_file_rule : Rule
+plan_file_rule = record (new_rule (codes "plan")) {
+  long = Some (codes "plan");
+  value_names = 1;
+  action = Some Set;
 }
 
 -- a moment: a text of a number of 64 bits, which may be left out
@@ -119,11 +127,18 @@ draw_app = record {
   subs = [];
 }
 
+-- `live` with its two arguments
+abbrev pub live_app : App
+live_app = record {
+  top = record (new_shape (codes "live")) { rules = workers_rule ∷ plan_file_rule ∷ [] };
+  subs = [];
+}
+
 -- the program, of which a command has to be named, beside clap's own `help`
 abbrev pub sched_app : App
 sched_app = record {
   top = record (new_shape (codes "sched")) { is_leaf = false; subcommand_required = true };
-  subs = run_app.top ∷ pool_app.top ∷ code_app.top ∷ tasks_app.top ∷ check_app.top ∷ migrate_app.top ∷ draw_app.top ∷ [];
+  subs = run_app.top ∷ pool_app.top ∷ code_app.top ∷ tasks_app.top ∷ check_app.top ∷ migrate_app.top ∷ draw_app.top ∷ live_app.top ∷ [];
 }
 
 -- ---- what the program answers to the arguments of a command line

@@ -16,6 +16,7 @@ use Rattle.trace_svg.specs.declared.report.DrawError.TheVariants as d
 abbrev pub status_of : ProgramError → ℕ
 status_of f.Arguments = 2
 status_of f.PlanFile = 1
+status_of f.PlanUnwritten = 1
 status_of f.TraceFile = 1
 status_of f.TraceTooLong = 1
 status_of f.EndsFirst = 1

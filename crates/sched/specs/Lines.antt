@@ -50,6 +50,7 @@ run_error_text x.Memory = codes "out of memory"
 abbrev pub reason_text : ProgramError → List ℕ
 reason_text f.Arguments = codes "command line not UTF-8"
 reason_text f.PlanFile = codes "plan file not read"
+reason_text f.PlanUnwritten = codes "plan file not written"
 reason_text f.TraceFile = codes "trace file not read"
 reason_text f.TraceTooLong = codes "trace file too long"
 reason_text f.EndsFirst = codes "the picture ends before it begins"

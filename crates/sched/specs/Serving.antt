@@ -8,11 +8,12 @@ use Rattle.clap.specs.Words.{Text}
 use Rattle.sched.specs.Arguments.{Asks}
 use Rattle.sched.specs.Errors.{status_of}
 use Rattle.sched.specs.Fronts.{most_of_plan, most_of_trace}
+use Rattle.sched.specs.Live.{AnswersLive, Writes}
 use Rattle.sched.specs.Order.{AnswersCheck, AnswersCode, AnswersDraw, AnswersMigrate, AnswersPool, AnswersRun, AnswersTasks}
 use Rattle.sched.specs.declared.arguments.Asked.{Asked}
 use Rattle.sched.specs.declared.arguments.Asked.TheVariants.{Pool, Alone}
 use Rattle.sched.specs.declared.arguments.AskedAlone.{AskedAlone}
-use Rattle.sched.specs.declared.arguments.AskedAlone.TheVariants.{Run, Code, Tasks, Check, Migrate, Draw}
+use Rattle.sched.specs.declared.arguments.AskedAlone.TheVariants.{Run, Code, Tasks, Check, Migrate, Draw, Live}
 use Rattle.sched.specs.declared.error.ProgramError.{ProgramError}
 
 -- what was read of a file that the system opened, or did not, of so many bytes at most: a fact for each list of bytes, and for nothing
@@ -20,36 +21,39 @@ abbrev pub Reads : Type 0 → Type 1
 Reads P = ℕ → Result P Error → Option (List ℕ) → Type 0
 
 -- what is asked of one thread is done over what is read, of so many bytes at most, of the files that it names, as they are opened by
--- their names. A listing, a list of tasks, a check, a migration and a drawing read nothing else
-abbrev pub AnswersAlone : {P : Type 0} → Result ℕ ProgramError → Reads P → (Bor Text → Result P Error → Type 0) → AskedAlone → Option (List ℕ) → Option (List ℕ) → Option (List ℕ) → Option (List ℕ) → Type 0
-AnswersAlone {P} answer IsRead Opens (Run asked) input left old new =
+-- their names, and what is written to a file that it names, as it is created. A listing, a list of tasks, a check, a migration and a
+-- drawing read nothing else
+abbrev pub AnswersAlone : {P F : Type 0} → Result ℕ ProgramError → Reads P → (Bor Text → Result P Error → Type 0) → Writes F → (Bor Text → Result F Error → Type 0) → AskedAlone → Option (List ℕ) → Option (List ℕ) → Option (List ℕ) → Option (List ℕ) → Type 0
+AnswersAlone {P} {F} answer IsRead Opens IsWritten Creates (Run asked) input left old new =
     (plan : Result P Error) × Opens asked.path plan × AnswersRun answer (IsRead most_of_plan plan) asked input left old new
-AnswersAlone {P} answer IsRead Opens (Code asked) input left old new =
+AnswersAlone {P} {F} answer IsRead Opens IsWritten Creates (Code asked) input left old new =
     (plan : Result P Error) × Opens asked.path plan × AnswersCode answer (IsRead most_of_plan plan) old new × Keeps input left
-AnswersAlone {P} answer IsRead Opens (Tasks asked) input left old new =
+AnswersAlone {P} {F} answer IsRead Opens IsWritten Creates (Tasks asked) input left old new =
     (plan : Result P Error) × Opens asked.path plan × AnswersTasks answer (IsRead most_of_plan plan) old new × Keeps input left
-AnswersAlone {P} answer IsRead Opens (Check asked) input left old new =
+AnswersAlone {P} {F} answer IsRead Opens IsWritten Creates (Check asked) input left old new =
     (plan : Result P Error) × Opens asked.path plan
     × AnswersCheck answer (IsRead most_of_plan plan) (λ text. (trace : Result P Error) × Opens asked.trace trace × IsRead most_of_trace trace text) asked.workers old new
     × Keeps input left
-AnswersAlone {P} answer IsRead Opens (Migrate asked) input left old new =
+AnswersAlone {P} {F} answer IsRead Opens IsWritten Creates (Migrate asked) input left old new =
     (plan : Result P Error) × Opens asked.path plan × AnswersMigrate answer (IsRead most_of_plan plan) old new × Keeps input left
-AnswersAlone {P} answer IsRead Opens (Draw asked) input left old new =
+AnswersAlone {P} {F} answer IsRead Opens IsWritten Creates (Draw asked) input left old new =
     (plan : Result P Error) × Opens asked.check.path plan
     × AnswersDraw answer (IsRead most_of_plan plan) (λ text. (trace : Result P Error) × Opens asked.check.trace trace × IsRead most_of_trace trace text) asked.check.workers asked.view old new
     × Keeps input left
+AnswersAlone {P} {F} answer IsRead Opens IsWritten Creates (Live asked) input left old new = AnswersLive answer asked IsWritten Creates input left old new
 
 -- what is asked for is done: a run by a pool over the plan's file, as it is opened by its name, or what is asked of one thread
-abbrev pub AnswersAsked : {P : Type 0} → Result ℕ ProgramError → Reads P → (Bor Text → Result P Error → Type 0) → Asked → Option (List ℕ) → Option (List ℕ) → Option (List ℕ) → Option (List ℕ) → Type 0
-AnswersAsked {P} answer IsRead Opens (Pool asked) input left old new =
+abbrev pub AnswersAsked : {P F : Type 0} → Result ℕ ProgramError → Reads P → (Bor Text → Result P Error → Type 0) → Writes F → (Bor Text → Result F Error → Type 0) → Asked → Option (List ℕ) → Option (List ℕ) → Option (List ℕ) → Option (List ℕ) → Type 0
+AnswersAsked {P} {F} answer IsRead Opens IsWritten Creates (Pool asked) input left old new =
     (plan : Result P Error) × Opens asked.path plan × AnswersPool answer (IsRead most_of_plan plan) asked input left old new
-AnswersAsked {P} answer IsRead Opens (Alone asked) input left old new = AnswersAlone answer IsRead Opens asked input left old new
+AnswersAsked {P} {F} answer IsRead Opens IsWritten Creates (Alone asked) input left old new = AnswersAlone answer IsRead Opens IsWritten Creates asked input left old new
 
 -- what the arguments of a command line ask for is done
-pub record Serves {P : Type 0} (arguments : List Text) (answer : Result ℕ ProgramError) (IsRead : Reads P) (Opens : Bor Text → Result P Error → Type 0) (input left old new : Option (List ℕ)) : Type 0 where
+pub record Serves {P F : Type 0} (arguments : List Text) (answer : Result ℕ ProgramError) (IsRead : Reads P) (Opens : Bor Text → Result P Error → Type 0)
+    (IsWritten : Writes F) (Creates : Bor Text → Result F Error → Type 0) (input left old new : Option (List ℕ)) : Type 0 where
   pub asked : Asked
   pub asks : Asks arguments asked
-  pub answers : AnswersAsked answer IsRead Opens asked input left old new
+  pub answers : AnswersAsked answer IsRead Opens IsWritten Creates asked input left old new
 
 -- a check and a drawing read a trace
 abbrev pub ReadsTrace : AskedAlone → Type 0
@@ -59,6 +63,7 @@ ReadsTrace (Tasks asked) = ⊥
 ReadsTrace (Check asked) = ⊤
 ReadsTrace (Migrate asked) = ⊥
 ReadsTrace (Draw asked) = ⊤
+ReadsTrace (Live asked) = ⊥
 
 -- what is asked of one thread ends with 0, with 1 where a check or a drawing found that a trace breaks, or with an error whose exit status
 -- is 1

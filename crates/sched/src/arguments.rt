@@ -3,7 +3,7 @@
 ghost use Rattle.std.specs.Prelude.{◌≡◌, map, string_bytes, IfOk};
 ghost use Rattle.clap.specs.Words.{FailsBy, fault_of, found_of, rows_of};
 ghost use Rattle.sched.specs.Commands.{sched_app};
-ghost use Rattle.sched.specs.Arguments.{Asks, AsksForCheck, AsksForDraw, AsksForPlan, AsksForRun, AsksForView};
+ghost use Rattle.sched.specs.Arguments.{Asks, AsksForCheck, AsksForDraw, AsksForLive, AsksForPlan, AsksForRun, AsksForView};
 
 use crate::command::command;
 use clap::{ArgMatches, Error};
@@ -34,6 +34,8 @@ pub enum AskedAlone<'a> {
     Migrate(PlanArguments<'a>),
     /// The picture of a trace of a plan.
     Draw(DrawArguments<'a>),
+    /// The answers to the events and the calls on standard input.
+    Live(LiveArguments<'a>),
 }
 
 /// What `sched run` or `sched pool` is asked for.
@@ -74,6 +76,15 @@ pub struct DrawArguments<'a> {
     pub view: View,
 }
 
+/// What `sched live` is asked for.
+#[derive(Clone, Copy, Debug)]
+pub struct LiveArguments<'a> {
+    /// How many workers there are: 1 to 64.
+    pub workers: u8,
+    /// The name of the file to which the plan of the calls is written, where it is wanted.
+    pub plan: Option<&'a str>,
+}
+
 impl<'a> Asked<'a> {
     /// What the arguments of a command line ask for, the program's name first. `Err` is help, a
     /// fault of the command line, or want of memory.
@@ -104,6 +115,10 @@ impl<'a> Asked<'a> {
         if let Some(draw) = matches.subcommand_matches("draw") {
             let draw = DrawArguments::of_matches(draw);
             return Ok(Asked::Alone(AskedAlone::Draw(draw)));
+        }
+        if let Some(live) = matches.subcommand_matches("live") {
+            let live = LiveArguments::of_matches(live);
+            return Ok(Asked::Alone(AskedAlone::Live(live)));
         }
         match matches.subcommand() {
             Some((_, run)) => {
@@ -161,6 +176,18 @@ impl<'a> DrawArguments<'a> {
         DrawArguments {
             check: CheckArguments::of_matches(draw),
             view: view_of_matches(draw),
+        }
+    }
+}
+
+impl<'a> LiveArguments<'a> {
+    /// What was found for the arguments of `live`, as [`RunArguments`] has it.
+    fn of_matches(live: &ArgMatches<'a>) -> LiveArguments<'a>
+        ensures { AsksForLive (rows_of (found_of live.now)) result }
+    {
+        LiveArguments {
+            workers: live.get_one::<u8>("workers").unwrap_or(0),
+            plan: live.get_str("plan"),
         }
     }
 }

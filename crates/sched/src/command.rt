@@ -2,7 +2,7 @@
 
 ghost use Rattle.std.specs.Prelude.{◌≡◌, false, IfOk};
 ghost use Rattle.clap.specs.Words.{app_of, rule_of};
-ghost use Rattle.sched.specs.Commands.{check_app, code_app, draw_app, from_rule, limit_rule, marks_rule, migrate_app, plan_rule, pool_app, run_app, sched_app, tasks_app, to_rule, trace_rule, workers_rule};
+ghost use Rattle.sched.specs.Commands.{check_app, code_app, draw_app, from_rule, limit_rule, live_app, marks_rule, migrate_app, plan_file_rule, plan_rule, pool_app, run_app, sched_app, tasks_app, to_rule, trace_rule, workers_rule};
 
 use clap::{Arg, ArgAction, Command, value_parser};
 use executor_core::MOST_WORKERS;
@@ -271,9 +271,70 @@ Exit status:
      fault.
   2  a fault of the command line";
 
+/// What the help of `live` says below the options: what lines there are, when a call is made, what is written, and the exit
+/// statuses.
+const LIVE: &str = "\
+A line on standard input has at most 63 bytes with its newline. It is an event,
+as 'sched run --help' has it, or a call:
+  call schedule D   submits a task that runs once and is due D after the call
+  call execute      submits a task that runs once and is due at its call
+  call rate F P     submits a task that is due F after the call, and then each P
+  call fixed F D    submits a task that is due F after the call, and then D after
+                    each of its runs
+  call cancel K     cancels task K, which was submitted by a line before
+  call policy WHICH VALUE
+                    sets a policy: WHICH is continue, execute or remove, as
+                    'sched run --help' has them, and VALUE is true or false
+  call shutdown     shuts the executor
+  call shutdown_now
+                    shuts the executor at once
+  call ask          asks how many tasks are queued and run
+Numbers have no leading zero. D, F and P are nanoseconds: D and F are 0 to 2^62,
+P and the D of fixed 1 to 2^62. K is below 2^32. Tasks are numbered from 0 in
+the order of their calls, whether they are accepted or not.
+A call is made now, or 1 ns after the last clock that was accepted, whichever is
+later: behind 'clock 5' at 6, and at 0 before any clock. An event 'cancel K' of
+a task that was not submitted before is answered 'error no task'.
+The trace goes to standard output. A line is answered as soon as it was read
+whole: all lines that were read are answered before more are read.
+There is no limit on lines but these, beyond which there is no room for one:
+calls are made at 2^62 at most, there are at most 2^32 tasks, 2^64 runs of a
+task, and 2^64 - 2 lines of the trace.
+With --plan the calls that were made are written to FILE once the lines end,
+also where they end by a fault: a plan of version 2 that makes them at the same
+moments, with task K as 'tK'. FILE is created then, or its old bytes are lost.
+
+Example:
+  $ printf 'call schedule 5\\nclock 5\\nstart 0\\n' | sched live --workers 1
+  0 submit 0 schedule due 5
+  5 clock
+  5 start 0 task 0 run 0 due 5
+
+Exit status:
+  0  all lines were answered
+  1  a fault, the first of these that there is, told by its line on standard
+     error:
+       sched: event line N                line N, counted from 1, is no event and
+                                          no call, or a call that cancels a task
+                                          that was not submitted before
+       sched: full                        there is no room for a further line
+       sched: read fault
+       sched: write fault
+       sched: out of memory
+       sched: plan: TooMany block 0 call 0
+                                          more than 65,536 calls were made
+       sched: plan: TooLong block 0 call 0
+                                          the plan would have more than 1,048,576
+                                          bytes
+       sched: plan file not written
+     The lines before a bad line, before one without room or a read fault were
+     answered. FILE is not touched at a fault of the plan.
+  2  a fault of the command line";
+
 /// The command lines of the program: `sched run PLAN --workers N [--limit N]`, `sched pool` with the same arguments,
-/// `sched code PLAN`, `sched tasks PLAN`, `sched check PLAN TRACE --workers N`, `sched migrate PLAN` and
-/// `sched draw PLAN TRACE --workers N [--from T] [--to T] [--marks M]`. `Err` where memory ran out.
+/// `sched code PLAN`, `sched tasks PLAN`, `sched check PLAN TRACE --workers N`, `sched migrate PLAN`,
+/// `sched draw PLAN TRACE --workers N [--from T] [--to T] [--marks M]` and `sched live --workers N [--plan FILE]`. `Err` where memory
+/// ran out.
 pub fn command<'a>(alloc: Global) -> Result<Command<'a>, AllocError>
     ensures app { IfOk result (λ c. app_of c ≡ sched_app) }
 {
@@ -289,7 +350,8 @@ pub fn command<'a>(alloc: Global) -> Result<Command<'a>, AllocError>
             .subcommand(tasks_command(alloc)?)?
             .subcommand(check_command(alloc)?)?
             .subcommand(migrate_command(alloc)?)?
-            .subcommand(draw_command(alloc)?)?,
+            .subcommand(draw_command(alloc)?)?
+            .subcommand(live_command(alloc)?)?,
     )
 }
 
@@ -394,6 +456,21 @@ fn draw_command<'a>(alloc: Global) -> Result<Command<'a>, AllocError>
     )
 }
 
+/// `live`, with its two arguments. `Err` where memory ran out.
+fn live_command<'a>(alloc: Global) -> Result<Command<'a>, AllocError>
+    ensures app { IfOk result (λ c. app_of c ≡ live_app) }
+{
+    Ok(
+        Command::new(alloc, "live")
+            .about(
+                "Answers events and calls on standard input as they come, and writes the trace to standard output.",
+            )
+            .after_help(LIVE)
+            .arg(workers(alloc))?
+            .arg(plan_file(alloc))?,
+    )
+}
+
 /// `PLAN`, which has to be there.
 fn plan<'a>(alloc: Global) -> Arg<'a>
     ensures rule { rule_of result ≡ plan_rule }
@@ -444,6 +521,20 @@ fn limit<'a>(alloc: Global) -> Arg<'a>
         .action(ArgAction::Set)
         .default_value("1000000")
         .value_parser(value_parser!(u32).range(1..))
+}
+
+/// `--plan FILE`, which may be left out.
+fn plan_file<'a>(alloc: Global) -> Arg<'a>
+    ensures rule { rule_of result ≡ plan_file_rule }
+    ensures local { result.global ≡ false }
+{
+    Arg::new(alloc, "plan")
+        .long("plan")
+        .value_name("FILE")
+        .help(
+            "The file to which the plan of the calls is written at the end; it is created, or its bytes are lost",
+        )
+        .action(ArgAction::Set)
 }
 
 /// `--from T`, a number of 64 bits, which may be left out.

@@ -19,6 +19,8 @@ pub enum ProgramError {
     Arguments,
     /// The plan file can't be read.
     PlanFile,
+    /// The file of the plan that was asked for can't be created or written.
+    PlanUnwritten,
     /// The trace file can't be read.
     TraceFile,
     /// The trace file is over 67,108,864 bytes.
@@ -39,6 +41,7 @@ impl ProgramError {
         match self {
             ProgramError::Arguments => 2,
             ProgramError::PlanFile
+            | ProgramError::PlanUnwritten
             | ProgramError::TraceFile
             | ProgramError::TraceTooLong
             | ProgramError::EndsFirst

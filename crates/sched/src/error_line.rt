@@ -54,6 +54,7 @@ fn reason_of(error: ProgramError) -> Reason
     match error {
         ProgramError::Arguments => in_words("command line not UTF-8"),
         ProgramError::PlanFile => in_words("plan file not read"),
+        ProgramError::PlanUnwritten => in_words("plan file not written"),
         ProgramError::TraceFile => in_words("trace file not read"),
         ProgramError::TraceTooLong => in_words("trace file too long"),
         ProgramError::EndsFirst => in_words("the picture ends before it begins"),

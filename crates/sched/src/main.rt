@@ -1,5 +1,5 @@
 //! Runs a plan of scheduled tasks over lines of events or by a pool of threads, prints its code and its tasks, checks and draws
-//! traces of it, and migrates it to the next version of plans.
+//! traces of it, and migrates it to the next version of plans; and answers calls that come beside the events, with no plan.
 //!
 //! # Usage
 //!
@@ -11,13 +11,15 @@
 //! sched check PLAN TRACE --workers N
 //! sched migrate PLAN
 //! sched draw PLAN TRACE --workers N [--from T] [--to T] [--marks M]
+//! sched live --workers N [--plan FILE]
 //! ```
 //!
 //! PLAN is the file of the plan, and TRACE that of a trace. There are 1 to 64 workers, and a run takes at most 1 to
 //! 4,294,967,295 events, 1,000,000 where the limit is left out. Events come on standard input, and the trace goes to
-//! standard output. `sched run --help` has the forms of all three, `sched code --help` that of a listing, `sched tasks --help` that of the tasks,
-//! `sched check --help` what a check finds, `sched migrate --help` which plans are migrated, and `sched draw --help` what a picture
-//! shows.
+//! standard output. FILE is written: it gets the plan of the calls of a live run. `sched run --help` has the forms of plans,
+//! events and traces, `sched code --help` that of a listing, `sched tasks --help` that of the tasks, `sched check --help` what a
+//! check finds, `sched migrate --help` which plans are migrated, `sched draw --help` what a picture shows, and
+//! `sched live --help` the forms of calls.
 //!
 //! # Behaviour
 //!
@@ -29,12 +31,15 @@
 //! value is its number. `check` reads the plan, then at most 67,108,865 bytes of the trace file, and writes `conforms`, or `breaks N` with the
 //! number of a line from 1 ([`check`](trace_check::check)). `migrate` writes the plan of a text of version 1 as one of version 2
 //! ([`migrate`](plan_read::migrate)). `draw` reads what `check` does, and writes the picture of the trace ([`draw`](trace_svg::draw))
-//! or, where it is none of the plan, `breaks N`. No clock of the machine is read. All but `pool` waits for no other thread, and returns
+//! or, where it is none of the plan, `breaks N`. `live` answers lines of events and of calls on standard input as they come
+//! ([`live_engine::run`]), and writes the plan of the calls to FILE once they end
+//! ([`plan_text`](call_journal::plan_text)). No clock of the machine is read. All but `pool` waits for no other thread, and returns
 //! (`answer_alone`).
 //!
 //! # Order and ties
 //!
-//! Lines stand in the order of the events, and before each clock those of the calls that it reaches. Of tasks that are
+//! Lines stand in the order of the events, and before each clock those of the calls that it reaches; in a live run all of them stand
+//! in the order of the lines that they answer. Of tasks that are
 //! due the one that was due first starts first, and of those with the same due moment the one that was submitted first.
 //!
 //! # Errors
@@ -42,14 +47,17 @@
 //! The first fault ends the program: one of the command line, with status 2, then one of the plan file, of the plan, of
 //! the trace file, and of the run, the picture or the writing, each with status 1 and told by one line on standard error. What was
 //! answered before is written. A trace that breaks is status 1 too, with nothing on standard error. Where standard error
-//! is closed, the status alone tells the fault. A file is told as not read where it can't be opened, where a read of it fails, or where
-//! 1,000 reads of it in a row are interrupted.
+//! is closed, the status alone tells the fault. Of a live run the first fault is told, and else that of the plan that it leaves,
+//! `TooMany` for more than 65,536 calls and `TooLong` for a text that no plan may have, and else that of FILE, which is written
+//! after a fault of the run too, and not touched at a fault of the plan. A file is told as not read where it can't be opened, where a
+//! read of it fails, or where 1,000 reads of it in a row are interrupted, and as not written in the same way.
 //!
 //! # Memory and cost
 //!
 //! A run takes what [`sched_engine::run`] takes, the text of the plan, and while the plan is read its tree. Its memory does not
 //! grow with the number of events, nor with the calls that a repeated block makes, but for the tables of its tasks and for room
-//! for a line for each call that one clock reaches. A check takes the text of the trace, and what a core takes; a drawing its lines and
+//! for a line for each call that one clock reaches. A live run takes what [`live_engine::run`] takes, and where FILE is named the
+//! calls, the tree of their plan and its text. A check takes the text of the trace, and what a core takes; a drawing its lines and
 //! the text of the picture too.
 //!
 //! # Tests
@@ -66,6 +74,7 @@ mod error_line;
 mod files;
 mod finding;
 mod laws;
+mod live;
 mod program;
 mod serving;
 #[cfg(test)]

@@ -56,7 +56,7 @@ fn arguments<R: Env + AllocGlobal>(rt: &R) -> Result<Vec<String>, ProgramError>
 }
 
 /// Does what the arguments of a command line say, the program's name first, with the files of the system, standard input
-/// for the events and standard output. No buffer stands between a run and the two, since the run reads and writes large
+/// for the events and the calls, and standard output. No buffer stands between a run and the two, since the run reads and writes large
 /// pieces itself. `Ok` is the exit status: 0 where what they ask for was done or help was printed, 1 where a trace breaks,
 /// 2 where the program does not take them.
 fn answer_arguments<R: Files + Input + Print + Eprint + AllocGlobal, T: Threads + Wait + Sync>(
@@ -75,6 +75,7 @@ fn answer_arguments<R: Files + Input + Print + Eprint + AllocGlobal, T: Threads 
         rt.alloc(),
         arguments,
         |path| fs::open(rt, path).map(Reading::new),
+        |path| fs::create(rt, path).map(Writing::new),
         &mut reader,
         &mut writer,
     ) {

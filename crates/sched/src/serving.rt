@@ -5,6 +5,7 @@ ghost use Rattle.clap.specs.Words.{FailsBy, fault_of};
 ghost use Rattle.sched.specs.Commands.{IsEndOf, sched_app};
 ghost use Rattle.sched.specs.EndCounts.{CountsInput, CountsOutput};
 ghost use Rattle.sched.specs.Fronts.{IsReadOf};
+ghost use Rattle.sched.specs.Live.{IsWrittenTo};
 ghost use Rattle.sched.specs.Serving.{AnswersAlone, EndsAlone, Serves};
 ghost use Rattle.sched_engine.specs.Ends.{NoneFailed};
 ghost use Rattle.sched_engine.specs.Running.{IsUntouched};
@@ -12,6 +13,7 @@ ghost use Rattle.sched_engine.specs.Running.{IsUntouched};
 use crate::arguments::{Asked, AskedAlone};
 use crate::drawing::draw_files;
 use crate::error::ProgramError;
+use crate::live::live_lines;
 use crate::work::{check_files, list_file, migrate_file, pool_file, run_file, tasks_file};
 use clap::Error;
 use sched_engine::{HeapAllocator, Sink, Source};
@@ -20,13 +22,15 @@ use std::io;
 use std::sync::Wait;
 use std::thread::Threads;
 
-/// Does what the arguments of a command line ask for, the program's name first: it opens the files that they name, reads events
-/// from the reader and writes to the writer. A pool's threads are those of `rt`. `Ok` is how that ended: with an exit status, 0 or, where a trace breaks, 1, or with an
-/// error. `Err` is help, a fault of the command line or want of memory, which is to be shown: nothing was read or written.
+/// Does what the arguments of a command line ask for, the program's name first: it opens the files that they name, or creates the one
+/// that is to be written, reads events from the reader and writes to the writer. A pool's threads are those of `rt`. `Ok` is how that
+/// ended: with an exit status, 0 or, where a trace breaks, 1, or with an error. `Err` is help, a fault of the command line or want of memory, which is to be shown: nothing was read or written.
 pub fn serve<
     R: Threads + Wait + Sync,
     P: Source + Drop,
     O: Fn(&str) -> io::Result<P> + Drop,
+    F: Sink + Drop,
+    C: Fn(&str) -> io::Result<F> + Drop,
     S: Source,
     W: Sink,
 >(
@@ -34,11 +38,13 @@ pub fn serve<
     alloc: Global,
     arguments: &[String],
     open_file: O,
+    create_file: C,
     reader: &mut S,
     writer: &mut W,
 ) -> Result<Result<u8, ProgramError>, Error>
-    requires { O.IsAlwaysCallable open_file }
-    ensures serves { IfOk result (λ answer. Serves (map string_bytes arguments.now) answer (IsReadOf P.remaining P.failed P.fruitless) (O.post open_file) (S.remaining reader.old) (S.remaining reader.new) (W.contents writer.old) (W.contents writer.new)) }
+    requires opens { O.IsAlwaysCallable open_file }
+    requires creates { C.IsAlwaysCallable create_file }
+    ensures serves { IfOk result (λ answer. Serves (map string_bytes arguments.now) answer (IsReadOf P.remaining P.failed P.fruitless) (O.post open_file) (IsWrittenTo F.contents F.failed F.fruitless) (C.post create_file) (S.remaining reader.old) (S.remaining reader.new) (W.contents writer.old) (W.contents writer.new)) }
     ensures read { IfOk result (λ answer. CountsInput answer (S.failed reader.old) (S.fruitless reader.old) (S.failed reader.new) (S.fruitless reader.new)) }
     ensures write { IfOk result (λ answer. CountsOutput answer (W.failed writer.old) (W.fruitless writer.old) (W.failed writer.new) (W.fruitless writer.new)) }
     ensures fails { FailsBy (fault_of sched_app (map string_bytes arguments.now)) result }
@@ -51,28 +57,35 @@ pub fn serve<
             let plan = open_file(pool.path);
             Ok(pool_file(rt, alloc, &pool, plan, reader, writer))
         }
-        Asked::Alone(asked) => Ok(answer_alone(alloc, &asked, open_file, reader, writer)),
+        Asked::Alone(asked) => {
+            let answer = answer_alone(alloc, &asked, open_file, create_file, reader, writer);
+            Ok(answer)
+        }
     }
 }
 
-/// Does what is asked of one thread: it opens the files that are named, reads events from the reader and writes to the writer. It
-/// waits for no other thread, and returns. `Ok` is the exit status, 0 or, where a trace breaks, 1.
+/// Does what is asked of one thread: it opens the files that are named, or creates the one that is to be written, reads events from the
+/// reader and writes to the writer. It waits for no other thread, and returns. `Ok` is the exit status, 0 or, where a trace breaks, 1.
 #[tactic(auto, using(crate::proofs::EndCounts::unread))]
 pub fn answer_alone<
     A: HeapAllocator,
     P: Source + Drop,
     O: Fn(&str) -> io::Result<P> + Drop,
+    F: Sink + Drop,
+    C: Fn(&str) -> io::Result<F> + Drop,
     S: Source,
     W: Sink,
 >(
     alloc: A,
     asked: &AskedAlone<'_>,
     open_file: O,
+    create_file: C,
     reader: &mut S,
     writer: &mut W,
 ) -> Result<u8, ProgramError>
-    requires { O.IsAlwaysCallable open_file }
-    ensures answers { AnswersAlone result (IsReadOf P.remaining P.failed P.fruitless) (O.post open_file) asked.now (S.remaining reader.old) (S.remaining reader.new) (W.contents writer.old) (W.contents writer.new) }
+    requires opens { O.IsAlwaysCallable open_file }
+    requires creates { C.IsAlwaysCallable create_file }
+    ensures answers { AnswersAlone result (IsReadOf P.remaining P.failed P.fruitless) (O.post open_file) (IsWrittenTo F.contents F.failed F.fruitless) (C.post create_file) asked.now (S.remaining reader.old) (S.remaining reader.new) (W.contents writer.old) (W.contents writer.new) }
     ensures read { CountsInput result (S.failed reader.old) (S.fruitless reader.old) (S.failed reader.new) (S.fruitless reader.new) }
     ensures write { CountsOutput result (W.failed writer.old) (W.fruitless writer.old) (W.failed writer.new) (W.fruitless writer.new) }
     ensures status { EndsAlone asked.now result }
@@ -90,5 +103,6 @@ pub fn answer_alone<
             let plan = open_file(draw.check.path);
             draw_files(alloc, draw, plan, open_file, writer)
         }
+        AskedAlone::Live(live) => live_lines(alloc, live, create_file, reader, writer),
     }
 }

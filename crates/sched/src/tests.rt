@@ -2,6 +2,7 @@ mod command_line;
 mod error_lines;
 mod files;
 mod help;
+mod live_lines;
 mod memory;
 mod pictures;
 mod programs;
@@ -32,6 +33,7 @@ fn given<'a>(arguments: &'a [&'a [u8]], events: &'a str) -> Given<'a> {
         },
         events: events.as_bytes(),
         is_closed: false,
+        created: None,
     }
 }
 

@@ -1,7 +1,7 @@
 //! What the command line takes.
 
 use crate::arguments::{
-    Asked, AskedAlone, CheckArguments, DrawArguments, PlanArguments, RunArguments,
+    Asked, AskedAlone, CheckArguments, DrawArguments, LiveArguments, PlanArguments, RunArguments,
 };
 use std::alloc::Global;
 use std::process::Abort;
@@ -39,6 +39,9 @@ fn of_one_thread(alloc: Global, asked: AskedAlone<'_>) -> Result<String, Fail> {
             } = draw.check;
             let View { from, to, marks } = draw.view;
             format!(in alloc; "draw {path} {trace} {workers} {from:?} {to:?} {marks}")?
+        }
+        AskedAlone::Live(LiveArguments { workers, plan }) => {
+            format!(in alloc; "live {workers} {plan:?}")?
         }
     };
     Ok(words)
@@ -113,6 +116,17 @@ fn takes_two_names_and_four_numbers_for_a_picture(rt: HostRuntime) -> Result<(),
     tells_each(&rt, PICTURES)
 }
 
+/// Live runs: how many workers there are, and the name of the file of their plan.
+const LIVE_RUNS: &str = "live 64 None | sched live --workers 64
+live 1 Some(\"p\") | sched live --plan p --workers=1
+live 2 Some(\"-p\") | sched live --workers 2 --plan=-p
+live 3 Some(\"\") | sched live --plan= --workers 3";
+
+#[test]
+fn takes_a_number_and_maybe_a_name_for_a_live_run(rt: HostRuntime) -> Result<(), Fail> {
+    tells_each(&rt, LIVE_RUNS)
+}
+
 /// Command lines that the program ends at.
 const REFUSED: &str = "status 2 | sched check p --workers 1
 status 2 | sched check p t
@@ -153,7 +167,15 @@ status 2 | sched draw p t --workers 1 --marks many
 status 2 | sched draw p t --workers 1 --marks 18446744073709551616
 status 2 | sched draw p t --workers 1 --marks 1 --marks 2
 status 2 | sched draw p t --workers 1 --limit 3
-status 2 | sched check p t --workers 1 --marks 3";
+status 2 | sched check p t --workers 1 --marks 3
+status 2 | sched live
+status 2 | sched live --plan p
+status 2 | sched live --workers 0
+status 2 | sched live --workers 65
+status 2 | sched live --workers 1 p
+status 2 | sched live --workers 1 --plan
+status 2 | sched live --workers 1 --plan p --plan q
+status 2 | sched live --workers 1 --limit 3";
 
 #[test]
 fn refuses_what_is_missing_too_much_or_out_of_range(rt: HostRuntime) -> Result<(), Fail> {
@@ -199,6 +221,13 @@ fn shows_what_is_asked_for_to_programmers(rt: HostRuntime) -> Result<(), Fail> {
             Asked::Alone(AskedAlone::Draw(DrawArguments { check, view })),
             "Alone(Draw(DrawArguments { check: CheckArguments { path: \"p\", trace: \"t\", workers: 2 }, \
 view: View { from: None, to: Some(3), marks: 4 } }))",
+        ),
+        (
+            Asked::Alone(AskedAlone::Live(LiveArguments {
+                workers: 2,
+                plan: Some("p"),
+            })),
+            "Alone(Live(LiveArguments { workers: 2, plan: Some(\"p\") }))",
         ),
         (
             Asked::Alone(AskedAlone::Migrate(PlanArguments { path: "p" })),

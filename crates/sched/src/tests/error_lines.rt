@@ -126,6 +126,12 @@ fn tells_faults_of_the_plan_file_and_of_the_arguments(rt: HostRuntime) {
     );
     is_told(
         &rt,
+        ProgramError::PlanUnwritten,
+        1,
+        "sched: plan file not written\n",
+    );
+    is_told(
+        &rt,
         ProgramError::TraceFile,
         1,
         "sched: trace file not read\n",
@@ -210,6 +216,7 @@ fn tells_an_error_by_its_status_where_standard_error_is_at_fault(rt: HostRuntime
 fn shows_errors_to_programmers(rt: HostRuntime) -> Result<(), Fail> {
     for (error, text) in [
         (ProgramError::TraceTooLong, "TraceTooLong"),
+        (ProgramError::PlanUnwritten, "PlanUnwritten"),
         (ProgramError::EndsFirst, "EndsFirst"),
         (ProgramError::Crowded(3), "Crowded(3)"),
         (

@@ -1,7 +1,9 @@
 //! Memory: what a command takes comes back, also where it is refused some.
 
 use super::ONE_DELAY;
-use crate::arguments::{AskedAlone, CheckArguments, DrawArguments, PlanArguments, RunArguments};
+use crate::arguments::{
+    AskedAlone, CheckArguments, DrawArguments, LiveArguments, PlanArguments, RunArguments,
+};
 use crate::error::ProgramError;
 use crate::serving::answer_alone;
 use refusing_allocator::Refusing;
@@ -21,9 +23,17 @@ const BREAKS: &str = "0 submit 0 schedule due 5\n5 clock\n5 start 1 task 0 run 0
 /// Events of which the trace tells.
 const EVENTS: &str = "clock 5\nstart 0\nclock 7\nfinish 0 ok 7\n";
 
+/// Calls and events that take an executor of its own through the same.
+const LINES: &str =
+    "call schedule 5\nclock 5\nstart 0\ncall execute\ncall cancel 1\nfinish 0 ok 7\n";
+
 /// What is done over the plan of one delayed task in the file `plan`, and over the traces in `trace` and `breaks`.
 fn answer(heap: &Refusing<Global>, asked: AskedAlone<'_>) -> Result<u8, ProgramError> {
-    let mut events = Pieces::new(EVENTS.as_bytes(), 100);
+    let lines = match asked {
+        AskedAlone::Live(_) => LINES,
+        _ => EVENTS,
+    };
+    let mut events = Pieces::new(lines.as_bytes(), 100);
     let mut out = Writing::new(io::sink());
     let open = |path: &str| {
         let bytes = match path {
@@ -33,7 +43,8 @@ fn answer(heap: &Refusing<Global>, asked: AskedAlone<'_>) -> Result<u8, ProgramE
         };
         Ok(Pieces::new(bytes.as_bytes(), 100))
     };
-    answer_alone(heap, &asked, open, &mut events, &mut out)
+    let create = |_: &str| Ok(Writing::new(io::sink()));
+    answer_alone(heap, &asked, open, create, &mut events, &mut out)
 }
 
 /// Refuses each growth of a command in turn: it tells want of memory, and all comes back. The last time nothing is refused, and the
@@ -98,6 +109,20 @@ fn each_command_gives_back_what_it_took(rt: HostRuntime) {
                 view,
             }),
             1,
+        ),
+        (
+            AskedAlone::Live(LiveArguments {
+                workers: 1,
+                plan: None,
+            }),
+            0,
+        ),
+        (
+            AskedAlone::Live(LiveArguments {
+                workers: 1,
+                plan: Some("calls"),
+            }),
+            0,
         ),
     ] {
         gives_back(&rt, asked, status);

@@ -5,7 +5,7 @@ ghost use Rattle.std.specs.Prelude.{IsErr};
 use crate::program::program;
 use sched_engine::Writing;
 use std::alloc::{Allocator, Global};
-use std::cell::RefCell;
+use std::cell::{Cell, RefCell};
 use std::env::FillError;
 use std::fmt::Display;
 use std::fs::{Metadata, OpenFile, OpenOptions};
@@ -23,8 +23,8 @@ pub struct GivenFile<'a> {
     pub is_broken: bool,
 }
 
-/// The command line, the plan file with its name, the file `trace.txt`, standard input, and whether
-/// standard output is closed.
+/// The command line, the plan file with its name, the file `trace.txt`, standard input, whether standard output is closed, and what
+/// files are created with, where any can be: each one holds what all of them do.
 #[derive(Clone, Copy)]
 pub struct Given<'a> {
     pub arguments: &'a [&'a [u8]],
@@ -33,6 +33,22 @@ pub struct Given<'a> {
     pub trace: GivenFile<'a>,
     pub events: &'a [u8],
     pub is_closed: bool,
+    pub created: Option<&'a Created>,
+}
+
+/// The files that are created: what they hold, how many of them there were, and whether writes to them fail.
+#[derive(Drop)]
+pub struct Created {
+    pub bytes: RefCell<Vec<u8>>,
+    pub files: Cell<u32>,
+    pub is_full: bool,
+}
+
+/// An open file: one that was given, or one that was created.
+#[derive(Clone, Copy)]
+pub enum OpenedFile<'a> {
+    Given(GivenFile<'a>),
+    Created(&'a Created),
 }
 
 /// What is given, and what was written so far to standard output and to standard error.
@@ -52,6 +68,29 @@ pub struct Ended {
     pub err: Vec<u8>,
 }
 
+impl Created {
+    /// No file was created so far.
+    pub fn new(alloc: Global, is_full: bool) -> Created {
+        Created {
+            bytes: RefCell::new(Vec::new(alloc)),
+            files: Cell::new(0),
+            is_full,
+        }
+    }
+
+    /// Creates a file of no bytes.
+    fn create(&self) -> io::Result<()> {
+        self.files.set(self.files.get().saturating_add(1));
+        match self.bytes.try_borrow_mut() {
+            Ok(mut bytes) => {
+                bytes.clear();
+                Ok(())
+            }
+            Err(_) => unsupported(),
+        }
+    }
+}
+
 impl<'a> World<'a> {
     /// Nothing was written so far.
     pub fn new(alloc: Global, given: Given<'a>) -> World<'a> {
@@ -61,6 +100,18 @@ impl<'a> World<'a> {
             out: RefCell::new(Vec::new(alloc)),
             err: RefCell::new(Vec::new(alloc)),
         }
+    }
+
+    /// Creates a file, of any name but an empty one.
+    fn create_file(&self, how: &OpenOptions, path: &str) -> io::Result<OpenedFile<'a>> {
+        if path.is_empty() || !how.asks_create() || !how.asks_truncate() {
+            return Err(io::Error::from(ErrorKind::NotFound));
+        }
+        let Some(created) = self.given.created else {
+            return Err(io::Error::from(ErrorKind::PermissionDenied));
+        };
+        created.create()?;
+        Ok(OpenedFile::Created(created))
     }
 
     /// What was written, with an exit status.
@@ -185,18 +236,22 @@ impl<'a> Input for World<'a> {
 }
 
 impl<'a> Files for World<'a> {
-    type File = GivenFile<'a>;
+    type File = OpenedFile<'a>;
 
     type Dir = &'a [u8];
 
-    fn open_file(&self, _how: &OpenOptions, path: &str) -> io::Result<GivenFile<'a>> {
+    fn open_file(&self, how: &OpenOptions, path: &str) -> io::Result<OpenedFile<'a>> {
+        how.check()?;
+        if how.asks_write() {
+            return self.create_file(how, path);
+        }
         if path == "trace.txt" {
-            return Ok(self.given.trace);
+            return Ok(OpenedFile::Given(self.given.trace));
         }
         if path != self.given.name {
             return Err(io::Error::from(ErrorKind::NotFound));
         }
-        Ok(self.given.plan)
+        Ok(OpenedFile::Given(self.given.plan))
     }
 
     fn open_dir(&self, _path: &str) -> io::Result<&'a [u8]> {
@@ -245,9 +300,24 @@ impl Read for GivenFile<'_> {
     }
 }
 
-impl Write for GivenFile<'_> {
-    fn write(&mut self, _buf: &[u8]) -> io::Result<usize> {
-        unsupported()
+impl Read for OpenedFile<'_> {
+    fn read(&mut self, buf: &mut [u8]) -> io::Result<usize> {
+        match self {
+            OpenedFile::Given(given) => given.read(buf),
+            OpenedFile::Created(_) => unsupported(),
+        }
+    }
+}
+
+impl Write for OpenedFile<'_> {
+    fn write(&mut self, buf: &[u8]) -> io::Result<usize> {
+        match self {
+            OpenedFile::Created(created) if !created.is_full => {
+                append(&created.bytes, buf)?;
+                Ok(buf.len())
+            }
+            _ => unsupported(),
+        }
     }
 
     fn flush(&mut self) -> io::Result<()> {
@@ -255,13 +325,13 @@ impl Write for GivenFile<'_> {
     }
 }
 
-impl Seek for GivenFile<'_> {
+impl Seek for OpenedFile<'_> {
     fn seek(&mut self, _to: SeekFrom) -> io::Result<u64> {
         unsupported()
     }
 }
 
-impl OpenFile for GivenFile<'_> {
+impl OpenFile for OpenedFile<'_> {
     fn metadata(&self) -> io::Result<Metadata> {
         unsupported()
     }

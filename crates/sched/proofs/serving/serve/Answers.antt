@@ -4,4 +4,4 @@ use Rattle.sched.proofs.serving.serve.Goals as goal
 
 pub returns-in-Alone-clause-status : goal.returns-in-Alone-clause-status
 returns-in-Alone-clause-status g c =
-    end_alone (map string_bytes c.args.arguments.now) c.in-Alone.asked c.answer_alone.result (rw c.in-Alone.is at c.in_ok-pool.ensures.asked) c.answer_alone.ensures.status
+    end_alone (map string_bytes c.args.arguments.now) c.in-Alone.asked c.answer_alone-answer.result (rw c.in-Alone.is at c.in_ok-pool.ensures.asked) c.answer_alone-answer.ensures.status
