@@ -92,6 +92,19 @@ impl<A: Allocator> NumberIndex<A> {
         self.entries.reserve(self.entries.len() + 1)
     }
 
+    /// Makes room for so many entries in all.
+    ///
+    /// # Errors
+    ///
+    /// `AllocError` where the memory for them is refused.
+    pub(crate) fn reserve(&mut self, entries: usize) -> Result<(), AllocError>
+        ensures room { OnOk result (entries ≤ self.new.room) }
+        ensures entries { self.new.entries ≡ self.old.entries }
+    {
+        let more = entries.saturating_sub(self.entries.len());
+        self.entries.reserve(more)
+    }
+
     /// Whether there is no room for one more entry.
     pub(crate) fn is_full(&self) -> bool
         ensures { result ≡ false → length self.now.entries < self.now.room }

@@ -1,4 +1,89 @@
-//! An executor whose calls are made while it runs.
+//! An executor of scheduled tasks whose calls are made while it runs, after Java's `ScheduledThreadPoolExecutor`.
+//!
+//! # Usage
+//!
+//! A [`ScheduledExecutor`] is made once, for 1 to 64 workers. It runs nothing itself. The one who holds it makes its calls, each
+//! with the moment at which it is made, and tells it the events: what the clock shows, that a worker asks for work, that it has
+//! run its task, and that a task is cancelled from outside.
+//!
+//! ```rust
+//! let mut executor = ScheduledExecutor::new(alloc, 2)?;
+//! executor.schedule(0, 5)?;    // task 0 is accepted, and due at 5
+//! executor.at_rate(0, 3, 10)?; // task 1 is due at 3, 13, 23 and so on
+//! executor.next_due();         // Some(3)
+//!
+//! executor.clock(3)?;
+//! executor.start(0)?;                    // run 0 of task 1, which was due at 3
+//! executor.finish(0, Ending::Value(7))?; // Outcome::Again(13)
+//! executor.cancel_number(0)?;            // CancelEffect::Yes: task 0 is kept in the queue
+//! executor.clock(13)?;
+//! executor.start(1)?;                    // run 1 of task 1: task 0 was met, and has left
+//! executor.len();                        // 1
+//!
+//! executor.shut_down(13)?;               // true: the first call to shut down, at 14
+//! executor.execute(14)?;                 // rejected: a number, 2, and no task
+//! executor.finish(1, Ending::Value(8))?; // Outcome::Ended: no run comes after it
+//! executor.len();                        // 0
+//! ```
+//!
+//! # Behaviour
+//!
+//! The calls are those of the Java class: [`schedule`](ScheduledExecutor::schedule), [`execute`](ScheduledExecutor::execute),
+//! `scheduleAtFixedRate` as [`at_rate`](ScheduledExecutor::at_rate), `scheduleWithFixedDelay` as
+//! [`with_delay`](ScheduledExecutor::with_delay), the three policies as [`set_policy`](ScheduledExecutor::set_policy), `shutdown`
+//! as [`shut_down`](ScheduledExecutor::shut_down), `shutdownNow` as [`shut_down_now`](ScheduledExecutor::shut_down_now), and a
+//! future's `cancel` as [`cancel_by_call`](ScheduledExecutor::cancel_by_call). [`ask`](ScheduledExecutor::ask) is a call too, and
+//! tells the queue's size, `getActiveCount`, `isShutdown` and `isTerminated`. The events are [`clock`](ScheduledExecutor::clock),
+//! [`start`](ScheduledExecutor::start), [`finish`](ScheduledExecutor::finish) and [`cancel`](ScheduledExecutor::cancel).
+//!
+//! A contract sees the executor as a [`LiveView`](../../specs/Lives.antt). The calls need not be known before: for each call and
+//! event its contract says, whatever calls and history led here, that the executor stands where the longer ones lead, and what is
+//! answered is the answer of the executor's equations (`Calls` and `Happens`, in `specs/Lives.antt`; the answers are in
+//! `specs/Said.antt`, `Events.antt`, `Cancels.antt` and `Shutting.antt`). So its lines, as
+//! [`add_lines`](ScheduledExecutor::add_lines) adds them, are those of a trace of all calls made.
+//!
+//! A submission has a number, 0, 1, and so on, whether it is accepted or rejected, and an accepted one has a task. A [`TaskRef`]
+//! names the task by its number and the slot that it has while it is alive. A cancel goes by the number alone, so a slot that
+//! another task uses by now, or a forged one, does no harm. Once a task is over, as it was run, ended, or cancelled and left the
+//! queue, its slot may hold another one. [`ended`](ScheduledExecutor::ended) has the tasks that the last call or event ended: the
+//! list of `shutdownNow`, and what a shutdown or a policy cancels.
+//!
+//! # Moments
+//!
+//! A moment is a number of nanoseconds, at most 2^62, and so is each delay and period. No call reads a clock. A call is made at the
+//! moment that is handed in, but not before [`now`](ScheduledExecutor::now), and at least 1 ns after the last accepted clock: so a
+//! clock comes after all calls of its moment, as in a trace. [`next_due`](ScheduledExecutor::next_due) is the moment to wait for.
+//!
+//! # Order and ties
+//!
+//! A start gets, of the tasks that are due, the one that was due first, and at one moment the one that was submitted first,
+//! whatever their slots. A task at a fixed rate keeps its due moments, also when it is late, and one with a fixed delay counts from
+//! the end of its run. Runs of one task do not overlap. `ended` is ascending by number.
+//!
+//! # Errors
+//!
+//! A call that is refused ([`CallError`]) is not made: nothing has changed. [`CallError::Memory`] comes also where 2^30 slots are
+//! all taken. An event that is wrong is answered by an [`EventError`](executor_core::EventError): it has happened, has a line of
+//! its own, and changes no task. But where [`start`](ScheduledExecutor::start) answers [`StartError::Full`], after 2^64 - 1 runs
+//! of one task, nothing has happened. A line can not spell a number of 2^32 or more ([`LinesError`]); nothing else minds it.
+//!
+//! # Memory and cost
+//!
+//! Memory is asked for by `new`, by the four submissions and by [`reserve`](ScheduledExecutor::reserve), for lines by `add_lines`,
+//! and by no other call. Where it is refused, nothing has changed. There are as many slots as `reserve` was asked for, or at most
+//! twice as many as there were tasks alive at once, and two; none is given back. Each has room for a task, an entry in each of two
+//! queues, and notes that it is empty and that its task was ended; an index by number has about two entries for each.
+//!
+//! With n tasks alive, a submission, a start, a finish or a cancel takes a time in the order of log n, for changes of binary heaps
+//! and a search. A submission where the index is full goes over it, and one where all slots are taken over these too, which is
+//! constant on average. A start and a sweep take as long as that for each kept task that they meet. A shutdown or a policy that
+//! sweeps goes over all slots, and sorts what it ends. `ask` goes over the workers. All other calls take constant time, but
+//! `reserve`, and `add_lines`, which goes over what was ended.
+//!
+//! # Tests
+//!
+//! They stand in `src/tests.rt` and below it: rows of what is done and what is told. Each row is played with ample memory, and
+//! again with each growth that it asks for refused in turn.
 #![tactic(auto)]
 
 mod answers;
@@ -15,8 +100,8 @@ mod releasing;
 mod reserving;
 mod room;
 mod running;
-mod spent;
 mod shutting;
+mod spent;
 mod submissions;
 mod submitting;
 mod sweeps;
@@ -26,5 +111,4 @@ mod tests;
 pub use answers::Submitted;
 pub use error::{CallError, LinesError, MakeError};
 pub use executor::ScheduledExecutor;
-pub use task_table::{Begun, Ended, StartError, TaskRef};
-pub use task_table::Asked;
+pub use task_table::{Asked, Begun, Ended, StartError, TaskRef};

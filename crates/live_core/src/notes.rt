@@ -98,6 +98,18 @@ impl<A: Allocator> Notes<A> {
         self.index.make_room(table)
     }
 
+    /// Makes room for so many entries in all in the index.
+    ///
+    /// # Errors
+    ///
+    /// `AllocError` where the memory for them is refused.
+    pub(crate) fn reserve_index(&mut self, entries: usize) -> Result<(), AllocError>
+        ensures room { OnOk result (entries ≤ self.new.index_room) }
+        ensures rest { self.new ≡ record self.old { index_room = self.new.index_room } }
+    {
+        self.index.reserve(entries)
+    }
+
     /// Makes room to note that each of so many slots is empty.
     ///
     /// # Errors

@@ -12,7 +12,7 @@ use std::alloc::Allocator;
 impl<A: Allocator> ScheduledExecutor<A> {
     ghost use Rattle.live_core.specs.Lives.{Stands};
 
-    /// Makes slots for so many tasks in all, so that submissions need no memory for slots until all are taken. It is no call.
+    /// Makes room for so many tasks in all: while at most so many have a slot, submissions need no memory. It is no call.
     ///
     /// # Errors
     ///
@@ -23,6 +23,10 @@ impl<A: Allocator> ScheduledExecutor<A> {
         ensures refused { OnErr result (self.new ≡ self.old) }
         ensures failed { IfErr result (λ error. error ≡ call_error.Memory) }
     {
+        // While at most so many have a slot, at least half of the entries of a full index are stale: dropping them makes room.
+        if self.notes.reserve_index(2 * tasks as usize).is_err() {
+            return Err(CallError::Memory);
+        }
         if self.table.slots() >= tasks as usize {
             return Ok(());
         }

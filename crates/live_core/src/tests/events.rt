@@ -1,134 +1,158 @@
-//! Tests of the clock, and of the starts and finishes of the workers.
-use crate::tests::executor;
-use crate::{Begun, CallError, Ended, StartError, Submitted, TaskRef};
+//! The clock, and the starts and finishes of the workers.
+
+use super::play;
+use super::steps::{DONE, IDLE, NONE, SHOWN, Step, Told, accepted, begun, ended};
+use crate::StartError;
 use executor_core::{EventError, Outcome};
 use sched_time::Ending;
 use std::process::Abort;
 use std::test::Fail;
 
-/// The task that was accepted, and its due moment.
-fn accepted(submitted: Result<Submitted, CallError>) -> Result<(TaskRef, u64), Fail> {
-    match submitted {
-        Ok(Submitted::Accepted { task, due }) => Ok((task, due)),
-        _ => Err("no task was accepted".into()),
-    }
-}
-
-/// The answer to a start that begins this run.
-fn begun(task: TaskRef, run: u64, due: u64) -> Result<Option<Begun>, StartError> {
-    Ok(Some(Begun { task, run, due }))
-}
-
-/// The answer to a finish that ends this run.
-fn ended(task: TaskRef, run: u64, outcome: Outcome) -> Result<Ended, EventError> {
-    Ok(Ended { task, run, outcome })
-}
-
 #[test]
-fn a_task_is_begun_when_it_is_due_and_its_slot_is_free_once_it_ended(
+fn the_first_due_is_begun_first_and_of_a_tie_the_first_submitted(
     rt: HostRuntime,
 ) -> Result<(), Fail> {
-    let mut executor = executor(rt.alloc())?;
-    let (task, due) = accepted(executor.schedule(0, 10))?;
-    assert_eq!(rt; (due, executor.next_due()), (10, Some(10)));
-    assert_eq!(rt; executor.clock(9), Ok(()));
-    assert_eq!(rt; executor.start(0), Ok(None));
-    assert_eq!(rt; executor.clock(10), Ok(()));
-    assert_eq!(rt; executor.start(1), begun(task, 0, 10));
-    assert_eq!(rt; (executor.len(), executor.next_due()), (1, None));
-    assert!(rt; !executor.is_waiting(task));
-    assert_eq!(rt;
-        executor.finish(1, Ending::Value(7)),
-        ended(task, 0, Outcome::Done(7))
-    );
-    assert_eq!(rt; executor.len(), 0);
-    assert!(rt; executor.ended().is_empty());
-    // A call right behind a clock is made 1 ns later.
-    let (other, due) = accepted(executor.execute(10))?;
-    assert_eq!(rt; (other.number, other.slot, due), (1, task.slot, 11));
-    assert_eq!(rt; (executor.now(), executor.len()), (11, 1));
-    Ok(())
+    play(
+        &rt,
+        &[
+            (Step::Schedule(0, 9), accepted(0, 3, 9)),
+            (Step::Schedule(0, 5), accepted(1, 2, 5)),
+            (Step::Schedule(0, 5), accepted(2, 1, 5)),
+            (Step::Clock(100), SHOWN),
+            (Step::Start(0), begun(1, 2, 0, 5)),
+            (Step::Start(1), begun(2, 1, 0, 5)),
+            (
+                Step::Finish(0, Ending::Value(0)),
+                ended(1, 2, 0, Outcome::Done(0)),
+            ),
+            (Step::Start(0), begun(0, 3, 0, 9)),
+        ],
+    )
 }
 
 #[test]
-fn a_periodic_task_comes_again_until_it_fails(rt: HostRuntime) -> Result<(), Fail> {
-    let mut executor = executor(rt.alloc())?;
-    let (task, due) = accepted(executor.at_rate(0, 5, 3))?;
-    assert_eq!(rt; due, 5);
-    assert_eq!(rt; executor.clock(6), Ok(()));
-    assert_eq!(rt; executor.start(0), begun(task, 0, 5));
-    assert_eq!(rt;
-        executor.finish(0, Ending::Value(1)),
-        ended(task, 0, Outcome::Again(8))
-    );
-    assert!(rt; executor.is_waiting(task));
-    assert_eq!(rt; (executor.len(), executor.next_due()), (1, Some(8)));
-    assert_eq!(rt; executor.start(0), Ok(None));
-    assert_eq!(rt; executor.clock(20), Ok(()));
-    assert_eq!(rt; executor.start(1), begun(task, 1, 8));
-    assert_eq!(rt;
-        executor.finish(1, Ending::Fault(3)),
-        ended(task, 1, Outcome::Failed(3))
-    );
-    assert_eq!(rt; (executor.len(), executor.next_due()), (0, None));
-    Ok(())
+fn of_a_tie_the_number_decides_and_not_the_slot(rt: HostRuntime) -> Result<(), Fail> {
+    play(
+        &rt,
+        &[
+            (Step::Execute(0), accepted(0, 3, 0)),
+            (Step::AtRate(0, 2, 2), accepted(1, 2, 2)),
+            (Step::Start(0), begun(0, 3, 0, 0)),
+            (
+                Step::Finish(0, Ending::Value(0)),
+                ended(0, 3, 0, Outcome::Done(0)),
+            ),
+            (Step::Schedule(0, 4), accepted(2, 3, 4)),
+            (Step::Schedule(0, 2), accepted(3, 1, 2)),
+            (Step::Clock(4), SHOWN),
+            (Step::Start(0), begun(1, 2, 0, 2)),
+            (Step::Start(1), begun(3, 1, 0, 2)),
+            // It keeps its number, and with it its place.
+            (
+                Step::Finish(0, Ending::Value(0)),
+                ended(1, 2, 0, Outcome::Again(4)),
+            ),
+            (Step::Start(0), begun(1, 2, 1, 4)),
+            (
+                Step::Finish(1, Ending::Value(0)),
+                ended(3, 1, 0, Outcome::Done(0)),
+            ),
+            (Step::Start(1), begun(2, 3, 0, 4)),
+        ],
+    )
+}
+
+/// A start is answered by an error.
+fn no_start(error: EventError) -> Told {
+    Told::Start(Err(StartError::Refused(error)))
+}
+
+/// A finish is answered by an error.
+fn no_finish(error: EventError) -> Told {
+    Told::Finish(Err(error))
 }
 
 #[test]
-fn of_tasks_that_are_due_the_earliest_is_begun_first_and_then_the_first_submitted(
-    rt: HostRuntime,
-) -> Result<(), Fail> {
-    let mut executor = executor(rt.alloc())?;
-    let (late, _) = accepted(executor.schedule(0, 9))?;
-    let (first, _) = accepted(executor.schedule(0, 5))?;
-    let (second, _) = accepted(executor.schedule(0, 5))?;
-    assert_eq!(rt; executor.clock(100), Ok(()));
-    assert_eq!(rt; executor.start(0), begun(first, 0, 5));
-    assert_eq!(rt; executor.start(1), begun(second, 0, 5));
-    assert_eq!(rt;
-        executor.finish(0, Ending::Value(0)),
-        ended(first, 0, Outcome::Done(0))
-    );
-    assert_eq!(rt; executor.start(0), begun(late, 0, 9));
-    Ok(())
-}
-
-#[test]
-fn an_event_that_is_wrong_is_answered_by_an_error(rt: HostRuntime) -> Result<(), Fail> {
-    let mut executor = executor(rt.alloc())?;
-    let (task, _) = accepted(executor.execute(4))?;
-    let refused = [EventError::NoWorker, EventError::Busy];
-    assert_eq!(rt; executor.start(2), Err(StartError::Refused(refused[0])));
-    assert_eq!(rt;
-        executor.finish(2, Ending::Value(0)),
-        Err(EventError::NoWorker)
-    );
-    assert_eq!(rt;
-        executor.finish(0, Ending::Value(0)),
-        Err(EventError::NotRunning)
-    );
-    assert_eq!(rt; executor.start(0), begun(task, 0, 4));
-    assert_eq!(rt; executor.start(0), Err(StartError::Refused(refused[1])));
-    assert_eq!(rt; executor.start(1), Ok(None));
-    assert_eq!(rt; executor.len(), 1);
-    Ok(())
+fn an_event_of_a_wrong_worker_is_answered_by_an_error(rt: HostRuntime) -> Result<(), Fail> {
+    let value = Ending::Value(0);
+    play(
+        &rt,
+        &[
+            (Step::Execute(4), accepted(0, 3, 4)),
+            (Step::Start(2), no_start(EventError::NoWorker)),
+            (Step::Start(255), no_start(EventError::NoWorker)),
+            (Step::Finish(2, value), no_finish(EventError::NoWorker)),
+            (Step::Finish(255, value), no_finish(EventError::NoWorker)),
+            (Step::Finish(0, value), no_finish(EventError::NotRunning)),
+            (Step::Start(0), begun(0, 3, 0, 4)),
+            (Step::Start(0), no_start(EventError::Busy)),
+            (Step::Finish(1, value), no_finish(EventError::NotRunning)),
+            (Step::Start(1), IDLE),
+            (Step::Look, Told::Looks(4, 1)),
+            (Step::Finish(0, value), ended(0, 3, 0, Outcome::Done(0))),
+            (Step::Finish(0, value), no_finish(EventError::NotRunning)),
+        ],
+    )
 }
 
 #[test]
 fn the_clock_goes_neither_back_nor_past_the_limit(rt: HostRuntime) -> Result<(), Fail> {
-    let mut executor = executor(rt.alloc())?;
     let most = 1u64 << 62;
-    for (moment, answer, now) in [
-        (4, Ok(()), 4),
-        (4, Ok(()), 4),
-        (3, Err(EventError::Backward), 4),
-        (most + 1, Err(EventError::TooFar), 4),
-        (most, Ok(()), most),
+    let backward = Told::Clock(Err(EventError::Backward));
+    let too_far = Told::Clock(Err(EventError::TooFar));
+    play(
+        &rt,
+        &[
+            (Step::Clock(4), SHOWN),
+            (Step::Clock(4), SHOWN),
+            (Step::Clock(3), backward),
+            (Step::Execute(9), accepted(0, 3, 9)),
+            (Step::Clock(8), backward),
+            (Step::Look, Told::Looks(9, 1)),
+            (Step::Clock(9), SHOWN),
+            (Step::Clock(most + 1), too_far),
+            (Step::Clock(u64::MAX), too_far),
+            (Step::Look, Told::Looks(9, 1)),
+            (Step::Clock(most), SHOWN),
+            (Step::Look, Told::Looks(most, 1)),
+        ],
+    )
+}
+
+#[test]
+fn an_event_that_is_answered_by_an_error_ends_no_task(rt: HostRuntime) -> Result<(), Fail> {
+    let stop = [
+        (Step::Schedule(0, 9), accepted(0, 3, 9)),
+        (Step::Execute(0), accepted(1, 2, 0)),
+        (Step::Start(0), begun(1, 2, 0, 0)),
+        (Step::ShutDownNow(0), DONE),
+        (Step::Ends, Told::Ends(1, 0)),
+    ];
+    for (step, told) in [
+        (Step::Start(0), no_start(EventError::Busy)),
+        (
+            Step::Finish(1, Ending::Value(0)),
+            no_finish(EventError::NotRunning),
+        ),
+        (Step::Clock(u64::MAX), Told::Clock(Err(EventError::TooFar))),
+        (
+            Step::CancelNumber(2),
+            Told::Outside(Err(EventError::NoTask)),
+        ),
     ] {
-        assert_eq!(rt; executor.clock(moment), answer);
-        assert_eq!(rt; executor.now(), now);
+        let [first, second, third, fourth, fifth] = stop;
+        play(
+            &rt,
+            &[
+                first,
+                second,
+                third,
+                fourth,
+                fifth,
+                (step, told),
+                (Step::Ends, NONE),
+            ],
+        )?;
     }
-    // No moment is left for a call behind the last clock.
-    assert_eq!(rt; executor.execute(0), Err(CallError::TooFar));
     Ok(())
 }
