@@ -363,6 +363,12 @@ def nested(choose):
 
 # ---- events
 
+def start_line(choose, workers, busy):
+    """A worker asks for work, mostly one that there is. It is one of the busy ones then."""
+    busy.append(choose.randrange(workers) if choose.random() < 0.98 else choose.randrange(256))
+    return f"start {busy[-1]}\n"
+
+
 def some_events(choose, plan, workers):
     """Event lines that mostly are answered by something else than an error."""
     lines, now, busy = [], 0, []
@@ -374,9 +380,7 @@ def some_events(choose, plan, workers):
             now = choose.choice((now, now + choose.randrange(30), *later[:1] * 3)) + choose.choice((0, 0, 0, 1))
             lines.append(f"clock {now if choose.random() < 0.95 else choose.choice(BOUNDS[:20])}\n")
         elif kind == "start":
-            worker = choose.randrange(workers) if choose.random() < 0.98 else choose.randrange(256)
-            busy.append(worker)
-            lines.append(f"start {worker}\n")
+            lines.append(start_line(choose, workers, busy))
         elif kind == "finish":
             worker = busy.pop(choose.randrange(len(busy))) if busy else choose.randrange(workers)
             value, code = (choose.choice((choose.randrange(9), choose.randrange(2**bits), 2**bits - 1)) for bits in (64, 32))

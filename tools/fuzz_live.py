@@ -1,9 +1,9 @@
 """Lines for `sched live`, and how a run over them has to end, as tools/fuzz looks for it."""
 
 from fuzz_forms import EVENT_FORMS, LONGEST_EVENT, has_form, lines_of
+from fuzz_inputs import start_line
 
 LONGEST = 2**62
-MOST_CALLS = 65_536
 # S is a span, 0 to 2^62, and P one of 1 to 2^62.
 CALL_LINES = """call schedule S
 call execute
@@ -101,9 +101,7 @@ def some_lines(choose, workers):
             now += choose.choice((0, 1, 1, 2, 5, 9))
             lines.append(f"clock {now if choose.random() < 0.98 else choose.choice((0, LONGEST - 1, LONGEST + 1, 2**64 - 1))}\n")
         elif kind == "start":
-            worker = choose.randrange(workers) if choose.random() < 0.98 else choose.randrange(256)
-            busy.append(worker)
-            lines.append(f"start {worker}\n")
+            lines.append(start_line(choose, workers, busy))
         elif kind == "finish":
             worker = busy.pop(choose.randrange(len(busy))) if busy else choose.randrange(workers)
             lines.append(f"finish {worker} ok {choose.randrange(9)}\n" if choose.random() < 0.9 else f"finish {worker} fail 7\n")
