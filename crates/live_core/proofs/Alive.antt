@@ -4,7 +4,7 @@ use Rattle.std.specs.Prelude.{map, replicate, slice_set, not}
 use Rattle.std.specs.List.{All}
 use Rattle.std.specs.Option.{option_map}
 use Rattle.std.proofs.lemmas.Bool.{false≢true, eqb-true, or_left, or_right, or_cases}
-use Rattle.std.proofs.lemmas.List.Elements.{All-head, All-tail}
+use Rattle.std.proofs.lemmas.List.Elements.{All-nil, All-cons, All-head, All-tail}
 use Rattle.std.proofs.lemmas.Option.{none-some, same_Some}
 use Rattle.sched_time.specs.declared.timing.Ending.{Ending}
 use Rattle.executor_core.specs.declared.types.CancelEffect.{CancelEffect}
@@ -22,9 +22,10 @@ use Rattle.task_table.specs.Tables.{TableView}
 use Rattle.task_table.specs.Ends.{is_swept, effect_of}
 use Rattle.task_table.specs.Endings.{IsOverAt, SweepEnds, numbers_of}
 use Rattle.task_table.specs.Runs.{IsLeft, Drops, Starts, Ends}
-use Rattle.task_table.specs.Changes.{begun, ended, cancelled, cancel_by, emptied, grown, unkept, swept}
+use Rattle.task_table.specs.Changes.{put, begun, ended, cancelled, cancel_by, emptied, grown, unkept, swept, after_sweep}
 use Rattle.live_core.specs.Said.{tasks_in, alive_in}
 use Rattle.live_core.specs.Shutting.{IsGone}
+use Rattle.live_core.specs.own.Places.{IsEmptyAt}
 use Rattle.live_core.specs.own.Slots.{held_numbers, IsIndex}
 use Rattle.live_core.specs.own.Formed.{AreAlive, AreAliveBut}
 use Rattle.live_core.specs.own.Shed.{released}
@@ -154,7 +155,7 @@ swept_slot g (Some y ∷ slots) zero x is = (y, refl, same_Some (g y) x is)
 swept_slot g (o ∷ slots) (suc i) x is = swept_slot g slots i x is
 
 -- a task whose number was ended has left its slot
-ended_gone : (swept new : TableView) (ends : List TaskRef) (entries : List TaskRef) (count i : ℕ) (x : Seat) → IsIndex (held_numbers swept.slots) entries count → All (IsOverAt swept) ends → All (IsGone new) ends →
+ended_gone : (swept new : TableView) (ends : List TaskRef) (entries : List TaskRef) (count i : ℕ) (x : Seat) → IsIndex (held_numbers swept.slots) entries count → All (IsOverAt swept) ends → All (IsEmptyAt new) ends →
     slot_of swept.slots i ≡ Some x → is_end x.number (numbers_of ends) ≡ true → slot_of new.slots i ≡ None
 ended_gone swept new [] entries count i x index over gone there q = absurd (false≢true q)
 ended_gone swept new (r ∷ ends) entries count i x index over gone there q = elim (or_cases (r.number == x.number) (is_end x.number (numbers_of ends)) q) [
@@ -164,8 +165,8 @@ ended_gone swept new (r ∷ ends) entries count i x index over gone there q = el
       one_slot (held_numbers swept.slots) entries count r.slot i x.number index
       (number_there swept.slots r.slot first.task first.there ∙ ap Some (first.named ∙ eqb-true r.number x.number own)) (number_there swept.slots i x there)
       in
-      sym (ap (slot_of new.slots) same) ∙ All-head (IsGone new) r ends gone
-  | inr later ↦ ended_gone swept new ends entries count i x index (All-tail (IsOverAt swept) r ends over) (All-tail (IsGone new) r ends gone) there later
+      sym (ap (slot_of new.slots) same) ∙ All-head (IsEmptyAt new) r ends gone
+  | inr later ↦ ended_gone swept new ends entries count i x index (All-tail (IsOverAt swept) r ends over) (All-tail (IsEmptyAt new) r ends gone) there later
 ]
 
 -- whatever is left in a slot was there
@@ -178,7 +179,32 @@ leaves_released old m new slot is before i x there = elim (set_case m.slots slot
   | inr other ↦ before i x other.1
 ]
 
-pub alive_swept : (m mid new : TableView) (ends : List TaskRef) (entries : List TaskRef) (count : ℕ) → IsIndex (held_numbers mid.slots) entries count → SweepEnds m mid ends → All (IsGone new) ends → LeavesThere mid new →
+-- also after a slot whose task was written anew
+pub leaves_dropped : (old m mid new : TableView) (slot : ℕ) (y : Seat) → mid ≡ put m slot y → new ≡ emptied mid slot → LeavesThere old m → LeavesThere old new
+leaves_dropped old m mid new slot y put_there is before i x there = elim (set_case mid.slots slot i None x (sym (ap (λ (v : TableView). slot_of v.slots i) is) ∙ there)) [
+  | inl here ↦ absurd (none-some x here.1)
+  | inr other ↦ elim (set_case m.slots slot i (Some y) x (sym (ap (λ (v : TableView). slot_of v.slots i) put_there) ∙ other.1)) [
+    | inl here ↦ absurd (other.0 here.0)
+    | inr still ↦ before i x still.1
+  ]
+]
+
+-- the tasks that a sweep ended stood in their slots before it
+pub gone_from : (old m mid new : TableView) (ends : List TaskRef) → mid ≡ after_sweep m → LeavesThere old m → All (IsOverAt mid) ends → All (IsEmptyAt new) ends → All (IsGone old new) ends
+gone_from old m mid new [] is leaves over empty = All-nil (IsGone old new)
+gone_from old m mid new (r ∷ ends) is leaves over empty =
+    let first = All-head (IsOverAt mid) r ends over in
+    let before = swept_slot (λ y. swept m.stopped m.policies m.moment y) m.slots r.slot first.task (sym (ap (λ (v : TableView). slot_of v.slots r.slot) is) ∙ first.there) in
+    All-cons (IsGone old new) r ends
+    (record {
+      seat = before.0;
+      there = leaves r.slot before.0 before.1;
+      named = ap (λ (z : Seat). z.number) before.2 ∙ first.named;
+      empty = All-head (IsEmptyAt new) r ends empty;
+    })
+    (gone_from old m mid new ends is leaves (All-tail (IsOverAt mid) r ends over) (All-tail (IsEmptyAt new) r ends empty))
+
+pub alive_swept : (m mid new : TableView) (ends : List TaskRef) (entries : List TaskRef) (count : ℕ) → IsIndex (held_numbers mid.slots) entries count → SweepEnds m mid ends → All (IsEmptyAt new) ends → LeavesThere mid new →
     AreAlive m.slots → AreAlive new.slots
 alive_swept m mid new ends entries count index s gone leaves alive i x is =
     let there : slot_of mid.slots i ≡ Some x = leaves i x is in

@@ -35,17 +35,17 @@ calls_other m now table ended at moment call r same is near few none width steps
     (makes_other m table ended moment call r (may_call m now at moment call r same is near few none) none.same none.none width steps))
 
 -- the executor stands then
-pub live_other : (m now : LiveView) (table : TableView) (ended : List TaskRef) (at moment : ℕ) (call : CodeCall) (r : Reply) (free : List ℕ) (entries : List TaskRef) (free_room ended_room : ℕ) (free' : List ℕ) (entries' : List TaskRef) (free_room' ended_room' : ℕ) →
+pub live_other : (m now : LiveView) (table : TableView) (ended : List TaskRef) (at moment : ℕ) (call : CodeCall) (r : Reply) (free : List ℕ) (entries : List TaskRef) (slot_room ended_room : ℕ) (free' : List ℕ) (entries' : List TaskRef) (slot_room' ended_room' : ℕ) →
     m ≡ now → moment ≡ moment_of_call now at → moment ≤ longest → SubmitsNone m.count call r → workers_of table ≡ workers_of m.table → CallSteps m.table table (moment, call) r → (table.shut ≡ false → m.table.shut ≡ false) →
-    IsLive m free entries free_room ended_room → AreNoted table.slots m.count free' entries' free_room' ended_room' → AreAlive table.slots →
-    IsLive (record m { table = table; ended = ended }) free' entries' free_room' ended_room'
-live_other m now table ended at moment call r free entries free_room ended_room free' entries' free_room' ended_room' same is near none width steps unshut live noted alive =
-    live_call m (record m { table = table; ended = ended }) (moment, call) r free entries free_room ended_room free' entries' free_room' ended_room' live
+    IsLive m free entries slot_room ended_room → AreNoted table.slots m.count free' entries' slot_room' ended_room' → AreAlive table.slots →
+    IsLive (record m { table = table; ended = ended }) free' entries' slot_room' ended_room'
+live_other m now table ended at moment call r free entries slot_room ended_room free' entries' slot_room' ended_room' same is near none width steps unshut live noted alive =
+    live_call m (record m { table = table; ended = ended }) (moment, call) r free entries slot_room ended_room free' entries' slot_room' ended_room' live
     (makes_other m table ended moment call r (may_call m now at moment call r same is near live.stands.few none) none.same none.none width steps)
     (λ q. live.unshut (unshut q)) refl noted alive
 
 -- the slots are noted as they were, by another name, and the room for ended tasks is as it was
-pub noted_same_room : (old new : List (Option Seat)) (count : ℕ) (free : List ℕ) (entries : List TaskRef) (free_room ended_room more_ended : ℕ) → new ≡ old → more_ended ≡ ended_room → AreNoted old count free entries free_room ended_room →
-    AreNoted new count free entries free_room more_ended
-noted_same_room old new count free entries free_room ended_room more_ended same room noted =
-    subst (λ (l : List (Option Seat)). AreNoted l count free entries free_room more_ended) (sym same) (subst (AreNoted old count free entries free_room) (sym room) noted)
+pub noted_same_room : (old new : List (Option Seat)) (count : ℕ) (free : List ℕ) (entries : List TaskRef) (slot_room ended_room more_ended : ℕ) → new ≡ old → more_ended ≡ ended_room → AreNoted old count free entries slot_room ended_room →
+    AreNoted new count free entries slot_room more_ended
+noted_same_room old new count free entries slot_room ended_room more_ended same room noted =
+    subst (λ (l : List (Option Seat)). AreNoted l count free entries slot_room more_ended) (sym same) (subst (AreNoted old count free entries slot_room) (sym room) noted)

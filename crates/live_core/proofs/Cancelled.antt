@@ -67,7 +67,7 @@ outside_held m mid new ended slot k x effect is own low stands steps calls past 
     let r = bare (a.Outside k effect) in
     let own_steps = subst (λ (n : ℕ). EventSteps m.table mid (h.Cancel n) (bare (a.Outside n effect))) own steps in
     meets_still (quiet m mid) (record m { table = new; ended = ended }) calls past (h.Cancel k) r (carries m mid new ended stands)
-    (meets_other m mid (h.Cancel k) r refl (inl low) is.workers own_steps calls past st)
+    (meets_other m mid (h.Cancel k) r refl refl (inl low) is.workers own_steps calls past st)
 
 pub by_call_held : (m : LiveView) (mid new : TableView) (ended : List TaskRef) (at slot k : ℕ) (x : Seat) (effect : CancelEffect) → IsCancelled m.table mid slot x → x.number ≡ k → MayAdd m (at, c.Cancel k) → IsRoomier mid new →
     CallSteps m.table mid (at, c.Cancel x.number) (bare (a.Cancel x.number effect)) → Calls m (record m { table = new; ended = ended }) (at, c.Cancel k) (bare (a.Cancel k effect))

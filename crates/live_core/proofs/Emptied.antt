@@ -71,7 +71,7 @@ count_filled (o ∷ held) (suc slot) number low empty = by (is_some o) (count_fi
     by false rest = rest
 
 -- once one is emptied
-count_emptied : (held : List (Option ℕ)) (slot number : ℕ) → number_in held slot ≡ Some number → how_many is_some held ≡ 1 + how_many is_some (set held slot None)
+pub count_emptied : (held : List (Option ℕ)) (slot number : ℕ) → number_in held slot ≡ Some number → how_many is_some held ≡ 1 + how_many is_some (set held slot None)
 count_emptied [] slot number is = absurd (none-some number is)
 count_emptied (o ∷ held) zero number is = ap (λ (p : Option ℕ). cond (is_some p) (1 + how_many is_some held) (how_many is_some held)) is
 count_emptied (o ∷ held) (suc slot) number is = by (is_some o) (count_emptied held slot number is)

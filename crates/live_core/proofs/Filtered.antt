@@ -29,7 +29,7 @@ filtered_to test (y ∷ entries) (suc i) x is passes = by (test y) (filtered_to 
     by false rest = rest
 
 -- the rest of entries that ascend does too
-rest_ascends : (y : TaskRef) (entries : List TaskRef) → Ascends (y ∷ entries) → Ascends entries
+pub rest_ascends : (y : TaskRef) (entries : List TaskRef) → Ascends (y ∷ entries) → Ascends entries
 rest_ascends y entries rises i j x z l p q = rises (suc i) (suc j) x z (omega (arith, l)) p q
 
 -- what is left of entries that ascend does too

@@ -46,7 +46,7 @@ pub cancels_gone : (m : LiveView) (k : ℕ) → IsNew m.table.slots k → k < m.
 cancels_gone m k new low calls past st =
     let steps = gone_steps m.table k new calls past st.table (omega (arith, low, st.count)) in
     meets_there m (quiet m m.table) calls past (h.Cancel k) (bare (a.Outside k (effect_without m.accepted k))) refl
-    (record { workers = refl; count = refl; accepted = refl; earliest = omega arith; behind = λ q. q; looks = inl low })
+    (record { workers = refl; count = refl; accepted = refl; earliest = omega arith; behind = λ q. q; looks = inl low; clock = refl })
     st
     (subst (λ e. Takes m.table calls past (h.Cancel k) (bare (a.Outside k e))) (effect_there m.table calls past k m.accepted st.table (st.accepted k)) steps)
 
@@ -65,6 +65,6 @@ cancels_gone_by_call m at k new may calls past st =
 pub cancels_none : (m : LiveView) (k : ℕ) → never ≤ k → Happens m (quiet m m.table) (h.Cancel k) (bare (a.Error x.NoTask))
 cancels_none m k far calls past st =
     meets_there m (quiet m m.table) calls past (h.Cancel k) (bare (a.Error x.NoTask)) refl
-    (record { workers = refl; count = refl; accepted = refl; earliest = omega arith; behind = λ q. q; looks = inr far })
+    (record { workers = refl; count = refl; accepted = refl; earliest = omega arith; behind = λ q. q; looks = inr far; clock = refl })
     st
     (no_task_steps m.table k calls past st.table (omega (arith, far, st.count, st.few)))

@@ -1,11 +1,12 @@
 -- The numbers in the slots, once a table has changed.
-use Rattle.std.proofs.Common.{◌≡◌, ℕ, ◌+◌, zero, suc, List, [], ◌∷◌, ◌++◌, length, Option, Some, None, refl, sym, ap, ◌∙◌, arith}
+use Rattle.std.proofs.Common.{◌≡◌, ℕ, ◌+◌, ◌<◌, zero, suc, List, [], ◌∷◌, ◌++◌, length, Option, Some, None, refl, sym, ap, ◌∙◌, arith}
 use Rattle.std.specs.Prelude.{map, replicate, slice_set, is_some}
 use Rattle.queue_code.specs.Calls.{how_many}
 use Rattle.std.specs.Option.{option_map}
 use Rattle.std.proofs.lemmas.Option.{none-some}
 use Rattle.task_table.specs.declared.seat.Seat.{Seat}
 use Rattle.task_table.specs.Seats.{slot_of, IsNew}
+use Rattle.live_core.specs.Said.{tasks_in}
 use Rattle.live_core.specs.own.Slots.{held_numbers, number_in}
 
 abbrev number_of : Option Seat → Option ℕ
@@ -73,3 +74,21 @@ pub held_count : (slots : List (Option Seat)) → how_many is_some (held_numbers
 held_count [] = refl
 held_count (None ∷ slots) = held_count slots
 held_count (Some x ∷ slots) = ap (λ (n : ℕ). 1 + n) (held_count slots)
+
+-- one task more, where a task comes into an empty slot
+pub tasks_put : (slots : List (Option Seat)) (slot : ℕ) (x : Seat) → slot < length slots → slot_of slots slot ≡ None → tasks_in (slice_set slots slot (Some x)) ≡ tasks_in slots + 1
+tasks_put [] slot x low empty = absurd (omega (arith, low))
+tasks_put (None ∷ slots) zero x low empty = omega arith
+tasks_put (Some y ∷ slots) zero x low empty = absurd (none-some y (sym empty))
+tasks_put (None ∷ slots) (suc slot) x low empty = tasks_put slots slot x (omega (arith, low)) empty
+tasks_put (Some y ∷ slots) (suc slot) x low empty = let rest = tasks_put slots slot x (omega (arith, low)) empty in omega (arith, rest)
+
+-- none more, where there are more slots
+pub tasks_grown : (slots : List (Option Seat)) (n : ℕ) → tasks_in (slots ++ replicate n None) ≡ tasks_in slots
+tasks_grown [] n = nones n
+  where
+    nones : (n : ℕ) → tasks_in (replicate n None) ≡ 0
+    nones zero = refl
+    nones (suc n) = nones n
+tasks_grown (None ∷ slots) n = tasks_grown slots n
+tasks_grown (Some x ∷ slots) n = ap (λ (k : ℕ). 1 + k) (tasks_grown slots n)

@@ -18,3 +18,6 @@ pub mod Workers
 pub mod Occurring
 pub mod Swept
 pub mod Called
+pub mod Few
+pub mod Waiting
+pub mod Limited

@@ -237,6 +237,7 @@ makes_there old new calls past p r may leaves st steps =
         made = ap (λ (n : ℕ). 1 + n) st.made ∙ one_more calls p;
         count = counts_more calls p ∙ (ap (λ (n : ℕ). count_after n p.1) st.count ∙ sym leaves.count);
         few = subst (λ n. n ≤ never) (sym leaves.count) may.few;
+        clock = leaves.earliest ∙ st.clock;
         below = longer_below old new past p r leaves st.below;
         behind = longer_behind old new calls past p r st may leaves takes;
         accepted = λ k. ap (λ b. is_submit k r.answer || b) (st.accepted k) ∙ leaves.accepted k;

@@ -18,7 +18,7 @@ use Rattle.executor_core.specs.Flows.{lines_of, lines_at}
 use Rattle.executor_laws.specs.Additions.{LooksBelow}
 use Rattle.task_table.specs.Tables as tables
 use Rattle.task_table.specs.Tables.{TableView, workers_of, Takes, EventSteps}
-use Rattle.live_core.specs.Lives.{LiveView, Stands, Makes, Meets, Happens, never}
+use Rattle.live_core.specs.Lives.{LiveView, Stands, Makes, Meets, Happens, never, passed}
 use Rattle.live_core.proofs.Making.{all_look_higher, now_later, now_there}
 
 -- ---- an event submits no task
@@ -70,6 +70,7 @@ pub record Passes (old new : LiveView) (y : Happening) (r : Reply) : Type 0 wher
   pub earliest : old.earliest ≤ new.earliest
   pub behind : old.earliest ≤ new.table.moment + 1 → new.earliest ≤ new.table.moment + 1
   pub looks : LooksBelow new.earliest old.count never y r.answer
+  pub clock : new.earliest ≡ passed old.earliest y r.answer
 
 -- the history is one event longer
 event_means : (old new : LiveView) (calls : List Planned) (past : List HistoryEntry) (y : Happening) (r : Reply) → is_call y ≡ false → workers_of new.table ≡ workers_of old.table → Takes new.table calls past y r → Stands old calls past →
@@ -104,6 +105,7 @@ meets_there old new calls past y r event passes st takes =
         made = ap (λ b. cond b (1 + made (happenings past)) (made (happenings past))) event ∙ st.made;
         count = st.count ∙ sym passes.count;
         few = subst (λ n. n ≤ never) (sym passes.count) st.few;
+        clock = passes.clock ∙ ap (λ (n : ℕ). passed n y r.answer) st.clock;
         below = All-cons (λ (e : HistoryEntry). LooksBelow new.earliest new.count never e.happening e.answer) (entry_of y r) past
             (subst (λ n. LooksBelow new.earliest n never y r.answer) (sym passes.count) passes.looks)
             (all_look_higher old.earliest new.earliest old.count new.count never past passes.earliest (omega (arith, passes.count)) st.below);
@@ -127,6 +129,7 @@ opening table st = record {
   made = refl;
   count = refl;
   few = omega arith;
+  clock = refl;
   below = All-nil (λ (e : HistoryEntry). LooksBelow 0 0 never e.happening e.answer);
   behind = omega arith;
   accepted = λ k. none k;
@@ -152,6 +155,7 @@ stays old new calls past carries st = record {
   made = st.made;
   count = st.count ∙ sym carries.count;
   few = subst (λ n. n ≤ never) (sym carries.count) st.few;
+  clock = carries.earliest ∙ st.clock;
   below = all_look_higher old.earliest new.earliest old.count new.count never past (omega (arith, carries.earliest)) (omega (arith, carries.count)) st.below;
   behind = omega (arith, carries.earliest, carries.moment, st.behind);
   accepted = λ k. st.accepted k ∙ ap (nat_lt k) (sym carries.accepted);

@@ -1,6 +1,6 @@
 -- The empty slots, once there are more slots.
 use Rattle.std.proofs.Common.{◌≡◌, ℕ, ◌+◌, ◌-◌, ◌≤◌, ◌==◌, zero, suc, cond, List, [], ◌∷◌, ◌++◌, length, Option, None, refl, sym, ap, ◌∙◌, arith, subst, append_assoc}
-use Rattle.std.specs.Prelude.{replicate, is_some}
+use Rattle.std.specs.Prelude.{replicate, min, is_some}
 use Rattle.std.specs.List.{range_with_len}
 use Rattle.std.proofs.lemmas.Bool.{eqb-true, false_from_ne_true}
 use Rattle.std.proofs.lemmas.List.{append-nil}
@@ -74,3 +74,10 @@ grown_number [] n i = nones n i
     nones (suc n) (suc i) = nones n i
 grown_number (o ∷ held) n zero = refl
 grown_number (o ∷ held) n (suc i) = grown_number held n i
+
+-- there is room in the list of empty slots, where there is in both lists
+pub room_within : (free index room : ℕ) → min free index ≡ room → room ≤ free
+room_within free index room is = subst (λ (n : ℕ). n ≤ free) is least
+  where
+    least : min free index ≤ free
+    least = grind arith

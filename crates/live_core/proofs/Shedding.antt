@@ -126,7 +126,7 @@ over_dropped m mid slot drops =
     (unkept drops.task, ap (λ (v : TableView). slot_of v.slots slot) drops.is ∙ writes.here, drops.over)
 
 -- what is noted stays so, once it is dropped
-pub noted_dropped : (m mid : TableView) (slot count : ℕ) (free : List ℕ) (entries : List TaskRef) (free_room ended_room : ℕ) → Drops m mid slot → AreNoted m.slots count free entries free_room ended_room → AreNoted mid.slots count free entries free_room ended_room
-noted_dropped m mid slot count free entries free_room ended_room drops noted =
-    noted_still m.slots mid.slots count free entries free_room ended_room
+pub noted_dropped : (m mid : TableView) (slot count : ℕ) (free : List ℕ) (entries : List TaskRef) (slot_room ended_room : ℕ) → Drops m mid slot → AreNoted m.slots count free entries slot_room ended_room → AreNoted mid.slots count free entries slot_room ended_room
+noted_dropped m mid slot count free entries slot_room ended_room drops noted =
+    noted_still m.slots mid.slots count free entries slot_room ended_room
     (ap (λ (v : TableView). held_numbers v.slots) drops.is ∙ held_put m.slots slot drops.task (unkept drops.task) drops.there refl) noted

@@ -16,7 +16,7 @@ use Rattle.executor_core.specs.Histories.{is_submit, is_call}
 use Rattle.executor_laws.specs.Additions.{LooksBelow}
 use Rattle.task_table.specs.declared.seat.TaskRef.{TaskRef}
 use Rattle.task_table.specs.Tables.{TableView, workers_of, CallSteps, EventSteps}
-use Rattle.live_core.specs.Lives.{LiveView, Calls, Happens, never, quiet, moment_of_call}
+use Rattle.live_core.specs.Lives.{LiveView, Calls, Happens, never, quiet, passed, moment_of_call}
 use Rattle.task_table.specs.Changes.{at_moment}
 use Rattle.live_core.specs.own.Formed.{IsRoomier}
 use Rattle.live_core.specs.own.Changes.{accepting, rejecting, clocking}
@@ -79,18 +79,18 @@ makes_other m table ended at call r may same none width steps =
 -- ---- events
 
 -- a clock that is accepted
-pub meets_clock : (m : LiveView) (table : TableView) (t : ℕ) (r : Reply) → m.earliest ≤ t + 1 → t ≤ table.moment → workers_of table ≡ workers_of m.table → EventSteps m.table table (h.Clock t) r → Happens m (clocking m table t) (h.Clock t) r
-meets_clock m table t r later there width steps =
+pub meets_clock : (m : LiveView) (table : TableView) (t : ℕ) (r : Reply) → m.earliest ≤ t + 1 → t ≤ table.moment → passed m.earliest (h.Clock t) r.answer ≡ t + 1 → workers_of table ≡ workers_of m.table → EventSteps m.table table (h.Clock t) r → Happens m (clocking m table t) (h.Clock t) r
+meets_clock m table t r later there is width steps =
     meets m (clocking m table t) (h.Clock t) r refl
-    (record { workers = width; count = refl; accepted = refl; earliest = later; behind = λ _. omega (arith, there); looks = λ accepted. omega arith })
+    (record { workers = width; count = refl; accepted = refl; earliest = later; behind = λ _. omega (arith, there); looks = λ accepted. omega arith; clock = sym is })
     steps
 
 -- an event that is answered so that it looks at no number and no moment
-pub meets_other : (m : LiveView) (table : TableView) (y : Happening) (r : Reply) → is_call y ≡ false → LooksBelow m.earliest m.count never y r.answer → workers_of table ≡ workers_of m.table → EventSteps m.table table y r →
+pub meets_other : (m : LiveView) (table : TableView) (y : Happening) (r : Reply) → is_call y ≡ false → passed m.earliest y r.answer ≡ m.earliest → LooksBelow m.earliest m.count never y r.answer → workers_of table ≡ workers_of m.table → EventSteps m.table table y r →
     Happens m (quiet m table) y r
-meets_other m table y r event looks width steps =
+meets_other m table y r event unclocked looks width steps =
     meets m (quiet m table) y r event
-    (record { workers = width; count = refl; accepted = refl; earliest = omega arith; behind = λ q. q; looks = looks })
+    (record { workers = width; count = refl; accepted = refl; earliest = omega arith; behind = λ q. q; looks = looks; clock = sym unclocked })
     steps
 
 -- ---- submissions, as the code makes them

@@ -21,7 +21,7 @@ use Rattle.task_table.specs.Runs.{Drops}
 use Rattle.task_table.specs.Changes.{emptied, unkept, swept}
 use Rattle.task_table.proofs.Slots.{by_eqb, apart_eqb, slot_within, Writes, set_writes}
 use Rattle.task_table.proofs.Starts.{stands_before}
-use Rattle.live_core.specs.Shutting.{IsGone}
+use Rattle.live_core.specs.own.Places.{IsEmptyAt}
 use Rattle.live_core.specs.own.Slots.{held_numbers}
 use Rattle.live_core.specs.own.Formed.{AreNoted}
 use Rattle.live_core.proofs.Held.{held_put, held_mapped}
@@ -30,9 +30,9 @@ use Rattle.live_core.proofs.Noted.{noted_still}
 -- ---- a kept task is dropped
 
 -- the slots are noted as before
-pub noted_dropped : (m mid : TableView) (slot count : ℕ) (free : List ℕ) (entries : List TaskRef) (free_room ended_room : ℕ) → Drops m mid slot → AreNoted m.slots count free entries free_room ended_room → AreNoted mid.slots count free entries free_room ended_room
-noted_dropped m mid slot count free entries free_room ended_room d noted =
-    noted_still m.slots mid.slots count free entries free_room ended_room (ap (λ (v : TableView). held_numbers v.slots) d.is ∙ held_put m.slots slot d.task (unkept d.task) d.there refl) noted
+pub noted_dropped : (m mid : TableView) (slot count : ℕ) (free : List ℕ) (entries : List TaskRef) (slot_room ended_room : ℕ) → Drops m mid slot → AreNoted m.slots count free entries slot_room ended_room → AreNoted mid.slots count free entries slot_room ended_room
+noted_dropped m mid slot count free entries slot_room ended_room d noted =
+    noted_still m.slots mid.slots count free entries slot_room ended_room (ap (λ (v : TableView). held_numbers v.slots) d.is ∙ held_put m.slots slot d.task (unkept d.task) d.there refl) noted
 
 -- a kept task is where it was, or has left its slot
 abbrev pub StaysOrGoes : TableView → TableView → Type 0
@@ -145,20 +145,20 @@ gone_more m new slot i x there is which = ap (λ (v : TableView). slot_of v.slot
         by true = refl
         by false = empty
 
-pub gone_rest : (m new : TableView) (tasks : List TaskRef) (i : ℕ) (d : TaskRef) (rest : List TaskRef) → i < length tasks → AreOver m (get_or tasks i d ∷ rest) → new ≡ emptied m (get_or tasks i d).slot → All (IsGone m) (take i tasks) → All (IsGone new) (take (i + 1) tasks)
+pub gone_rest : (m new : TableView) (tasks : List TaskRef) (i : ℕ) (d : TaskRef) (rest : List TaskRef) → i < length tasks → AreOver m (get_or tasks i d ∷ rest) → new ≡ emptied m (get_or tasks i d).slot → All (IsEmptyAt m) (take i tasks) → All (IsEmptyAt new) (take (i + 1) tasks)
 gone_rest m new tasks i d rest low a is gone =
     let task = get_or tasks i d in
     let first = over_first m task rest a in
-    All-more (IsGone new) tasks i d low (All-weaker (IsGone m) (IsGone new) (λ r none. gone_more m new task.slot r.slot first.0 first.1 is (inr none)) (take i tasks) gone) (gone_more m new task.slot task.slot first.0 first.1 is (inl refl))
+    All-more (IsEmptyAt new) tasks i d low (All-weaker (IsEmptyAt m) (IsEmptyAt new) (λ r none. gone_more m new task.slot r.slot first.0 first.1 is (inr none)) (take i tasks) gone) (gone_more m new task.slot task.slot first.0 first.1 is (inl refl))
 
 -- ---- a sweep
 
 -- the slots are noted as before
-pub noted_swept : (m new : TableView) (ends : List TaskRef) (count : ℕ) (free : List ℕ) (entries : List TaskRef) (free_room ended_room more_ended : ℕ) → SweepEnds m new ends → more_ended ≡ ended_room → AreNoted m.slots count free entries free_room ended_room →
-    AreNoted new.slots count free entries free_room more_ended
-noted_swept m new ends count free entries free_room ended_room more_ended s room noted =
-    subst (AreNoted new.slots count free entries free_room) (sym room)
-    (noted_still m.slots new.slots count free entries free_room ended_room (ap (λ (v : TableView). held_numbers v.slots) s.is ∙ held_mapped (λ x. swept m.stopped m.policies m.moment x) m.slots (λ x. refl)) noted)
+pub noted_swept : (m new : TableView) (ends : List TaskRef) (count : ℕ) (free : List ℕ) (entries : List TaskRef) (slot_room ended_room more_ended : ℕ) → SweepEnds m new ends → more_ended ≡ ended_room → AreNoted m.slots count free entries slot_room ended_room →
+    AreNoted new.slots count free entries slot_room more_ended
+noted_swept m new ends count free entries slot_room ended_room more_ended s room noted =
+    subst (AreNoted new.slots count free entries slot_room) (sym room)
+    (noted_still m.slots new.slots count free entries slot_room ended_room (ap (λ (v : TableView). held_numbers v.slots) s.is ∙ held_mapped (λ x. swept m.stopped m.policies m.moment x) m.slots (λ x. refl)) noted)
 
 -- what it ended may leave its slots
 pub over_swept : (m new : TableView) (ends : List TaskRef) → SweepEnds m new ends → AreOver new ends

@@ -36,10 +36,10 @@ start_numbers : (m new : TableView) (worker : ℕ) (b : Option Begun) → Starts
 start_numbers m new worker None s = ap (λ (v : TableView). held_numbers v.slots) s.is
 start_numbers m new worker (Some b) s = ap (λ (v : TableView). held_numbers v.slots) s.is ∙ held_put m.slots b.task.slot s.task (begun s.task) s.first.there refl
 
-pub noted_started : (m new : TableView) (worker : ℕ) (b : Option Begun) (count : ℕ) (free : List ℕ) (entries : List TaskRef) (free_room ended_room : ℕ) → Starts m new worker b →
-    AreNoted m.slots count free entries free_room ended_room → AreNoted new.slots count free entries free_room ended_room
-noted_started m new worker b count free entries free_room ended_room s noted =
-    noted_still m.slots new.slots count free entries free_room ended_room (start_numbers m new worker b s) noted
+pub noted_started : (m new : TableView) (worker : ℕ) (b : Option Begun) (count : ℕ) (free : List ℕ) (entries : List TaskRef) (slot_room ended_room : ℕ) → Starts m new worker b →
+    AreNoted m.slots count free entries slot_room ended_room → AreNoted new.slots count free entries slot_room ended_room
+noted_started m new worker b count free entries slot_room ended_room s noted =
+    noted_still m.slots new.slots count free entries slot_room ended_room (start_numbers m new worker b s) noted
 
 -- the worker runs the task
 pub runs_started : (m new : TableView) (worker : ℕ) (b : Option Begun) → Starts m new worker b → IfSome b (λ r. IsRunBy new worker r.task)
@@ -81,11 +81,11 @@ same_number o.Dropped due x = refl
 same_number o.Ended due x = refl
 same_number (o.Again next) due x = refl
 
-pub noted_finished : (m new : TableView) (worker : ℕ) (ending : Ending) (e : Ended) (count : ℕ) (free : List ℕ) (entries : List TaskRef) (free_room ended_room : ℕ) → Ends m new worker ending e →
-    AreNoted m.slots count free entries free_room ended_room → AreNoted new.slots count free entries free_room ended_room
-noted_finished m new worker ending e count free entries free_room ended_room s noted =
+pub noted_finished : (m new : TableView) (worker : ℕ) (ending : Ending) (e : Ended) (count : ℕ) (free : List ℕ) (entries : List TaskRef) (slot_room ended_room : ℕ) → Ends m new worker ending e →
+    AreNoted m.slots count free entries slot_room ended_room → AreNoted new.slots count free entries slot_room ended_room
+noted_finished m new worker ending e count free entries slot_room ended_room s noted =
     let due = due_past s.task.timing s.task.due m.moment in
-    noted_still m.slots new.slots count free entries free_room ended_room
+    noted_still m.slots new.slots count free entries slot_room ended_room
     (ap (λ (v : TableView). held_numbers v.slots) s.is ∙ held_put m.slots e.task.slot s.task (ended e.outcome due s.task) s.there (same_number e.outcome due s.task)) noted
 
 -- the workers stay

@@ -1,5 +1,5 @@
 -- What cancels answer, from outside and by a call.
--- All of it is this project's rule.
+-- All of it is this project's rule, but where a source is named.
 use Rattle.std.specs.Prelude.{◌≡◌, ℕ, ◌+◌, ◌<◌, ◌≤◌, true, [], Some}
 use Rattle.sched_time.specs.Times.{longest}
 use Rattle.queue_code.specs.declared.call.CodeCall.TheVariants as c
@@ -21,6 +21,8 @@ abbrev pub IsHeldAlive : TableView → ℕ → Type 0
 IsHeldAlive m k = (i : ℕ) (x : Seat) → slot_of m.slots i ≡ Some x → x.number ≡ k → is_alive (task_in x) ≡ true
 
 -- a cancel from outside of a number that was given out has this effect; the slot of its task is empty where it is over
+-- (Future.cancel, Java SE 17 documentation: "This method has no effect if the task is already completed or cancelled, or could not be
+-- cancelled for some other reason.")
 pub record CancelsOutside (old new : LiveView) (k : ℕ) (effect : CancelEffect) : Type 0 where
   pub given : k < old.count
   pub happens : Happens old new (h.Cancel k) (bare (a.Outside k effect))

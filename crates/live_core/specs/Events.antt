@@ -1,6 +1,7 @@
 -- What the executor's events answer, as the lines of a trace have it, and what stands then.
--- All of it is this project's rule.
-use Rattle.std.specs.Prelude.{◌≡◌, ℕ, true, Option, Some, None, slice_index_or}
+-- All of it is this project's rule (the order of the runs is that of `task_table`, which names its sources).
+use Rattle.std.specs.Prelude.{◌≡◌, ℕ, ◌-◌, ◌^◌, true, List, Option, Some, None, slice_index_or}
+use Rattle.queue_code.specs.Calls.{Planned}
 use Rattle.executor_core.specs.declared.types.Happening.{Happening}
 use Rattle.executor_core.specs.declared.types.Happening.TheVariants as h
 use Rattle.executor_core.specs.declared.types.EventError.{EventError}
@@ -8,6 +9,7 @@ use Rattle.executor_core.specs.declared.types.Outcome.{Outcome}
 use Rattle.executor_core.specs.declared.types.Outcome.TheVariants as o
 use Rattle.executor_core.specs.declared.types.Answer.TheVariants as a
 use Rattle.executor_core.specs.Answers.{Reply, bare}
+use Rattle.executor_core.specs.Histories.{HistoryEntry, answer}
 use Rattle.task_table.specs.declared.answers.Begun.{Begun}
 use Rattle.task_table.specs.declared.answers.Ended.{Ended}
 use Rattle.task_table.specs.declared.answers.StartError.{StartError}
@@ -15,9 +17,9 @@ use Rattle.task_table.specs.declared.answers.StartError.TheVariants as e
 use Rattle.task_table.specs.declared.seat.Seat.{Seat}
 use Rattle.task_table.specs.declared.seat.TaskRef.{TaskRef}
 use Rattle.task_table.specs.Seats.{slot_of, is_running_in}
-use Rattle.task_table.specs.Tables.{TableView}
+use Rattle.task_table.specs.Tables.{TableView, workers_of}
 use Rattle.task_table.specs.Runs.{IsFree, IsFull, IsStartError}
-use Rattle.live_core.specs.Lives.{LiveView, Happens, quiet}
+use Rattle.live_core.specs.Lives.{LiveView, Stands, Happens, quiet}
 use Rattle.live_core.specs.Said.{is_waiting_there}
 
 -- a start by a worker begins this run, or none
@@ -47,8 +49,17 @@ pub record Fails (old new : LiveView) (y : Happening) (error : EventError) : Typ
   pub happens : Happens old new y (bare (a.Error error))
   pub is : new ≡ quiet old old.table
 
+-- the numbers of the runs of a task are below this one
+abbrev pub run_limit : ℕ
+run_limit = 2 ^ 64 - 1
+
+-- whatever calls and history led here, the start of this worker would begin a run that has no number
+abbrev pub WouldPassLimit : LiveView → ℕ → Type 0
+WouldPassLimit m worker = (calls : List Planned) (past : List HistoryEntry) → Stands m calls past →
+    (task due : ℕ) × (answer calls (workers_of m.table) past (h.Start worker) ≡ bare (a.Start worker task run_limit due))
+
 -- why a start begins no run: it is answered by an error; or nothing happens, and nothing changes, since no number is left for the
 -- run that it would begin
-abbrev pub FailsStart : LiveView → LiveView → ℕ → StartError → Type 0
-FailsStart old new worker (e.Refused error) = IsStartError old.table worker error × Fails old new (h.Start worker) error
-FailsStart old new worker e.Full = IsFree old.table worker × IsFull old.table × (new ≡ old)
+abbrev pub BeginsNone : LiveView → LiveView → ℕ → StartError → Type 0
+BeginsNone old new worker (e.Refused error) = IsStartError old.table worker error × Fails old new (h.Start worker) error
+BeginsNone old new worker e.Full = IsFree old.table worker × IsFull old.table × WouldPassLimit old worker × (new ≡ old)

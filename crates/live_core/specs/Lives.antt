@@ -4,6 +4,8 @@ use Rattle.std.specs.Prelude.{◌≡◌, ℕ, ◌+◌, ◌^◌, ◌≤◌, max, 
 use Rattle.queue_code.specs.Calls.{Planned, task_count}
 use Rattle.executor_core.specs.declared.types.Happening.{Happening}
 use Rattle.executor_core.specs.declared.types.Happening.TheVariants as h
+use Rattle.executor_core.specs.declared.types.Answer.{Answer}
+use Rattle.executor_core.specs.declared.types.Answer.TheVariants as a
 use Rattle.executor_core.specs.Answers.{Reply}
 use Rattle.executor_core.specs.Histories.{HistoryEntry, entry_of, happenings, made, was_accepted}
 use Rattle.executor_core.specs.Flows.{lines_of, lines_at}
@@ -30,18 +32,29 @@ pub record LiveView : Type 0 where
 abbrev pub quiet : LiveView → TableView → LiveView
 quiet m table = record m { table = table; ended = [] }
 
+-- 1 ns after a clock that was accepted, and as before where there was none
+abbrev pub passed : ℕ → Happening → Answer → ℕ
+passed before (h.Clock t) a.Clock = t + 1
+passed before happening answer = before
+
+-- 1 ns after the last accepted clock, and 0 before any
+abbrev pub after_clock : List HistoryEntry → ℕ
+after_clock [] = 0
+after_clock (e ∷ past) = passed (after_clock past) e.happening e.answer
+
 -- the moment at which a call is made, where this one is handed in: the greatest of it, now, and 1 ns after the last accepted clock
 abbrev pub moment_of_call : LiveView → ℕ → ℕ
 moment_of_call m at = max at (max m.table.moment m.earliest)
 
--- The executor stands where this history of the calls made so far leads: all calls were made in it; each accepted clock was
--- before the least moment of the call that comes next, which is at most 1 ns after now; and each cancel from outside named a
--- number that was given out, or one that no task ever has.
+-- The executor stands where this history of the calls made so far leads: all calls were made in it; the least moment of the call
+-- that comes next is 1 ns after the last accepted clock, so that each accepted clock was before it, and at most 1 ns after now; and
+-- each cancel from outside named a number that was given out, or one that no task ever has.
 pub record Stands (m : LiveView) (calls : List Planned) (past : List HistoryEntry) : Type 0 where
   pub table : tables.Stands m.table calls past
   pub made : made (happenings past) ≡ length calls
   pub count : task_count calls ≡ m.count
   pub few : m.count ≤ never
+  pub clock : m.earliest ≡ after_clock past
   pub below : AllLookBelow m.earliest m.count never past
   pub behind : m.earliest ≤ m.table.moment + 1
   pub accepted : (k : ℕ) → was_accepted k past ≡ nat_lt k m.accepted

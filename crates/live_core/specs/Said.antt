@@ -1,6 +1,6 @@
--- What the executor's calls answer, as the lines of a trace have it.
--- All of it is this project's rule.
-use Rattle.std.specs.Prelude.{◌≡◌, ℕ, ◌-◌, ◌^◌, ◌<◌, ◌≤◌, ◌==◌, ◌&&◌, nat_lt, Bool, false, if◌then◌else◌, List, map, Option, is_some}
+-- What submissions answer, as the lines of a trace have it, and what an executor tells of its tasks.
+-- All of it is this project's rule, but where a source is named.
+use Rattle.std.specs.Prelude.{◌≡◌, ℕ, ◌+◌, ◌*◌, ◌-◌, ◌^◌, ◌<◌, ◌≤◌, ◌==◌, ◌&&◌, max, nat_lt, Bool, false, if◌then◌else◌, List, length, Option, is_some}
 use Rattle.std.specs.Option.{option_map_or}
 use Rattle.sched_time.specs.declared.timing.Timing.{Timing}
 use Rattle.executor_core.specs.declared.types.Answer.{Answer}
@@ -12,27 +12,28 @@ use Rattle.executor_core.specs.Answers.{Reply, bare, kind_of}
 use Rattle.executor_core.specs.Counts.{IsWorkerCount}
 use Rattle.sched_time.specs.Times.{longest}
 use Rattle.queue_code.specs.declared.call.CodeCall.TheVariants as c
-use Rattle.queue_code.specs.Calls.{how_many, IsTimed}
+use Rattle.queue_code.specs.Calls.{Planned, how_many, IsTimed}
+use Rattle.executor_core.specs.Histories.{HistoryEntry, happenings}
+use Rattle.executor_core.specs.State.{after}
 use Rattle.task_table.specs.declared.seat.Seat.{Seat}
 use Rattle.task_table.specs.declared.seat.TaskRef.{TaskRef}
 use Rattle.task_table.specs.Seats.{task_in, slot_of, waits, is_alive}
-use Rattle.task_table.specs.Tables.{TableView}
+use Rattle.task_table.specs.Tables.{TableView, workers_of}
+use Rattle.task_table.specs.Endings.{numbers_of}
 use Rattle.live_core.specs.declared.error.MakeError.{MakeError}
 use Rattle.live_core.specs.declared.error.MakeError.TheVariants as me
 use Rattle.live_core.specs.declared.error.CallError.{CallError}
 use Rattle.live_core.specs.declared.error.CallError.TheVariants as ce
-use Rattle.live_core.specs.Lives.{LiveView, Calls, moment_of_call}
+use Rattle.live_core.specs.Lives.{LiveView, Stands, Calls, moment_of_call}
 use Rattle.live_core.specs.declared.answers.Submitted.{Submitted}
 use Rattle.live_core.specs.declared.answers.Submitted.TheVariants as su
 
 -- a submission of this timing is accepted, or refused since the executor is shut
+-- (ThreadPoolExecutor, Java SE 17 documentation: "New tasks submitted in method execute(Runnable) will be rejected when the Executor
+-- has been shut down".)
 abbrev pub submit_reply : Timing → Submitted → Reply
 submit_reply timing (su.Accepted task due) = bare (a.Submit task.number (kind_of timing) due)
 submit_reply timing (su.Rejected number) = bare (a.Refuse number refusal.Rejected)
-
--- the numbers of some tasks
-abbrev pub numbers_of : List TaskRef → List ℕ
-numbers_of tasks = map (λ t. t.number) tasks
 
 -- an answer, and the tasks that it ends
 abbrev pub ending : Answer → List TaskRef → Reply
@@ -59,6 +60,10 @@ holds_alive o = option_map_or (λ x. is_alive (task_in x)) o false
 abbrev pub alive_in : List (Option Seat) → ℕ
 alive_in slots = how_many holds_alive slots
 
+-- whatever calls and history led here, a task of this number waits for a run, or not
+abbrev pub TellsWaiting : LiveView → ℕ → Bool → Type 0
+TellsWaiting m number waiting = (calls : List Planned) (past : List HistoryEntry) → Stands m calls past → waiting ≡ waits ((after calls (workers_of m.table) (happenings past)).tasks number)
+
 -- the slot of a task holds it, and it waits for a run
 abbrev pub is_waiting_there : TableView → TaskRef → Bool
 is_waiting_there m task = option_map_or (λ x. (x.number == task.number) && waits (task_in x)) (slot_of m.slots task.slot) false
@@ -68,25 +73,36 @@ abbrev pub number_of : Submitted → ℕ
 number_of (su.Accepted task due) = task.number
 number_of (su.Rejected number) = number
 
--- a submission has this number, which comes next, and is a call that is made
-pub record Submits (old new : LiveView) (at : ℕ) (timing : Timing) (delay : ℕ) (s : Submitted) : Type 0 where
-  pub number : number_of s ≡ old.count
-  pub makes : Calls old new (moment_of_call old at, c.Submit old.count timing delay) (submit_reply timing s)
-
 -- the spans of a submission are within the limit
 abbrev pub IsShort : Timing → ℕ → Type 0
 IsShort timing delay = (delay ≤ longest) × IsTimed timing
 
+-- each slot holds a task
+abbrev pub AreTaken : List (Option Seat) → Type 0
+AreTaken slots = tasks_in slots ≡ length slots
+
+-- a submission has this number, which comes next, and is a call that is made; there are more slots than before only where each held a
+-- task, and then at most twice as many as hold tasks now, and two
+pub record Submits (old new : LiveView) (at : ℕ) (timing : Timing) (delay : ℕ) (s : Submitted) : Type 0 where
+  pub short : IsShort timing delay
+  pub near : moment_of_call old at ≤ longest
+  pub number : number_of s ≡ old.count
+  pub numbers : old.count < 2 ^ 64 - 1
+  pub makes : Calls old new (moment_of_call old at, c.Submit old.count timing delay) (submit_reply timing s)
+  pub slots : length new.table.slots ≤ max (length old.table.slots) (2 * tasks_in new.table.slots + 2)
+
 -- why a submission is no call: a span is too long, or else its moment would be too late, or else no number is left, or else memory
--- was refused for a task that would be accepted
+-- was refused for a task that would be accepted, and that no slot is left for
 abbrev pub IsSubmitError : LiveView → ℕ → Timing → ℕ → CallError → Type 0
 IsSubmitError m at timing delay ce.TooLong = IsShort timing delay → ⊥
 IsSubmitError m at timing delay ce.TooFar = IsShort timing delay × (longest < moment_of_call m at)
 IsSubmitError m at timing delay ce.Full = IsShort timing delay × (moment_of_call m at ≤ longest) × (m.count ≡ 2 ^ 64 - 1)
-IsSubmitError m at timing delay ce.Memory = IsShort timing delay × (moment_of_call m at ≤ longest) × (m.count < 2 ^ 64 - 1) × (m.table.shut ≡ false)
+IsSubmitError m at timing delay ce.Memory = IsShort timing delay × (moment_of_call m at ≤ longest) × (m.count < 2 ^ 64 - 1) × (m.table.shut ≡ false) × AreTaken m.table.slots
 IsSubmitError m at timing delay _ = ⊥
 
 -- the same of one with this period, or fixed delay, which is legal if it is not 0
+-- (ScheduledThreadPoolExecutor.scheduleAtFixedRate, Java SE 17 documentation: "IllegalArgumentException - if period less than or equal to
+-- zero"; scheduleWithFixedDelay says the same of delay.)
 abbrev pub IsPeriodicError : ℕ → LiveView → ℕ → Timing → ℕ → CallError → Type 0
 IsPeriodicError span m at timing delay ce.Illegal = span ≡ 0
 IsPeriodicError span m at timing delay error = (0 < span) × IsSubmitError m at timing delay error

@@ -1,6 +1,6 @@
 -- What the calls that shut the executor down, set a policy, or ask how far it is answer, as the lines of a trace have it.
--- All of it is this project's rule.
-use Rattle.std.specs.Prelude.{◌≡◌, ℕ, ◌<◌, not, Bool, if◌then◌else◌, [], None, is_some}
+-- All of it is this project's rule, but where a source is named.
+use Rattle.std.specs.Prelude.{◌≡◌, ℕ, ◌<◌, not, Bool, if◌then◌else◌, [], Some, None, is_some}
 use Rattle.sched_time.specs.Times.{longest}
 use Rattle.sched_time.specs.declared.policies.Which.{Which}
 use Rattle.queue_code.specs.declared.call.CodeCall.TheVariants as c
@@ -8,6 +8,7 @@ use Rattle.queue_code.specs.Calls.{how_many}
 use Rattle.executor_core.specs.declared.types.Answer.{Answer}
 use Rattle.executor_core.specs.declared.types.Answer.TheVariants as a
 use Rattle.executor_core.specs.Answers.{bare, is_terminated}
+use Rattle.task_table.specs.declared.seat.Seat.{Seat}
 use Rattle.task_table.specs.declared.seat.TaskRef.{TaskRef}
 use Rattle.task_table.specs.declared.answers.Asked.{Asked}
 use Rattle.task_table.specs.Seats.{slot_of}
@@ -23,11 +24,16 @@ abbrev pub IsTooFar : LiveView → ℕ → CallError → Type 0
 IsTooFar m at ce.TooFar = longest < moment_of_call m at
 IsTooFar m at _ = ⊥
 
--- the slot of a task is empty: nothing comes of it any more
-abbrev pub IsGone : TableView → TaskRef → Type 0
-IsGone m task = slot_of m.slots task.slot ≡ None
+-- the slot of a task held it, and is empty now: nothing comes of it any more
+pub record IsGone (old new : TableView) (task : TaskRef) : Type 0 where
+  pub seat : Seat
+  pub there : slot_of old.slots task.slot ≡ Some seat
+  pub named : seat.number ≡ task.number
+  pub empty : slot_of new.slots task.slot ≡ None
 
 -- a policy is set
+-- (ScheduledThreadPoolExecutor.setContinueExistingPeriodicTasksAfterShutdownPolicy, setExecuteExistingDelayedTasksAfterShutdownPolicy and
+-- setRemoveOnCancelPolicy, Java SE 17 documentation.)
 abbrev pub Sets : LiveView → LiveView → ℕ → Which → Bool → Type 0
 Sets old new at which value = Calls old new (moment_of_call old at, c.SetPolicy which value) (ending (a.Policy which value) new.ended)
 
@@ -36,15 +42,21 @@ abbrev pub shutdown_answer : Bool → Answer
 shutdown_answer first = if first then a.Shutdown else a.ShutdownAgain
 
 -- the executor is shut, in order: this says whether it was not shut before
+-- (ExecutorService.shutdown, Java SE 17 documentation: "Initiates an orderly shutdown in which previously submitted tasks are executed,
+-- but no new tasks will be accepted. Invocation has no additional effect if already shut down.")
 pub record ShutsDown (old new : LiveView) (at : ℕ) (is_first : Bool) : Type 0 where
   pub first : is_first ≡ not old.table.shut
   pub makes : Calls old new (moment_of_call old at, c.Shutdown) (ending (shutdown_answer is_first) new.ended)
 
 -- the executor is shut at once
-abbrev pub Stops : LiveView → LiveView → ℕ → Type 0
-Stops old new at = Calls old new (moment_of_call old at, c.ShutdownNow) (ending a.ShutdownNow new.ended)
+-- (ExecutorService.shutdownNow, Java SE 17 documentation: "Attempts to stop all actively executing tasks, halts the processing of
+-- waiting tasks, and returns a list of the tasks that were awaiting execution.")
+abbrev pub StopsAtOnce : LiveView → LiveView → ℕ → Type 0
+StopsAtOnce old new at = Calls old new (moment_of_call old at, c.ShutdownNow) (ending a.ShutdownNow new.ended)
 
 -- how far the executor is, where a call asks: that ends no task
+-- (ThreadPoolExecutor.getQueue, getActiveCount, isShutdown, isTerminated, Java SE 17 documentation, the last: "Returns true if all tasks
+-- have completed following shut down.")
 pub record Asks (old new : LiveView) (at : ℕ) (x : Asked) : Type 0 where
   pub queue : x.queue ≡ queue_in old.table.slots
   pub running : x.running ≡ how_many is_some old.table.work

@@ -1,5 +1,5 @@
 //! Events: the clock, and the starts and finishes of the workers.
-ghost use Rattle.std.specs.Prelude.{◌≡◌, ◌+◌, ◌↔◌, true, [], IsOk, IfOk, OnOk, IfErr, IfSome, IfNone};
+ghost use Rattle.std.specs.Prelude.{◌≡◌, ◌+◌, ◌<◌, ◌↔◌, true, [], IsOk, IfOk, OnOk, IfErr, IfSome, IfNone};
 ghost use Rattle.executor_core.specs.Answers.{bare, is_accepted};
 ghost use Rattle.executor_core.specs.declared.types.Answer.TheVariants as answer;
 ghost use Rattle.executor_core.specs.declared.types.Happening.TheVariants as happening;
@@ -57,8 +57,9 @@ impl<A: Allocator> ScheduledExecutor<A> {
         ensures happens { IfOk result (λ begun. Happens self.old self.new (happening.Start worker) (events.start_reply worker begun)) }
         ensures stays { OnOk result (Stays self.old self.new self.old.count) }
         ensures runs { IfOk result (λ begun. IfSome begun (λ b. events.IsRunBy self.new.table worker b.task)) }
+        ensures numbered { IfOk result (λ begun. IfSome begun (λ b. b.run < events.run_limit)) }
         ensures ended { IfOk result (λ _. self.new.ended ≡ []) }
-        ensures failed { IfErr result (λ error. events.FailsStart self.old self.new worker error) }
+        ensures failed { IfErr result (λ error. events.BeginsNone self.old self.new worker error) }
     {
         if let Some(error) = self.table.start_error(worker) {
             self.ended.clear();

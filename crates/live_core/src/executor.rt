@@ -1,9 +1,10 @@
 //! The executor, and what it tells.
-ghost use Rattle.std.specs.Prelude.{◌≡◌, ℕ, ◌≤◌, List, [], IfOk, IfErr, OnOk};
+ghost use Rattle.std.specs.Prelude.{◌≡◌, ℕ, ◌≤◌, List, [], true, false, IfOk, IfErr, OnOk};
 ghost use Rattle.sched_time.specs.Times.{longest};
 ghost use Rattle.executor_core.specs.Counts.{IsWorkerCount};
 
 use crate::error::MakeError;
+use crate::finding::slot_of_task;
 use crate::notes::Notes;
 use executor_core::Stage;
 use std::alloc::Allocator;
@@ -33,13 +34,15 @@ impl<A: Allocator> Model for ScheduledExecutor<A> {
 
     ghost view = { λ e. record { table = e.table; count = e.count; accepted = e.accepted; earliest = e.earliest; ended = e.ended.items } };
 
-    ghost invariant = { λ e. IsLive (record { table = e.table; count = e.count; accepted = e.accepted; earliest = e.earliest; ended = e.ended.items }) e.notes.free e.notes.entries e.notes.free_room (vec_capacity e.ended) };
+    ghost invariant = { λ e. IsLive (record { table = e.table; count = e.count; accepted = e.accepted; earliest = e.earliest; ended = e.ended.items }) e.notes.free e.notes.entries e.notes.slot_room (vec_capacity e.ended) };
 }
 
 impl<A: Allocator> ScheduledExecutor<A> {
     ghost use Rattle.task_table.specs.Tables.{workers_of};
     ghost use Rattle.live_core.specs.Lives.{Stands};
-    ghost use Rattle.live_core.specs.Said.{IsMakeError, tasks_in, alive_in, is_waiting_there};
+    ghost use Rattle.live_core.specs.Said.{IsMakeError, TellsWaiting, tasks_in, alive_in, is_waiting_there};
+    ghost use Rattle.std.specs.Option.{option_map_or};
+    ghost use Rattle.task_table.specs.Seats.{task_in, slot_of, waits};
 
     /// An executor before anything happened, for 1 to 64 workers, which `alloc` gives its memory.
     ///
@@ -54,6 +57,7 @@ impl<A: Allocator> ScheduledExecutor<A> {
         ensures workers { IfOk result (λ e. workers_of e.table ≡ workers) }
         ensures first { IfOk result (λ e. e.count ≡ 0) }
         ensures earliest { IfOk result (λ e. e.earliest ≡ 0) }
+        ensures ended { IfOk result (λ e. e.ended ≡ []) }
         ensures range { OnOk result (IsWorkerCount workers) }
         ensures failed { IfErr result (λ error. IsMakeError workers error) }
     {
@@ -96,16 +100,23 @@ impl<A: Allocator> ScheduledExecutor<A> {
         self.table.slots() - self.notes.free_slots()
     }
 
-    /// Whether a task waits for a run.
+    /// Whether a task waits for a run. The task is the one of the number, whatever the slot.
     pub fn is_waiting(&self, task: TaskRef) -> bool
-        ensures { result ≡ is_waiting_there self.now.table task }
+        ensures history { TellsWaiting self.now task.number result }
+        ensures there { is_waiting_there self.now.table task ≡ true → result ≡ true }
     {
-        match self.table.seat(task.slot) {
-            Some(seat) => {
-                seat.number == task.number
-                    && !seat.cancelled
-                    && matches!(seat.phase, Stage::Waiting)
-            }
+        match slot_of_task(&self.table, &self.notes, task) {
+            Some(slot) => self.waits_in(slot),
+            None => false,
+        }
+    }
+
+    /// Whether a slot holds a task that waits for a run.
+    fn waits_in(&self, slot: u32) -> bool
+        ensures { result ≡ option_map_or (λ x. waits (task_in x)) (slot_of self.now.table.slots slot) false }
+    {
+        match self.table.seat(slot) {
+            Some(seat) => !seat.cancelled && matches!(seat.phase, Stage::Waiting),
             None => false,
         }
     }

@@ -1,6 +1,7 @@
 //! Which slot each number has.
 ghost use Rattle.std.specs.Prelude.{◌≡◌, ℕ, ◌+◌, ◌<◌, ◌≤◌, ◌++◌, [], ◌∷◌, length, false, IfSome, IfNone, OnOk, OnErr};
 ghost use Rattle.std.specs.List.{filter};
+ghost use Rattle.live_core.specs.Said.{tasks_in};
 ghost use Rattle.live_core.specs.own.Slots.{IsBelow, HasEntry, HasNone, IsIndex, held_numbers, is_held};
 
 use std::alloc::{AllocError, Allocator};
@@ -60,7 +61,8 @@ impl<A: Allocator> NumberIndex<A> {
 
     /// Drops the entries whose slot in this table holds another task by now, or none.
     pub(crate) fn compact<B: Allocator>(&mut self, table: &TaskTable<B>)
-        ensures { self.new.entries ≡ filter (is_held (held_numbers table.now.slots)) self.old.entries }
+        ensures left { self.new ≡ record self.old { entries = filter (is_held (held_numbers table.now.slots)) self.old.entries } }
+        ensures few { length self.new.entries ≤ tasks_in table.now.slots }
     {
         let mut kept = 0;
         let mut i = 0;
@@ -75,21 +77,15 @@ impl<A: Allocator> NumberIndex<A> {
         self.entries.truncate(kept);
     }
 
-    /// Makes room for one more entry. Where there is none, the stale entries are dropped, and where more than half of the
-    /// entries are left, there is room for twice as many after it.
-    ///
-    /// # Errors
-    ///
-    /// `AllocError` where the memory for them is refused.
-    pub(crate) fn make_room<B: Allocator>(&mut self, table: &TaskTable<B>) -> Result<(), AllocError>
+    /// Drops the entries that are stale for this table, where there is no room for one more.
+    pub(crate) fn tidy<B: Allocator>(&mut self, table: &TaskTable<B>)
         ensures index { (count : ℕ) → IsIndex (held_numbers table.now.slots) self.old.entries count → IsIndex (held_numbers table.now.slots) self.new.entries count }
-        ensures room { OnOk result (length self.new.entries < self.new.room) }
+        ensures room { tasks_in table.now.slots < self.old.room → length self.new.entries < self.new.room }
+        ensures same { self.new.room ≡ self.old.room }
     {
-        if !self.is_full() {
-            return Ok(());
+        if self.is_full() {
+            self.compact(table);
         }
-        self.compact(table);
-        self.entries.reserve(self.entries.len() + 1)
     }
 
     /// Makes room for so many entries in all.
@@ -99,6 +95,7 @@ impl<A: Allocator> NumberIndex<A> {
     /// `AllocError` where the memory for them is refused.
     pub(crate) fn reserve(&mut self, entries: usize) -> Result<(), AllocError>
         ensures room { OnOk result (entries ≤ self.new.room) }
+        ensures grows { self.old.room ≤ self.new.room }
         ensures entries { self.new.entries ≡ self.old.entries }
     {
         let more = entries.saturating_sub(self.entries.len());

@@ -43,8 +43,9 @@
 //! [`add_lines`](ScheduledExecutor::add_lines) adds them, are those of a trace of all calls made.
 //!
 //! A submission has a number, 0, 1, and so on, whether it is accepted or rejected, and an accepted one has a task. A [`TaskRef`]
-//! names the task by its number and the slot that it has while it is alive. A cancel goes by the number alone, so a slot that
-//! another task uses by now, or a forged one, does no harm. Once a task is over, as it was run, ended, or cancelled and left the
+//! names the task by its number and the slot that it has while it is alive. A cancel, and whether a task waits, go by the number
+//! alone, so a slot that another task uses by now, or a forged one, does no harm. Once a task is over, as it was run, ended, or
+//! cancelled and left the
 //! queue, its slot may hold another one. [`ended`](ScheduledExecutor::ended) has the tasks that the last call or event ended: the
 //! list of `shutdownNow`, and what a shutdown or a policy cancels.
 //!
@@ -70,9 +71,10 @@
 //! # Memory and cost
 //!
 //! Memory is asked for by `new`, by the four submissions and by [`reserve`](ScheduledExecutor::reserve), for lines by `add_lines`,
-//! and by no other call. Where it is refused, nothing has changed. There are as many slots as `reserve` was asked for, or at most
-//! twice as many as there were tasks alive at once, and two; none is given back. Each has room for a task, an entry in each of two
-//! queues, and notes that it is empty and that its task was ended; an index by number has about two entries for each.
+//! and by no other call; a submission asks only where each slot holds a task. Where it is refused, nothing has changed. There are as
+//! many slots as `reserve` was asked for, or at most twice as many as there were tasks alive at once, and two; none is given back.
+//! Each has room for a task, an entry in each of two queues, two entries in an index by number, and notes that it is empty and that
+//! its task was ended.
 //!
 //! With n tasks alive, a submission, a start, a finish or a cancel takes a time in the order of log n, for changes of binary heaps
 //! and a search. A submission where the index is full goes over it, and one where all slots are taken over these too, which is

@@ -1,6 +1,7 @@
 //! Which slots are empty, and which slot each number has.
 ghost use Rattle.std.specs.Prelude.{◌≡◌, ℕ, ◌+◌, ◌-◌, ◌<◌, ◌≤◌, ◌++◌, List, [], ◌∷◌, length, IfSome, IfNone, OnOk, OnErr};
 ghost use Rattle.std.specs.List.{range_with_len};
+ghost use Rattle.live_core.specs.Said.{tasks_in};
 ghost use Rattle.live_core.specs.own.Slots.{IsBelow, HasEntry, HasNone, IsIndex, held_numbers};
 
 use crate::index::NumberIndex;
@@ -10,7 +11,8 @@ use task_table::{TaskRef, TaskTable};
 
 /// What is noted of the slots of a table: the empty ones, and an index of the others by the numbers of their tasks.
 ///
-/// A contract sees it as the lists of both, and how many each has room for.
+/// A contract sees it as the lists of both, how many slots there is room to note in both, and how many entries the index has
+/// room for.
 #[derive(Drop)]
 pub(crate) struct Notes<A: Allocator> {
     free: Vec<u32, A>,
@@ -18,12 +20,12 @@ pub(crate) struct Notes<A: Allocator> {
 }
 
 impl<A: Allocator> Model for Notes<A> {
-    ghost use Rattle.std.specs.Prelude.{vec_capacity};
+    ghost use Rattle.std.specs.Prelude.{min, vec_capacity};
     ghost use Rattle.live_core.specs.own.Slots.{NotesView};
 
     ghost Value = { NotesView };
 
-    ghost view = { λ n. record { free = n.free.items; free_room = vec_capacity n.free; entries = n.index.entries; index_room = n.index.room } };
+    ghost view = { λ n. record { free = n.free.items; slot_room = min (vec_capacity n.free) n.index.room; entries = n.index.entries; index_room = n.index.room } };
 }
 
 impl<A: Allocator> Notes<A> {
@@ -58,7 +60,7 @@ impl<A: Allocator> Notes<A> {
 
     /// Notes an empty slot.
     pub(crate) fn release(&mut self, slot: u32)
-        requires { length self.old.free < self.old.free_room }
+        requires { length self.old.free < self.old.slot_room }
         ensures { self.new ≡ record self.old { free = self.old.free ++ slot ∷ [] } }
     {
         self.free.push_reserved(slot);
@@ -81,52 +83,36 @@ impl<A: Allocator> Notes<A> {
         self.index.find(number)
     }
 
-    /// Makes room for one more entry in the index of this table's slots.
-    ///
-    /// # Errors
-    ///
-    /// `AllocError` where the memory for it is refused.
-    pub(crate) fn make_index_room<B: Allocator>(
-        &mut self,
-        table: &TaskTable<B>,
-    ) -> Result<(), AllocError>
+    /// Drops the entries of the index that are stale for this table's slots, where there is no room for one more. Then there is, where
+    /// not every slot that there is room to note holds a task.
+    pub(crate) fn tidy_index<B: Allocator>(&mut self, table: &TaskTable<B>)
         ensures index { (count : ℕ) → IsIndex (held_numbers table.now.slots) self.old.entries count → IsIndex (held_numbers table.now.slots) self.new.entries count }
-        ensures room { OnOk result (length self.new.entries < self.new.index_room) }
+        ensures room { tasks_in table.now.slots < self.old.slot_room → length self.new.entries < self.new.index_room }
+        ensures rest { self.new ≡ record self.old { entries = self.new.entries } }
+    {
+        self.index.tidy(table);
+    }
+
+    /// Makes room to note each of so many slots: that it is empty, and in the index.
+    ///
+    /// # Errors
+    ///
+    /// `AllocError` where the memory for them is refused: no slot is noted otherwise then.
+    pub(crate) fn reserve(&mut self, slots: u32) -> Result<(), AllocError>
+        ensures room { OnOk result (slots ≤ self.new.slot_room) }
+        ensures grows { self.old.slot_room ≤ self.new.slot_room }
         ensures free { self.new.free ≡ self.old.free }
-        ensures free_room { self.new.free_room ≡ self.old.free_room }
+        ensures entries { self.new.entries ≡ self.old.entries }
     {
-        self.index.make_room(table)
-    }
-
-    /// Makes room for so many entries in all in the index.
-    ///
-    /// # Errors
-    ///
-    /// `AllocError` where the memory for them is refused.
-    pub(crate) fn reserve_index(&mut self, entries: usize) -> Result<(), AllocError>
-        ensures room { OnOk result (entries ≤ self.new.index_room) }
-        ensures rest { self.new ≡ record self.old { index_room = self.new.index_room } }
-    {
-        self.index.reserve(entries)
-    }
-
-    /// Makes room to note that each of so many slots is empty.
-    ///
-    /// # Errors
-    ///
-    /// `AllocError` where the memory for them is refused: then nothing has changed.
-    pub(crate) fn reserve_free(&mut self, slots: usize) -> Result<(), AllocError>
-        ensures room { OnOk result (slots ≤ self.new.free_room) }
-        ensures grows { self.old.free_room ≤ self.new.free_room }
-        ensures rest { self.new ≡ record self.old { free_room = self.new.free_room } }
-    {
-        self.free.reserve(slots)
+        self.free.reserve(slots as usize)?;
+        // With twice as many entries as slots, at least half of them are stale when it is full.
+        self.index.reserve(2 * slots as usize)
     }
 
     /// Notes that the slots from one to the one before another are empty.
     pub(crate) fn add_empty(&mut self, from: u32, to: u32)
         requires order { from ≤ to }
-        requires room { length self.old.free + (to - from) ≤ self.old.free_room }
+        requires room { length self.old.free + (to - from) ≤ self.old.slot_room }
         ensures { self.new ≡ record self.old { free = self.old.free ++ range_with_len from (to - from) } }
     {
         let mut slot = from;

@@ -6,6 +6,7 @@ ghost use Rattle.queue_code.specs.declared.call.CodeCall.TheVariants as call;
 ghost use Rattle.executor_core.specs.Answers.{bare, kind_of};
 ghost use Rattle.executor_core.specs.declared.types.Answer.TheVariants as answer;
 ghost use Rattle.task_table.specs.Tables.{workers_of, CallSteps};
+ghost use Rattle.live_core.specs.Said.{tasks_in};
 ghost use Rattle.live_core.specs.own.Formed.{AreNoted, AreAlive};
 
 use crate::notes::Notes;
@@ -32,7 +33,7 @@ pub(crate) fn place<A: Allocator>(
     timing: Timing,
     delay: u64,
 ) -> Placed
-    requires noted { AreNoted table.old.slots count notes.old.free notes.old.entries notes.old.free_room (vec_capacity ended.old) }
+    requires noted { AreNoted table.old.slots count notes.old.free notes.old.entries notes.old.slot_room (vec_capacity ended.old) }
     requires slot { 0 < length notes.old.free }
     requires entry { length notes.old.entries < notes.old.index_room }
     requires unshut { table.old.shut ≡ false }
@@ -40,11 +41,13 @@ pub(crate) fn place<A: Allocator>(
     requires limit { at ≤ longest }
     requires spans { (delay ≤ longest) × IsTimed timing }
     ensures number { result.task.number ≡ count }
-    ensures noted { AreNoted table.new.slots (count + 1) notes.new.free notes.new.entries notes.new.free_room (vec_capacity ended.new) }
+    ensures noted { AreNoted table.new.slots (count + 1) notes.new.free notes.new.entries notes.new.slot_room (vec_capacity ended.new) }
     ensures alive { AreAlive table.old.slots → AreAlive table.new.slots }
     ensures workers { workers_of table.new ≡ workers_of table.old }
     ensures shut { table.new.shut ≡ table.old.shut }
     ensures ended { ended.new.items ≡ [] }
+    ensures slots { length table.new.slots ≡ length table.old.slots }
+    ensures tasks { tasks_in table.new.slots ≡ tasks_in table.old.slots + 1 }
     ensures steps { CallSteps table.old table.new (at, call.Submit count timing delay) (bare (answer.Submit count (kind_of timing) result.due)) }
 {
     let Some(slot) = notes.take() else {

@@ -8,7 +8,7 @@ ghost use Rattle.task_table.specs.Seats.{slot_of};
 ghost use Rattle.task_table.specs.Tables.{workers_of, Stands, EventSteps};
 ghost use Rattle.task_table.specs.Firsts.{NoneMet};
 ghost use Rattle.task_table.specs.Runs.{IsFree, IsFull, IsLeft, FailsFinish};
-ghost use Rattle.live_core.specs.Events.{start_reply, finish_reply, IsRunBy, IsLeftThere};
+ghost use Rattle.live_core.specs.Events.{start_reply, finish_reply, run_limit, IsRunBy, IsLeftThere};
 ghost use Rattle.live_core.specs.own.Formed.{AreNoted, AreAlive};
 ghost use Rattle.live_core.specs.own.Shed.{Sheds, released};
 
@@ -26,14 +26,15 @@ pub(crate) fn begin_run<A: Allocator>(
     notes: &mut Notes<A>,
     worker: u8,
 ) -> Option<Begun>
-    requires noted { (count : ℕ) × (ended_room : ℕ) × AreNoted table.old.slots count notes.old.free notes.old.entries notes.old.free_room ended_room }
+    requires noted { (count : ℕ) × (ended_room : ℕ) × AreNoted table.old.slots count notes.old.free notes.old.entries notes.old.slot_room ended_room }
     requires free { IsFree table.old worker }
     requires fresh { IsFull table.old → ⊥ }
-    ensures noted { (count ended_room : ℕ) → AreNoted table.old.slots count notes.old.free notes.old.entries notes.old.free_room ended_room → AreNoted table.new.slots count notes.new.free notes.new.entries notes.new.free_room ended_room }
+    ensures noted { (count ended_room : ℕ) → AreNoted table.old.slots count notes.old.free notes.old.entries notes.old.slot_room ended_room → AreNoted table.new.slots count notes.new.free notes.new.entries notes.new.slot_room ended_room }
     ensures alive { AreAlive table.old.slots → AreAlive table.new.slots }
     ensures workers { workers_of table.new ≡ workers_of table.old }
     ensures shut { table.new.shut ≡ table.old.shut }
     ensures runs { IfSome result (λ b. IsRunBy table.new worker b.task) }
+    ensures numbered { IfSome result (λ b. b.run < run_limit) }
     ensures steps { EventSteps table.old table.new (happening.Start worker) (start_reply worker result) }
 {
     drop_met(table, notes);
@@ -45,8 +46,8 @@ pub(crate) fn begin_run<A: Allocator>(
 
 /// Drops the kept tasks that the next start meets, if it is not refused, and empties their slots.
 fn drop_met<A: Allocator>(table: &mut TaskTable<A>, notes: &mut Notes<A>)
-    requires noted { (count : ℕ) × (ended_room : ℕ) × AreNoted table.old.slots count notes.old.free notes.old.entries notes.old.free_room ended_room }
-    ensures noted { (count ended_room : ℕ) → AreNoted table.old.slots count notes.old.free notes.old.entries notes.old.free_room ended_room → AreNoted table.new.slots count notes.new.free notes.new.entries notes.new.free_room ended_room }
+    requires noted { (count : ℕ) × (ended_room : ℕ) × AreNoted table.old.slots count notes.old.free notes.old.entries notes.old.slot_room ended_room }
+    ensures noted { (count ended_room : ℕ) → AreNoted table.old.slots count notes.old.free notes.old.entries notes.old.slot_room ended_room → AreNoted table.new.slots count notes.new.free notes.new.entries notes.new.slot_room ended_room }
     ensures alive { AreAlive table.old.slots → AreAlive table.new.slots }
     ensures sheds { Sheds table.old table.new }
     ensures met { NoneMet table.new }
@@ -63,8 +64,8 @@ pub(crate) fn end_run<A: Allocator>(
     worker: u8,
     ending: Ending,
 ) -> Result<Ended, EventError>
-    requires noted { (count : ℕ) × (ended_room : ℕ) × AreNoted table.old.slots count notes.old.free notes.old.entries notes.old.free_room ended_room }
-    ensures noted { (count ended_room : ℕ) → AreNoted table.old.slots count notes.old.free notes.old.entries notes.old.free_room ended_room → AreNoted table.new.slots count notes.new.free notes.new.entries notes.new.free_room ended_room }
+    requires noted { (count : ℕ) × (ended_room : ℕ) × AreNoted table.old.slots count notes.old.free notes.old.entries notes.old.slot_room ended_room }
+    ensures noted { (count ended_room : ℕ) → AreNoted table.old.slots count notes.old.free notes.old.entries notes.old.slot_room ended_room → AreNoted table.new.slots count notes.new.free notes.new.entries notes.new.slot_room ended_room }
     ensures alive { AreAlive table.old.slots → AreAlive table.new.slots }
     ensures workers { workers_of table.new ≡ workers_of table.old }
     ensures shut { table.new.shut ≡ table.old.shut }
@@ -85,9 +86,9 @@ pub(crate) fn end_run<A: Allocator>(
 
 /// Empties the slot of a task whose run ended so, if no run comes after it.
 fn release_left<A: Allocator>(table: &mut TaskTable<A>, notes: &mut Notes<A>, ended: Ended)
-    requires noted { (count : ℕ) × (ended_room : ℕ) × AreNoted table.old.slots count notes.old.free notes.old.entries notes.old.free_room ended_room }
+    requires noted { (count : ℕ) × (ended_room : ℕ) × AreNoted table.old.slots count notes.old.free notes.old.entries notes.old.slot_room ended_room }
     requires left { (x : seats.Seat) × (slot_of table.old.slots ended.task.slot ≡ Some x) × IsLeft ended.outcome x }
-    ensures noted { (count ended_room : ℕ) → AreNoted table.old.slots count notes.old.free notes.old.entries notes.old.free_room ended_room → AreNoted table.new.slots count notes.new.free notes.new.entries notes.new.free_room ended_room }
+    ensures noted { (count ended_room : ℕ) → AreNoted table.old.slots count notes.old.free notes.old.entries notes.old.slot_room ended_room → AreNoted table.new.slots count notes.new.free notes.new.entries notes.new.slot_room ended_room }
     ensures slots { table.new ≡ released ended.outcome table.old ended.task.slot }
     ensures stands { (calls : List Planned) (past : List HistoryEntry) → Stands table.old calls past → Stands table.new calls past }
 {

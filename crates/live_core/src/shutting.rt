@@ -12,7 +12,7 @@ use task_table::Asked;
 
 impl<A: Allocator> ScheduledExecutor<A> {
     ghost use Rattle.live_core.specs.Lives.{Stays, StaysQuiet, moment_of_call};
-    ghost use Rattle.live_core.specs.Shutting.{IsTooFar, IsGone, Sets, ShutsDown, Stops, Asks};
+    ghost use Rattle.live_core.specs.Shutting.{IsTooFar, IsGone, Sets, ShutsDown, StopsAtOnce, Asks};
 
     /// Sets a policy, at the moment of this call, as [`schedule`](ScheduledExecutor::schedule) has it. Where the executor is
     /// shut, and the continue or the execute policy is set to false, this ends the tasks that wait and that the policies do not
@@ -23,7 +23,7 @@ impl<A: Allocator> ScheduledExecutor<A> {
     /// [`CallError::TooFar`] where the moment of the call would be above 2^62: nothing has changed then.
     pub fn set_policy(&mut self, at: u64, which: Which, value: bool) -> Result<(), CallError>
         ensures made { OnOk result (Sets self.old self.new at which value) }
-        ensures gone { OnOk result (All (IsGone self.new.table) self.new.ended) }
+        ensures gone { OnOk result (All (IsGone self.old.table self.new.table) self.new.ended) }
         ensures stays { OnOk result (Stays self.old self.new self.old.count) }
         ensures near { OnOk result (moment_of_call self.old at ≤ longest) }
         ensures refused { OnErr result (self.new ≡ self.old) }
@@ -53,7 +53,7 @@ impl<A: Allocator> ScheduledExecutor<A> {
     /// [`CallError::TooFar`] where the moment of the call would be above 2^62: nothing has changed then.
     pub fn shut_down(&mut self, at: u64) -> Result<bool, CallError>
         ensures made { IfOk result (λ first. ShutsDown self.old self.new at first) }
-        ensures gone { OnOk result (All (IsGone self.new.table) self.new.ended) }
+        ensures gone { OnOk result (All (IsGone self.old.table self.new.table) self.new.ended) }
         ensures stays { OnOk result (Stays self.old self.new self.old.count) }
         ensures near { OnOk result (moment_of_call self.old at ≤ longest) }
         ensures refused { OnErr result (self.new ≡ self.old) }
@@ -73,8 +73,8 @@ impl<A: Allocator> ScheduledExecutor<A> {
     ///
     /// [`CallError::TooFar`] where the moment of the call would be above 2^62: nothing has changed then.
     pub fn shut_down_now(&mut self, at: u64) -> Result<(), CallError>
-        ensures made { OnOk result (Stops self.old self.new at) }
-        ensures gone { OnOk result (All (IsGone self.new.table) self.new.ended) }
+        ensures made { OnOk result (StopsAtOnce self.old self.new at) }
+        ensures gone { OnOk result (All (IsGone self.old.table self.new.table) self.new.ended) }
         ensures stays { OnOk result (Stays self.old self.new self.old.count) }
         ensures near { OnOk result (moment_of_call self.old at ≤ longest) }
         ensures refused { OnErr result (self.new ≡ self.old) }

@@ -20,8 +20,8 @@ impl<A: Allocator> ScheduledExecutor<A> {
     /// # Errors
     ///
     /// [`CallError::TooLong`] where `delay` is above 2^62, [`CallError::TooFar`] where the moment of the call would be,
-    /// [`CallError::Full`] where 2^64 - 1 numbers were given out, and [`CallError::Memory`] where memory is refused: nothing has
-    /// changed then.
+    /// [`CallError::Full`] where 2^64 - 1 numbers were given out, and [`CallError::Memory`] where each slot holds a task and memory for
+    /// more slots is refused: nothing has changed then.
     pub fn schedule(&mut self, at: u64, delay: u64) -> Result<Submitted, CallError>
         ensures made { IfOk result (λ s. Submits self.old self.new at timings.Once delay s) }
         ensures stays { OnOk result (StaysQuiet self.old self.new (self.old.count + 1)) }
@@ -52,6 +52,7 @@ impl<A: Allocator> ScheduledExecutor<A> {
         ensures made { IfOk result (λ s. Submits self.old self.new at (timings.Rate period) first s) }
         ensures stays { OnOk result (StaysQuiet self.old self.new (self.old.count + 1)) }
         ensures refused { OnErr result (self.new ≡ self.old) }
+        ensures legal { OnOk result (0 < period) }
         ensures failed { IfErr result (λ error. IsPeriodicError period self.old at (timings.Rate period) first error) }
     {
         if period == 0 {
@@ -74,6 +75,7 @@ impl<A: Allocator> ScheduledExecutor<A> {
         ensures made { IfOk result (λ s. Submits self.old self.new at (timings.Fixed delay) first s) }
         ensures stays { OnOk result (StaysQuiet self.old self.new (self.old.count + 1)) }
         ensures refused { OnErr result (self.new ≡ self.old) }
+        ensures legal { OnOk result (0 < delay) }
         ensures failed { IfErr result (λ error. IsPeriodicError delay self.old at (timings.Fixed delay) first error) }
     {
         if delay == 0 {

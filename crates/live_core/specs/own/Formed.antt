@@ -12,12 +12,12 @@ use Rattle.task_table.specs.Tables.{TableView, workers_of}
 use Rattle.live_core.specs.Lives.{LiveView, Stands}
 use Rattle.live_core.specs.own.Slots.{held_numbers, AreEmpty, IsIndex}
 
--- the empty slots of a table and the index of its numbers are known, and there is room to note that each slot is empty, and that the
--- task of each was ended
-pub record AreNoted (slots : List (Option Seat)) (count : ℕ) (free : List ℕ) (entries : List TaskRef) (free_room ended_room : ℕ) : Type 0 where
+-- the empty slots of a table and the index of its numbers are known, and there is room to note that each slot is empty, that it has a
+-- task, and that its task was ended
+pub record AreNoted (slots : List (Option Seat)) (count : ℕ) (free : List ℕ) (entries : List TaskRef) (slot_room ended_room : ℕ) : Type 0 where
   pub empty : AreEmpty (held_numbers slots) free
   pub index : IsIndex (held_numbers slots) entries count
-  pub room : length slots ≤ free_room
+  pub room : length slots ≤ slot_room
   pub spare : length slots ≤ ended_room
 
 -- of each task in a slot something may come: it waits for a run, or is kept, or a run of it is under way
@@ -30,13 +30,13 @@ AreAliveBut slot slots = (i : ℕ) (x : Seat) → slot_of slots i ≡ Some x →
 
 -- what stays true of each executor: there are calls and a history where it stands; until it is shut, each submission was accepted;
 -- its slots are noted; and none holds a task of which nothing may come any more
-pub record IsLive (m : LiveView) (free : List ℕ) (entries : List TaskRef) (free_room ended_room : ℕ) : Type 0 where
+pub record IsLive (m : LiveView) (free : List ℕ) (entries : List TaskRef) (slot_room ended_room : ℕ) : Type 0 where
   pub calls : List Planned
   pub past : List HistoryEntry
   pub stands : Stands m calls past
   pub unshut : m.table.shut ≡ false → m.accepted ≡ m.count
   pub earliest : m.earliest ≤ longest + 1
-  pub noted : AreNoted m.table.slots m.count free entries free_room ended_room
+  pub noted : AreNoted m.table.slots m.count free entries slot_room ended_room
   pub alive : AreAlive m.table.slots
 
 -- the table has more slots, or as many, and stands where it stood

@@ -67,9 +67,10 @@ pub record IndexView : Type 0 where
   pub entries : List TaskRef
   pub room : ℕ
 
--- what contracts see of the notes of some slots: the empty ones, and the index of the others, and how many each has room for
+-- what contracts see of the notes of some slots: the empty ones, the index of the others, how many slots there is room to note in
+-- both, and how many entries the index has room for
 pub record NotesView : Type 0 where
   pub free : List ℕ
-  pub free_room : ℕ
+  pub slot_room : ℕ
   pub entries : List TaskRef
   pub index_room : ℕ

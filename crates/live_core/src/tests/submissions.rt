@@ -39,8 +39,8 @@ fn a_task_that_is_accepted_waits_in_its_slot(rt: HostRuntime) -> Result<(), Fail
             (Step::IsWaiting(0, 3), Told::Waits(true)),
             (Step::IsWaiting(1, 3), Told::Waits(false)),
             (Step::IsWaiting(u64::MAX, 3), Told::Waits(false)),
-            (Step::IsWaiting(0, 2), Told::Waits(false)),
-            (Step::IsWaiting(0, u32::MAX), Told::Waits(false)),
+            (Step::IsWaiting(0, 2), Told::Waits(true)),
+            (Step::IsWaiting(0, u32::MAX), Told::Waits(true)),
         ],
     )
 }

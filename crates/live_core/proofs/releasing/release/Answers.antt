@@ -12,7 +12,7 @@ release-requires-2 g c =
     let n = c.args.notes.now in
     let at = c.requires.over in
     let known = c.requires.noted in
-    noted_room t.slots known.0 n.free c.args.slot at.0 n.entries n.free_room known.1 at.1 known.2
+    noted_room t.slots known.0 n.free c.args.slot at.0 n.entries n.slot_room known.1 at.1 known.2
 
 pub returns-clause-noted : goal.returns-clause-noted
 returns-clause-noted g c = λ count ended_room noted.
@@ -21,9 +21,9 @@ returns-clause-noted g c = λ count ended_room noted.
     let at = c.requires.over in
     let slot = c.args.slot in
     let new = c.release-2.new.self in
-    noted_same (slice_set t.slots slot None) c.release.new.self.slots count (n.free ++ slot ∷ []) new.free n.entries new.entries n.free_room new.free_room ended_room
+    noted_same (slice_set t.slots slot None) c.release.new.self.slots count (n.free ++ slot ∷ []) new.free n.entries new.entries n.slot_room new.slot_room ended_room
     (ap (λ (m : TableView). m.slots) c.release.ensures.slots)
     (ap (λ (v : NotesView). v.free) c.release-2.ensures)
     (ap (λ (v : NotesView). v.entries) c.release-2.ensures)
-    (ap (λ (v : NotesView). v.free_room) c.release-2.ensures)
-    (noted_emptied t.slots count n.free slot at.0 n.entries n.free_room ended_room at.1 noted)
+    (ap (λ (v : NotesView). v.slot_room) c.release-2.ensures)
+    (noted_emptied t.slots count n.free slot at.0 n.entries n.slot_room ended_room at.1 noted)

@@ -1,24 +1,20 @@
--- The index may be another one of the same slots.
-use Rattle.std.proofs.Common.{vec_capacity}
-use Rattle.live_core.proofs.Noted.{noted_index}
+-- The index is one of the same slots, without the stale entries where it was full.
+use Rattle.std.proofs.Common.{vec_capacity, ap}
+use Rattle.live_core.specs.own.Slots.{NotesView}
+use Rattle.live_core.proofs.Noted.{noted_index, noted_spare}
 use Rattle.live_core.proofs.room.make_room.Goals as goal
 
-pub returns-in_err-make_index_room-clause-noted : goal.returns-in_err-make_index_room-clause-noted
-returns-in_err-make_index_room-clause-noted g c =
-    noted_index c.args.table.now.slots c.args.count c.args.notes.now.free c.make_index_room.new.self.free c.args.notes.now.entries c.make_index_room.new.self.entries c.args.notes.now.free_room c.make_index_room.new.self.free_room (vec_capacity c.args.ended.now)
-    c.make_index_room.ensures.free c.make_index_room.ensures.free_room (c.make_index_room.ensures.index c.args.count c.requires.noted.index) c.requires.noted
+pub returns-clause-noted : goal.returns-clause-noted
+returns-clause-noted g c =
+    let slots = c.make_slot.new.table.slots in
+    let old = c.make_slot.new.notes in
+    let new = c.tidy_index.new.self in
+    let noted = c.make_slot.ensures.noted in
+    noted_index slots c.args.count old.free new.free old.entries new.entries old.slot_room new.slot_room (vec_capacity c.make_slot.new.ended)
+    (ap (λ (v : NotesView). v.free) c.tidy_index.ensures.rest) (ap (λ (v : NotesView). v.slot_room) c.tidy_index.ensures.rest) (c.tidy_index.ensures.index c.args.count noted.index) noted
 
-pub returns-then-free_slots-gt0-clause-noted : goal.returns-then-free_slots-gt0-clause-noted
-returns-then-free_slots-gt0-clause-noted g c =
-    noted_index c.args.table.now.slots c.args.count c.args.notes.now.free c.make_index_room.new.self.free c.args.notes.now.entries c.make_index_room.new.self.entries c.args.notes.now.free_room c.make_index_room.new.self.free_room (vec_capacity c.args.ended.now)
-    c.make_index_room.ensures.free c.make_index_room.ensures.free_room (c.make_index_room.ensures.index c.args.count c.requires.noted.index) c.requires.noted
-
-pub returns-then-slots-ge1073741824-clause-noted : goal.returns-then-slots-ge1073741824-clause-noted
-returns-then-slots-ge1073741824-clause-noted g c =
-    noted_index c.args.table.now.slots c.args.count c.args.notes.now.free c.make_index_room.new.self.free c.args.notes.now.entries c.make_index_room.new.self.entries c.args.notes.now.free_room c.make_index_room.new.self.free_room (vec_capacity c.args.ended.now)
-    c.make_index_room.ensures.free c.make_index_room.ensures.free_room (c.make_index_room.ensures.index c.args.count c.requires.noted.index) c.requires.noted
-
-pub grow-requires-clause-noted : goal.grow-requires-clause-noted
-grow-requires-clause-noted g c =
-    noted_index c.args.table.now.slots c.args.count c.args.notes.now.free c.make_index_room.new.self.free c.args.notes.now.entries c.make_index_room.new.self.entries c.args.notes.now.free_room c.make_index_room.new.self.free_room (vec_capacity c.args.ended.now)
-    c.make_index_room.ensures.free c.make_index_room.ensures.free_room (c.make_index_room.ensures.index c.args.count c.requires.noted.index) c.requires.noted
+pub returns-clause-entry : goal.returns-clause-entry
+returns-clause-entry g c =
+    let slots = c.make_slot.new.table.slots in
+    let old = c.make_slot.new.notes in
+    c.tidy_index.ensures.room (noted_spare slots c.args.count old.free old.entries old.slot_room (vec_capacity c.make_slot.new.ended) c.make_slot.ensures.noted c.in_ok-make_slot.ensures.slot)

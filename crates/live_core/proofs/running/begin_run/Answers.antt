@@ -6,7 +6,7 @@ use Rattle.live_core.proofs.running.begin_run.Goals as goal
 pub returns-clause-noted : goal.returns-clause-noted
 returns-clause-noted g c = λ count ended_room noted.
     let n = c.drop_met.new.notes in
-    noted_started c.drop_met.new.table c.start.new.self c.args.worker c.in-Ok.begun count n.free n.entries n.free_room ended_room c.in-Ok.ensures.started (c.drop_met.ensures.noted count ended_room noted)
+    noted_started c.drop_met.new.table c.start.new.self c.args.worker c.in-Ok.begun count n.free n.entries n.slot_room ended_room c.in-Ok.ensures.started (c.drop_met.ensures.noted count ended_room noted)
 
 pub returns-clause-runs : goal.returns-clause-runs
 returns-clause-runs g c = runs_started c.drop_met.new.table c.start.new.self c.args.worker c.in-Ok.begun c.in-Ok.ensures.started

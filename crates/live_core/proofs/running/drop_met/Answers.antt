@@ -14,7 +14,7 @@ pub release-requires-clause-noted : goal.release-requires-clause-noted
 release-requires-clause-noted g c =
     let known = c.requires.noted in
     let n = c.loop-slot.notes in
-    (known.0, known.1, noted_dropped c.loop-slot.table c.drop_met.new.self c.in-Some.slot known.0 n.free n.entries n.free_room known.1 c.in-Some.ensures.dropped (c.loop-slot.invariant.noted known.0 known.1 known.2))
+    (known.0, known.1, noted_dropped c.loop-slot.table c.drop_met.new.self c.in-Some.slot known.0 n.free n.entries n.slot_room known.1 c.in-Some.ensures.dropped (c.loop-slot.invariant.noted known.0 known.1 known.2))
 
 pub release-requires-clause-over : goal.release-requires-clause-over
 release-requires-clause-over g c = over_dropped c.loop-slot.table c.drop_met.new.self c.in-Some.slot c.in-Some.ensures.dropped
@@ -27,14 +27,14 @@ loop-slot-preserved g c =
     let n = c.loop-slot.notes in
     record {
       sheds = sheds_more c.args.table.now c.loop-slot.table c.drop_met.new.self c.release.new.table c.in-Some.slot c.loop-slot.invariant.sheds c.in-Some.ensures.dropped c.release.ensures.slots c.in-Some.ensures.steps c.release.ensures.stands_before;
-      noted = λ count ended_room noted. c.release.ensures.noted count ended_room (noted_dropped c.loop-slot.table c.drop_met.new.self c.in-Some.slot count n.free n.entries n.free_room ended_room c.in-Some.ensures.dropped (c.loop-slot.invariant.noted count ended_room noted));
+      noted = λ count ended_room noted. c.release.ensures.noted count ended_room (noted_dropped c.loop-slot.table c.drop_met.new.self c.in-Some.slot count n.free n.entries n.slot_room ended_room c.in-Some.ensures.dropped (c.loop-slot.invariant.noted count ended_room noted));
       alive = λ alive. alive_dropped c.loop-slot.table c.drop_met.new.self c.release.new.table c.in-Some.slot c.in-Some.ensures.dropped c.release.ensures.slots (c.loop-slot.invariant.alive alive);
     }
 
 pub returns-clause-noted : goal.returns-clause-noted
 returns-clause-noted g c = λ count ended_room noted.
     let n = c.loop-slot.notes in
-    subst (λ (m : TableView). AreNoted m.slots count n.free n.entries n.free_room ended_room) (sym c.in_default.ensures.none.0) (c.loop-slot.invariant.noted count ended_room noted)
+    subst (λ (m : TableView). AreNoted m.slots count n.free n.entries n.slot_room ended_room) (sym c.in_default.ensures.none.0) (c.loop-slot.invariant.noted count ended_room noted)
 
 pub returns-clause-sheds : goal.returns-clause-sheds
 returns-clause-sheds g c = subst (Sheds c.args.table.now) (sym c.in_default.ensures.none.0) c.loop-slot.invariant.sheds

@@ -8,7 +8,7 @@ use Rattle.live_core.proofs.running.drop_met.Given as goal
 abbrev pub invariant-loop-slot : goal.invariant-loop-slot
 invariant-loop-slot g l = record {
   sheds : Sheds l.fn.table l.table;
-  noted : (count ended_room : ℕ) → AreNoted l.fn.table.slots count l.fn.notes.free l.fn.notes.entries l.fn.notes.free_room ended_room → AreNoted l.table.slots count l.notes.free l.notes.entries l.notes.free_room ended_room;
+  noted : (count ended_room : ℕ) → AreNoted l.fn.table.slots count l.fn.notes.free l.fn.notes.entries l.fn.notes.slot_room ended_room → AreNoted l.table.slots count l.notes.free l.notes.entries l.notes.slot_room ended_room;
   alive : AreAlive l.fn.table.slots → AreAlive l.table.slots;
 }
 

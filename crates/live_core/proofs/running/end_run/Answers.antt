@@ -7,13 +7,13 @@ pub release_left-requires-clause-noted : goal.release_left-requires-clause-noted
 release_left-requires-clause-noted g c =
     let known = c.requires.noted in
     let n = c.args.notes.now in
-    (known.0, known.1, noted_finished c.args.table.now c.finish.new.self c.args.worker c.args.ending c.in-Ok.ended known.0 n.free n.entries n.free_room known.1 c.in-Ok.ensures.ended known.2)
+    (known.0, known.1, noted_finished c.args.table.now c.finish.new.self c.args.worker c.args.ending c.in-Ok.ended known.0 n.free n.entries n.slot_room known.1 c.in-Ok.ensures.ended known.2)
 
 pub returns-in-Ok-clause-noted : goal.returns-in-Ok-clause-noted
 returns-in-Ok-clause-noted g c = λ count ended_room noted.
     let n = c.args.notes.now in
     c.release_left.ensures.noted count ended_room
-    (noted_finished c.args.table.now c.finish.new.self c.args.worker c.args.ending c.in-Ok.ended count n.free n.entries n.free_room ended_room c.in-Ok.ensures.ended noted)
+    (noted_finished c.args.table.now c.finish.new.self c.args.worker c.args.ending c.in-Ok.ended count n.free n.entries n.slot_room ended_room c.in-Ok.ensures.ended noted)
 
 pub returns-in-Ok-clause-steps : goal.returns-in-Ok-clause-steps
 returns-in-Ok-clause-steps g c =

@@ -2,7 +2,7 @@
 use Rattle.std.proofs.Common.{◌∙◌, inl, refl, sym, ap, subst}
 use Rattle.task_table.specs.Tables.{TableView}
 use Rattle.live_core.specs.own.Formed.{AreNoted, AreAlive}
-use Rattle.live_core.proofs.Alive.{alive_dropped}
+use Rattle.live_core.proofs.Alive.{alive_dropped, leaves_dropped, LeavesThere}
 use Rattle.live_core.proofs.Swept.{noted_dropped, over_dropped, fewer_kept, slots_more, goes_dropped, goes_all}
 use Rattle.task_table.specs.Ends.{sweeps_at}
 use Rattle.task_table.specs.Changes.{unkept}
@@ -14,7 +14,7 @@ release-requires-clause-noted g c =
     let n = c.loop-slot.notes in
     let count = c.requires.0 in
     let room = c.requires.1 in
-    (count, room, noted_dropped c.loop-slot.table c.drop_kept.new.self c.in-Some.slot count n.free n.entries n.free_room room c.in-Some.ensures.dropped (c.loop-slot.invariant.noted count room c.requires.2))
+    (count, room, noted_dropped c.loop-slot.table c.drop_kept.new.self c.in-Some.slot count n.free n.entries n.slot_room room c.in-Some.ensures.dropped (c.loop-slot.invariant.noted count room c.requires.2))
 
 pub release-requires-clause-over : goal.release-requires-clause-over
 release-requires-clause-over g c = over_dropped c.loop-slot.table c.drop_kept.new.self c.in-Some.slot c.in-Some.ensures.dropped
@@ -32,9 +32,10 @@ loop-slot-preserved g c =
     let kept = c.loop-slot.invariant in
     record {
       goes = goes_dropped c.args.table.now m mid c.release.new.table slot kept.goes d c.release.ensures.slots;
+      leaves = leaves_dropped c.args.table.now m mid c.release.new.table slot (unkept d.task) d.is c.release.ensures.slots kept.leaves;
       rest = slots_more c.args.table.now mid c.release.new.table (slice_set mid.slots slot None)
           (slots_more c.args.table.now m mid (slice_set m.slots slot (Some (unkept d.task))) kept.rest d.is) c.release.ensures.slots;
-      noted = λ count room before. c.release.ensures.noted count room (noted_dropped m mid slot count n.free n.entries n.free_room room d (kept.noted count room before));
+      noted = λ count room before. c.release.ensures.noted count room (noted_dropped m mid slot count n.free n.entries n.slot_room room d (kept.noted count room before));
       alive = λ alive. alive_dropped m mid c.release.new.table slot d c.release.ensures.slots (kept.alive alive);
       stands = λ calls past p next sweeps before. c.release.ensures.stands_before calls past _
           (c.in-Some.ensures.steps calls past p next (ap (λ (v : TableView). sweeps_at v.shut p.1) kept.rest ∙ sweeps) (kept.stands calls past p next sweeps before));
@@ -43,11 +44,12 @@ loop-slot-preserved g c =
 pub returns-clause-noted : goal.returns-clause-noted
 returns-clause-noted g c =
     let n = c.loop-slot.notes in
-    λ count room before. subst (λ (v : TableView). AreNoted v.slots count n.free n.entries n.free_room room) (sym c.in_default.ensures.none.0) (c.loop-slot.invariant.noted count room before)
+    λ count room before. subst (λ (v : TableView). AreNoted v.slots count n.free n.entries n.slot_room room) (sym c.in_default.ensures.none.0) (c.loop-slot.invariant.noted count room before)
 
 pub loop-slot-init : goal.loop-slot-init
 loop-slot-init g c = record {
   goes = λ i x there kept. inl there;
+  leaves = λ i x there. there;
   rest = refl;
   noted = λ count room before. before;
   alive = λ alive. alive;
@@ -59,3 +61,6 @@ returns-clause-gone g c = goes_all c.args.table.now c.loop-slot.table c.drop_kep
 
 pub returns-clause-alive : goal.returns-clause-alive
 returns-clause-alive g c = λ alive. subst (λ (v : TableView). AreAlive v.slots) (sym c.in_default.ensures.none.0) (c.loop-slot.invariant.alive alive)
+
+pub returns-clause-leaves : goal.returns-clause-leaves
+returns-clause-leaves g c = subst (LeavesThere c.args.table.now) (sym c.in_default.ensures.none.0) c.loop-slot.invariant.leaves

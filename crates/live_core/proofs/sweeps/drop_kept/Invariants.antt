@@ -7,14 +7,16 @@ use Rattle.task_table.specs.Tables.{IsNextCall, StandsBefore}
 use Rattle.task_table.specs.Firsts.{kept_in}
 use Rattle.task_table.specs.Ends.{sweeps_at}
 use Rattle.live_core.specs.own.Formed.{AreNoted, AreAlive}
+use Rattle.live_core.proofs.Alive.{LeavesThere}
 use Rattle.live_core.proofs.Swept.{StaysOrGoes}
 use Rattle.live_core.proofs.sweeps.drop_kept.Given as goal
 
 abbrev pub invariant-loop-slot : goal.invariant-loop-slot
 invariant-loop-slot g l = record {
   goes : StaysOrGoes l.fn.table l.table;
+  leaves : LeavesThere l.fn.table l.table;
   rest : l.table ≡ record l.fn.table { slots = l.table.slots };
-  noted : (count ended_room : ℕ) → AreNoted l.fn.table.slots count l.fn.notes.free l.fn.notes.entries l.fn.notes.free_room ended_room → AreNoted l.table.slots count l.notes.free l.notes.entries l.notes.free_room ended_room;
+  noted : (count ended_room : ℕ) → AreNoted l.fn.table.slots count l.fn.notes.free l.fn.notes.entries l.fn.notes.slot_room ended_room → AreNoted l.table.slots count l.notes.free l.notes.entries l.notes.slot_room ended_room;
   alive : AreAlive l.fn.table.slots → AreAlive l.table.slots;
   stands : (calls : List Planned) (past : List HistoryEntry) (p : Planned) → IsNextCall calls past p → sweeps_at l.fn.table.shut p.1 ≡ true → StandsBefore l.fn.table calls past h.Call → StandsBefore l.table calls past h.Call;
 }

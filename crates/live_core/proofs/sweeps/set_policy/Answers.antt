@@ -8,8 +8,8 @@ use Rattle.executor_core.specs.Answers.{setting_sweeps}
 use Rattle.task_table.specs.Tables.{TableView, workers_of}
 use Rattle.task_table.specs.Changes.{at_moment}
 use Rattle.live_core.specs.Said.{ending}
-use Rattle.live_core.specs.Shutting.{IsGone}
-use Rattle.live_core.proofs.Alive.{alive_swept}
+use Rattle.live_core.specs.own.Places.{IsEmptyAt}
+use Rattle.live_core.proofs.Alive.{alive_swept, gone_from}
 use Rattle.live_core.proofs.Swept.{noted_swept, sweep_steps}
 use Rattle.live_core.proofs.sweeps.set_policy.Goals as goal
 
@@ -25,7 +25,7 @@ release_each-requires-clause-noted g c =
     let count = c.requires.noted.0 in
     let m : TableView = record (at_moment mid x.at) { policies = settings.set_policy x.which x.value mid.policies } in
     let told : setting_sweeps mid.shut x.which x.value ≡ true = ap (λ (v : TableView). setting_sweeps v.shut x.which x.value) c.drop_kept.ensures.rest ∙ (sym c.setting_sweeps.ensures ∙ c.if-setting_sweeps.true) in
-    (count, room, noted_swept m c.set_policy.new.self c.set_policy.new.ends.items count n.free n.entries n.free_room room room (c.set_policy.ensures.swept told) refl (c.drop_kept.ensures.noted count room c.requires.noted.1))
+    (count, room, noted_swept m c.set_policy.new.self c.set_policy.new.ends.items count n.free n.entries n.slot_room room room (c.set_policy.ensures.swept told) refl (c.drop_kept.ensures.noted count room c.requires.noted.1))
 
 pub returns-then-setting_sweeps-clause-noted : goal.returns-then-setting_sweeps-clause-noted
 returns-then-setting_sweeps-clause-noted g c =
@@ -37,7 +37,7 @@ returns-then-setting_sweeps-clause-noted g c =
     let m : TableView = record (at_moment mid x.at) { policies = settings.set_policy x.which x.value mid.policies } in
     let told : setting_sweeps mid.shut x.which x.value ≡ true = ap (λ (v : TableView). setting_sweeps v.shut x.which x.value) c.drop_kept.ensures.rest ∙ (sym c.setting_sweeps.ensures ∙ c.if-setting_sweeps.true) in
     λ count before. c.release_each.ensures.noted count more
-    (noted_swept m c.set_policy.new.self c.set_policy.new.ends.items count n.free n.entries n.free_room room more (c.set_policy.ensures.swept told) c.set_policy.ensures.room (c.drop_kept.ensures.noted count room before))
+    (noted_swept m c.set_policy.new.self c.set_policy.new.ends.items count n.free n.entries n.slot_room room more (c.set_policy.ensures.swept told) c.set_policy.ensures.room (c.drop_kept.ensures.noted count room before))
 
 pub returns-then-setting_sweeps-clause-steps : goal.returns-then-setting_sweeps-clause-steps
 returns-then-setting_sweeps-clause-steps g c =
@@ -63,6 +63,16 @@ returns-then-setting_sweeps-clause-alive g c =
     let swept = c.set_policy.new.self in
     let m : TableView = record (at_moment mid x.at) { policies = settings.set_policy x.which x.value mid.policies } in
     let told : setting_sweeps mid.shut x.which x.value ≡ true = ap (λ (v : TableView). setting_sweeps v.shut x.which x.value) c.drop_kept.ensures.rest ∙ (sym c.setting_sweeps.ensures ∙ c.if-setting_sweeps.true) in
-    let noted = noted_swept m swept ends count n.free n.entries n.free_room room room (c.set_policy.ensures.swept told) refl (c.drop_kept.ensures.noted count room c.requires.noted.1) in
-    let gone = subst (All (IsGone c.release_each.new.table)) c.deref.ensures.value c.release_each.ensures.gone in
+    let noted = noted_swept m swept ends count n.free n.entries n.slot_room room room (c.set_policy.ensures.swept told) refl (c.drop_kept.ensures.noted count room c.requires.noted.1) in
+    let gone = subst (All (IsEmptyAt c.release_each.new.table)) c.deref.ensures.value c.release_each.ensures.gone in
     λ alive. alive_swept m swept c.release_each.new.table ends n.entries count noted.index (c.set_policy.ensures.swept told) gone c.release_each.ensures.leaves (c.drop_kept.ensures.alive alive)
+
+pub returns-then-setting_sweeps-clause-gone : goal.returns-then-setting_sweeps-clause-gone
+returns-then-setting_sweeps-clause-gone g c =
+    let x = c.args in
+    let mid = c.drop_kept.new.table in
+    let told : setting_sweeps mid.shut x.which x.value ≡ true = ap (λ (v : TableView). setting_sweeps v.shut x.which x.value) c.drop_kept.ensures.rest ∙ (sym c.setting_sweeps.ensures ∙ c.if-setting_sweeps.true) in
+    let m : TableView = record (at_moment mid x.at) { policies = settings.set_policy x.which x.value mid.policies } in
+    let s = (c.set_policy.ensures.swept told) in
+    let empty = subst (All (IsEmptyAt c.release_each.new.table)) c.deref.ensures.value c.release_each.ensures.gone in
+    gone_from c.args.table.now m c.set_policy.new.self c.release_each.new.table c.set_policy.new.ends.items s.is c.drop_kept.ensures.leaves s.over empty

@@ -6,8 +6,8 @@ use Rattle.executor_core.specs.declared.types.Answer.TheVariants as answer
 use Rattle.task_table.specs.Tables.{TableView, workers_of}
 use Rattle.task_table.specs.Changes.{at_moment}
 use Rattle.live_core.specs.Said.{ending}
-use Rattle.live_core.specs.Shutting.{IsGone}
-use Rattle.live_core.proofs.Alive.{alive_swept}
+use Rattle.live_core.specs.own.Places.{IsEmptyAt}
+use Rattle.live_core.proofs.Alive.{alive_swept, gone_from}
 use Rattle.live_core.proofs.Swept.{noted_swept, sweep_steps}
 use Rattle.live_core.proofs.sweeps.shut_down_now.Goals as goal
 
@@ -21,7 +21,7 @@ release_each-requires-clause-noted g c =
     let room = vec_capacity c.args.ended.now in
     let count = c.requires.noted.0 in
     let m : TableView = record (at_moment mid c.args.at) { shut = true; stopped = true } in
-    (count, room, noted_swept m c.shut_down_now.new.self c.shut_down_now.new.ends.items count n.free n.entries n.free_room room room c.shut_down_now.ensures.swept refl (c.drop_kept.ensures.noted count room c.requires.noted.1))
+    (count, room, noted_swept m c.shut_down_now.new.self c.shut_down_now.new.ends.items count n.free n.entries n.slot_room room room c.shut_down_now.ensures.swept refl (c.drop_kept.ensures.noted count room c.requires.noted.1))
 
 pub returns-clause-noted : goal.returns-clause-noted
 returns-clause-noted g c =
@@ -31,7 +31,7 @@ returns-clause-noted g c =
     let more = vec_capacity c.shut_down_now.new.ends in
     let m : TableView = record (at_moment mid c.args.at) { shut = true; stopped = true } in
     λ count before. c.release_each.ensures.noted count more
-    (noted_swept m c.shut_down_now.new.self c.shut_down_now.new.ends.items count n.free n.entries n.free_room room more c.shut_down_now.ensures.swept c.shut_down_now.ensures.room (c.drop_kept.ensures.noted count room before))
+    (noted_swept m c.shut_down_now.new.self c.shut_down_now.new.ends.items count n.free n.entries n.slot_room room more c.shut_down_now.ensures.swept c.shut_down_now.ensures.room (c.drop_kept.ensures.noted count room before))
 
 pub returns-clause-steps : goal.returns-clause-steps
 returns-clause-steps g c =
@@ -52,6 +52,14 @@ returns-clause-alive g c =
     let ends = c.shut_down_now.new.ends.items in
     let swept = c.shut_down_now.new.self in
     let m : TableView = record (at_moment mid c.args.at) { shut = true; stopped = true } in
-    let noted = noted_swept m swept ends count n.free n.entries n.free_room room room c.shut_down_now.ensures.swept refl (c.drop_kept.ensures.noted count room c.requires.noted.1) in
-    let gone = subst (All (IsGone c.release_each.new.table)) c.deref.ensures.value c.release_each.ensures.gone in
+    let noted = noted_swept m swept ends count n.free n.entries n.slot_room room room c.shut_down_now.ensures.swept refl (c.drop_kept.ensures.noted count room c.requires.noted.1) in
+    let gone = subst (All (IsEmptyAt c.release_each.new.table)) c.deref.ensures.value c.release_each.ensures.gone in
     λ alive. alive_swept m swept c.release_each.new.table ends n.entries count noted.index c.shut_down_now.ensures.swept gone c.release_each.ensures.leaves (c.drop_kept.ensures.alive alive)
+
+pub returns-clause-gone : goal.returns-clause-gone
+returns-clause-gone g c =
+    let mid = c.drop_kept.new.table in
+    let m : TableView = record (at_moment mid c.args.at) { shut = true; stopped = true } in
+    let s = c.shut_down_now.ensures.swept in
+    let empty = subst (All (IsEmptyAt c.release_each.new.table)) c.deref.ensures.value c.release_each.ensures.gone in
+    gone_from c.args.table.now m c.shut_down_now.new.self c.release_each.new.table c.shut_down_now.new.ends.items s.is c.drop_kept.ensures.leaves s.over empty

@@ -16,8 +16,8 @@ invariant_of-self-2 g c =
     let new : LiveView = record { table = placed.new.table; count = e.count + 1; accepted = e.accepted + 1; earliest = e.earliest; ended = placed.new.ended.items } in
     let unshut = c.self.invariant.unshut (ap (λ (v : LiveView). v.table.shut) c.self.view_is ∙ c.requires.unshut) in
     let may = may_submit m c.args.self.now c.args.moment c.args.delay c.args.timing c.self.view_is c.requires.early c.requires.ahead c.requires.limit c.requires.few c.requires.spans.0 c.requires.spans.1 in
-    live_call m new (c.args.moment, call.Submit e.count c.args.timing c.args.delay) (bare (answer.Submit placed.result.task.number (kind_of c.args.timing) placed.result.due)) e.notes.free e.notes.entries e.notes.free_room (vec_capacity e.ended)
-    placed.new.notes.free placed.new.notes.entries placed.new.notes.free_room (vec_capacity placed.new.ended) c.self.invariant
+    live_call m new (c.args.moment, call.Submit e.count c.args.timing c.args.delay) (bare (answer.Submit placed.result.task.number (kind_of c.args.timing) placed.result.due)) e.notes.free e.notes.entries e.notes.slot_room (vec_capacity e.ended)
+    placed.new.notes.free placed.new.notes.entries placed.new.notes.slot_room (vec_capacity placed.new.ended) c.self.invariant
     (accepts_there m c.make_room.new.table placed.new.table placed.new.ended.items c.args.moment c.args.delay placed.result.due placed.result.task.number c.args.timing may c.make_room.ensures.roomier placed.ensures.workers unshut placed.ensures.ended placed.ensures.number placed.ensures.steps)
     (λ q. ap (λ (n : ℕ). n + 1) unshut) refl placed.ensures.noted (placed.ensures.alive (c.make_room.ensures.alive c.self.invariant.alive))
 

@@ -18,12 +18,12 @@ invariant_of-self g c =
     let k = c.args.number in
     let new : LiveView = record m { table = table; ended = c.clear.new.self.items } in
     let may = may_cancel m c.args.self.now c.args.moment k c.self.view_is c.self.invariant.stands.few c.requires.given c.requires.early c.requires.ahead c.requires.limit in
-    live_call m new (c.args.moment, call.Cancel k) (bare (answer.Cancel k c.effect_without.result)) e.notes.free e.notes.entries e.notes.free_room (vec_capacity e.ended)
-    e.notes.free e.notes.entries e.notes.free_room (vec_capacity c.clear.new.self) c.self.invariant
+    live_call m new (c.args.moment, call.Cancel k) (bare (answer.Cancel k c.effect_without.result)) e.notes.free e.notes.entries e.notes.slot_room (vec_capacity e.ended)
+    e.notes.free e.notes.entries e.notes.slot_room (vec_capacity c.clear.new.self) c.self.invariant
     (by_call_gone m c.args.self.now table c.clear.new.self.items c.args.moment k c.effect_without.result c.self.view_is c.pass.ensures.slots c.clear.ensures.items c.effect_without.ensures c.requires.gone may)
     (λ q. c.self.invariant.unshut (sym (ap (λ (t : TableView). t.shut) c.pass.ensures.slots) ∙ q)) refl
-    (subst (λ room. AreNoted table.slots e.count e.notes.free e.notes.entries e.notes.free_room room) (sym c.clear.ensures.capacity)
-    (subst (λ slots. AreNoted slots e.count e.notes.free e.notes.entries e.notes.free_room (vec_capacity e.ended)) (sym (ap (λ (t : TableView). t.slots) c.pass.ensures.slots)) c.self.invariant.noted))
+    (subst (λ room. AreNoted table.slots e.count e.notes.free e.notes.entries e.notes.slot_room room) (sym c.clear.ensures.capacity)
+    (subst (λ slots. AreNoted slots e.count e.notes.free e.notes.entries e.notes.slot_room (vec_capacity e.ended)) (sym (ap (λ (t : TableView). t.slots) c.pass.ensures.slots)) c.self.invariant.noted))
     (subst (λ (t : TableView). AreAlive t.slots) (sym c.pass.ensures.slots) c.self.invariant.alive)
 
 pub returns-clause-makes : goal.returns-clause-makes

@@ -20,7 +20,7 @@ release_spent-requires g c =
     let own = subst (λ (v : LiveView). IsSlotOf v.table.slots k (Some c.args.slot)) (sym c.self.view_is) c.requires.held in
     let is = cancelled_by_call e.table mid c.args.slot c.args.moment own.0 (c.cancel_by_call-effect.ensures.slots own.0 own.1) in
     let room = vec_capacity e.ended in
-    (e.count, room, cancelled_noted e.table mid c.args.slot own.0 e.count e.notes.free e.notes.entries e.notes.free_room room room is own.1 refl c.self.invariant.noted)
+    (e.count, room, cancelled_noted e.table mid c.args.slot own.0 e.count e.notes.free e.notes.entries e.notes.slot_room room room is own.1 refl c.self.invariant.noted)
 
 pub invariant_of-self : goal.invariant_of-self
 invariant_of-self g c =
@@ -35,10 +35,10 @@ invariant_of-self g c =
     let may = may_cancel m c.args.self.now c.args.moment k c.self.view_is c.self.invariant.stands.few c.requires.given c.requires.early c.requires.ahead c.requires.limit in
     let notes = c.release_spent.new.notes in
     let room = vec_capacity c.clear.new.self in
-    live_call m new (c.args.moment, call.Cancel k) (bare (answer.Cancel k c.cancel_by_call-effect.result)) e.notes.free e.notes.entries e.notes.free_room (vec_capacity e.ended) notes.free notes.entries notes.free_room room c.self.invariant
+    live_call m new (c.args.moment, call.Cancel k) (bare (answer.Cancel k c.cancel_by_call-effect.result)) e.notes.free e.notes.entries e.notes.slot_room (vec_capacity e.ended) notes.free notes.entries notes.slot_room room c.self.invariant
     (by_call_held m mid table c.clear.new.self.items c.args.moment c.args.slot k own.0 c.cancel_by_call-effect.result is own.2 may c.release_spent.ensures.stands (c.cancel_by_call-effect.ensures.steps own.0 own.1))
     (unshut_held m mid table c.args.slot own.0 is c.release_spent.ensures.stands c.self.invariant.unshut) refl
-    (c.release_spent.ensures.noted e.count room (cancelled_noted e.table mid c.args.slot own.0 e.count e.notes.free e.notes.entries e.notes.free_room (vec_capacity e.ended) room is own.1 c.clear.ensures.capacity c.self.invariant.noted))
+    (c.release_spent.ensures.noted e.count room (cancelled_noted e.table mid c.args.slot own.0 e.count e.notes.free e.notes.entries e.notes.slot_room (vec_capacity e.ended) room is own.1 c.clear.ensures.capacity c.self.invariant.noted))
     (c.release_spent.ensures.all (alive_cancelled e.table mid c.args.slot own.0 is c.self.invariant.alive))
 
 pub returns-clause-makes : goal.returns-clause-makes

@@ -15,7 +15,7 @@ invariant_of-self g c =
     let e = c.self.inside in
     let m : LiveView = record { table = e.table; count = e.count; accepted = e.accepted; earliest = e.earliest; ended = e.ended.items } in
     let taken : is_accepted e.table.moment c.args.moment ≡ true = c.clock.ensures.accepted.0 (ap is_ok c.in-Ok.is) in
-    live_clock m c.clock.new.self c.clear.new.self.items c.args.moment e.notes.free e.notes.entries e.notes.free_room (vec_capacity e.ended) (vec_capacity c.clear.new.self)
+    live_clock m c.clock.new.self c.clear.new.self.items c.args.moment e.notes.free e.notes.entries e.notes.slot_room (vec_capacity e.ended) (vec_capacity c.clear.new.self)
     c.self.invariant c.clear.ensures.items taken c.in-Ok.ensures.moved c.in-Ok.ensures.steps c.clear.ensures.capacity
 
 pub returns-in-Ok-clause-happens : goal.returns-in-Ok-clause-happens
@@ -35,4 +35,4 @@ returns-in-Err-clause-failed g c =
     let error = c.in-Err.error in
     let failed = c.in-Err.ensures.failed in
     subst (λ (v : LiveView). IsClockError v.table c.args.moment error × Fails v new (h.Clock c.args.moment) error) c.self.view_is
-    (failed.0, fails_there m c.clock.new.self c.clear.new.self.items (h.Clock c.args.moment) error refl (λ q. absurd cc) c.clear.ensures.items c.in-Err.ensures.unchanged failed.1)
+    (failed.0, fails_there m c.clock.new.self c.clear.new.self.items (h.Clock c.args.moment) error refl refl (λ q. absurd cc) c.clear.ensures.items c.in-Err.ensures.unchanged failed.1)

@@ -14,8 +14,8 @@ invariant_of-self g c =
     let m : LiveView = record { table = e.table; count = e.count; accepted = e.accepted; earliest = e.earliest; ended = e.ended.items } in
     let r = c.end_run in
     let none = c.clear.new.self.items in
-    live_finish m r.new.table none c.args.worker c.args.ending r.result e.notes.free e.notes.entries e.notes.free_room (vec_capacity e.ended)
-    r.new.notes.free r.new.notes.entries r.new.notes.free_room (vec_capacity c.clear.new.self) c.self.invariant
+    live_finish m r.new.table none c.args.worker c.args.ending r.result e.notes.free e.notes.entries e.notes.slot_room (vec_capacity e.ended)
+    r.new.notes.free r.new.notes.entries r.new.notes.slot_room (vec_capacity c.clear.new.self) c.self.invariant
     (finish_happens m r.new.table none c.args.worker c.args.ending r.result c.clear.ensures.items r.ensures.workers r.ensures.steps)
     (finish_fails m r.new.table none c.args.worker c.args.ending r.result c.clear.ensures.items r.ensures.unchanged r.ensures.failed)
     r.ensures.shut c.clear.ensures.capacity (r.ensures.noted e.count (vec_capacity e.ended) c.self.invariant.noted) (r.ensures.alive c.self.invariant.alive)

@@ -22,11 +22,11 @@ invariant_of-self g c =
     let new : LiveView = record { table = table; count = e.count + 1; accepted = e.accepted; earliest = e.earliest; ended = c.clear.new.self.items } in
     let may = may_submit m c.args.self.now c.args.moment 0 t.Once c.self.view_is c.requires.early c.requires.ahead c.requires.limit c.requires.few (omega arith) tt in
     let shut : table.shut ≡ true = ap (λ (x : TableView). x.shut) c.refuse.ensures.slots ∙ (ap (λ (v : LiveView). v.table.shut) c.self.view_is ∙ c.requires.shut) in
-    live_call m new (c.args.moment, call.Submit e.count t.Once 0) (bare (answer.Refuse e.count refusal.Rejected)) e.notes.free e.notes.entries e.notes.free_room (vec_capacity e.ended)
-    e.notes.free e.notes.entries e.notes.free_room (vec_capacity c.clear.new.self) c.self.invariant
+    live_call m new (c.args.moment, call.Submit e.count t.Once 0) (bare (answer.Refuse e.count refusal.Rejected)) e.notes.free e.notes.entries e.notes.slot_room (vec_capacity e.ended)
+    e.notes.free e.notes.entries e.notes.slot_room (vec_capacity c.clear.new.self) c.self.invariant
     (rejects_there m table c.clear.new.self.items c.args.moment 0 t.Once may c.refuse.ensures.slots c.clear.ensures.items (c.refuse.ensures.steps e.count t.Once 0))
     (λ q. absurd (false≢true (sym q ∙ shut))) refl
-    (noted_later e.table.slots table.slots e.count e.notes.free e.notes.entries e.notes.free_room (vec_capacity e.ended) (vec_capacity c.clear.new.self) (ap (λ (x : TableView). x.slots) c.refuse.ensures.slots) c.clear.ensures.capacity c.self.invariant.noted)
+    (noted_later e.table.slots table.slots e.count e.notes.free e.notes.entries e.notes.slot_room (vec_capacity e.ended) (vec_capacity c.clear.new.self) (ap (λ (x : TableView). x.slots) c.refuse.ensures.slots) c.clear.ensures.capacity c.self.invariant.noted)
     (subst (λ (x : TableView). AreAlive x.slots) (sym c.refuse.ensures.slots) c.self.invariant.alive)
 
 pub returns-clause-made : goal.returns-clause-made

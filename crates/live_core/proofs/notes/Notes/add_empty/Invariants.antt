@@ -9,7 +9,7 @@ invariant-loop-slot g l = record {
   order : l.from ≤ l.slot;
   within : l.slot ≤ l.to;
   noted : l.self-inside.free.items ≡ l.fn.self.free ++ range_with_len l.from (l.slot - l.from);
-  room : vec_capacity l.self-inside.free ≡ l.fn.self.free_room;
+  room : vec_capacity l.self-inside.free ≡ vec_capacity l.initial.self-inside.free;
   index : l.self-inside.index ≡ l.initial.self-inside.index;
 }
 

@@ -1,0 +1,42 @@
+-- Whether a task waits: its slot tells, where it has one, and it does not where it has none.
+use Rattle.std.proofs.Common.{◌≡◌, ℕ, ◌==◌, ◌||◌, ◌&&◌, Bool, true, false, List, Option, Some, None, refl, sym, ap, ◌∙◌}
+use Rattle.std.specs.Option.{option_map_or}
+use Rattle.std.proofs.lemmas.Bool.{false≢true, eqb-true, false_from_ne_true, and_parts, or_left}
+use Rattle.queue_code.specs.Calls.{Planned}
+use Rattle.executor_core.specs.declared.task.Task.{Task}
+use Rattle.executor_core.specs.Histories.{HistoryEntry, happenings}
+use Rattle.executor_core.specs.State.{after}
+use Rattle.task_table.specs.declared.seat.Seat.{Seat}
+use Rattle.task_table.specs.declared.seat.TaskRef.{TaskRef}
+use Rattle.task_table.specs.Seats.{task_in, slot_of, waits, is_running_in, IsNew}
+use Rattle.task_table.specs.Tables.{workers_of}
+use Rattle.live_core.specs.Lives.{LiveView, Stands}
+use Rattle.live_core.specs.Said.{TellsWaiting, is_waiting_there}
+use Rattle.live_core.specs.own.Places.{IsSlotOf}
+
+-- a slot that holds the task of this number tells
+pub waits_there : (m : LiveView) (number slot : ℕ) → IsSlotOf m.table.slots number (Some slot) → TellsWaiting m number (option_map_or (λ x. waits (task_in x)) (slot_of m.table.slots slot) false)
+waits_there m number slot at calls past st =
+    ap (λ (o : Option Seat). option_map_or (λ x. waits (task_in x)) o false) at.1
+    ∙ (ap waits (sym (st.table.shows.held slot at.0 at.1))
+    ∙ ap (λ (n : ℕ). waits ((after calls (workers_of m.table) (happenings past)).tasks n)) at.2)
+
+-- a task that no slot holds does not wait
+pub waits_nowhere : (m : LiveView) (number : ℕ) → IsNew m.table.slots number → TellsWaiting m number false
+waits_nowhere m number new calls past st =
+    let t : Task = (after calls (workers_of m.table) (happenings past)).tasks number in
+    sym (false_from_ne_true (waits t) (λ e.
+    let at = st.table.shows.known number (or_left (waits t || t.kept) (is_running_in t.phase) (or_left (waits t) t.kept e)) in
+    absurd (new at.0 at.1 at.2 at.3)))
+
+-- what is told is so of a task that stands in its own slot
+pub waits_told : (m : LiveView) (task : TaskRef) (calls : List Planned) (past : List HistoryEntry) (waiting : Bool) → Stands m calls past → TellsWaiting m task.number waiting → is_waiting_there m.table task ≡ true → waiting ≡ true
+waits_told m task calls past waiting st tells there = by (slot_of m.table.slots task.slot) refl there
+  where
+    by : (o : Option Seat) → slot_of m.table.slots task.slot ≡ o → option_map_or (λ x. (x.number == task.number) && waits (task_in x)) o false ≡ true → waiting ≡ true
+    by None is q = absurd (false≢true q)
+    by (Some x) is q =
+        let parts = and_parts (x.number == task.number) (waits (task_in x)) q in
+        tells calls past st
+        ∙ (ap (λ (n : ℕ). waits ((after calls (workers_of m.table) (happenings past)).tasks n)) (sym (eqb-true x.number task.number parts.0))
+        ∙ (ap waits (st.table.shows.held task.slot x is) ∙ parts.1))
