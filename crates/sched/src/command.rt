@@ -298,7 +298,7 @@ a task that was not submitted before is answered 'error no task'.
 The trace goes to standard output. A line is answered as soon as it was read
 whole: all lines that were read are answered before more are read.
 There is no limit on lines but these, beyond which there is no room for one:
-calls are made at 2^62 at most, there are at most 2^32 tasks, 2^64 runs of a
+calls are made at 2^62 at most, there are at most 2^32 tasks, 2^64 - 1 runs of a
 task, and 2^64 - 2 lines of the trace.
 With --plan the calls that were made are written to FILE once the lines end,
 also where they end by a fault: a plan of version 2 that makes them at the same
