@@ -13,7 +13,7 @@ use Rattle.task_table.specs.Seats.{IsNew}
 use Rattle.task_table.specs.Tables.{TableView, CallSteps, EventSteps}
 use Rattle.task_table.specs.Changes.{at_moment}
 use Rattle.live_core.specs.Lives.{LiveView, Calls, Happens, never, quiet}
-use Rattle.live_core.specs.Said.{effect_without}
+use Rattle.live_core.specs.own.Places.{effect_without}
 use Rattle.live_core.specs.own.Formed.{IsRoomier}
 use Rattle.live_core.proofs.Making.{MayAdd}
 use Rattle.live_core.proofs.Meeting.{Carries, makes_still, meets_still}

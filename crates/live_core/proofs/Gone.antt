@@ -21,7 +21,7 @@ use Rattle.task_table.specs.Changes.{at_moment}
 use Rattle.task_table.proofs.Standing.{view_there}
 use Rattle.task_table.proofs.Gone.{gone_steps, gone_call_steps, no_task_steps}
 use Rattle.live_core.specs.Lives.{LiveView, Calls, Happens, never, quiet}
-use Rattle.live_core.specs.Said.{effect_without}
+use Rattle.live_core.specs.own.Places.{effect_without}
 use Rattle.live_core.proofs.Making.{MayAdd, makes_there}
 use Rattle.live_core.proofs.Meeting.{meets_there}
 

@@ -1,12 +1,12 @@
 -- What is noted of the slots, once a table has changed.
-use Rattle.std.proofs.Common.{◌≡◌, ℕ, ◌+◌, ◌<◌, ◌≤◌, List, [], ◌∷◌, ◌++◌, length, Option, Some, None, refl, sym, ap, ◌∙◌, arith, subst}
-use Rattle.std.specs.Prelude.{◌-◌, ◌*◌, max, slice_set, replicate, Result, Ok, Err, OnOk, OnErr}
+use Rattle.std.proofs.Common.{◌≡◌, ℕ, ◌+◌, ◌<◌, ◌≤◌, inl, inr, List, [], ◌∷◌, ◌++◌, length, Option, Some, None, refl, sym, ap, ◌∙◌, arith, subst}
+use Rattle.std.specs.Prelude.{◌-◌, ◌*◌, slice_set, replicate, Result, Ok, Err, OnOk, OnErr}
 use Rattle.std.specs.List.{range_with_len}
 use Rattle.std.proofs.lemmas.List.{length-append, length-replicate}
 use Rattle.live_core.proofs.Ranged.{empty_grown, grown_number}
 use Rattle.task_table.specs.Tables.{TableView}
 use Rattle.task_table.specs.Changes.{grown}
-use Rattle.live_core.specs.Said.{AreTaken, tasks_in}
+use Rattle.live_core.specs.Said.{AreTaken, GrowsWhereTaken, tasks_in}
 use Rattle.task_table.specs.declared.seat.Seat.{Seat}
 use Rattle.task_table.specs.declared.seat.TaskRef.{TaskRef}
 use Rattle.task_table.specs.Seats.{slot_of, IsNew}
@@ -136,20 +136,22 @@ pub noted_spare : (slots : List (Option Seat)) (count : ℕ) (free : List ℕ) (
 noted_spare slots count free entries slot_room ended_room noted some = omega (arith, noted.empty.count, some, noted.room, held_length slots, held_count slots)
 
 -- how many slots there are once there are twice as many, and four
-pub twice_grown : (m : TableView) (new : TableView) → AreTaken m.slots → new ≡ grown m (2 * length m.slots + 4) → length new.slots ≤ max (length m.slots) (2 * tasks_in new.slots + 4)
+twice_grown : (m : TableView) (new : TableView) → AreTaken m.slots → new ≡ grown m (2 * length m.slots + 4) → GrowsWhereTaken 4 m.slots new.slots
 twice_grown m new all is =
     let n = length m.slots in
     let more = 2 * n + 4 - n in
     let long : length new.slots ≡ n + more = ap (λ (v : TableView). length v.slots) is ∙ (length-append m.slots (replicate more None) ∙ ap (λ (k : ℕ). n + k) (length-replicate more None)) in
     let tasks : tasks_in new.slots ≡ tasks_in m.slots = ap (λ (v : TableView). tasks_in v.slots) is ∙ tasks_grown m.slots more in
-    within (length new.slots) n (2 * tasks_in new.slots + 4) (omega (arith, long, tasks, all))
-  where
-    within : (k n bound : ℕ) → k ≤ bound → k ≤ max n bound
-    within k n bound l = grind (arith, l)
+    inr (all, omega (arith, long, tasks, all))
 
-pub twice_on_ok : {T E : Type 0} (r : Result T E) (m new : TableView) (slots : ℕ) → slots ≡ 2 * length m.slots + 4 → AreTaken m.slots → OnOk r (new ≡ grown m slots) → OnOk r (length new.slots ≤ max (length m.slots) (2 * tasks_in new.slots + 4))
+pub twice_on_ok : {T E : Type 0} (r : Result T E) (m new : TableView) (slots : ℕ) → slots ≡ 2 * length m.slots + 4 → AreTaken m.slots → OnOk r (new ≡ grown m slots) → OnOk r (GrowsWhereTaken 4 m.slots new.slots)
 twice_on_ok (Ok x) m new slots twice all is = twice_grown m new all (is ∙ ap (grown m) twice)
 twice_on_ok (Err e) m new slots twice all is = tt
+
+-- where a task comes into one of them
+pub grows_on : (old mid new : List (Option Seat)) → GrowsWhereTaken 4 old mid → length new ≡ length mid → tasks_in new ≡ tasks_in mid + 1 → GrowsWhereTaken 2 old new
+grows_on old mid new (inl same) long tasks = inl (omega (arith, same, long))
+grows_on old mid new (inr more) long tasks = inr (more.0, omega (arith, more.1, long, tasks))
 
 pub always_on_err : {T E P : Type 0} (r : Result T E) → P → OnErr r P
 always_on_err (Ok x) p = tt

@@ -1,5 +1,5 @@
 -- What cancels answer, from outside and by a call.
--- All of it is this project's rule, but where a source is named.
+-- All of it is this project's rule.
 use Rattle.std.specs.Prelude.{◌≡◌, ℕ, ◌+◌, ◌<◌, ◌≤◌, true, [], Some}
 use Rattle.sched_time.specs.Times.{longest}
 use Rattle.queue_code.specs.declared.call.CodeCall.TheVariants as c
@@ -20,9 +20,8 @@ use Rattle.live_core.specs.Lives.{LiveView, Calls, Happens, never, quiet, moment
 abbrev pub IsHeldAlive : TableView → ℕ → Type 0
 IsHeldAlive m k = (i : ℕ) (x : Seat) → slot_of m.slots i ≡ Some x → x.number ≡ k → is_alive (task_in x) ≡ true
 
--- a cancel from outside of a number that was given out has this effect; the slot of its task is empty where it is over
--- (Future.cancel, Java SE 17 documentation: "This method has no effect if the task is already completed or cancelled, or could not be
--- cancelled for some other reason.")
+-- a cancel from outside of a number that was given out has this effect, as Future.cancel has none on a task that is over or was
+-- cancelled; the slot of its task is empty where it is over
 pub record CancelsOutside (old new : LiveView) (k : ℕ) (effect : CancelEffect) : Type 0 where
   pub given : k < old.count
   pub happens : Happens old new (h.Cancel k) (bare (a.Outside k effect))

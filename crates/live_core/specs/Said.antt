@@ -1,12 +1,10 @@
 -- What submissions answer, as the lines of a trace have it, and what an executor tells of its tasks.
 -- All of it is this project's rule, but where a source is named.
-use Rattle.std.specs.Prelude.{◌≡◌, ℕ, ◌+◌, ◌*◌, ◌-◌, ◌^◌, ◌<◌, ◌≤◌, ◌==◌, ◌&&◌, max, nat_lt, Bool, false, if◌then◌else◌, List, length, Option, is_some}
+use Rattle.std.specs.Prelude.{◌≡◌, ℕ, ◌+◌, ◌*◌, ◌-◌, ◌^◌, ◌<◌, ◌≤◌, ◌⊎◌, ◌==◌, ◌&&◌, Bool, false, List, length, Option, is_some}
 use Rattle.std.specs.Option.{option_map_or}
 use Rattle.sched_time.specs.declared.timing.Timing.{Timing}
 use Rattle.executor_core.specs.declared.types.Answer.{Answer}
 use Rattle.executor_core.specs.declared.types.Answer.TheVariants as a
-use Rattle.executor_core.specs.declared.types.CancelEffect.{CancelEffect}
-use Rattle.executor_core.specs.declared.types.CancelEffect.TheVariants as f
 use Rattle.executor_core.specs.declared.types.Refusal.TheVariants as refusal
 use Rattle.executor_core.specs.Answers.{Reply, bare, kind_of}
 use Rattle.executor_core.specs.Counts.{IsWorkerCount}
@@ -38,10 +36,6 @@ submit_reply timing (su.Rejected number) = bare (a.Refuse number refusal.Rejecte
 -- an answer, and the tasks that it ends
 abbrev pub ending : Answer → List TaskRef → Reply
 ending answer ended = record { answer = answer; ends = numbers_of ended }
-
--- what a cancel does to a task that has no slot, where so many were accepted: nothing, as it is over, or was never accepted
-abbrev pub effect_without : ℕ → ℕ → CancelEffect
-effect_without accepted k = if nat_lt k accepted then f.No else f.Absent
 
 -- why no executor is made for so many workers: they are not 1 to 64, or else memory was refused
 abbrev pub IsMakeError : ℕ → MakeError → Type 0
@@ -81,18 +75,26 @@ IsShort timing delay = (delay ≤ longest) × IsTimed timing
 abbrev pub AreTaken : List (Option Seat) → Type 0
 AreTaken slots = tasks_in slots ≡ length slots
 
--- a submission has this number, which comes next, and is a call that is made; there are more slots than before only where each held a
--- task, and then at most twice as many as hold tasks now, and two
+-- there are as many slots as before; or each held a task, and now there are at most twice as many as hold tasks, and so many more
+abbrev pub GrowsWhereTaken : ℕ → List (Option Seat) → List (Option Seat) → Type 0
+GrowsWhereTaken more old new = (length new ≡ length old) ⊎ (AreTaken old × (length new ≤ 2 * tasks_in new + more))
+
+-- what a submission leaves of the slots: a task that is rejected wants none
+abbrev pub SlotsFor : List (Option Seat) → List (Option Seat) → Submitted → Type 0
+SlotsFor old new (su.Accepted task due) = GrowsWhereTaken 2 old new
+SlotsFor old new (su.Rejected number) = new ≡ old
+
+-- a submission has this number, which comes next, and is a call that is made
 pub record Submits (old new : LiveView) (at : ℕ) (timing : Timing) (delay : ℕ) (s : Submitted) : Type 0 where
   pub short : IsShort timing delay
   pub near : moment_of_call old at ≤ longest
   pub number : number_of s ≡ old.count
   pub numbers : old.count < 2 ^ 64 - 1
   pub makes : Calls old new (moment_of_call old at, c.Submit old.count timing delay) (submit_reply timing s)
-  pub slots : length new.table.slots ≤ max (length old.table.slots) (2 * tasks_in new.table.slots + 2)
+  pub slots : SlotsFor old.table.slots new.table.slots s
 
 -- why a submission is no call: a span is too long, or else its moment would be too late, or else no number is left, or else memory
--- was refused for a task that would be accepted, and that no slot is left for
+-- was refused for a task that would be accepted, and that no slot is left for, or there may be no more slots
 abbrev pub IsSubmitError : LiveView → ℕ → Timing → ℕ → CallError → Type 0
 IsSubmitError m at timing delay ce.TooLong = IsShort timing delay → ⊥
 IsSubmitError m at timing delay ce.TooFar = IsShort timing delay × (longest < moment_of_call m at)
@@ -101,8 +103,8 @@ IsSubmitError m at timing delay ce.Memory = IsShort timing delay × (moment_of_c
 IsSubmitError m at timing delay _ = ⊥
 
 -- the same of one with this period, or fixed delay, which is legal if it is not 0
--- (ScheduledThreadPoolExecutor.scheduleAtFixedRate, Java SE 17 documentation: "IllegalArgumentException - if period less than or equal to
--- zero"; scheduleWithFixedDelay says the same of delay.)
+-- (ScheduledExecutorService.scheduleAtFixedRate, Java SE 17 documentation, throws IllegalArgumentException "if period less than or equal
+-- to zero"; scheduleWithFixedDelay says the same of delay.)
 abbrev pub IsPeriodicError : ℕ → LiveView → ℕ → Timing → ℕ → CallError → Type 0
 IsPeriodicError span m at timing delay ce.Illegal = span ≡ 0
 IsPeriodicError span m at timing delay error = (0 < span) × IsSubmitError m at timing delay error

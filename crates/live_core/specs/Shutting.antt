@@ -1,6 +1,7 @@
 -- What the calls that shut the executor down, set a policy, or ask how far it is answer, as the lines of a trace have it.
 -- All of it is this project's rule, but where a source is named.
-use Rattle.std.specs.Prelude.{◌≡◌, ℕ, ◌<◌, not, Bool, if◌then◌else◌, [], Some, None, is_some}
+use Rattle.std.specs.Prelude.{◌≡◌, ℕ, ◌<◌, not, Bool, if◌then◌else◌, List, [], Some, None, is_some}
+use Rattle.std.specs.List.{All}
 use Rattle.sched_time.specs.Times.{longest}
 use Rattle.sched_time.specs.declared.policies.Which.{Which}
 use Rattle.queue_code.specs.declared.call.CodeCall.TheVariants as c
@@ -14,6 +15,8 @@ use Rattle.task_table.specs.declared.answers.Asked.{Asked}
 use Rattle.task_table.specs.Seats.{slot_of}
 use Rattle.task_table.specs.Tables.{TableView}
 use Rattle.task_table.specs.Firsts.{queue_in}
+use Rattle.task_table.specs.Ends.{IsAscending}
+use Rattle.task_table.specs.Endings.{numbers_of}
 use Rattle.live_core.specs.declared.error.CallError.{CallError}
 use Rattle.live_core.specs.declared.error.CallError.TheVariants as ce
 use Rattle.live_core.specs.Lives.{LiveView, Calls, moment_of_call}
@@ -31,9 +34,13 @@ pub record IsGone (old new : TableView) (task : TaskRef) : Type 0 where
   pub named : seat.number ≡ task.number
   pub empty : slot_of new.slots task.slot ≡ None
 
--- a policy is set
--- (ScheduledThreadPoolExecutor.setContinueExistingPeriodicTasksAfterShutdownPolicy, setExecuteExistingDelayedTasksAfterShutdownPolicy and
--- setRemoveOnCancelPolicy, Java SE 17 documentation.)
+-- some tasks were ended, ascending by number, and are gone from their slots
+pub record AreGone (old new : TableView) (ended : List TaskRef) : Type 0 where
+  pub each : All (IsGone old new) ended
+  pub ascending : IsAscending (numbers_of ended)
+
+-- a policy is set, as setContinueExistingPeriodicTasksAfterShutdownPolicy, setExecuteExistingDelayedTasksAfterShutdownPolicy and
+-- setRemoveOnCancelPolicy of ScheduledThreadPoolExecutor do
 abbrev pub Sets : LiveView → LiveView → ℕ → Which → Bool → Type 0
 Sets old new at which value = Calls old new (moment_of_call old at, c.SetPolicy which value) (ending (a.Policy which value) new.ended)
 
@@ -54,9 +61,8 @@ pub record ShutsDown (old new : LiveView) (at : ℕ) (is_first : Bool) : Type 0 
 abbrev pub StopsAtOnce : LiveView → LiveView → ℕ → Type 0
 StopsAtOnce old new at = Calls old new (moment_of_call old at, c.ShutdownNow) (ending a.ShutdownNow new.ended)
 
--- how far the executor is, where a call asks: that ends no task
--- (ThreadPoolExecutor.getQueue, getActiveCount, isShutdown, isTerminated, Java SE 17 documentation, the last: "Returns true if all tasks
--- have completed following shut down.")
+-- how far the executor is, where a call asks, as getQueue, getActiveCount, isShutdown and isTerminated of ThreadPoolExecutor tell: that
+-- ends no task
 pub record Asks (old new : LiveView) (at : ℕ) (x : Asked) : Type 0 where
   pub queue : x.queue ≡ queue_in old.table.slots
   pub running : x.running ≡ how_many is_some old.table.work

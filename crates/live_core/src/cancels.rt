@@ -6,7 +6,7 @@ ghost use Rattle.executor_core.specs.Answers.{bare};
 ghost use Rattle.executor_core.specs.declared.types.Answer.TheVariants as answer;
 ghost use Rattle.executor_core.specs.declared.types.EventError.TheVariants as event_error;
 ghost use Rattle.executor_core.specs.declared.types.Happening.TheVariants as happening;
-ghost use Rattle.live_core.specs.Said as said;
+ghost use Rattle.live_core.specs.own.Places as places;
 
 use crate::error::CallError;
 use crate::executor::ScheduledExecutor;
@@ -32,7 +32,8 @@ impl<A: Allocator> ScheduledExecutor<A> {
     ///
     /// # Errors
     ///
-    /// [`EventError::NoTask`] where no submission was given the number yet: no task has changed then.
+    /// [`EventError::NoTask`] where no submission was given the number yet: the cancel has happened then, and the executor is as it
+    /// was, but that [`ended`](ScheduledExecutor::ended) is empty.
     pub fn cancel(&mut self, task: TaskRef) -> Result<CancelEffect, EventError>
         ensures stays { StaysQuiet self.old self.new self.old.count }
         ensures done { IfOk result (λ effect. CancelsOutside self.old self.new task.number effect) }
@@ -46,7 +47,8 @@ impl<A: Allocator> ScheduledExecutor<A> {
     ///
     /// # Errors
     ///
-    /// [`EventError::NoTask`] where no submission was given the number yet: no task has changed then.
+    /// [`EventError::NoTask`] where no submission was given the number yet: the cancel has happened then, and the executor is as it
+    /// was, but that [`ended`](ScheduledExecutor::ended) is empty.
     pub fn cancel_number(&mut self, number: u64) -> Result<CancelEffect, EventError>
         ensures stays { StaysQuiet self.old self.new self.old.count }
         ensures done { IfOk result (λ effect. CancelsOutside self.old self.new number effect) }
@@ -221,7 +223,7 @@ impl<A: Allocator> ScheduledExecutor<A> {
 
 /// What a cancel does to a task that has no slot, where so many were accepted.
 fn effect_without(accepted: u64, number: u64) -> CancelEffect
-    ensures { result ≡ said.effect_without accepted number }
+    ensures { result ≡ places.effect_without accepted number }
 {
     if number < accepted {
         return CancelEffect::No;

@@ -19,7 +19,7 @@ pub enum CallError {
     /// The period, or the fixed delay, is 0.
     #[error("the period or the fixed delay is 0")]
     Illegal,
-    /// The delay, the period or the fixed delay is above 2^62 nanoseconds.
+    /// The span to the first run, the period or the fixed delay is above 2^62 nanoseconds.
     #[error("a span is above 2^62 nanoseconds")]
     TooLong,
     /// The moment of the call would be above 2^62 nanoseconds.
@@ -31,7 +31,7 @@ pub enum CallError {
     /// No submission was given this number yet.
     #[error("no task has this number")]
     NoTask,
-    /// The allocator refused the memory.
+    /// The allocator refused the memory, or there are 2^30 slots, and each holds a task.
     #[error("out of memory")]
     Memory,
 }

@@ -46,7 +46,8 @@ impl<A: Allocator> ScheduledExecutor<A> {
 
     /// A worker asks for work: it begins a run of the first task that is due, or none, where none is.
     ///
-    /// The tasks that were cancelled while they waited, and still stand in the queue before that one, leave it.
+    /// The tasks that were cancelled while they waited, and still stand in the queue before that one, leave it: each that is due,
+    /// where no task is.
     ///
     /// # Errors
     ///

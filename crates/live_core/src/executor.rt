@@ -58,6 +58,7 @@ impl<A: Allocator> ScheduledExecutor<A> {
         ensures first { IfOk result (λ e. e.count ≡ 0) }
         ensures earliest { IfOk result (λ e. e.earliest ≡ 0) }
         ensures ended { IfOk result (λ e. e.ended ≡ []) }
+        ensures empty { IfOk result (λ e. e.table.slots ≡ []) }
         ensures range { OnOk result (IsWorkerCount workers) }
         ensures failed { IfErr result (λ error. IsMakeError workers error) }
     {
@@ -121,7 +122,8 @@ impl<A: Allocator> ScheduledExecutor<A> {
         }
     }
 
-    /// The tasks that the last happening ended, by their numbers, ascending.
+    /// The tasks that the last call or event ended as it swept the queue, by their numbers, ascending: not the one whose run was
+    /// finished.
     pub fn ended(&self) -> &[TaskRef]
         ensures { result.now ≡ self.now.ended }
     {

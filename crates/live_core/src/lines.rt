@@ -13,7 +13,8 @@ use task_table::TaskRef;
 impl<A: Allocator> ScheduledExecutor<A> {
     ghost use Rattle.live_core.specs.Said.{ending};
 
-    /// Adds the lines of what happened last, which has this answer: that of the answer, and one of each task that it ended.
+    /// Adds the lines of what happened last, which has this answer: that of the answer, and one of each task that it ended. The
+    /// caller hands in the answer that what happened last was given; of a number of 2^32 or more there is none.
     ///
     /// # Errors
     ///

@@ -1,5 +1,5 @@
 //! Room for tasks, made ahead.
-ghost use Rattle.std.specs.Prelude.{◌≡◌, List, IfErr, OnOk, OnErr};
+ghost use Rattle.std.specs.Prelude.{◌≡◌, ◌≤◌, List, length, IsOk, IfErr, OnOk, OnErr};
 ghost use Rattle.queue_code.specs.Calls.{Planned};
 ghost use Rattle.executor_core.specs.Histories.{HistoryEntry};
 ghost use Rattle.live_core.specs.declared.error.CallError.TheVariants as call_error;
@@ -21,6 +21,7 @@ impl<A: Allocator> ScheduledExecutor<A> {
     pub fn reserve(&mut self, tasks: u32) -> Result<(), CallError>
         ensures made { OnOk result (self.new ≡ record self.old { table = grown self.old.table tasks }) }
         ensures stands { (calls : List Planned) (past : List HistoryEntry) → Stands self.old calls past → Stands self.new calls past }
+        ensures roomy { tasks ≤ length self.old.table.slots → IsOk result }
         ensures refused { OnErr result (self.new ≡ self.old) }
         ensures failed { IfErr result (λ error. error ≡ call_error.Memory) }
     {

@@ -1,7 +1,7 @@
 //! Room for one more task.
-ghost use Rattle.std.specs.Prelude.{◌≡◌, ◌+◌, ◌*◌, ◌<◌, ◌≤◌, max, length, OnOk, OnErr, vec_capacity};
+ghost use Rattle.std.specs.Prelude.{◌≡◌, ◌<◌, length, OnOk, OnErr, vec_capacity};
 ghost use Rattle.task_table.specs.Changes.{grown};
-ghost use Rattle.live_core.specs.Said.{AreTaken, tasks_in};
+ghost use Rattle.live_core.specs.Said.{AreTaken, GrowsWhereTaken};
 ghost use Rattle.live_core.specs.own.Formed.{AreNoted, AreAlive, IsRoomier};
 
 use crate::notes::Notes;
@@ -28,7 +28,7 @@ pub(crate) fn make_room<A: Allocator>(
     ensures full { OnErr result (AreTaken table.old.slots) }
     ensures entry { OnOk result (length notes.new.entries < notes.new.index_room) }
     ensures slot { OnOk result (0 < length notes.new.free) }
-    ensures size { OnOk result (length table.new.slots ≤ max (length table.old.slots) (2 * tasks_in table.new.slots + 4)) }
+    ensures size { OnOk result (GrowsWhereTaken 4 table.old.slots table.new.slots) }
     ensures ended { ended.new.items ≡ ended.old.items }
 {
     make_slot(table, notes, ended, count)?;
@@ -50,7 +50,7 @@ fn make_slot<A: Allocator>(
     ensures refused { OnErr result (table.new ≡ table.old) }
     ensures full { OnErr result (AreTaken table.old.slots) }
     ensures slot { OnOk result (0 < length notes.new.free) }
-    ensures size { OnOk result (length table.new.slots ≤ max (length table.old.slots) (2 * tasks_in table.new.slots + 4)) }
+    ensures size { OnOk result (GrowsWhereTaken 4 table.old.slots table.new.slots) }
     ensures ended { ended.new.items ≡ ended.old.items }
 {
     if notes.free_slots() > 0 {

@@ -1,6 +1,5 @@
 //! The calls that set a policy, shut the executor down, or ask how far it is.
 ghost use Rattle.std.specs.Prelude.{◌≡◌, ◌≤◌, OnOk, OnErr, IfOk, IfErr};
-ghost use Rattle.std.specs.List.{All};
 ghost use Rattle.sched_time.specs.Times.{longest};
 
 use crate::error::CallError;
@@ -12,7 +11,7 @@ use task_table::Asked;
 
 impl<A: Allocator> ScheduledExecutor<A> {
     ghost use Rattle.live_core.specs.Lives.{Stays, StaysQuiet, moment_of_call};
-    ghost use Rattle.live_core.specs.Shutting.{IsTooFar, IsGone, Sets, ShutsDown, StopsAtOnce, Asks};
+    ghost use Rattle.live_core.specs.Shutting.{IsTooFar, AreGone, Sets, ShutsDown, StopsAtOnce, Asks};
 
     /// Sets a policy, at the moment of this call, as [`schedule`](ScheduledExecutor::schedule) has it. Where the executor is
     /// shut, and the continue or the execute policy is set to false, this ends the tasks that wait and that the policies do not
@@ -23,7 +22,7 @@ impl<A: Allocator> ScheduledExecutor<A> {
     /// [`CallError::TooFar`] where the moment of the call would be above 2^62: nothing has changed then.
     pub fn set_policy(&mut self, at: u64, which: Which, value: bool) -> Result<(), CallError>
         ensures made { OnOk result (Sets self.old self.new at which value) }
-        ensures gone { OnOk result (All (IsGone self.old.table self.new.table) self.new.ended) }
+        ensures gone { OnOk result (AreGone self.old.table self.new.table self.new.ended) }
         ensures stays { OnOk result (Stays self.old self.new self.old.count) }
         ensures near { OnOk result (moment_of_call self.old at ≤ longest) }
         ensures refused { OnErr result (self.new ≡ self.old) }
@@ -46,14 +45,14 @@ impl<A: Allocator> ScheduledExecutor<A> {
 
     /// Shuts the executor down in order: submissions are rejected from then on. The answer is whether it was not shut before.
     /// Then this ends the tasks that wait and that the policies do not let run any more, and no cancelled task stays in the
-    /// queue; else it ends none, and changes nothing but the moment.
+    /// queue; else it ends none, and no task changes.
     ///
     /// # Errors
     ///
     /// [`CallError::TooFar`] where the moment of the call would be above 2^62: nothing has changed then.
     pub fn shut_down(&mut self, at: u64) -> Result<bool, CallError>
         ensures made { IfOk result (λ first. ShutsDown self.old self.new at first) }
-        ensures gone { OnOk result (All (IsGone self.old.table self.new.table) self.new.ended) }
+        ensures gone { OnOk result (AreGone self.old.table self.new.table self.new.ended) }
         ensures stays { OnOk result (Stays self.old self.new self.old.count) }
         ensures near { OnOk result (moment_of_call self.old at ≤ longest) }
         ensures refused { OnErr result (self.new ≡ self.old) }
@@ -74,7 +73,7 @@ impl<A: Allocator> ScheduledExecutor<A> {
     /// [`CallError::TooFar`] where the moment of the call would be above 2^62: nothing has changed then.
     pub fn shut_down_now(&mut self, at: u64) -> Result<(), CallError>
         ensures made { OnOk result (StopsAtOnce self.old self.new at) }
-        ensures gone { OnOk result (All (IsGone self.old.table self.new.table) self.new.ended) }
+        ensures gone { OnOk result (AreGone self.old.table self.new.table self.new.ended) }
         ensures stays { OnOk result (Stays self.old self.new self.old.count) }
         ensures near { OnOk result (moment_of_call self.old at ≤ longest) }
         ensures refused { OnErr result (self.new ≡ self.old) }
@@ -89,7 +88,7 @@ impl<A: Allocator> ScheduledExecutor<A> {
     }
 
     /// Asks how far the executor is: how many tasks stand in its queue, how many run, and whether it is shut, and terminated.
-    /// It is a call, which ends no task, and changes nothing but the moment.
+    /// It is a call, which ends no task, and changes none.
     ///
     /// # Errors
     ///

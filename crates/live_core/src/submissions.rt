@@ -20,8 +20,8 @@ impl<A: Allocator> ScheduledExecutor<A> {
     /// # Errors
     ///
     /// [`CallError::TooLong`] where `delay` is above 2^62, [`CallError::TooFar`] where the moment of the call would be,
-    /// [`CallError::Full`] where 2^64 - 1 numbers were given out, and [`CallError::Memory`] where each slot holds a task and memory for
-    /// more slots is refused: nothing has changed then.
+    /// [`CallError::Full`] where 2^64 - 1 numbers were given out, and [`CallError::Memory`] where each slot holds a task, and memory
+    /// for more is refused, or there are 2^30: nothing has changed then.
     pub fn schedule(&mut self, at: u64, delay: u64) -> Result<Submitted, CallError>
         ensures made { IfOk result (λ s. Submits self.old self.new at timings.Once delay s) }
         ensures stays { OnOk result (StaysQuiet self.old self.new (self.old.count + 1)) }

@@ -1,5 +1,5 @@
 //! Submissions that are accepted, and those that are rejected.
-ghost use Rattle.std.specs.Prelude.{◌≡◌, ℕ, ◌^◌, ◌<◌, ◌≤◌, ◌+◌, ◌*◌, max, length, true, false, IfOk, OnOk, OnErr};
+ghost use Rattle.std.specs.Prelude.{◌≡◌, ℕ, ◌^◌, ◌<◌, ◌≤◌, ◌+◌, true, false, IfOk, OnOk, OnErr};
 ghost use Rattle.sched_time.specs.Times.{longest};
 ghost use Rattle.sched_time.specs.declared.timing.Timing as timings;
 ghost use Rattle.queue_code.specs.Calls.{IsTimed};
@@ -14,7 +14,7 @@ use std::alloc::{AllocError, Allocator};
 
 impl<A: Allocator> ScheduledExecutor<A> {
     ghost use Rattle.live_core.specs.Lives.{Calls, StaysQuiet};
-    ghost use Rattle.live_core.specs.Said.{AreTaken, submit_reply, number_of, tasks_in};
+    ghost use Rattle.live_core.specs.Said.{AreTaken, SlotsFor, submit_reply, number_of};
     ghost use Rattle.live_core.specs.declared.answers.Submitted.TheVariants as submitted;
 
     /// A call submits a task at this moment, where the executor is not shut.
@@ -31,7 +31,7 @@ impl<A: Allocator> ScheduledExecutor<A> {
         requires spans { (delay ≤ longest) × IsTimed timing }
         requires few { self.old.count + 1 < 2 ^ 64 }
         ensures number { IfOk result (λ s. number_of s ≡ self.old.count) }
-        ensures slots { OnOk result (length self.new.table.slots ≤ max (length self.old.table.slots) (2 * tasks_in self.new.table.slots + 2)) }
+        ensures slots { IfOk result (λ s. SlotsFor self.old.table.slots self.new.table.slots s) }
         ensures full { OnErr result (AreTaken self.old.table.slots) }
         ensures stays { OnOk result (StaysQuiet self.old self.new (self.old.count + 1)) }
         ensures made { IfOk result (λ s. Calls self.old self.new (moment, call.Submit self.old.count timing delay) (submit_reply timing s)) }

@@ -14,7 +14,7 @@ ghost use Rattle.task_table.specs.Seats.{slot_of};
 ghost use Rattle.task_table.specs.declared.seat.Seat as seats;
 ghost use Rattle.task_table.specs.Tables.{workers_of, CallSteps, IsNextCall, Stands, StandsBefore};
 ghost use Rattle.live_core.specs.Said.{ending};
-ghost use Rattle.live_core.specs.Shutting.{shutdown_answer, IsGone};
+ghost use Rattle.live_core.specs.Shutting.{shutdown_answer, AreGone};
 ghost use Rattle.live_core.specs.own.Formed.{AreNoted, AreAlive};
 ghost use Rattle.live_core.specs.own.Places.{IsEmptyAt};
 
@@ -39,7 +39,7 @@ pub(crate) fn set_policy<A: Allocator>(
     ensures noted { (count : ℕ) → AreNoted table.old.slots count notes.old.free notes.old.entries notes.old.slot_room (vec_capacity ended.old) → AreNoted table.new.slots count notes.new.free notes.new.entries notes.new.slot_room (vec_capacity ended.new) }
     ensures alive { AreAlive table.old.slots → AreAlive table.new.slots }
     ensures workers { workers_of table.new ≡ workers_of table.old }
-    ensures gone { All (IsGone table.old table.new) ended.new.items }
+    ensures gone { AreGone table.old table.new ended.new.items }
     ensures shut { table.new.shut ≡ table.old.shut }
     ensures steps { CallSteps table.old table.new (at, call.SetPolicy which value) (ending (answer.Policy which value) ended.new.items) }
 {
@@ -67,7 +67,7 @@ pub(crate) fn shut_down<A: Allocator>(
     ensures noted { (count : ℕ) → AreNoted table.old.slots count notes.old.free notes.old.entries notes.old.slot_room (vec_capacity ended.old) → AreNoted table.new.slots count notes.new.free notes.new.entries notes.new.slot_room (vec_capacity ended.new) }
     ensures alive { AreAlive table.old.slots → AreAlive table.new.slots }
     ensures workers { workers_of table.new ≡ workers_of table.old }
-    ensures gone { All (IsGone table.old table.new) ended.new.items }
+    ensures gone { AreGone table.old table.new ended.new.items }
     ensures shut { table.new.shut ≡ true }
     ensures steps { CallSteps table.old table.new (at, call.Shutdown) (ending (shutdown_answer result) ended.new.items) }
 {
@@ -95,7 +95,7 @@ pub(crate) fn shut_down_now<A: Allocator>(
     ensures noted { (count : ℕ) → AreNoted table.old.slots count notes.old.free notes.old.entries notes.old.slot_room (vec_capacity ended.old) → AreNoted table.new.slots count notes.new.free notes.new.entries notes.new.slot_room (vec_capacity ended.new) }
     ensures alive { AreAlive table.old.slots → AreAlive table.new.slots }
     ensures workers { workers_of table.new ≡ workers_of table.old }
-    ensures gone { All (IsGone table.old table.new) ended.new.items }
+    ensures gone { AreGone table.old table.new ended.new.items }
     ensures shut { table.new.shut ≡ true }
     ensures steps { CallSteps table.old table.new (at, call.ShutdownNow) (ending answer.ShutdownNow ended.new.items) }
 {

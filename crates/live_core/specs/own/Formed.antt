@@ -41,6 +41,7 @@ pub record IsLive (m : LiveView) (free : List ℕ) (entries : List TaskRef) (slo
 
 -- the table has more slots, or as many, and stands where it stood
 pub record IsRoomier (old new : TableView) : Type 0 where
+  pub more : length old.slots ≤ length new.slots
   pub moment : new.moment ≡ old.moment
   pub shut : new.shut ≡ old.shut
   pub workers : workers_of new ≡ workers_of old

@@ -10,8 +10,8 @@ use Rattle.task_table.specs.Tables.{TableView, StandsBefore}
 use Rattle.task_table.specs.Runs.{IsFree, IsFull}
 use Rattle.task_table.specs.Changes.{emptied}
 
--- kept tasks that a start meets were dropped, and their slots emptied: else all is as it was, a first task that is due is one still
--- for which no number is left, and whatever the start finds it finds before it
+-- kept tasks that a start meets were dropped, and their slots emptied: else all is as it was; if no number is left for a run of the
+-- first task that is due, none was before; and where the old table stood before a start, the new one does
 pub record Sheds (old new : TableView) : Type 0 where
   pub rest : new ≡ record old { slots = new.slots }
   pub full : IsFull new → IsFull old

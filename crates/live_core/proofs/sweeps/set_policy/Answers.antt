@@ -75,4 +75,4 @@ returns-then-setting_sweeps-clause-gone g c =
     let m : TableView = record (at_moment mid x.at) { policies = settings.set_policy x.which x.value mid.policies } in
     let s = (c.set_policy.ensures.swept told) in
     let empty = subst (All (IsEmptyAt c.release_each.new.table)) c.deref.ensures.value c.release_each.ensures.gone in
-    gone_from c.args.table.now m c.set_policy.new.self c.release_each.new.table c.set_policy.new.ends.items s.is c.drop_kept.ensures.leaves s.over empty
+    record { each = gone_from c.args.table.now m c.set_policy.new.self c.release_each.new.table c.set_policy.new.ends.items s.is c.drop_kept.ensures.leaves s.over empty; ascending = s.ended.ascending }

@@ -69,4 +69,4 @@ returns-clause-gone g c =
     let m : TableView = record (at_moment mid c.args.at) { shut = true } in
     let s = (c.shut_down-2.ensures.swept open_then) in
     let empty = subst (All (IsEmptyAt c.release_each.new.table)) c.deref.ensures.value c.release_each.ensures.gone in
-    gone_from c.args.table.now m c.shut_down-2.new.self c.release_each.new.table c.shut_down-2.new.ends.items s.is c.drop_kept.ensures.leaves s.over empty
+    record { each = gone_from c.args.table.now m c.shut_down-2.new.self c.release_each.new.table c.shut_down-2.new.ends.items s.is c.drop_kept.ensures.leaves s.over empty; ascending = s.ended.ascending }
