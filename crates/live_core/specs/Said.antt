@@ -1,6 +1,6 @@
 -- What submissions answer, as the lines of a trace have it, and what an executor tells of its tasks.
 -- All of it is this project's rule, but where a source is named.
-use Rattle.std.specs.Prelude.{◌≡◌, ℕ, ◌+◌, ◌*◌, ◌-◌, ◌^◌, ◌<◌, ◌≤◌, ◌==◌, ◌&&◌, max, nat_lt, Bool, false, if◌then◌else◌, List, length, Option, is_some}
+use Rattle.std.specs.Prelude.{◌≡◌, ℕ, ◌+◌, ◌*◌, ◌-◌, ◌^◌, ◌<◌, ◌≤◌, ◌==◌, ◌&&◌, max, nat_lt, Bool, true, false, if◌then◌else◌, List, length, Option, is_some}
 use Rattle.std.specs.Option.{option_map_or}
 use Rattle.sched_time.specs.declared.timing.Timing.{Timing}
 use Rattle.executor_core.specs.declared.types.Answer.{Answer}
@@ -77,18 +77,24 @@ number_of (su.Rejected number) = number
 abbrev pub IsShort : Timing → ℕ → Type 0
 IsShort timing delay = (delay ≤ longest) × IsTimed timing
 
+-- the slot of a task that was accepted holds it, and it waits for a run
+abbrev pub IsSeated : LiveView → Submitted → Type 0
+IsSeated m (su.Accepted task due) = is_waiting_there m.table task ≡ true
+IsSeated m (su.Rejected number) = Unit {0}
+
 -- each slot holds a task
 abbrev pub AreTaken : List (Option Seat) → Type 0
 AreTaken slots = tasks_in slots ≡ length slots
 
--- a submission has this number, which comes next, and is a call that is made; there are more slots than before only where each held a
--- task, and then at most twice as many as hold tasks now, and two
+-- a submission has this number, which comes next, and is a call that is made; where it is accepted, its task is in its slot; there are
+-- more slots than before only where each held a task, and then at most twice as many as hold tasks now, and two
 pub record Submits (old new : LiveView) (at : ℕ) (timing : Timing) (delay : ℕ) (s : Submitted) : Type 0 where
   pub short : IsShort timing delay
   pub near : moment_of_call old at ≤ longest
   pub number : number_of s ≡ old.count
   pub numbers : old.count < 2 ^ 64 - 1
   pub makes : Calls old new (moment_of_call old at, c.Submit old.count timing delay) (submit_reply timing s)
+  pub seated : IsSeated new s
   pub slots : length new.table.slots ≤ max (length old.table.slots) (2 * tasks_in new.table.slots + 2)
 
 -- why a submission is no call: a span is too long, or else its moment would be too late, or else no number is left, or else memory
