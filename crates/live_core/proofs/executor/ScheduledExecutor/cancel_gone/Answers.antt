@@ -1,12 +1,10 @@
 -- Its history tells what a cancel does to it.
-use Rattle.std.proofs.Common.{sym, subst}
+use Rattle.std.proofs.Common.{vec_capacity, refl, sym, subst}
 use Rattle.task_table.specs.Seats.{IsNew}
-use Rattle.live_core.specs.Lives.{LiveView}
+use Rattle.live_core.specs.Lives.{LiveView, StaysQuiet}
 use Rattle.live_core.proofs.Cancelled.{outside_gone}
 use Rattle.live_core.proofs.Seated.{new_alive}
 use Rattle.live_core.proofs.Leaving.{leaves_still, stays_left}
-use Rattle.std.proofs.Common.{refl, subst, vec_capacity}
-use Rattle.live_core.specs.Lives.{StaysQuiet}
 use Rattle.live_core.proofs.executor.ScheduledExecutor.cancel_gone.Goals as goal
 
 pub returns-clause-happens : goal.returns-clause-happens

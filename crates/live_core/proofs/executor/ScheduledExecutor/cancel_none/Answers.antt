@@ -1,9 +1,8 @@
 -- No task has changed.
-use Rattle.live_core.specs.Lives.{LiveView}
+use Rattle.std.proofs.Common.{vec_capacity, refl, subst}
+use Rattle.live_core.specs.Lives.{LiveView, StaysQuiet}
 use Rattle.live_core.proofs.Cancelled.{outside_none}
 use Rattle.live_core.proofs.Leaving.{leaves_still, stays_left}
-use Rattle.std.proofs.Common.{refl, subst, vec_capacity}
-use Rattle.live_core.specs.Lives.{StaysQuiet}
 use Rattle.live_core.proofs.executor.ScheduledExecutor.cancel_none.Goals as goal
 
 pub returns-clause-happens : goal.returns-clause-happens
