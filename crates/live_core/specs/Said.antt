@@ -17,7 +17,7 @@ use Rattle.executor_core.specs.Histories.{HistoryEntry, happenings}
 use Rattle.executor_core.specs.State.{after}
 use Rattle.task_table.specs.declared.seat.Seat.{Seat}
 use Rattle.task_table.specs.declared.seat.TaskRef.{TaskRef}
-use Rattle.task_table.specs.Seats.{task_in, slot_of, waits, is_alive}
+use Rattle.task_table.specs.Seats.{task_in, slot_of, waits, is_alive, IsNew}
 use Rattle.task_table.specs.Tables.{TableView, workers_of}
 use Rattle.task_table.specs.Endings.{numbers_of}
 use Rattle.live_core.specs.declared.error.MakeError.{MakeError}
@@ -77,16 +77,16 @@ number_of (su.Rejected number) = number
 abbrev pub IsShort : Timing → ℕ → Type 0
 IsShort timing delay = (delay ≤ longest) × IsTimed timing
 
--- the slot of a task that was accepted holds it, and it waits for a run
+-- the slot of a task that was accepted holds it, and it waits for a run; no slot holds one that was rejected
 abbrev pub IsSeated : LiveView → Submitted → Type 0
 IsSeated m (su.Accepted task due) = is_waiting_there m.table task ≡ true
-IsSeated m (su.Rejected number) = Unit {0}
+IsSeated m (su.Rejected number) = IsNew m.table.slots number
 
 -- each slot holds a task
 abbrev pub AreTaken : List (Option Seat) → Type 0
 AreTaken slots = tasks_in slots ≡ length slots
 
--- a submission has this number, which comes next, and is a call that is made; where it is accepted, its task is in its slot; there are
+-- a submission has this number, which comes next, and is a call that is made; its task is in its slot where it is accepted; there are
 -- more slots than before only where each held a task, and then at most twice as many as hold tasks now, and two
 pub record Submits (old new : LiveView) (at : ℕ) (timing : Timing) (delay : ℕ) (s : Submitted) : Type 0 where
   pub short : IsShort timing delay

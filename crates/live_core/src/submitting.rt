@@ -69,6 +69,7 @@ impl<A: Allocator> ScheduledExecutor<A> {
         requires limit { moment ≤ longest }
         requires few { self.old.count + 1 < 2 ^ 64 }
         ensures number { result ≡ submitted.Rejected self.old.count }
+        ensures seated { IsSeated self.new result }
         ensures slots { self.new.table.slots ≡ self.old.table.slots }
         ensures stays { StaysQuiet self.old self.new (self.old.count + 1) }
         ensures made { (timing : timings.Timing) (delay : ℕ) → delay ≤ longest → IsTimed timing → Calls self.old self.new (moment, call.Submit self.old.count timing delay) (submit_reply timing result) }

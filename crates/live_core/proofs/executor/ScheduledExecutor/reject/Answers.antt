@@ -6,11 +6,12 @@ use Rattle.queue_code.specs.declared.call.CodeCall.TheVariants as call
 use Rattle.executor_core.specs.declared.types.Answer.TheVariants as answer
 use Rattle.executor_core.specs.declared.types.Refusal.TheVariants as refusal
 use Rattle.executor_core.specs.Answers.{bare}
+use Rattle.task_table.specs.Seats.{IsNew}
 use Rattle.task_table.specs.Tables.{TableView, workers_of}
 use Rattle.live_core.specs.Lives.{LiveView, Calls, StaysQuiet}
 use Rattle.live_core.specs.own.Formed.{AreAlive}
 use Rattle.live_core.proofs.Living.{live_call}
-use Rattle.live_core.proofs.Noted.{noted_later}
+use Rattle.live_core.proofs.Noted.{noted_number, noted_later}
 use Rattle.live_core.proofs.Steps.{may_submit, rejects_there}
 use Rattle.live_core.proofs.Leaving.{leaves_still, stays_left}
 use Rattle.live_core.proofs.executor.ScheduledExecutor.reject.Goals as goal
@@ -53,3 +54,9 @@ returns-clause-stays g c =
           (noted_later e.table.slots table.slots e.count e.notes.free e.notes.entries e.notes.slot_room (vec_capacity e.ended) (vec_capacity e.ended) same refl c.self.invariant.noted);
       ended = c.clear.ensures.items;
     })
+
+pub returns-clause-seated : goal.returns-clause-seated
+returns-clause-seated g c =
+    let e = c.self.inside in
+    subst (λ (x : TableView). IsNew x.slots e.count) (sym c.refuse.ensures.slots)
+    (noted_number e.table.slots e.count e.notes.free e.notes.entries e.notes.slot_room (vec_capacity e.ended) c.self.invariant.noted)
