@@ -36,7 +36,7 @@ use Rattle.live_core.proofs.Seated.{IsCancelled}
 -- ---- a slot is written
 
 -- what a slot holds then is what was written, or was there before
-set_case : (slots : List (Option Seat)) (slot i : ℕ) (o : Option Seat) (x : Seat) → slot_of (slice_set slots slot o) i ≡ Some x → ((slot ≡ i) × (o ≡ Some x)) ⊎ ((slot ≡ i → ⊥) × (slot_of slots i ≡ Some x))
+pub set_case : (slots : List (Option Seat)) (slot i : ℕ) (o : Option Seat) (x : Seat) → slot_of (slice_set slots slot o) i ≡ Some x → ((slot ≡ i) × (o ≡ Some x)) ⊎ ((slot ≡ i → ⊥) × (slot_of slots i ≡ Some x))
 set_case [] slot i o x is = absurd (none-some x is)
 set_case (p ∷ slots) zero zero o x is = inl (refl, is)
 set_case (p ∷ slots) zero (suc i) o x is = inr ((λ e. omega (arith, e)), is)

@@ -21,3 +21,4 @@ pub mod Called
 pub mod Few
 pub mod Waiting
 pub mod Limited
+pub mod Leaving

@@ -111,11 +111,14 @@ cancel_numbers m slot x there = by (effect_of x)
     by f.No = refl
     by f.Absent = refl
 
+pub cancelled_numbers : (m mid : TableView) (slot : ℕ) (x : Seat) → IsCancelled m mid slot x → slot_of m.slots slot ≡ Some x → held_numbers mid.slots ≡ held_numbers m.slots
+cancelled_numbers m mid slot x is there = ap held_numbers is.slots ∙ cancel_numbers m slot x there
+
 pub cancelled_noted : (m mid : TableView) (slot : ℕ) (x : Seat) (count : ℕ) (free : List ℕ) (entries : List TaskRef) (slot_room ended_room more_ended : ℕ) → IsCancelled m mid slot x → slot_of m.slots slot ≡ Some x → more_ended ≡ ended_room →
     AreNoted m.slots count free entries slot_room ended_room → AreNoted mid.slots count free entries slot_room more_ended
 cancelled_noted m mid slot x count free entries slot_room ended_room more_ended is there same noted =
     subst (λ room. AreNoted mid.slots count free entries slot_room room) (sym same)
-    (noted_still m.slots mid.slots count free entries slot_room ended_room (ap held_numbers is.slots ∙ cancel_numbers m slot x there) noted)
+    (noted_still m.slots mid.slots count free entries slot_room ended_room (cancelled_numbers m mid slot x is there) noted)
 
 -- and so the slot has the task of its number
 cancel_there : (m : TableView) (slot number : ℕ) (x : Seat) → slot_of m.slots slot ≡ Some x → x.number ≡ number → IsSlotOf (cancel_in m slot x).slots number (Some slot)

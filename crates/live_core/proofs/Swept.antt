@@ -29,10 +29,14 @@ use Rattle.live_core.proofs.Noted.{noted_still}
 
 -- ---- a kept task is dropped
 
+-- the numbers in the slots stay
+pub drop_numbers : (m mid : TableView) (slot : ℕ) → Drops m mid slot → held_numbers mid.slots ≡ held_numbers m.slots
+drop_numbers m mid slot d = ap (λ (v : TableView). held_numbers v.slots) d.is ∙ held_put m.slots slot d.task (unkept d.task) d.there refl
+
 -- the slots are noted as before
 pub noted_dropped : (m mid : TableView) (slot count : ℕ) (free : List ℕ) (entries : List TaskRef) (slot_room ended_room : ℕ) → Drops m mid slot → AreNoted m.slots count free entries slot_room ended_room → AreNoted mid.slots count free entries slot_room ended_room
 noted_dropped m mid slot count free entries slot_room ended_room d noted =
-    noted_still m.slots mid.slots count free entries slot_room ended_room (ap (λ (v : TableView). held_numbers v.slots) d.is ∙ held_put m.slots slot d.task (unkept d.task) d.there refl) noted
+    noted_still m.slots mid.slots count free entries slot_room ended_room (drop_numbers m mid slot d) noted
 
 -- a kept task is where it was, or has left its slot
 abbrev pub StaysOrGoes : TableView → TableView → Type 0
@@ -153,12 +157,16 @@ gone_rest m new tasks i d rest low a is gone =
 
 -- ---- a sweep
 
+-- the numbers in the slots stay
+pub sweep_numbers : (m new : TableView) (ends : List TaskRef) → SweepEnds m new ends → held_numbers new.slots ≡ held_numbers m.slots
+sweep_numbers m new ends s = ap (λ (v : TableView). held_numbers v.slots) s.is ∙ held_mapped (λ x. swept m.stopped m.policies m.moment x) m.slots (λ x. refl)
+
 -- the slots are noted as before
 pub noted_swept : (m new : TableView) (ends : List TaskRef) (count : ℕ) (free : List ℕ) (entries : List TaskRef) (slot_room ended_room more_ended : ℕ) → SweepEnds m new ends → more_ended ≡ ended_room → AreNoted m.slots count free entries slot_room ended_room →
     AreNoted new.slots count free entries slot_room more_ended
 noted_swept m new ends count free entries slot_room ended_room more_ended s room noted =
     subst (AreNoted new.slots count free entries slot_room) (sym room)
-    (noted_still m.slots new.slots count free entries slot_room ended_room (ap (λ (v : TableView). held_numbers v.slots) s.is ∙ held_mapped (λ x. swept m.stopped m.policies m.moment x) m.slots (λ x. refl)) noted)
+    (noted_still m.slots new.slots count free entries slot_room ended_room (sweep_numbers m new ends s) noted)
 
 -- what it ended may leave its slots
 pub over_swept : (m new : TableView) (ends : List TaskRef) → SweepEnds m new ends → AreOver new ends

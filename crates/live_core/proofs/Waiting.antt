@@ -1,7 +1,8 @@
 -- Whether a task waits: its slot tells, where it has one, and it does not where it has none.
-use Rattle.std.proofs.Common.{◌≡◌, ℕ, ◌==◌, ◌||◌, ◌&&◌, Bool, true, false, List, Option, Some, None, refl, sym, ap, ◌∙◌}
+use Rattle.std.proofs.Common.{◌≡◌, ℕ, ◌<◌, ◌==◌, ◌||◌, ◌&&◌, Bool, true, false, List, Option, Some, None, refl, sym, ap, ◌∙◌}
+use Rattle.std.specs.Prelude.{length, slice_set}
 use Rattle.std.specs.Option.{option_map_or}
-use Rattle.std.proofs.lemmas.Bool.{false≢true, eqb-true, false_from_ne_true, and_parts, or_left}
+use Rattle.std.proofs.lemmas.Bool.{false≢true, eqb-true, eq-eqb, false_from_ne_true, and_parts, or_left}
 use Rattle.queue_code.specs.Calls.{Planned}
 use Rattle.executor_core.specs.declared.task.Task.{Task}
 use Rattle.executor_core.specs.Histories.{HistoryEntry, happenings}
@@ -9,7 +10,8 @@ use Rattle.executor_core.specs.State.{after}
 use Rattle.task_table.specs.declared.seat.Seat.{Seat}
 use Rattle.task_table.specs.declared.seat.TaskRef.{TaskRef}
 use Rattle.task_table.specs.Seats.{task_in, slot_of, waits, is_running_in, IsNew}
-use Rattle.task_table.specs.Tables.{workers_of}
+use Rattle.task_table.specs.Tables.{TableView, workers_of}
+use Rattle.task_table.proofs.Slots.{set_writes}
 use Rattle.live_core.specs.Lives.{LiveView, Stands}
 use Rattle.live_core.specs.Said.{TellsWaiting, is_waiting_there}
 use Rattle.live_core.specs.own.Places.{IsSlotOf}
@@ -40,3 +42,10 @@ waits_told m task calls past waiting st tells there = by (slot_of m.table.slots 
         tells calls past st
         ∙ (ap (λ (n : ℕ). waits ((after calls (workers_of m.table) (happenings past)).tasks n)) (sym (eqb-true x.number task.number parts.0))
         ∙ (ap waits (st.table.shows.held task.slot x is) ∙ parts.1))
+
+-- a task that waits comes into its slot
+pub waits_put : (m new : TableView) (task : TaskRef) (y : Seat) → task.slot < length m.slots → new.slots ≡ slice_set m.slots task.slot (Some y) → y.number ≡ task.number → waits (task_in y) ≡ true → is_waiting_there new task ≡ true
+waits_put m new task y low is own live =
+    ap (λ (o : Option Seat). option_map_or (λ x. (x.number == task.number) && waits (task_in x)) o false)
+    (ap (λ (slots : List (Option Seat)). slot_of slots task.slot) is ∙ (set_writes m.slots task.slot y low).here)
+    ∙ (λ i. eq-eqb y.number task.number own i && live i)

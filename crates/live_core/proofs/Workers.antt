@@ -32,7 +32,7 @@ use Rattle.live_core.proofs.Noted.{noted_still}
 -- ---- a start
 
 -- the numbers in the slots stay
-start_numbers : (m new : TableView) (worker : ℕ) (b : Option Begun) → Starts m new worker b → held_numbers new.slots ≡ held_numbers m.slots
+pub start_numbers : (m new : TableView) (worker : ℕ) (b : Option Begun) → Starts m new worker b → held_numbers new.slots ≡ held_numbers m.slots
 start_numbers m new worker None s = ap (λ (v : TableView). held_numbers v.slots) s.is
 start_numbers m new worker (Some b) s = ap (λ (v : TableView). held_numbers v.slots) s.is ∙ held_put m.slots b.task.slot s.task (begun s.task) s.first.there refl
 
@@ -81,12 +81,16 @@ same_number o.Dropped due x = refl
 same_number o.Ended due x = refl
 same_number (o.Again next) due x = refl
 
+-- the numbers in the slots stay
+pub finish_numbers : (m new : TableView) (worker : ℕ) (ending : Ending) (e : Ended) → Ends m new worker ending e → held_numbers new.slots ≡ held_numbers m.slots
+finish_numbers m new worker ending e s =
+    let due = due_past s.task.timing s.task.due m.moment in
+    ap (λ (v : TableView). held_numbers v.slots) s.is ∙ held_put m.slots e.task.slot s.task (ended e.outcome due s.task) s.there (same_number e.outcome due s.task)
+
 pub noted_finished : (m new : TableView) (worker : ℕ) (ending : Ending) (e : Ended) (count : ℕ) (free : List ℕ) (entries : List TaskRef) (slot_room ended_room : ℕ) → Ends m new worker ending e →
     AreNoted m.slots count free entries slot_room ended_room → AreNoted new.slots count free entries slot_room ended_room
 noted_finished m new worker ending e count free entries slot_room ended_room s noted =
-    let due = due_past s.task.timing s.task.due m.moment in
-    noted_still m.slots new.slots count free entries slot_room ended_room
-    (ap (λ (v : TableView). held_numbers v.slots) s.is ∙ held_put m.slots e.task.slot s.task (ended e.outcome due s.task) s.there (same_number e.outcome due s.task)) noted
+    noted_still m.slots new.slots count free entries slot_room ended_room (finish_numbers m new worker ending e s) noted
 
 -- the workers stay
 workers_released : (outcome : Outcome) (m : TableView) (slot : ℕ) → workers_of (released outcome m slot) ≡ workers_of m

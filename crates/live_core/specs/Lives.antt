@@ -1,6 +1,6 @@
 -- What contracts see of an executor whose calls are made while it runs, and where it stands.
 -- All of it is this project's rule.
-use Rattle.std.specs.Prelude.{◌≡◌, ℕ, ◌+◌, ◌^◌, ◌≤◌, max, nat_lt, List, [], ◌∷◌, ◌++◌, length}
+use Rattle.std.specs.Prelude.{◌≡◌, ℕ, ◌+◌, ◌^◌, ◌<◌, ◌≤◌, max, nat_lt, List, [], ◌∷◌, ◌++◌, length, Some}
 use Rattle.queue_code.specs.Calls.{Planned, task_count}
 use Rattle.executor_core.specs.declared.types.Happening.{Happening}
 use Rattle.executor_core.specs.declared.types.Happening.TheVariants as h
@@ -10,7 +10,9 @@ use Rattle.executor_core.specs.Answers.{Reply}
 use Rattle.executor_core.specs.Histories.{HistoryEntry, entry_of, happenings, made, was_accepted}
 use Rattle.executor_core.specs.Flows.{lines_of, lines_at}
 use Rattle.executor_laws.specs.Additions.{AllLookBelow}
+use Rattle.task_table.specs.declared.seat.Seat.{Seat}
 use Rattle.task_table.specs.declared.seat.TaskRef.{TaskRef}
+use Rattle.task_table.specs.Seats.{slot_of}
 use Rattle.task_table.specs.Tables as tables
 use Rattle.task_table.specs.Tables.{TableView, workers_of}
 
@@ -77,12 +79,27 @@ Calls old new p r = (calls : List Planned) (past : List HistoryEntry) → Stands
 abbrev pub Happens : LiveView → LiveView → Happening → Reply → Type 0
 Happens old new y r = (calls : List Planned) (past : List HistoryEntry) → Stands old calls past → Meets new calls past y r
 
+-- a slot that holds a task whose number was given out before held that task before
+abbrev pub KeepsSlots : LiveView → LiveView → Type 0
+KeepsSlots old new = (i : ℕ) (x : Seat) → slot_of new.table.slots i ≡ Some x → x.number < old.count → (y : Seat) × (slot_of old.table.slots i ≡ Some y) × (y.number ≡ x.number)
+
+-- each task in a slot has a number that was given out
+abbrev pub AreGiven : LiveView → Type 0
+AreGiven m = (i : ℕ) (x : Seat) → slot_of m.table.slots i ≡ Some x → x.number < m.count
+
+-- no two slots hold tasks of one number
+abbrev pub AreApart : LiveView → Type 0
+AreApart m = (i j : ℕ) (x y : Seat) → slot_of m.table.slots i ≡ Some x → slot_of m.table.slots j ≡ Some y → x.number ≡ y.number → i ≡ j
+
 -- what each call leaves, and each event but an accepted clock: as many workers as there were, the least moment of the call that
--- comes next, and so many numbers that were given out
+-- comes next, and so many numbers that were given out; each task keeps its slot, as long as it has one, and has no other
 pub record Stays (old new : LiveView) (numbers : ℕ) : Type 0 where
   pub workers : workers_of new.table ≡ workers_of old.table
   pub earliest : new.earliest ≡ old.earliest
   pub count : new.count ≡ numbers
+  pub slots : KeepsSlots old new
+  pub given : AreGiven new
+  pub apart : AreApart new
 
 -- and no task was ended
 pub record StaysQuiet (old new : LiveView) (numbers : ℕ) : Type 0 where

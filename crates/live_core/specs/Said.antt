@@ -1,6 +1,6 @@
 -- What submissions answer, as the lines of a trace have it, and what an executor tells of its tasks.
 -- All of it is this project's rule, but where a source is named.
-use Rattle.std.specs.Prelude.{◌≡◌, ℕ, ◌+◌, ◌*◌, ◌-◌, ◌^◌, ◌<◌, ◌≤◌, ◌⊎◌, ◌==◌, ◌&&◌, Bool, false, List, length, Option, is_some}
+use Rattle.std.specs.Prelude.{◌≡◌, ℕ, ◌+◌, ◌*◌, ◌-◌, ◌^◌, ◌<◌, ◌≤◌, ◌⊎◌, ◌==◌, ◌&&◌, Bool, true, false, List, length, Option, is_some}
 use Rattle.std.specs.Option.{option_map_or}
 use Rattle.sched_time.specs.declared.timing.Timing.{Timing}
 use Rattle.executor_core.specs.declared.types.Answer.{Answer}
@@ -15,7 +15,7 @@ use Rattle.executor_core.specs.Histories.{HistoryEntry, happenings}
 use Rattle.executor_core.specs.State.{after}
 use Rattle.task_table.specs.declared.seat.Seat.{Seat}
 use Rattle.task_table.specs.declared.seat.TaskRef.{TaskRef}
-use Rattle.task_table.specs.Seats.{task_in, slot_of, waits, is_alive}
+use Rattle.task_table.specs.Seats.{task_in, slot_of, waits, is_alive, IsNew}
 use Rattle.task_table.specs.Tables.{TableView, workers_of}
 use Rattle.task_table.specs.Endings.{numbers_of}
 use Rattle.live_core.specs.declared.error.MakeError.{MakeError}
@@ -71,6 +71,11 @@ number_of (su.Rejected number) = number
 abbrev pub IsShort : Timing → ℕ → Type 0
 IsShort timing delay = (delay ≤ longest) × IsTimed timing
 
+-- the slot of a task that was accepted holds it, and it waits for a run; no slot holds one that was rejected
+abbrev pub IsSeated : LiveView → Submitted → Type 0
+IsSeated m (su.Accepted task due) = is_waiting_there m.table task ≡ true
+IsSeated m (su.Rejected number) = IsNew m.table.slots number
+
 -- each slot holds a task
 abbrev pub AreTaken : List (Option Seat) → Type 0
 AreTaken slots = tasks_in slots ≡ length slots
@@ -84,13 +89,14 @@ abbrev pub SlotsFor : List (Option Seat) → List (Option Seat) → Submitted �
 SlotsFor old new (su.Accepted task due) = GrowsWhereTaken 2 old new
 SlotsFor old new (su.Rejected number) = new ≡ old
 
--- a submission has this number, which comes next, and is a call that is made
+-- a submission has this number, which comes next, and is a call that is made; where it is accepted, its task is in its slot
 pub record Submits (old new : LiveView) (at : ℕ) (timing : Timing) (delay : ℕ) (s : Submitted) : Type 0 where
   pub short : IsShort timing delay
   pub near : moment_of_call old at ≤ longest
   pub number : number_of s ≡ old.count
   pub numbers : old.count < 2 ^ 64 - 1
   pub makes : Calls old new (moment_of_call old at, c.Submit old.count timing delay) (submit_reply timing s)
+  pub seated : IsSeated new s
   pub slots : SlotsFor old.table.slots new.table.slots s
 
 -- why a submission is no call: a span is too long, or else its moment would be too late, or else no number is left, or else memory

@@ -152,6 +152,7 @@ impl<A: Allocator> ScheduledExecutor<A> {
     /// A cancel from outside names a task that there is not: no task is ended.
     fn cancel_none(&mut self)
         ensures is { self.new ≡ quiet self.old self.old.table }
+        ensures stays { StaysQuiet self.old self.new self.old.count }
         ensures happens { (k : ℕ) → never ≤ k → Happens self.old self.new (happening.Cancel k) (bare (answer.Error event_error.NoTask)) }
     {
         self.ended.clear();

@@ -31,6 +31,7 @@ impl<A: Allocator> ScheduledExecutor<A> {
         ensures earliest { IfOk result (λ _. self.new.earliest ≡ moment + 1) }
         ensures workers { IfOk result (λ _. workers_of self.new.table ≡ workers_of self.old.table) }
         ensures count { self.new.count ≡ self.old.count }
+        ensures slots { self.new.table.slots ≡ self.old.table.slots }
         ensures ended { self.new.ended ≡ [] }
         ensures failed { IfErr result (λ error. IsClockError self.old.table moment error × events.Fails self.old self.new (happening.Clock moment) error) }
     {

@@ -56,6 +56,7 @@ impl<A: Allocator> ScheduledExecutor<A> {
         ensures stands { IfOk result (λ e. Stands e [] []) }
         ensures workers { IfOk result (λ e. workers_of e.table ≡ workers) }
         ensures first { IfOk result (λ e. e.count ≡ 0) }
+        ensures slots { IfOk result (λ e. e.table.slots ≡ []) }
         ensures earliest { IfOk result (λ e. e.earliest ≡ 0) }
         ensures ended { IfOk result (λ e. e.ended ≡ []) }
         ensures empty { IfOk result (λ e. e.table.slots ≡ []) }

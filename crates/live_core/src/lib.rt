@@ -43,10 +43,11 @@
 //! [`add_lines`](ScheduledExecutor::add_lines) adds them, are those of a trace of all calls made.
 //!
 //! A submission has a number, 0, 1, and so on, whether it is accepted or rejected, and an accepted one has a task. A [`TaskRef`]
-//! names the task by its number and the slot that it has while it is alive. A cancel, and whether a task waits, go by the number
-//! alone, so a slot that another task uses by now, or a forged one, does no harm. Once a task is over, as it was run, ended, or
-//! cancelled and left the queue, its slot may hold another one. [`ended`](ScheduledExecutor::ended) has the tasks that the last
-//! call or event ended: the list of `shutdownNow`, and what a shutdown or a policy cancels.
+//! names the task by its number and the slot that it has while it is alive. A task keeps its slot, and no other one has it
+//! meanwhile, so what belongs to a task may be kept by its slot (`Stays`, in `specs/Lives.antt`). A cancel, and whether a task waits,
+//! go by the number alone, so a slot that another task uses by now, or a forged one, does no harm. Once a task is over, as it was run,
+//! ended, or cancelled and left the queue, its slot may hold another one. [`ended`](ScheduledExecutor::ended) has the tasks that the
+//! last call or event ended: the list of `shutdownNow`, and what a shutdown or a policy cancels.
 //!
 //! # Moments
 //!

@@ -1,13 +1,14 @@
 //! A task comes into an empty slot.
-ghost use Rattle.std.specs.Prelude.{◌≡◌, ◌<◌, ◌≤◌, ◌+◌, [], false, length, vec_capacity};
+ghost use Rattle.std.specs.Prelude.{◌≡◌, ◌<◌, ◌≤◌, ◌+◌, [], true, false, length, vec_capacity};
 ghost use Rattle.sched_time.specs.Times.{longest};
 ghost use Rattle.queue_code.specs.Calls.{IsTimed};
 ghost use Rattle.queue_code.specs.declared.call.CodeCall.TheVariants as call;
 ghost use Rattle.executor_core.specs.Answers.{bare, kind_of};
 ghost use Rattle.executor_core.specs.declared.types.Answer.TheVariants as answer;
 ghost use Rattle.task_table.specs.Tables.{workers_of, CallSteps};
-ghost use Rattle.live_core.specs.Said.{tasks_in};
+ghost use Rattle.live_core.specs.Said.{tasks_in, is_waiting_there};
 ghost use Rattle.live_core.specs.own.Formed.{AreNoted, AreAlive};
+ghost use Rattle.live_core.specs.own.Slots.{LeavesBelow};
 
 use crate::notes::Notes;
 use sched_time::Timing;
@@ -41,8 +42,10 @@ pub(crate) fn place<A: Allocator>(
     requires limit { at ≤ longest }
     requires spans { (delay ≤ longest) × IsTimed timing }
     ensures number { result.task.number ≡ count }
+    ensures seated { is_waiting_there table.new result.task ≡ true }
     ensures noted { AreNoted table.new.slots (count + 1) notes.new.free notes.new.entries notes.new.slot_room (vec_capacity ended.new) }
     ensures alive { AreAlive table.old.slots → AreAlive table.new.slots }
+    ensures leaves { LeavesBelow count table.old.slots table.new.slots }
     ensures workers { workers_of table.new ≡ workers_of table.old }
     ensures shut { table.new.shut ≡ table.old.shut }
     ensures ended { ended.new.items ≡ [] }

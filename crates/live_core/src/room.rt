@@ -3,6 +3,7 @@ ghost use Rattle.std.specs.Prelude.{◌≡◌, ◌<◌, length, OnOk, OnErr, vec
 ghost use Rattle.task_table.specs.Changes.{grown};
 ghost use Rattle.live_core.specs.Said.{AreTaken, GrowsWhereTaken};
 ghost use Rattle.live_core.specs.own.Formed.{AreNoted, AreAlive, IsRoomier};
+ghost use Rattle.live_core.specs.own.Slots.{LeavesNumbers};
 
 use crate::notes::Notes;
 use std::alloc::{AllocError, Allocator};
@@ -24,6 +25,7 @@ pub(crate) fn make_room<A: Allocator>(
     ensures noted { AreNoted table.new.slots count notes.new.free notes.new.entries notes.new.slot_room (vec_capacity ended.new) }
     ensures alive { AreAlive table.old.slots → AreAlive table.new.slots }
     ensures roomier { IsRoomier table.old table.new }
+    ensures leaves { LeavesNumbers table.old.slots table.new.slots }
     ensures refused { OnErr result (table.new ≡ table.old) }
     ensures full { OnErr result (AreTaken table.old.slots) }
     ensures entry { OnOk result (length notes.new.entries < notes.new.index_room) }
@@ -47,6 +49,7 @@ fn make_slot<A: Allocator>(
     ensures noted { AreNoted table.new.slots count notes.new.free notes.new.entries notes.new.slot_room (vec_capacity ended.new) }
     ensures alive { AreAlive table.old.slots → AreAlive table.new.slots }
     ensures roomier { IsRoomier table.old table.new }
+    ensures leaves { LeavesNumbers table.old.slots table.new.slots }
     ensures refused { OnErr result (table.new ≡ table.old) }
     ensures full { OnErr result (AreTaken table.old.slots) }
     ensures slot { OnOk result (0 < length notes.new.free) }
@@ -76,6 +79,7 @@ pub(crate) fn grow<A: Allocator>(
     ensures noted { AreNoted table.new.slots count notes.new.free notes.new.entries notes.new.slot_room (vec_capacity ended.new) }
     ensures alive { AreAlive table.old.slots → AreAlive table.new.slots }
     ensures roomier { IsRoomier table.old table.new }
+    ensures leaves { LeavesNumbers table.old.slots table.new.slots }
     ensures grown { OnOk result (table.new ≡ grown table.old slots) }
     ensures refused { OnErr result (table.new ≡ table.old) }
     ensures entries { notes.new.entries ≡ notes.old.entries }

@@ -14,7 +14,7 @@ use std::alloc::{AllocError, Allocator};
 
 impl<A: Allocator> ScheduledExecutor<A> {
     ghost use Rattle.live_core.specs.Lives.{Calls, StaysQuiet};
-    ghost use Rattle.live_core.specs.Said.{AreTaken, SlotsFor, submit_reply, number_of};
+    ghost use Rattle.live_core.specs.Said.{AreTaken, IsSeated, SlotsFor, submit_reply, number_of};
     ghost use Rattle.live_core.specs.declared.answers.Submitted.TheVariants as submitted;
 
     /// A call submits a task at this moment, where the executor is not shut.
@@ -31,6 +31,7 @@ impl<A: Allocator> ScheduledExecutor<A> {
         requires spans { (delay ≤ longest) × IsTimed timing }
         requires few { self.old.count + 1 < 2 ^ 64 }
         ensures number { IfOk result (λ s. number_of s ≡ self.old.count) }
+        ensures seated { IfOk result (λ s. IsSeated self.new s) }
         ensures slots { IfOk result (λ s. SlotsFor self.old.table.slots self.new.table.slots s) }
         ensures full { OnErr result (AreTaken self.old.table.slots) }
         ensures stays { OnOk result (StaysQuiet self.old self.new (self.old.count + 1)) }
@@ -68,6 +69,7 @@ impl<A: Allocator> ScheduledExecutor<A> {
         requires limit { moment ≤ longest }
         requires few { self.old.count + 1 < 2 ^ 64 }
         ensures number { result ≡ submitted.Rejected self.old.count }
+        ensures seated { IsSeated self.new result }
         ensures slots { self.new.table.slots ≡ self.old.table.slots }
         ensures stays { StaysQuiet self.old self.new (self.old.count + 1) }
         ensures made { (timing : timings.Timing) (delay : ℕ) → delay ≤ longest → IsTimed timing → Calls self.old self.new (moment, call.Submit self.old.count timing delay) (submit_reply timing result) }

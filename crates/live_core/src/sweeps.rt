@@ -17,6 +17,7 @@ ghost use Rattle.live_core.specs.Said.{ending};
 ghost use Rattle.live_core.specs.Shutting.{shutdown_answer, AreGone};
 ghost use Rattle.live_core.specs.own.Formed.{AreNoted, AreAlive};
 ghost use Rattle.live_core.specs.own.Places.{IsEmptyAt};
+ghost use Rattle.live_core.specs.own.Slots.{LeavesNumbers};
 
 use crate::notes::Notes;
 use crate::releasing::release;
@@ -38,6 +39,7 @@ pub(crate) fn set_policy<A: Allocator>(
     requires limit { at ≤ longest }
     ensures noted { (count : ℕ) → AreNoted table.old.slots count notes.old.free notes.old.entries notes.old.slot_room (vec_capacity ended.old) → AreNoted table.new.slots count notes.new.free notes.new.entries notes.new.slot_room (vec_capacity ended.new) }
     ensures alive { AreAlive table.old.slots → AreAlive table.new.slots }
+    ensures leaves { LeavesNumbers table.old.slots table.new.slots }
     ensures workers { workers_of table.new ≡ workers_of table.old }
     ensures gone { AreGone table.old table.new ended.new.items }
     ensures shut { table.new.shut ≡ table.old.shut }
@@ -66,6 +68,7 @@ pub(crate) fn shut_down<A: Allocator>(
     ensures first { result ≡ not table.old.shut }
     ensures noted { (count : ℕ) → AreNoted table.old.slots count notes.old.free notes.old.entries notes.old.slot_room (vec_capacity ended.old) → AreNoted table.new.slots count notes.new.free notes.new.entries notes.new.slot_room (vec_capacity ended.new) }
     ensures alive { AreAlive table.old.slots → AreAlive table.new.slots }
+    ensures leaves { LeavesNumbers table.old.slots table.new.slots }
     ensures workers { workers_of table.new ≡ workers_of table.old }
     ensures gone { AreGone table.old table.new ended.new.items }
     ensures shut { table.new.shut ≡ true }
@@ -94,6 +97,7 @@ pub(crate) fn shut_down_now<A: Allocator>(
     requires limit { at ≤ longest }
     ensures noted { (count : ℕ) → AreNoted table.old.slots count notes.old.free notes.old.entries notes.old.slot_room (vec_capacity ended.old) → AreNoted table.new.slots count notes.new.free notes.new.entries notes.new.slot_room (vec_capacity ended.new) }
     ensures alive { AreAlive table.old.slots → AreAlive table.new.slots }
+    ensures leaves { LeavesNumbers table.old.slots table.new.slots }
     ensures workers { workers_of table.new ≡ workers_of table.old }
     ensures gone { AreGone table.old table.new ended.new.items }
     ensures shut { table.new.shut ≡ true }

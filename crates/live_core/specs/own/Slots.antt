@@ -15,6 +15,14 @@ held_numbers slots = map (option_map (λ x. x.number)) slots
 abbrev pub number_in : List (Option ℕ) → ℕ → Option ℕ
 number_in held i = slice_index_or held i None
 
+-- each number in a slot stood there before
+abbrev pub LeavesNumbers : List (Option Seat) → List (Option Seat) → Type 0
+LeavesNumbers old new = (i k : ℕ) → number_in (held_numbers new) i ≡ Some k → number_in (held_numbers old) i ≡ Some k
+
+-- each number below this one that is in a slot stood there before
+abbrev pub LeavesBelow : ℕ → List (Option Seat) → List (Option Seat) → Type 0
+LeavesBelow count old new = (i k : ℕ) → number_in (held_numbers new) i ≡ Some k → k < count → number_in (held_numbers old) i ≡ Some k
+
 -- the slot of a task holds it
 abbrev pub is_held : List (Option ℕ) → TaskRef → Bool
 is_held held task = option_map_or (λ k. k == task.number) (number_in held task.slot) false

@@ -11,6 +11,8 @@ use Rattle.live_core.specs.own.Formed.{AreNoted, AreAlive}
 use Rattle.live_core.proofs.Alive.{alive_put}
 use Rattle.live_core.proofs.Held.{tasks_put}
 use Rattle.live_core.proofs.Noted.{noted_number, noted_slot, noted_new, noted_same}
+use Rattle.live_core.proofs.Leaving.{leaves_put}
+use Rattle.live_core.proofs.Waiting.{waits_put}
 use Rattle.live_core.proofs.place.place.Goals as goal
 
 pub admit-due-requires-clause-slot : goal.admit-due-requires-clause-slot
@@ -66,3 +68,17 @@ returns-clause-tasks g c =
     let slot = noted_slot slots c.args.count c.take.new.self.free c.in-Some.slot n.entries n.slot_room spare noted in
     ap (λ (m : TableView). tasks_in m.slots) c.admit-due.ensures.slots
     ∙ tasks_put slots c.in-Some.slot (submitted c.args.count c.args.timing (c.args.at + c.args.delay)) slot.0 slot.1
+
+pub returns-clause-leaves : goal.returns-clause-leaves
+returns-clause-leaves g c =
+    leaves_put c.args.table.now c.admit-due.new.self c.in-Some.slot (submitted c.args.count c.args.timing (c.args.at + c.args.delay)) (ap (λ (m : TableView). m.slots) c.admit-due.ensures.slots)
+
+pub returns-clause-seated : goal.returns-clause-seated
+returns-clause-seated g c =
+    let n = c.args.notes.now in
+    let slots = c.args.table.now.slots in
+    let spare = vec_capacity c.args.ended.now in
+    let noted = subst (λ (f : List ℕ). AreNoted slots c.args.count f n.entries n.slot_room spare) c.in-Some.ensures.taken c.requires.noted in
+    let slot = noted_slot slots c.args.count c.take.new.self.free c.in-Some.slot n.entries n.slot_room spare noted in
+    waits_put c.args.table.now c.admit-due.new.self (record { number = c.args.count; slot = c.in-Some.slot }) (submitted c.args.count c.args.timing (c.args.at + c.args.delay)) slot.0
+    (ap (λ (m : TableView). m.slots) c.admit-due.ensures.slots) refl refl

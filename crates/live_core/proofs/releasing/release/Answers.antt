@@ -4,6 +4,7 @@ use Rattle.std.specs.Prelude.{slice_set, None}
 use Rattle.task_table.specs.Tables.{TableView}
 use Rattle.live_core.specs.own.Slots.{NotesView}
 use Rattle.live_core.proofs.Noted.{noted_room, noted_emptied, noted_same}
+use Rattle.live_core.proofs.Leaving.{leaves_emptied}
 use Rattle.live_core.proofs.releasing.release.Goals as goal
 
 pub release-requires-2 : goal.release-requires-2
@@ -27,3 +28,6 @@ returns-clause-noted g c = λ count ended_room noted.
     (ap (λ (v : NotesView). v.entries) c.release-2.ensures)
     (ap (λ (v : NotesView). v.slot_room) c.release-2.ensures)
     (noted_emptied t.slots count n.free slot at.0 n.entries n.slot_room ended_room at.1 noted)
+
+pub returns-clause-leaves : goal.returns-clause-leaves
+returns-clause-leaves g c = leaves_emptied c.args.table.now c.release.new.self c.args.slot c.release.ensures.slots

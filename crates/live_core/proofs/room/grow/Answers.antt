@@ -5,6 +5,7 @@ use Rattle.task_table.specs.Tables.{TableView}
 use Rattle.live_core.specs.own.Slots.{NotesView}
 use Rattle.live_core.proofs.Noted.{noted_grown, noted_same}
 use Rattle.live_core.proofs.Alive.{alive_grown}
+use Rattle.live_core.proofs.Leaving.{leaves_grown}
 use Rattle.live_core.proofs.room.grow.Goals as goal
 
 pub returns-clause-noted : goal.returns-clause-noted
@@ -29,3 +30,6 @@ returns-clause-noted g c =
 
 pub returns-clause-alive : goal.returns-clause-alive
 returns-clause-alive g c = alive_grown c.args.table.now c.reserve-3.new.self c.args.slots c.in_ok-reserve-3.ensures.grown
+
+pub returns-clause-leaves : goal.returns-clause-leaves
+returns-clause-leaves g c = leaves_grown c.args.table.now c.reserve-3.new.self c.args.slots c.in_ok-reserve-3.ensures.grown

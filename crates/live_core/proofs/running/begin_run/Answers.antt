@@ -1,6 +1,7 @@
 -- The kept tasks that the start meets are gone, and it takes its step.
 use Rattle.live_core.proofs.Alive.{alive_started}
-use Rattle.live_core.proofs.Workers.{noted_started, runs_started, steps_started}
+use Rattle.live_core.proofs.Workers.{start_numbers, noted_started, runs_started, steps_started}
+use Rattle.live_core.proofs.Leaving.{leaves_same, leaves_more}
 use Rattle.live_core.proofs.running.begin_run.Goals as goal
 
 pub returns-clause-noted : goal.returns-clause-noted
@@ -16,3 +17,9 @@ returns-clause-steps g c = steps_started c.args.table.now c.drop_met.new.table c
 
 pub returns-clause-alive : goal.returns-clause-alive
 returns-clause-alive g c = λ alive. alive_started c.drop_met.new.table c.start.new.self c.args.worker c.in-Ok.begun c.in-Ok.ensures.started (c.drop_met.ensures.alive alive)
+
+pub returns-clause-leaves : goal.returns-clause-leaves
+returns-clause-leaves g c =
+    let mid = c.drop_met.new.table in
+    let new = c.start.new.self in
+    leaves_more c.args.table.now.slots mid.slots new.slots c.drop_met.ensures.leaves (leaves_same mid.slots new.slots (start_numbers mid new c.args.worker c.in-Ok.begun c.in-Ok.ensures.started))

@@ -11,6 +11,7 @@ use Rattle.live_core.specs.Said.{ending}
 use Rattle.live_core.specs.own.Places.{IsEmptyAt}
 use Rattle.live_core.proofs.Alive.{alive_swept, gone_from}
 use Rattle.live_core.proofs.Swept.{noted_swept, sweep_steps}
+use Rattle.live_core.proofs.Leaving.{leaves_swept}
 use Rattle.live_core.proofs.sweeps.set_policy.Goals as goal
 
 pub set_policy-requires-clause-room : goal.set_policy-requires-clause-room
@@ -76,3 +77,11 @@ returns-then-setting_sweeps-clause-gone g c =
     let s = (c.set_policy.ensures.swept told) in
     let empty = subst (All (IsEmptyAt c.release_each.new.table)) c.deref.ensures.value c.release_each.ensures.gone in
     record { each = gone_from c.args.table.now m c.set_policy.new.self c.release_each.new.table c.set_policy.new.ends.items s.is c.drop_kept.ensures.leaves s.over empty; ascending = s.ended.ascending }
+
+pub returns-then-setting_sweeps-clause-leaves : goal.returns-then-setting_sweeps-clause-leaves
+returns-then-setting_sweeps-clause-leaves g c =
+    let x = c.args in
+    let mid = c.drop_kept.new.table in
+    let told : setting_sweeps mid.shut x.which x.value ≡ true = ap (λ (v : TableView). setting_sweeps v.shut x.which x.value) c.drop_kept.ensures.rest ∙ (sym c.setting_sweeps.ensures ∙ c.if-setting_sweeps.true) in
+    let m : TableView = record (at_moment mid x.at) { policies = settings.set_policy x.which x.value mid.policies } in
+    leaves_swept x.table.now m c.set_policy.new.self c.release_each.new.table c.set_policy.new.ends.items c.drop_kept.ensures.leaves (c.set_policy.ensures.swept told) c.release_each.ensures.leaves

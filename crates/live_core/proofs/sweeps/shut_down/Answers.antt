@@ -10,6 +10,7 @@ use Rattle.live_core.specs.Said.{ending}
 use Rattle.live_core.specs.own.Places.{IsEmptyAt}
 use Rattle.live_core.proofs.Alive.{alive_swept, gone_from}
 use Rattle.live_core.proofs.Swept.{noted_swept, sweep_steps}
+use Rattle.live_core.proofs.Leaving.{leaves_swept}
 use Rattle.live_core.proofs.sweeps.shut_down.Goals as goal
 
 pub shut_down-requires-2-clause-room : goal.shut_down-requires-2-clause-room
@@ -70,3 +71,10 @@ returns-clause-gone g c =
     let s = (c.shut_down-2.ensures.swept open_then) in
     let empty = subst (All (IsEmptyAt c.release_each.new.table)) c.deref.ensures.value c.release_each.ensures.gone in
     record { each = gone_from c.args.table.now m c.shut_down-2.new.self c.release_each.new.table c.shut_down-2.new.ends.items s.is c.drop_kept.ensures.leaves s.over empty; ascending = s.ended.ascending }
+
+pub returns-clause-leaves : goal.returns-clause-leaves
+returns-clause-leaves g c =
+    let mid = c.drop_kept.new.table in
+    let open_then : mid.shut ≡ false = ap (λ (v : TableView). v.shut) c.drop_kept.ensures.rest ∙ (sym c.is_shut.ensures ∙ c.if-is_shut.false) in
+    let m : TableView = record (at_moment mid c.args.at) { shut = true } in
+    leaves_swept c.args.table.now m c.shut_down-2.new.self c.release_each.new.table c.shut_down-2.new.ends.items c.drop_kept.ensures.leaves (c.shut_down-2.ensures.swept open_then) c.release_each.ensures.leaves

@@ -9,6 +9,7 @@ use Rattle.live_core.specs.Said.{ending}
 use Rattle.live_core.specs.own.Places.{IsEmptyAt}
 use Rattle.live_core.proofs.Alive.{alive_swept, gone_from}
 use Rattle.live_core.proofs.Swept.{noted_swept, sweep_steps}
+use Rattle.live_core.proofs.Leaving.{leaves_swept}
 use Rattle.live_core.proofs.sweeps.shut_down_now.Goals as goal
 
 pub shut_down_now-requires-clause-room : goal.shut_down_now-requires-clause-room
@@ -63,3 +64,8 @@ returns-clause-gone g c =
     let s = c.shut_down_now.ensures.swept in
     let empty = subst (All (IsEmptyAt c.release_each.new.table)) c.deref.ensures.value c.release_each.ensures.gone in
     record { each = gone_from c.args.table.now m c.shut_down_now.new.self c.release_each.new.table c.shut_down_now.new.ends.items s.is c.drop_kept.ensures.leaves s.over empty; ascending = s.ended.ascending }
+
+pub returns-clause-leaves : goal.returns-clause-leaves
+returns-clause-leaves g c =
+    let m : TableView = record (at_moment c.drop_kept.new.table c.args.at) { shut = true; stopped = true } in
+    leaves_swept c.args.table.now m c.shut_down_now.new.self c.release_each.new.table c.shut_down_now.new.ends.items c.drop_kept.ensures.leaves c.shut_down_now.ensures.swept c.release_each.ensures.leaves

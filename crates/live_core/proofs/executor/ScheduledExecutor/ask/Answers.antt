@@ -7,9 +7,10 @@ use Rattle.executor_core.specs.declared.types.Answer.TheVariants as answer
 use Rattle.executor_core.specs.Answers.{bare, is_terminated}
 use Rattle.task_table.specs.Firsts.{queue_in}
 use Rattle.task_table.specs.Tables.{TableView, workers_of}
-use Rattle.live_core.specs.Lives.{LiveView}
+use Rattle.live_core.specs.Lives.{LiveView, StaysQuiet}
 use Rattle.live_core.specs.own.Formed.{AreAlive}
 use Rattle.live_core.proofs.Called.{SubmitsNone, calls_other, live_other, noted_same_room}
+use Rattle.live_core.proofs.Leaving.{leaves_still, stays_left}
 use Rattle.live_core.proofs.executor.ScheduledExecutor.ask.Goals as goal
 
 pub invariant_of-self : goal.invariant_of-self
@@ -39,3 +40,16 @@ returns-clause-made g c =
       terminated = s.ensures.terminated ∙ ap (λ b. is_terminated b s.result.queue s.result.running) (sym s.ensures.shutdown);
       makes = makes;
     }
+
+pub returns-clause-stays : goal.returns-clause-stays
+returns-clause-stays g c =
+    let e = c.self.inside in
+    let m : LiveView = record { table = e.table; count = e.count; accepted = e.accepted; earliest = e.earliest; ended = e.ended.items } in
+    let table = c.ask.new.self in
+    let new : LiveView = record m { table = table; ended = c.clear.new.self.items } in
+    let same = ap (λ (t : TableView). t.slots) c.ask.ensures.slots in
+    subst (λ (v : LiveView). StaysQuiet v new v.count) c.self.view_is (record {
+      stays = stays_left m new e.notes.free e.notes.entries e.notes.slot_room (vec_capacity e.ended) (ap workers_of c.ask.ensures.slots) refl (leaves_still e.table table same)
+          (noted_same_room e.table.slots table.slots e.count e.notes.free e.notes.entries e.notes.slot_room (vec_capacity e.ended) (vec_capacity e.ended) same refl c.self.invariant.noted);
+      ended = c.clear.ensures.items;
+    })

@@ -3,11 +3,13 @@ use Rattle.std.proofs.Common.{refl, ap, ◌∙◌, sym, subst, vec_capacity}
 use Rattle.queue_code.specs.declared.call.CodeCall.TheVariants as call
 use Rattle.executor_core.specs.declared.types.Answer.TheVariants as answer
 use Rattle.executor_core.specs.Answers.{bare}
-use Rattle.task_table.specs.Tables.{TableView}
-use Rattle.live_core.specs.Lives.{LiveView, Calls}
+use Rattle.task_table.specs.Tables.{TableView, workers_of}
+use Rattle.live_core.specs.Lives.{LiveView, Calls, StaysQuiet}
 use Rattle.live_core.specs.own.Formed.{AreNoted, AreAlive}
 use Rattle.live_core.proofs.Cancelled.{may_cancel, by_call_gone}
 use Rattle.live_core.proofs.Living.{live_call}
+use Rattle.live_core.proofs.Called.{noted_same_room}
+use Rattle.live_core.proofs.Leaving.{leaves_still, stays_left}
 use Rattle.live_core.proofs.executor.ScheduledExecutor.cancel_gone_by_call.Goals as goal
 
 pub invariant_of-self : goal.invariant_of-self
@@ -36,3 +38,16 @@ returns-clause-makes g c =
     let may = may_cancel m c.args.self.now c.args.moment k c.self.view_is c.self.invariant.stands.few c.requires.given c.requires.early c.requires.ahead c.requires.limit in
     subst (λ (v : LiveView). Calls v new (c.args.moment, call.Cancel k) (bare (answer.Cancel k c.effect_without.result))) c.self.view_is
     (by_call_gone m c.args.self.now table c.clear.new.self.items c.args.moment k c.effect_without.result c.self.view_is c.pass.ensures.slots c.clear.ensures.items c.effect_without.ensures c.requires.gone may)
+
+pub returns-clause-stays : goal.returns-clause-stays
+returns-clause-stays g c =
+    let e = c.self.inside in
+    let m : LiveView = record { table = e.table; count = e.count; accepted = e.accepted; earliest = e.earliest; ended = e.ended.items } in
+    let table = c.pass.new.self in
+    let new : LiveView = record m { table = table; ended = c.clear.new.self.items } in
+    let same = ap (λ (t : TableView). t.slots) c.pass.ensures.slots in
+    subst (λ (v : LiveView). StaysQuiet v new v.count) c.self.view_is (record {
+      stays = stays_left m new e.notes.free e.notes.entries e.notes.slot_room (vec_capacity e.ended) (ap workers_of c.pass.ensures.slots) refl (leaves_still e.table table same)
+          (noted_same_room e.table.slots table.slots e.count e.notes.free e.notes.entries e.notes.slot_room (vec_capacity e.ended) (vec_capacity e.ended) same refl c.self.invariant.noted);
+      ended = c.clear.ensures.items;
+    })

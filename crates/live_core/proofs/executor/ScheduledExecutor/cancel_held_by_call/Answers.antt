@@ -8,7 +8,8 @@ use Rattle.live_core.specs.own.Places.{IsSlotOf}
 use Rattle.live_core.proofs.Cancelled.{may_cancel, by_call_held, unshut_held}
 use Rattle.live_core.proofs.Alive.{alive_cancelled}
 use Rattle.live_core.proofs.Living.{live_call}
-use Rattle.live_core.proofs.Seated.{cancelled_by_call, cancelled_noted, cancelled_there}
+use Rattle.live_core.proofs.Seated.{cancelled_numbers, cancelled_by_call, cancelled_noted, cancelled_there}
+use Rattle.live_core.proofs.Leaving.{leaves_same, leaves_more, stays_left}
 use Rattle.live_core.proofs.executor.ScheduledExecutor.cancel_held_by_call.Goals as goal
 
 pub release_spent-requires : goal.release_spent-requires
@@ -74,4 +75,11 @@ returns-clause-stays g c =
     let own = subst (λ (v : LiveView). IsSlotOf v.table.slots k (Some c.args.slot)) (sym c.self.view_is) c.requires.held in
     let is = cancelled_by_call e.table mid c.args.slot c.args.moment own.0 (c.cancel_by_call-effect.ensures.slots own.0 own.1) in
     let new : LiveView = record m { table = c.release_spent.new.table; ended = c.clear.new.self.items } in
-    subst (λ (v : LiveView). StaysQuiet v new v.count) c.self.view_is (record { stays = record { workers = c.release_spent.ensures.stands.workers ∙ is.workers; earliest = refl; count = refl }; ended = c.clear.ensures.items })
+    let spent = c.release_spent in
+    let room = vec_capacity e.ended in
+    let leaves = leaves_more e.table.slots mid.slots spent.new.table.slots (leaves_same e.table.slots mid.slots (cancelled_numbers e.table mid c.args.slot own.0 is own.1)) spent.ensures.leaves in
+    let noted = spent.ensures.noted e.count room (cancelled_noted e.table mid c.args.slot own.0 e.count e.notes.free e.notes.entries e.notes.slot_room room room is own.1 refl c.self.invariant.noted) in
+    subst (λ (v : LiveView). StaysQuiet v new v.count) c.self.view_is (record {
+      stays = stays_left m new spent.new.notes.free spent.new.notes.entries spent.new.notes.slot_room room (spent.ensures.stands.workers ∙ is.workers) refl leaves noted;
+      ended = c.clear.ensures.items;
+    })

@@ -1,10 +1,11 @@
 -- The policy is set, and whether the executor is shut stays.
-use Rattle.std.proofs.Common.{◌∙◌, vec_capacity, refl, sym}
+use Rattle.std.proofs.Common.{◌∙◌, vec_capacity, refl, sym, subst}
 use Rattle.queue_code.specs.declared.call.CodeCall.TheVariants as call
 use Rattle.executor_core.specs.declared.types.Answer.TheVariants as answer
-use Rattle.live_core.specs.Lives.{LiveView}
+use Rattle.live_core.specs.Lives.{LiveView, Stays}
 use Rattle.live_core.specs.Said.{ending}
 use Rattle.live_core.proofs.Called.{SubmitsNone, calls_other, live_other}
+use Rattle.live_core.proofs.Leaving.{stays_left}
 use Rattle.live_core.proofs.executor.ScheduledExecutor.set_policy.Goals as goal
 
 pub invariant_of-self : goal.invariant_of-self
@@ -24,3 +25,12 @@ returns-clause-made g c =
     let none : SubmitsNone e.count (call.SetPolicy c.args.which c.args.value) (ending (answer.Policy c.args.which c.args.value) s.new.ended.items) = record { orderly = tt; same = refl; none = λ k. refl } in
     calls_other m c.args.self.now s.new.table s.new.ended.items c.args.at c.moment_of-moment.result (call.SetPolicy c.args.which c.args.value) (ending (answer.Policy c.args.which c.args.value) s.new.ended.items)
     c.self.view_is c.moment_of-moment.ensures c.if-moment-gt-LONGEST.false c.self.invariant.stands.few none s.ensures.workers s.ensures.steps
+
+pub returns-clause-stays : goal.returns-clause-stays
+returns-clause-stays g c =
+    let e = c.self.inside in
+    let m : LiveView = record { table = e.table; count = e.count; accepted = e.accepted; earliest = e.earliest; ended = e.ended.items } in
+    let s = c.set_policy in
+    let new : LiveView = record m { table = s.new.table; ended = s.new.ended.items } in
+    subst (λ (v : LiveView). Stays v new v.count) c.self.view_is
+    (stays_left m new s.new.notes.free s.new.notes.entries s.new.notes.slot_room (vec_capacity s.new.ended) s.ensures.workers refl s.ensures.leaves (s.ensures.noted e.count c.self.invariant.noted))

@@ -1,13 +1,14 @@
 -- The executor is shut from then on.
-use Rattle.std.proofs.Common.{◌≡◌, ◌∙◌, ℕ, true, false, vec_capacity, refl, sym, ap, Bool}
+use Rattle.std.proofs.Common.{◌≡◌, ◌∙◌, ℕ, true, false, vec_capacity, refl, sym, subst, ap, Bool}
 use Rattle.std.specs.Prelude.{not}
 use Rattle.std.proofs.lemmas.Bool.{false≢true}
 use Rattle.queue_code.specs.declared.call.CodeCall.TheVariants as call
 use Rattle.executor_core.specs.Histories.{is_submit}
-use Rattle.live_core.specs.Lives.{LiveView}
+use Rattle.live_core.specs.Lives.{LiveView, Stays}
 use Rattle.live_core.specs.Said.{ending}
 use Rattle.live_core.specs.Shutting.{shutdown_answer}
 use Rattle.live_core.proofs.Called.{SubmitsNone, calls_other, live_other}
+use Rattle.live_core.proofs.Leaving.{stays_left}
 use Rattle.live_core.proofs.executor.ScheduledExecutor.shut_down.Goals as goal
 
 -- the answer names no submission
@@ -33,3 +34,12 @@ returns-clause-made g c =
     let makes = calls_other m c.args.self.now s.new.table s.new.ended.items c.args.at c.moment_of-moment.result call.Shutdown (ending (shutdown_answer s.result) s.new.ended.items)
     c.self.view_is c.moment_of-moment.ensures c.if-moment-gt-LONGEST.false c.self.invariant.stands.few none s.ensures.workers s.ensures.steps in
     record { first = s.ensures.first ∙ ap (λ (v : LiveView). not v.table.shut) c.self.view_is; makes = makes }
+
+pub returns-clause-stays : goal.returns-clause-stays
+returns-clause-stays g c =
+    let e = c.self.inside in
+    let m : LiveView = record { table = e.table; count = e.count; accepted = e.accepted; earliest = e.earliest; ended = e.ended.items } in
+    let s = c.shut_down in
+    let new : LiveView = record m { table = s.new.table; ended = s.new.ended.items } in
+    subst (λ (v : LiveView). Stays v new v.count) c.self.view_is
+    (stays_left m new s.new.notes.free s.new.notes.entries s.new.notes.slot_room (vec_capacity s.new.ended) s.ensures.workers refl s.ensures.leaves (s.ensures.noted e.count c.self.invariant.noted))

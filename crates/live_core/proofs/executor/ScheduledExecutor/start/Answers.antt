@@ -3,10 +3,11 @@ use Rattle.std.proofs.Common.{◌≡◌, vec_capacity, refl, subst}
 use Rattle.executor_core.specs.declared.types.Happening.TheVariants as h
 use Rattle.task_table.specs.Runs.{IsFree, IsFull, IsStartError}
 use Rattle.task_table.proofs.Clocks.{start_refused}
-use Rattle.live_core.specs.Lives.{LiveView, Happens}
+use Rattle.live_core.specs.Lives.{LiveView, Happens, Stays}
 use Rattle.live_core.specs.Events.{Fails, WouldPassLimit, start_reply}
 use Rattle.live_core.proofs.Limited.{would_pass}
 use Rattle.live_core.proofs.Occurring.{happens_there, fails_there, live_steps}
+use Rattle.live_core.proofs.Leaving.{stays_left}
 use Rattle.live_core.proofs.executor.ScheduledExecutor.start.Goals as goal
 
 pub returns-in-Some-clause-failed : goal.returns-in-Some-clause-failed
@@ -45,3 +46,12 @@ returns-then-is_spent-clause-failed g c =
     let free : IsFree m.table worker = c.in_default.ensures.free in
     let full : IsFull m.table = c.is_spent.ensures.spent c.if-is_spent.true in
     subst (λ (v : LiveView). IsFree v.table worker × IsFull v.table × WouldPassLimit v worker × (v ≡ v)) c.self.view_is (free, full, would_pass m worker free full, refl)
+
+pub returns-clause-stays : goal.returns-clause-stays
+returns-clause-stays g c =
+    let e = c.self.inside in
+    let m : LiveView = record { table = e.table; count = e.count; accepted = e.accepted; earliest = e.earliest; ended = e.ended.items } in
+    let b = c.begin_run in
+    let new : LiveView = record m { table = b.new.table; ended = c.clear-2.new.self.items } in
+    subst (λ (v : LiveView). Stays v new v.count) c.self.view_is
+    (stays_left m new b.new.notes.free b.new.notes.entries b.new.notes.slot_room (vec_capacity e.ended) b.ensures.workers refl b.ensures.leaves (b.ensures.noted e.count (vec_capacity e.ended) c.self.invariant.noted))
