@@ -3,6 +3,7 @@ use Rattle.std.proofs.Common.{◌≡◌, ℕ, List, inl, inr, Option, Some, None
 use Rattle.std.specs.Prelude.{◌-◌, length, slice_set, Result, Ok, Err, OnOk}
 use Rattle.std.specs.Option.{option_map}
 use Rattle.std.proofs.lemmas.Option.{none-some, same_Some}
+use Rattle.std.proofs.lemmas.List.{length-set}
 use Rattle.task_table.specs.declared.seat.Seat.{Seat}
 use Rattle.task_table.specs.declared.seat.TaskRef.{TaskRef}
 use Rattle.task_table.specs.Seats.{slot_of}
@@ -10,10 +11,10 @@ use Rattle.task_table.specs.Tables.{TableView, workers_of}
 use Rattle.task_table.specs.Changes.{emptied, grown}
 use Rattle.task_table.specs.Endings.{SweepEnds}
 use Rattle.live_core.specs.Lives.{LiveView, KeepsSlots, AreGiven, AreApart, Stays}
-use Rattle.live_core.specs.own.Slots.{held_numbers, number_in, LeavesNumbers, LeavesBelow}
+use Rattle.live_core.specs.own.Slots.{held_numbers, number_in, LeavesNumbers, LeavesSlots, LeavesBelow}
 use Rattle.live_core.specs.own.Formed.{AreNoted}
 use Rattle.live_core.proofs.Alive.{set_case, LeavesThere}
-use Rattle.live_core.proofs.Held.{number_at, number_there, held_grown}
+use Rattle.live_core.proofs.Held.{number_at, number_there, held_length, held_grown}
 use Rattle.live_core.proofs.Indexed.{number_given, one_slot}
 use Rattle.live_core.proofs.Ranged.{grown_number}
 use Rattle.live_core.proofs.Swept.{sweep_numbers}
@@ -21,16 +22,19 @@ use Rattle.live_core.proofs.Swept.{sweep_numbers}
 -- ---- numbers that stay
 
 -- the numbers are those that there were
-pub leaves_same : (old new : List (Option Seat)) → held_numbers new ≡ held_numbers old → LeavesNumbers old new
-leaves_same old new same i k is = sym (ap (λ (held : List (Option ℕ)). number_in held i) same) ∙ is
+pub leaves_same : (old new : List (Option Seat)) → held_numbers new ≡ held_numbers old → LeavesSlots old new
+leaves_same old new same = record {
+  numbers = λ i k is. sym (ap (λ (held : List (Option ℕ)). number_in held i) same) ∙ is;
+  size = sym (held_length new) ∙ (ap length same ∙ held_length old);
+}
 
 -- the slots are as they were
-pub leaves_still : (m new : TableView) → new.slots ≡ m.slots → LeavesNumbers m.slots new.slots
+pub leaves_still : (m new : TableView) → new.slots ≡ m.slots → LeavesSlots m.slots new.slots
 leaves_still m new same = leaves_same m.slots new.slots (ap held_numbers same)
 
 -- one change after another
-pub leaves_more : (old mid new : List (Option Seat)) → LeavesNumbers old mid → LeavesNumbers mid new → LeavesNumbers old new
-leaves_more old mid new before after i k is = before i k (after i k is)
+pub leaves_more : (old mid new : List (Option Seat)) → LeavesSlots old mid → LeavesSlots mid new → LeavesSlots old new
+leaves_more old mid new before after = record { numbers = λ i k is. before.numbers i k (after.numbers i k is); size = after.size ∙ before.size }
 
 -- before a change that adds numbers
 pub leaves_before : (count : ℕ) (old mid new : List (Option Seat)) → LeavesNumbers old mid → LeavesBelow count mid new → LeavesBelow count old new
@@ -49,27 +53,31 @@ task_there slots i k is = by (slot_of slots i) refl (sym (number_at slots i) ∙
     by (Some x) there q = (x, there, same_Some x.number k q)
 
 -- whatever is left in a slot was there, and so was its number
-pub leaves_numbers : (old new : TableView) → LeavesThere old new → LeavesNumbers old.slots new.slots
-leaves_numbers old new leaves i k is =
-    let x = task_there new.slots i k is in
-    number_there old.slots i x.0 (leaves i x.0 x.1) ∙ ap Some x.2
+leaves_numbers : (old new : TableView) → LeavesThere old new → length new.slots ≡ length old.slots → LeavesSlots old.slots new.slots
+leaves_numbers old new leaves size = record {
+  numbers = λ i k is. let x = task_there new.slots i k is in number_there old.slots i x.0 (leaves i x.0 x.1) ∙ ap Some x.2;
+  size = size;
+}
 
 -- a call that sweeps: kept tasks left their slots before it, and those that it ended after it
-pub leaves_swept : (old m swept new : TableView) (ends : List TaskRef) → LeavesThere old m → SweepEnds m swept ends → LeavesThere swept new → LeavesNumbers old.slots new.slots
-leaves_swept old m swept new ends before s after =
-    leaves_more old.slots m.slots new.slots (leaves_numbers old m before)
-    (leaves_more m.slots swept.slots new.slots (leaves_same m.slots swept.slots (sweep_numbers m swept ends s)) (leaves_numbers swept new after))
+pub leaves_swept : (old m swept new : TableView) (ends : List TaskRef) → LeavesThere old m → length m.slots ≡ length old.slots → SweepEnds m swept ends → LeavesThere swept new → length new.slots ≡ length swept.slots → LeavesSlots old.slots new.slots
+leaves_swept old m swept new ends before few s after left =
+    leaves_more old.slots m.slots new.slots (leaves_numbers old m before few)
+    (leaves_more m.slots swept.slots new.slots (leaves_same m.slots swept.slots (sweep_numbers m swept ends s)) (leaves_numbers swept new after left))
 
 -- ---- a slot is written, or there are more
 
 -- a slot is emptied
-pub leaves_emptied : (m new : TableView) (slot : ℕ) → new ≡ emptied m slot → LeavesNumbers m.slots new.slots
-leaves_emptied m new slot is i k there =
-    let x = task_there new.slots i k there in
-    elim (set_case m.slots slot i None x.0 (sym (ap (λ (v : TableView). slot_of v.slots i) is) ∙ x.1)) [
-      | inl here ↦ absurd (none-some x.0 here.1)
-      | inr other ↦ number_there m.slots i x.0 other.1 ∙ ap Some x.2
-    ]
+pub leaves_emptied : (m new : TableView) (slot : ℕ) → new ≡ emptied m slot → LeavesSlots m.slots new.slots
+leaves_emptied m new slot is = record { numbers = numbers; size = ap (λ (v : TableView). length v.slots) is ∙ length-set m.slots slot None }
+  where
+    numbers : LeavesNumbers m.slots new.slots
+    numbers i k there =
+        let x = task_there new.slots i k there in
+        elim (set_case m.slots slot i None x.0 (sym (ap (λ (v : TableView). slot_of v.slots i) is) ∙ x.1)) [
+          | inl here ↦ absurd (none-some x.0 here.1)
+          | inr other ↦ number_there m.slots i x.0 other.1 ∙ ap Some x.2
+        ]
 
 -- a task with a number that was not given out comes into it
 pub leaves_put : (m new : TableView) (slot : ℕ) (y : Seat) → new.slots ≡ slice_set m.slots slot (Some y) → LeavesBelow y.number m.slots new.slots
@@ -107,21 +115,22 @@ apart m free entries slot_room ended_room noted i j x y at_i at_j same =
 
 -- where the slots are noted, and the numbers stay
 pub stays_noted : (m new : LiveView) (free : List ℕ) (entries : List TaskRef) (slot_room ended_room : ℕ) → workers_of new.table ≡ workers_of m.table → new.earliest ≡ m.earliest →
-    LeavesBelow m.count m.table.slots new.table.slots → AreNoted new.table.slots new.count free entries slot_room ended_room → Stays m new new.count
-stays_noted m new free entries slot_room ended_room width same leaves noted = record {
+    LeavesBelow m.count m.table.slots new.table.slots → (new.count ≡ m.count → length new.table.slots ≡ length m.table.slots) → AreNoted new.table.slots new.count free entries slot_room ended_room → Stays m new new.count
+stays_noted m new free entries slot_room ended_room width same leaves size noted = record {
   workers = width;
   earliest = same;
   count = refl;
   slots = keeps m new leaves;
+  size = size;
   given = given new free entries slot_room ended_room noted;
   apart = apart new free entries slot_room ended_room noted;
 }
 
 -- the same where none was given out
 pub stays_left : (m new : LiveView) (free : List ℕ) (entries : List TaskRef) (slot_room ended_room : ℕ) → workers_of new.table ≡ workers_of m.table → new.earliest ≡ m.earliest →
-    LeavesNumbers m.table.slots new.table.slots → AreNoted new.table.slots new.count free entries slot_room ended_room → Stays m new new.count
+    LeavesSlots m.table.slots new.table.slots → AreNoted new.table.slots new.count free entries slot_room ended_room → Stays m new new.count
 stays_left m new free entries slot_room ended_room width same leaves noted =
-    stays_noted m new free entries slot_room ended_room width same (leaves_below m.count m.table.slots new.table.slots leaves) noted
+    stays_noted m new free entries slot_room ended_room width same (leaves_below m.count m.table.slots new.table.slots leaves.numbers) (λ q. leaves.size) noted
 
 pub always_on_ok : {T E P : Type 0} (r : Result T E) → P → OnOk r P
 always_on_ok (Ok x) p = p

@@ -92,12 +92,14 @@ abbrev pub AreApart : LiveView → Type 0
 AreApart m = (i j : ℕ) (x y : Seat) → slot_of m.table.slots i ≡ Some x → slot_of m.table.slots j ≡ Some y → x.number ≡ y.number → i ≡ j
 
 -- what each call leaves, and each event but an accepted clock: as many workers as there were, the least moment of the call that
--- comes next, and so many numbers that were given out; each task keeps its slot, as long as it has one, and has no other
+-- comes next, and so many numbers that were given out; each task keeps its slot, as long as it has one, and has no other; and where
+-- no number was given out, there are as many slots
 pub record Stays (old new : LiveView) (numbers : ℕ) : Type 0 where
   pub workers : workers_of new.table ≡ workers_of old.table
   pub earliest : new.earliest ≡ old.earliest
   pub count : new.count ≡ numbers
   pub slots : KeepsSlots old new
+  pub size : numbers ≡ old.count → length new.table.slots ≡ length old.table.slots
   pub given : AreGiven new
   pub apart : AreApart new
 

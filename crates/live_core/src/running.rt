@@ -11,7 +11,7 @@ ghost use Rattle.task_table.specs.Runs.{IsFree, IsFull, IsLeft, FailsFinish};
 ghost use Rattle.live_core.specs.Events.{start_reply, finish_reply, run_limit, IsRunBy, IsLeftThere};
 ghost use Rattle.live_core.specs.own.Formed.{AreNoted, AreAlive};
 ghost use Rattle.live_core.specs.own.Shed.{Sheds, released};
-ghost use Rattle.live_core.specs.own.Slots.{LeavesNumbers};
+ghost use Rattle.live_core.specs.own.Slots.{LeavesSlots};
 
 use crate::notes::Notes;
 use crate::releasing::release;
@@ -32,7 +32,7 @@ pub(crate) fn begin_run<A: Allocator>(
     requires fresh { IsFull table.old → ⊥ }
     ensures noted { (count ended_room : ℕ) → AreNoted table.old.slots count notes.old.free notes.old.entries notes.old.slot_room ended_room → AreNoted table.new.slots count notes.new.free notes.new.entries notes.new.slot_room ended_room }
     ensures alive { AreAlive table.old.slots → AreAlive table.new.slots }
-    ensures leaves { LeavesNumbers table.old.slots table.new.slots }
+    ensures leaves { LeavesSlots table.old.slots table.new.slots }
     ensures workers { workers_of table.new ≡ workers_of table.old }
     ensures shut { table.new.shut ≡ table.old.shut }
     ensures runs { IfSome result (λ b. IsRunBy table.new worker b.task) }
@@ -51,7 +51,7 @@ fn drop_met<A: Allocator>(table: &mut TaskTable<A>, notes: &mut Notes<A>)
     requires noted { (count : ℕ) × (ended_room : ℕ) × AreNoted table.old.slots count notes.old.free notes.old.entries notes.old.slot_room ended_room }
     ensures noted { (count ended_room : ℕ) → AreNoted table.old.slots count notes.old.free notes.old.entries notes.old.slot_room ended_room → AreNoted table.new.slots count notes.new.free notes.new.entries notes.new.slot_room ended_room }
     ensures alive { AreAlive table.old.slots → AreAlive table.new.slots }
-    ensures leaves { LeavesNumbers table.old.slots table.new.slots }
+    ensures leaves { LeavesSlots table.old.slots table.new.slots }
     ensures sheds { Sheds table.old table.new }
     ensures met { NoneMet table.new }
 {
@@ -70,7 +70,7 @@ pub(crate) fn end_run<A: Allocator>(
     requires noted { (count : ℕ) × (ended_room : ℕ) × AreNoted table.old.slots count notes.old.free notes.old.entries notes.old.slot_room ended_room }
     ensures noted { (count ended_room : ℕ) → AreNoted table.old.slots count notes.old.free notes.old.entries notes.old.slot_room ended_room → AreNoted table.new.slots count notes.new.free notes.new.entries notes.new.slot_room ended_room }
     ensures alive { AreAlive table.old.slots → AreAlive table.new.slots }
-    ensures leaves { LeavesNumbers table.old.slots table.new.slots }
+    ensures leaves { LeavesSlots table.old.slots table.new.slots }
     ensures workers { workers_of table.new ≡ workers_of table.old }
     ensures shut { table.new.shut ≡ table.old.shut }
     ensures ran { IfOk result (λ ended. IsRunBy table.old worker ended.task) }
@@ -94,7 +94,7 @@ fn release_left<A: Allocator>(table: &mut TaskTable<A>, notes: &mut Notes<A>, en
     requires left { (x : seats.Seat) × (slot_of table.old.slots ended.task.slot ≡ Some x) × IsLeft ended.outcome x }
     ensures noted { (count ended_room : ℕ) → AreNoted table.old.slots count notes.old.free notes.old.entries notes.old.slot_room ended_room → AreNoted table.new.slots count notes.new.free notes.new.entries notes.new.slot_room ended_room }
     ensures slots { table.new ≡ released ended.outcome table.old ended.task.slot }
-    ensures leaves { LeavesNumbers table.old.slots table.new.slots }
+    ensures leaves { LeavesSlots table.old.slots table.new.slots }
     ensures stands { (calls : List Planned) (past : List HistoryEntry) → Stands table.old calls past → Stands table.new calls past }
 {
     match ended.outcome {

@@ -4,7 +4,7 @@ ghost use Rattle.task_table.specs.Seats.{task_in, is_alive};
 ghost use Rattle.live_core.specs.Cancels.{IsHeldAlive};
 ghost use Rattle.live_core.specs.own.Formed.{AreNoted, AreAlive, AreAliveBut, IsRoomier};
 ghost use Rattle.live_core.specs.own.Places.{IsSlotOf};
-ghost use Rattle.live_core.specs.own.Slots.{LeavesNumbers};
+ghost use Rattle.live_core.specs.own.Slots.{LeavesSlots};
 
 use crate::notes::Notes;
 use crate::releasing::release;
@@ -19,7 +19,7 @@ pub(crate) fn release_spent<A: Allocator>(table: &mut TaskTable<A>, notes: &mut 
     ensures alive { (number : ℕ) → IsSlotOf table.old.slots number (Some slot) → IsHeldAlive table.new number }
     ensures all { AreAliveBut slot table.old.slots → AreAlive table.new.slots }
     ensures stands { IsRoomier table.old table.new }
-    ensures leaves { LeavesNumbers table.old.slots table.new.slots }
+    ensures leaves { LeavesSlots table.old.slots table.new.slots }
 {
     if let Some(seat) = table.seat(slot) {
         let spent = is_spent(&seat);

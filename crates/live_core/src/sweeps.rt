@@ -1,5 +1,5 @@
 //! What the calls do that shut the executor down or set a policy: the tasks that they end leave their slots.
-ghost use Rattle.std.specs.Prelude.{◌≡◌, ℕ, ◌≤◌, not, List, true, Some, None, vec_capacity};
+ghost use Rattle.std.specs.Prelude.{◌≡◌, ℕ, ◌≤◌, not, List, length, true, Some, None, vec_capacity};
 ghost use Rattle.std.specs.List.{All};
 ghost use Rattle.sched_time.specs.Times.{longest};
 ghost use Rattle.queue_code.specs.Calls.{Planned};
@@ -17,7 +17,7 @@ ghost use Rattle.live_core.specs.Said.{ending};
 ghost use Rattle.live_core.specs.Shutting.{shutdown_answer, AreGone};
 ghost use Rattle.live_core.specs.own.Formed.{AreNoted, AreAlive};
 ghost use Rattle.live_core.specs.own.Places.{IsEmptyAt};
-ghost use Rattle.live_core.specs.own.Slots.{LeavesNumbers};
+ghost use Rattle.live_core.specs.own.Slots.{LeavesSlots};
 
 use crate::notes::Notes;
 use crate::releasing::release;
@@ -39,7 +39,7 @@ pub(crate) fn set_policy<A: Allocator>(
     requires limit { at ≤ longest }
     ensures noted { (count : ℕ) → AreNoted table.old.slots count notes.old.free notes.old.entries notes.old.slot_room (vec_capacity ended.old) → AreNoted table.new.slots count notes.new.free notes.new.entries notes.new.slot_room (vec_capacity ended.new) }
     ensures alive { AreAlive table.old.slots → AreAlive table.new.slots }
-    ensures leaves { LeavesNumbers table.old.slots table.new.slots }
+    ensures leaves { LeavesSlots table.old.slots table.new.slots }
     ensures workers { workers_of table.new ≡ workers_of table.old }
     ensures gone { AreGone table.old table.new ended.new.items }
     ensures shut { table.new.shut ≡ table.old.shut }
@@ -68,7 +68,7 @@ pub(crate) fn shut_down<A: Allocator>(
     ensures first { result ≡ not table.old.shut }
     ensures noted { (count : ℕ) → AreNoted table.old.slots count notes.old.free notes.old.entries notes.old.slot_room (vec_capacity ended.old) → AreNoted table.new.slots count notes.new.free notes.new.entries notes.new.slot_room (vec_capacity ended.new) }
     ensures alive { AreAlive table.old.slots → AreAlive table.new.slots }
-    ensures leaves { LeavesNumbers table.old.slots table.new.slots }
+    ensures leaves { LeavesSlots table.old.slots table.new.slots }
     ensures workers { workers_of table.new ≡ workers_of table.old }
     ensures gone { AreGone table.old table.new ended.new.items }
     ensures shut { table.new.shut ≡ true }
@@ -97,7 +97,7 @@ pub(crate) fn shut_down_now<A: Allocator>(
     requires limit { at ≤ longest }
     ensures noted { (count : ℕ) → AreNoted table.old.slots count notes.old.free notes.old.entries notes.old.slot_room (vec_capacity ended.old) → AreNoted table.new.slots count notes.new.free notes.new.entries notes.new.slot_room (vec_capacity ended.new) }
     ensures alive { AreAlive table.old.slots → AreAlive table.new.slots }
-    ensures leaves { LeavesNumbers table.old.slots table.new.slots }
+    ensures leaves { LeavesSlots table.old.slots table.new.slots }
     ensures workers { workers_of table.new ≡ workers_of table.old }
     ensures gone { AreGone table.old table.new ended.new.items }
     ensures shut { table.new.shut ≡ true }
@@ -116,6 +116,7 @@ pub(crate) fn drop_kept<A: Allocator>(table: &mut TaskTable<A>, notes: &mut Note
     ensures alive { AreAlive table.old.slots → AreAlive table.new.slots }
     ensures gone { (i : ℕ) (x : seats.Seat) → slot_of table.old.slots i ≡ Some x → x.kept ≡ true → slot_of table.new.slots i ≡ None }
     ensures leaves { (i : ℕ) (x : seats.Seat) → slot_of table.new.slots i ≡ Some x → slot_of table.old.slots i ≡ Some x }
+    ensures size { length table.new.slots ≡ length table.old.slots }
     ensures rest { table.new ≡ record table.old { slots = table.new.slots } }
     ensures stands { (calls : List Planned) (past : List HistoryEntry) (p : Planned) → IsNextCall calls past p → sweeps_at table.old.shut p.1 ≡ true → StandsBefore table.old calls past happening.Call → StandsBefore table.new calls past happening.Call }
 {
@@ -136,6 +137,7 @@ pub(crate) fn release_each<A: Allocator>(
     ensures noted { (count ended_room : ℕ) → AreNoted table.old.slots count notes.old.free notes.old.entries notes.old.slot_room ended_room → AreNoted table.new.slots count notes.new.free notes.new.entries notes.new.slot_room ended_room }
     ensures leaves { (i : ℕ) (x : seats.Seat) → slot_of table.new.slots i ≡ Some x → slot_of table.old.slots i ≡ Some x }
     ensures gone { All (IsEmptyAt table.new) tasks.now }
+    ensures size { length table.new.slots ≡ length table.old.slots }
     ensures rest { table.new ≡ record table.old { slots = table.new.slots } }
     ensures stands { (calls : List Planned) (past : List HistoryEntry) → Stands table.old calls past → Stands table.new calls past }
 {

@@ -19,6 +19,11 @@ number_in held i = slice_index_or held i None
 abbrev pub LeavesNumbers : List (Option Seat) → List (Option Seat) → Type 0
 LeavesNumbers old new = (i k : ℕ) → number_in (held_numbers new) i ≡ Some k → number_in (held_numbers old) i ≡ Some k
 
+-- and there are as many slots
+pub record LeavesSlots (old new : List (Option Seat)) : Type 0 where
+  pub numbers : LeavesNumbers old new
+  pub size : length new ≡ length old
+
 -- each number below this one that is in a slot stood there before
 abbrev pub LeavesBelow : ℕ → List (Option Seat) → List (Option Seat) → Type 0
 LeavesBelow count old new = (i k : ℕ) → number_in (held_numbers new) i ≡ Some k → k < count → number_in (held_numbers old) i ≡ Some k

@@ -1,17 +1,17 @@
 -- The slot of each task that is dropped is emptied.
-use Rattle.std.proofs.Common.{sym, subst}
+use Rattle.std.proofs.Common.{refl, sym, subst}
 use Rattle.task_table.specs.Tables.{TableView}
 use Rattle.live_core.specs.own.Formed.{AreNoted, AreAlive}
 use Rattle.live_core.specs.own.Shed.{Sheds}
 use Rattle.live_core.proofs.Alive.{alive_dropped}
 use Rattle.live_core.proofs.Shedding.{sheds_none, sheds_more, fewer_shed, over_dropped, noted_dropped}
-use Rattle.live_core.specs.own.Slots.{LeavesNumbers}
+use Rattle.live_core.specs.own.Slots.{LeavesSlots}
 use Rattle.live_core.proofs.Swept.{drop_numbers}
 use Rattle.live_core.proofs.Leaving.{leaves_same, leaves_more}
 use Rattle.live_core.proofs.running.drop_met.Goals as goal
 
 pub loop-slot-init : goal.loop-slot-init
-loop-slot-init g c = record { sheds = sheds_none c.args.table.now; leaves = λ i k q. q; noted = λ count ended_room noted. noted; alive = λ alive. alive }
+loop-slot-init g c = record { sheds = sheds_none c.args.table.now; leaves = record { numbers = λ i k q. q; size = refl }; noted = λ count ended_room noted. noted; alive = λ alive. alive }
 
 pub release-requires-clause-noted : goal.release-requires-clause-noted
 release-requires-clause-noted g c =
@@ -51,4 +51,4 @@ pub returns-clause-alive : goal.returns-clause-alive
 returns-clause-alive g c = λ alive. subst (λ (m : TableView). AreAlive m.slots) (sym c.in_default.ensures.none.0) (c.loop-slot.invariant.alive alive)
 
 pub returns-clause-leaves : goal.returns-clause-leaves
-returns-clause-leaves g c = subst (λ (m : TableView). LeavesNumbers c.args.table.now.slots m.slots) (sym c.in_default.ensures.none.0) c.loop-slot.invariant.leaves
+returns-clause-leaves g c = subst (λ (m : TableView). LeavesSlots c.args.table.now.slots m.slots) (sym c.in_default.ensures.none.0) c.loop-slot.invariant.leaves

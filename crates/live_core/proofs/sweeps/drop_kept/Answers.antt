@@ -1,5 +1,6 @@
 -- The task that is dropped leaves its slot.
-use Rattle.std.proofs.Common.{◌∙◌, inl, refl, sym, ap, subst}
+use Rattle.std.proofs.Common.{◌∙◌, inl, length, refl, sym, ap, subst}
+use Rattle.std.proofs.lemmas.List.{length-set}
 use Rattle.task_table.specs.Tables.{TableView}
 use Rattle.live_core.specs.own.Formed.{AreNoted, AreAlive}
 use Rattle.live_core.proofs.Alive.{alive_dropped, leaves_dropped, LeavesThere}
@@ -33,6 +34,7 @@ loop-slot-preserved g c =
     record {
       goes = goes_dropped c.args.table.now m mid c.release.new.table slot kept.goes d c.release.ensures.slots;
       leaves = leaves_dropped c.args.table.now m mid c.release.new.table slot (unkept d.task) d.is c.release.ensures.slots kept.leaves;
+      size = c.release.ensures.leaves.size ∙ (ap (λ (v : TableView). length v.slots) d.is ∙ (length-set m.slots slot (Some (unkept d.task)) ∙ kept.size));
       rest = slots_more c.args.table.now mid c.release.new.table (slice_set mid.slots slot None)
           (slots_more c.args.table.now m mid (slice_set m.slots slot (Some (unkept d.task))) kept.rest d.is) c.release.ensures.slots;
       noted = λ count room before. c.release.ensures.noted count room (noted_dropped m mid slot count n.free n.entries n.slot_room room d (kept.noted count room before));
@@ -50,6 +52,7 @@ pub loop-slot-init : goal.loop-slot-init
 loop-slot-init g c = record {
   goes = λ i x there kept. inl there;
   leaves = λ i x there. there;
+  size = refl;
   rest = refl;
   noted = λ count room before. before;
   alive = λ alive. alive;

@@ -1,5 +1,5 @@
 -- Each task that is dropped has left its slot, and fewer are kept then.
-use Rattle.std.proofs.Common.{◌≡◌, ℕ, true, List}
+use Rattle.std.proofs.Common.{◌≡◌, ℕ, true, List, length}
 use Rattle.queue_code.specs.Calls.{Planned}
 use Rattle.executor_core.specs.declared.types.Happening.TheVariants as h
 use Rattle.executor_core.specs.Histories.{HistoryEntry}
@@ -15,6 +15,7 @@ abbrev pub invariant-loop-slot : goal.invariant-loop-slot
 invariant-loop-slot g l = record {
   goes : StaysOrGoes l.fn.table l.table;
   leaves : LeavesThere l.fn.table l.table;
+  size : length l.table.slots ≡ length l.fn.table.slots;
   rest : l.table ≡ record l.fn.table { slots = l.table.slots };
   noted : (count ended_room : ℕ) → AreNoted l.fn.table.slots count l.fn.notes.free l.fn.notes.entries l.fn.notes.slot_room ended_room → AreNoted l.table.slots count l.notes.free l.notes.entries l.notes.slot_room ended_room;
   alive : AreAlive l.fn.table.slots → AreAlive l.table.slots;

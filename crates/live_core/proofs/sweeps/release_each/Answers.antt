@@ -1,5 +1,5 @@
 -- The slot of the task holds it still, and those behind it are left where they are.
-use Rattle.std.proofs.Common.{◌+◌, drop, subst}
+use Rattle.std.proofs.Common.{◌+◌, ◌∙◌, drop, subst}
 use Rattle.std.specs.Prelude.{slice_index_or, slice_set, None}
 use Rattle.std.proofs.lemmas.List.{drop_more}
 use Rattle.live_core.proofs.Alive.{leaves_released}
@@ -26,6 +26,7 @@ loop-task-preserved g c =
       rest = slots_more c.args.table.now m c.release.new.table (slice_set m.slots task.slot None) kept.rest c.release.ensures.slots;
       noted = λ count room before. c.release.ensures.noted count room (kept.noted count room before);
       leaves = leaves_released c.args.table.now m c.release.new.table task.slot c.release.ensures.slots kept.leaves;
+      size = c.release.ensures.leaves.size ∙ kept.size;
       stands = λ calls past st. c.release.ensures.stands calls past (kept.stands calls past st);
       over = over_rest m c.release.new.table task (drop (i + 1) c.args.tasks.now) c.release.ensures.slots
           (subst (AreOver m) (drop_more c.args.tasks.now i (record { number = 0; slot = 0 }) c.loop-task-test.true) kept.over);

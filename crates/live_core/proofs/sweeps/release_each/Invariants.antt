@@ -1,5 +1,5 @@
 -- The slots of the tasks before this one are empty, and those behind it are where they were.
-use Rattle.std.proofs.Common.{◌≡◌, ℕ, List, take, drop}
+use Rattle.std.proofs.Common.{◌≡◌, ℕ, List, length, take, drop}
 use Rattle.std.specs.List.{All}
 use Rattle.queue_code.specs.Calls.{Planned}
 use Rattle.executor_core.specs.Histories.{HistoryEntry}
@@ -15,6 +15,7 @@ invariant-loop-task g l = record {
   rest : l.table ≡ record l.fn.table { slots = l.table.slots };
   noted : (count ended_room : ℕ) → AreNoted l.fn.table.slots count l.fn.notes.free l.fn.notes.entries l.fn.notes.slot_room ended_room → AreNoted l.table.slots count l.notes.free l.notes.entries l.notes.slot_room ended_room;
   leaves : LeavesThere l.fn.table l.table;
+  size : length l.table.slots ≡ length l.fn.table.slots;
   stands : (calls : List Planned) (past : List HistoryEntry) → Stands l.fn.table calls past → Stands l.table calls past;
   over : AreOver l.table (drop l.task-index l.tasks);
   gone : All (IsEmptyAt l.table) (take l.task-index l.tasks);

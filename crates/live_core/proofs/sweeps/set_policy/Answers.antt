@@ -84,4 +84,4 @@ returns-then-setting_sweeps-clause-leaves g c =
     let mid = c.drop_kept.new.table in
     let told : setting_sweeps mid.shut x.which x.value ≡ true = ap (λ (v : TableView). setting_sweeps v.shut x.which x.value) c.drop_kept.ensures.rest ∙ (sym c.setting_sweeps.ensures ∙ c.if-setting_sweeps.true) in
     let m : TableView = record (at_moment mid x.at) { policies = settings.set_policy x.which x.value mid.policies } in
-    leaves_swept x.table.now m c.set_policy.new.self c.release_each.new.table c.set_policy.new.ends.items c.drop_kept.ensures.leaves (c.set_policy.ensures.swept told) c.release_each.ensures.leaves
+    leaves_swept x.table.now m c.set_policy.new.self c.release_each.new.table c.set_policy.new.ends.items c.drop_kept.ensures.leaves c.drop_kept.ensures.size (c.set_policy.ensures.swept told) c.release_each.ensures.leaves c.release_each.ensures.size

@@ -77,4 +77,4 @@ returns-clause-leaves g c =
     let mid = c.drop_kept.new.table in
     let open_then : mid.shut ≡ false = ap (λ (v : TableView). v.shut) c.drop_kept.ensures.rest ∙ (sym c.is_shut.ensures ∙ c.if-is_shut.false) in
     let m : TableView = record (at_moment mid c.args.at) { shut = true } in
-    leaves_swept c.args.table.now m c.shut_down-2.new.self c.release_each.new.table c.shut_down-2.new.ends.items c.drop_kept.ensures.leaves (c.shut_down-2.ensures.swept open_then) c.release_each.ensures.leaves
+    leaves_swept c.args.table.now m c.shut_down-2.new.self c.release_each.new.table c.shut_down-2.new.ends.items c.drop_kept.ensures.leaves c.drop_kept.ensures.size (c.shut_down-2.ensures.swept open_then) c.release_each.ensures.leaves c.release_each.ensures.size

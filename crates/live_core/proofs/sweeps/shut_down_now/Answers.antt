@@ -68,4 +68,4 @@ returns-clause-gone g c =
 pub returns-clause-leaves : goal.returns-clause-leaves
 returns-clause-leaves g c =
     let m : TableView = record (at_moment c.drop_kept.new.table c.args.at) { shut = true; stopped = true } in
-    leaves_swept c.args.table.now m c.shut_down_now.new.self c.release_each.new.table c.shut_down_now.new.ends.items c.drop_kept.ensures.leaves c.shut_down_now.ensures.swept c.release_each.ensures.leaves
+    leaves_swept c.args.table.now m c.shut_down_now.new.self c.release_each.new.table c.shut_down_now.new.ends.items c.drop_kept.ensures.leaves c.drop_kept.ensures.size c.shut_down_now.ensures.swept c.release_each.ensures.leaves c.release_each.ensures.size
