@@ -1,10 +1,11 @@
 -- The finish takes its step, or is answered by an error.
-use Rattle.std.proofs.Common.{vec_capacity, subst}
+use Rattle.std.proofs.Common.{◌<◌, vec_capacity, subst}
 use Rattle.std.specs.Prelude.{IfOk, IfErr}
 use Rattle.executor_core.specs.declared.types.Happening.TheVariants as h
 use Rattle.task_table.specs.Runs.{IsFinishError}
 use Rattle.live_core.specs.Lives.{LiveView, Happens}
 use Rattle.live_core.specs.Events.{Fails, finish_reply}
+use Rattle.live_core.proofs.Workers.{ended_given}
 use Rattle.live_core.proofs.Occurring.{finish_happens, finish_fails, live_finish}
 use Rattle.live_core.proofs.executor.ScheduledExecutor.finish.Goals as goal
 
@@ -37,3 +38,10 @@ returns-clause-failed g c =
     let new : LiveView = record m { table = r.new.table; ended = c.clear.new.self.items } in
     subst (λ (v : LiveView). IfErr r.result (λ error. IsFinishError v.table c.args.worker error × Fails v new (h.Finish c.args.worker c.args.ending) error)) c.self.view_is
     (finish_fails m r.new.table c.clear.new.self.items c.args.worker c.args.ending r.result c.clear.ensures.items r.ensures.unchanged r.ensures.failed)
+
+pub returns-clause-given : goal.returns-clause-given
+returns-clause-given g c =
+    let e = c.self.inside in
+    let r = c.end_run in
+    subst (λ (v : LiveView). IfOk r.result (λ x. x.task.number < v.count)) c.self.view_is
+    (ended_given e.table c.args.worker e.count r.result e.notes.free e.notes.entries e.notes.slot_room (vec_capacity e.ended) c.self.invariant.noted r.ensures.ran)

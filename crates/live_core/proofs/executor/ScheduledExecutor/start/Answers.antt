@@ -1,11 +1,12 @@
 -- The start takes its step, or is answered by an error.
-use Rattle.std.proofs.Common.{◌≡◌, vec_capacity, refl, subst}
+use Rattle.std.proofs.Common.{◌≡◌, ◌<◌, IfSome, vec_capacity, refl, subst}
 use Rattle.executor_core.specs.declared.types.Happening.TheVariants as h
 use Rattle.task_table.specs.Runs.{IsFree, IsFull, IsStartError}
 use Rattle.task_table.proofs.Clocks.{start_refused}
 use Rattle.live_core.specs.Lives.{LiveView, Happens}
 use Rattle.live_core.specs.Events.{Fails, WouldPassLimit, start_reply}
 use Rattle.live_core.proofs.Limited.{would_pass}
+use Rattle.live_core.proofs.Workers.{begun_given}
 use Rattle.live_core.proofs.Occurring.{happens_there, fails_there, live_steps}
 use Rattle.live_core.proofs.executor.ScheduledExecutor.start.Goals as goal
 
@@ -45,3 +46,10 @@ returns-then-is_spent-clause-failed g c =
     let free : IsFree m.table worker = c.in_default.ensures.free in
     let full : IsFull m.table = c.is_spent.ensures.spent c.if-is_spent.true in
     subst (λ (v : LiveView). IsFree v.table worker × IsFull v.table × WouldPassLimit v worker × (v ≡ v)) c.self.view_is (free, full, would_pass m worker free full, refl)
+
+pub returns-clause-given : goal.returns-clause-given
+returns-clause-given g c =
+    let e = c.self.inside in
+    let b = c.begin_run in
+    subst (λ (v : LiveView). IfSome b.result (λ r. r.task.number < v.count)) c.self.view_is
+    (begun_given b.new.table c.args.worker e.count b.result b.new.notes.free b.new.notes.entries b.new.notes.slot_room (vec_capacity e.ended) (b.ensures.noted e.count (vec_capacity e.ended) c.self.invariant.noted) b.ensures.runs)
