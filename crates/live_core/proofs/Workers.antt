@@ -1,5 +1,5 @@
 -- What a start and a finish leave behind, as the table tells of them.
-use Rattle.std.proofs.Common.{◌≡◌, ℕ, cond, List, ◌∷◌, Option, Some, None, refl, sym, ap, ◌∙◌, subst}
+use Rattle.std.proofs.Common.{◌≡◌, ℕ, ◌<◌, Result, Ok, Err, IfOk, cond, List, ◌∷◌, Option, Some, None, refl, sym, ap, ◌∙◌, subst}
 use Rattle.std.specs.Prelude.{slice_index_or, slice_set, IfSome}
 use Rattle.std.proofs.lemmas.Bool.{eq-eqb}
 use Rattle.std.proofs.lemmas.List.{length-set}
@@ -8,6 +8,7 @@ use Rattle.queue_code.specs.Calls.{Planned}
 use Rattle.executor_core.specs.declared.types.Happening.TheVariants as h
 use Rattle.executor_core.specs.declared.types.Outcome.{Outcome}
 use Rattle.executor_core.specs.declared.types.Outcome.TheVariants as o
+use Rattle.executor_core.specs.declared.types.EventError.{EventError}
 use Rattle.executor_core.specs.Answers.{Reply}
 use Rattle.executor_core.specs.Histories.{HistoryEntry, entry_of, answer, IsHistoryOf}
 use Rattle.executor_core.specs.State.{due_past}
@@ -26,8 +27,28 @@ use Rattle.live_core.specs.Events.{start_reply, finish_reply, IsRunBy}
 use Rattle.live_core.specs.own.Slots.{held_numbers}
 use Rattle.live_core.specs.own.Formed.{AreNoted}
 use Rattle.live_core.specs.own.Shed.{Sheds, released}
-use Rattle.live_core.proofs.Held.{held_put}
+use Rattle.live_core.proofs.Held.{held_put, number_there}
+use Rattle.live_core.proofs.Indexed.{number_given}
 use Rattle.live_core.proofs.Noted.{noted_still}
+
+-- ---- what a worker runs
+
+-- a task that a worker runs has a number that was given out
+pub runs_given : (m : TableView) (worker count : ℕ) (t : TaskRef) (free : List ℕ) (entries : List TaskRef) (slot_room ended_room : ℕ) → AreNoted m.slots count free entries slot_room ended_room → IsRunBy m worker t → t.number < count
+runs_given m worker count t free entries slot_room ended_room noted runs =
+    subst (λ n. n < count) runs.named (number_given (held_numbers m.slots) entries count t.slot runs.task.number noted.index (number_there m.slots t.slot runs.task runs.there))
+
+-- so does one of which it begins a run
+pub begun_given : (m : TableView) (worker count : ℕ) (b : Option Begun) (free : List ℕ) (entries : List TaskRef) (slot_room ended_room : ℕ) → AreNoted m.slots count free entries slot_room ended_room → IfSome b (λ r. IsRunBy m worker r.task) →
+    IfSome b (λ r. r.task.number < count)
+begun_given m worker count None free entries slot_room ended_room noted runs = tt
+begun_given m worker count (Some r) free entries slot_room ended_room noted runs = runs_given m worker count r.task free entries slot_room ended_room noted runs
+
+-- and one whose run it ends
+pub ended_given : (m : TableView) (worker count : ℕ) (r : Result Ended EventError) (free : List ℕ) (entries : List TaskRef) (slot_room ended_room : ℕ) → AreNoted m.slots count free entries slot_room ended_room → IfOk r (λ e. IsRunBy m worker e.task) →
+    IfOk r (λ e. e.task.number < count)
+ended_given m worker count (Ok e) free entries slot_room ended_room noted runs = runs_given m worker count e.task free entries slot_room ended_room noted runs
+ended_given m worker count (Err error) free entries slot_room ended_room noted runs = tt
 
 -- ---- a start
 

@@ -60,6 +60,7 @@ impl<A: Allocator> ScheduledExecutor<A> {
         ensures stays { OnOk result (Stays self.old self.new self.old.count) }
         ensures runs { IfOk result (λ begun. IfSome begun (λ b. events.IsRunBy self.new.table worker b.task)) }
         ensures numbered { IfOk result (λ begun. IfSome begun (λ b. b.run < events.run_limit)) }
+        ensures given { IfOk result (λ begun. IfSome begun (λ b. b.task.number < self.old.count)) }
         ensures ended { IfOk result (λ _. self.new.ended ≡ []) }
         ensures failed { IfErr result (λ error. events.BeginsNone self.old self.new worker error) }
     {
@@ -85,6 +86,7 @@ impl<A: Allocator> ScheduledExecutor<A> {
         ensures happens { IfOk result (λ e. Happens self.old self.new (happening.Finish worker ending) (events.finish_reply worker e)) }
         ensures stays { OnOk result (Stays self.old self.new self.old.count) }
         ensures ran { IfOk result (λ e. events.IsRunBy self.old.table worker e.task) }
+        ensures given { IfOk result (λ e. e.task.number < self.old.count) }
         ensures left { IfOk result (λ e. events.IsLeftThere self.new.table e.outcome e.task) }
         ensures ended { self.new.ended ≡ [] }
         ensures failed { IfErr result (λ error. IsFinishError self.old.table worker error × events.Fails self.old self.new (happening.Finish worker ending) error) }

@@ -26,7 +26,7 @@ use Rattle.live_engine.specs.declared.engine.Turn.{Turn}
 use Rattle.live_engine.specs.declared.engine.Turn.TheVariants as t
 use Rattle.live_engine.specs.declared.report.LiveReport.{LiveReport}
 use Rattle.live_engine.specs.LiveLines.{LiveHistory, FitsLive, input_of, live_history, live_line, trace_length, trace_of}
-use Rattle.live_engine.specs.LiveRuns.{BeginsBeyond, BeginsWith, BeginsWithBarred, BeginsWithLine, BeginsWithNone, IsNoLine, LiveEnds, Ran, Runs, Taken, Writes}
+use Rattle.live_engine.specs.LiveRuns.{BeginsBeyond, BeginsWanting, BeginsWith, BeginsWithBarred, BeginsWithNone, IsNoLine, LiveEnds, Ran, Runs, Taken, Writes}
 use Rattle.live_engine.specs.own.LiveTurns.{Done, IsBetweenTurns, IsCut, Opens, Progress, Setting, Turns}
 use Rattle.live_engine.proofs.Steps.{allowed}
 use Rattle.live_engine.proofs.Notings.{notes_none}
@@ -125,10 +125,10 @@ first workers at m opens none blank nought = record {
 }
 
 -- want of memory for a further line
-pub out_of_memory : (run : Setting) (at : Progress) (lines : List LiveLine) → Done run at lines → at.text ≡ [] → length at.held ≤ piece → BeginsWithLine at.held → Runs (Err x.Memory) run.workers run.first at.ends
+pub out_of_memory : (run : Setting) (at : Progress) (lines : List LiveLine) → Done run at lines → at.text ≡ [] → length at.held ≤ piece → BeginsWanting run.workers (live_history run.workers lines) at.held → Runs (Err x.Memory) run.workers run.first at.ends
 out_of_memory run at lines done none near begins =
-    taken_so_far run at lines (λ _ ahead. BeginsWithLine ahead) (λ _ rest. BeginsWithLine rest) (Writes run.first at.ends (λ _ _. Unit {0})) done near begins
-    (λ more. begins_on (λ line. Unit {0}) at.held more begins) (all_written run at lines (λ _ _. Unit {0}) done none tt)
+    taken_so_far run at lines (BeginsWanting run.workers) (BeginsWanting run.workers) (Writes run.first at.ends (λ _ _. Unit {0})) done near begins
+    (λ more. begins_on _ at.held more begins) (all_written run at lines (λ _ _. Unit {0}) done none tt)
 
 -- a further line for which there is no room
 pub full : (run : Setting) (at : Progress) (lines : List LiveLine) → Done run at lines → at.text ≡ [] → length at.held ≤ piece → BeginsBeyond run.workers (live_history run.workers lines) at.held → Runs (Err x.Full) run.workers run.first at.ends

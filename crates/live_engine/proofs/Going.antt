@@ -18,7 +18,7 @@ use Rattle.std.proofs.Math.Seq.{drop-append_seam}
 use Rattle.std.proofs.lemmas.List.{drop-drop}
 use Rattle.live_engine.specs.LiveLines.{FitsLive, MayCome, live_history, live_line, input_of, trace_of}
 use Rattle.live_engine.specs.LiveRuns.{made_calls}
-use Rattle.live_engine.specs.own.LiveSteps.{Answers, IsAt, Stops}
+use Rattle.live_engine.specs.own.LiveSteps.{Answers, IsAt, IsNotTaken}
 use Rattle.live_engine.specs.own.LiveTurns.{Done, DoneAt, IsCut, IsFrontEnd, IsPieceEnd, Progress, Setting}
 use Rattle.live_engine.proofs.Steps.{allowed}
 use Rattle.live_engine.proofs.Notings.{notes_line, notes_room}
@@ -61,7 +61,7 @@ longer run at old new line lines answer rest counts journal d a front =
     let after = a.takes run.workers so_far d.stands in
     let all = after.longer.lines ∙ ap (λ l. lines_of so_far.calls so_far.past ++ l) (sym a.given) in
     record {
-      come = (d.done.come, a.fits, after.may);
+      come = (d.done.come, a.fits, after.may, a.room run.workers so_far d.stands d.done.counted);
       stands = after.longer.at;
       read = took_front run.first.left at.ends.left at.held rest (input_of lines) (live_line line) d.done.read front;
       says = ap lines_text all ∙ lines_text-append (lines_of so_far.calls so_far.past) answer;
@@ -164,11 +164,11 @@ front_end e.Full workers m lines rest stop at = absurd stop
 front_end e.Memory workers m lines rest stop at = absurd stop
 
 -- one does, and is not taken
-pub line_end : (end : PieceEnd) (workers : ℕ) (m : LiveView) (lines : List LiveLine) (rest behind : List ℕ) (line : LiveLine) → IsRead live_line FitsLive rest line behind → Stops end workers (live_history workers lines) line → IsPieceEnd end workers m lines rest
+pub line_end : (end : PieceEnd) (workers : ℕ) (m : LiveView) (lines : List LiveLine) (rest behind : List ℕ) (line : LiveLine) → IsRead live_line FitsLive rest line behind → IsNotTaken end workers (live_history workers lines) line → IsPieceEnd end workers m lines rest
 line_end e.Part workers m lines rest behind line read stop = absurd stop
 line_end e.Refused workers m lines rest behind line read stop = inr (record { line = line; rest = behind; read = read; so = stop })
 line_end e.Full workers m lines rest behind line read stop = record { line = line; rest = behind; read = read; so = stop }
-line_end e.Memory workers m lines rest behind line read stop = record { line = line; rest = behind; read = read; so = tt }
+line_end e.Memory workers m lines rest behind line read stop = record { line = line; rest = behind; read = read; so = stop }
 
 -- ---- what is left of the bytes that are held
 

@@ -1,4 +1,5 @@
 pub mod Steps
+pub mod Lengths
 pub mod Notings
 pub mod Going
 pub mod Ending

@@ -9,7 +9,7 @@ use Rattle.live_core.specs.Lives.{LiveView}
 use Rattle.executor_core.specs.Answers.{Reply}
 use Rattle.live_engine.specs.LiveLines.{live_history, next_moment}
 use Rattle.live_engine.specs.LiveRuns.{Notes, all_noted, made_calls}
-use Rattle.live_engine.specs.own.LiveSteps.{IsAt, Takes, noted_line}
+use Rattle.live_engine.specs.own.LiveSteps.{IsAt, TakesLine, noted_line}
 use Rattle.live_engine.proofs.Steps.{call_moment}
 
 -- the same call is noted whatever room there is
@@ -30,9 +30,9 @@ noted_after_room journal roomy next moment at call room is now =
     ap (λ (j : JournalView). record j { room = next.room }) (is ∙ (ap (λ n. noted roomy (record { moment = n; call = call })) now ∙ ap (λ (j : JournalView). noted j (record { moment = moment; call = call })) room))
     ∙ noted_with_room journal (record { moment = moment; call = call }) roomy.room next.room
 
--- room was made, and nothing was noted
-pub same_after_room : (journal roomy next : JournalView) → roomy ≡ record journal { room = roomy.room } → next ≡ roomy → next ≡ record journal { room = next.room }
-same_after_room journal roomy next room is = is ∙ (room ∙ ap (λ (j : JournalView). record journal { room = j.room }) (sym is))
+-- nothing was noted
+pub nothing_noted : (journal next : JournalView) → next ≡ journal → next ≡ record journal { room = next.room }
+nothing_noted journal next is = is ∙ ap (λ (j : JournalView). record journal { room = j.room }) (sym is)
 
 -- nothing was noted yet
 pub notes_none : (journal : JournalView) → Notes journal journal []
@@ -48,7 +48,7 @@ notes_call first journal next calls call notes is =
     is ∙ (ap (λ (j : JournalView). record (noted j call) { room = next.room }) notes ∙ noted_with_room (all_noted first calls) call journal.room next.room)
 
 -- a line was taken, and the call that it makes was noted
-pub notes_line : (first journal next : JournalView) (old new : LiveView) (line : LiveLine) (r : Reply) (workers : ℕ) (lines : List LiveLine) → Notes first journal (made_calls workers lines) → Takes old new line r → IsAt workers old (live_history workers lines) →
+pub notes_line : (first journal next : JournalView) (old new : LiveView) (line : LiveLine) (r : Reply) (workers : ℕ) (lines : List LiveLine) → Notes first journal (made_calls workers lines) → TakesLine old new line r → IsAt workers old (live_history workers lines) →
     next ≡ record (noted_line journal line new.table.moment) { room = next.room } → Notes first next (made_calls workers (line ∷ lines))
 notes_line first journal next old new (l.Event event) r workers lines notes takes at is = notes_room first journal next (made_calls workers lines) notes is
 notes_line first journal next old new (l.Call call) r workers lines notes takes at is =

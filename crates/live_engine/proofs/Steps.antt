@@ -1,23 +1,28 @@
 -- Steps: the steps of an executor are lines that are taken.
-use Rattle.std.proofs.Common.{◌≡◌, ℕ, zero, suc, ◌<◌, ◌≤◌, Bool, true, false, cond, List, [], ◌∷◌, ◌++◌, length, Some, None, refl, sym, ap, ◌∙◌, arith, subst}
+use Rattle.std.proofs.Common.{◌≡◌, ◌⊎◌, inl, inr, ℕ, zero, suc, ◌<◌, ◌≤◌, Bool, true, false, cond, List, [], ◌∷◌, ◌++◌, length, Some, None, refl, sym, ap, ◌∙◌, arith, subst}
 use Rattle.std.specs.Prelude.{slice_get, max, nat_lt}
+use Rattle.std.proofs.lemmas.Bool.{false≢true}
 use Rattle.std.proofs.lemmas.Bool.Decides.{nat_tests}
+use Rattle.sched_time.specs.Times.{longest}
 use Rattle.queue_code.specs.Calls.{Planned, task_count}
 use Rattle.executor_core.specs.declared.Event.{Event}
 use Rattle.executor_core.specs.declared.Happening.{Happening}
 use Rattle.executor_core.specs.declared.Happening.TheVariants as h
 use Rattle.executor_core.specs.declared.Answer.{Answer}
+use Rattle.executor_core.specs.declared.Answer.TheVariants as a
+use Rattle.executor_core.specs.declared.Event.TheVariants as v
 use Rattle.executor_core.specs.Answers.{Reply, moment_after}
 use Rattle.executor_core.specs.Histories.{HistoryEntry, answer, entry_of, happenings, made, now_of, IsHistoryOf}
 use Rattle.call_text.specs.declared.call.CallLine.{CallLine}
 use Rattle.call_text.specs.declared.call.CallLine.TheVariants as call
 use Rattle.task_table.specs.Tables.{workers_of}
-use Rattle.live_core.specs.Lives.{LiveView, Calls, Happens, Makes, Meets, moment_of_call}
+use Rattle.live_core.specs.Lives.{LiveView, Calls, Happens, Makes, Meets, after_clock, moment_of_call}
+use Rattle.live_core.specs.Events.{run_limit}
 use Rattle.live_core.proofs.Making.{now_there}
 use Rattle.live_engine.specs.declared.live_line.LiveLine.TheVariants as l
-use Rattle.live_engine.specs.LiveLines.{LiveHistory, MayComeNext, after_call, after_clock, after_happening, code_of, happening_in, next_moment, not_given, passed, planned_of}
+use Rattle.live_engine.specs.LiveLines.{IsOutOfNumbers, IsOverLimit, LiveHistory, MayComeNext, after_call, after_happening, code_of, happening_in, most_numbers, next_moment, not_given, planned_of}
 use Rattle.live_engine.specs.LiveRuns.{IsLiveHistory}
-use Rattle.live_engine.specs.own.LiveSteps.{IsAt, IsLonger, Takes}
+use Rattle.live_engine.specs.own.LiveSteps.{IsAt, IsLonger, TakesLine}
 
 -- ---- where an executor stands
 
@@ -36,7 +41,7 @@ later now clock moment earliest p q = grind (arith, p, q)
 pub next_is : (workers : ℕ) (m : LiveView) (so_far : LiveHistory) → IsAt workers m so_far → moment_of_call m 0 ≡ next_moment so_far
 next_is workers m so_far at =
     later (now_of so_far.calls (happenings so_far.past)) (after_clock so_far.past) m.table.moment m.earliest
-    (now_there m.table so_far.calls so_far.past at.stands.table.means at.stands.table.shows) (sym at.clock)
+    (now_there m.table so_far.calls so_far.past at.stands.table.means at.stands.table.shows) (sym at.stands.clock)
 
 -- ---- replies
 
@@ -46,9 +51,13 @@ told y r s p q = ap (λ (x : Answer). entry_of y (record { answer = x; ends = r.
 
 -- ---- calls
 
--- what is known of a call that a line makes, by how many numbers were given out
+-- what is known of a call that a line makes, by how many numbers were given out: the one that it names was, or one is left for it
 abbrev pub IsGiven : ℕ → CallLine → Type 0
 IsGiven count (call.Cancel task) = task < count
+IsGiven count (call.Schedule delay) = count < most_numbers
+IsGiven count call.Execute = count < most_numbers
+IsGiven count (call.Rate first period) = count < most_numbers
+IsGiven count (call.Fixed first delay) = count < most_numbers
 IsGiven count asked = Unit {0}
 
 may_come : (count : ℕ) (so_far : LiveHistory) (asked : CallLine) → task_count so_far.calls ≡ count → IsGiven count asked → MayComeNext so_far (l.Call asked)
@@ -62,16 +71,34 @@ may_come count so_far call.Shutdown same given = tt
 may_come count so_far call.ShutdownNow same given = tt
 may_come count so_far call.Ask same given = tt
 
-longer_call : (workers : ℕ) (old new : LiveView) (so_far : LiveHistory) (p : Planned) (r : Reply) → IsAt workers old so_far → workers_of new.table ≡ workers_of old.table → new.earliest ≡ old.earliest → Makes new so_far.calls so_far.past p r →
+-- a number is left for it, if it needs one
+number_left : (count : ℕ) (so_far : LiveHistory) (asked : CallLine) → task_count so_far.calls ≡ count → IsGiven count asked → IsOutOfNumbers so_far (l.Call asked) → ⊥
+number_left count so_far (call.Schedule delay) same given many = omega (arith, same, given, many.1)
+number_left count so_far call.Execute same given many = omega (arith, same, given, many.1)
+number_left count so_far (call.Rate first period) same given many = omega (arith, same, given, many.1)
+number_left count so_far (call.Fixed first delay) same given many = omega (arith, same, given, many.1)
+number_left count so_far (call.Cancel task) same given many = false≢true many.0
+number_left count so_far (call.Policy which value) same given many = false≢true many.0
+number_left count so_far call.Shutdown same given many = false≢true many.0
+number_left count so_far call.ShutdownNow same given many = false≢true many.0
+number_left count so_far call.Ask same given many = false≢true many.0
+
+-- it is beyond no limit
+pub within_call : (workers : ℕ) (m : LiveView) (so_far : LiveHistory) (asked : CallLine) → IsAt workers m so_far → moment_of_call m 0 ≤ longest → IsGiven m.count asked → IsOverLimit workers so_far (l.Call asked) → ⊥
+within_call workers m so_far asked at near given (inl late) = omega (arith, late, near, next_is workers m so_far at)
+within_call workers m so_far asked at near given (inr (inl many)) = number_left m.count so_far asked at.stands.count given many
+within_call workers m so_far asked at near given (inr (inr none)) = none
+
+longer_call : (workers : ℕ) (old new : LiveView) (so_far : LiveHistory) (p : Planned) (r : Reply) → IsAt workers old so_far → workers_of new.table ≡ workers_of old.table → Makes new so_far.calls so_far.past p r →
     IsLonger workers new so_far (after_call workers so_far p) r
-longer_call workers old new so_far p r at width clock makes =
+longer_call workers old new so_far p r at width makes =
     let calls = so_far.calls ++ p ∷ [] in
     let means = makes.stands.table.means in
     let all = width ∙ at.width in
     let entry : entry_of h.Call r ≡ entry_of h.Call (answer calls workers so_far.past h.Call) =
     subst (λ n. entry_of h.Call r ≡ entry_of h.Call (answer calls n so_far.past h.Call)) all (told h.Call r (answer calls (workers_of new.table) so_far.past h.Call) means.2 means.3) in
     subst (λ (e : HistoryEntry). IsLonger workers new so_far (record { calls = calls; past = e ∷ so_far.past }) r) entry (record {
-      at = record { stands = makes.stands; width = all; clock = clock ∙ at.clock };
+      at = record { stands = makes.stands; width = all };
       lines = makes.lines;
     })
 
@@ -80,37 +107,62 @@ planned_is workers m so_far asked at =
     ap (λ n. (n, code_of m.count asked)) (next_is workers m so_far at) ∙ ap (λ n. (next_moment so_far, code_of n asked)) (sym at.stands.count)
 
 -- a call that the executor makes at no moment of its own is the line of a call that is taken
-pub takes_call : (old new : LiveView) (asked : CallLine) (r : Reply) → Calls old new (moment_of_call old 0, code_of old.count asked) r → workers_of new.table ≡ workers_of old.table → new.earliest ≡ old.earliest → IsGiven old.count asked →
-    Takes old new (l.Call asked) r
-takes_call old new asked r calls width clock given workers so_far at = record {
+pub takes_call : (old new : LiveView) (asked : CallLine) (r : Reply) → Calls old new (moment_of_call old 0, code_of old.count asked) r → workers_of new.table ≡ workers_of old.table → moment_of_call old 0 ≤ longest → IsGiven old.count asked →
+    TakesLine old new (l.Call asked) r
+takes_call old new asked r calls width near given workers so_far at = record {
   may = may_come old.count so_far asked at.stands.count given;
+  within = within_call workers old so_far asked at near given;
   longer = subst (λ (p : Planned). IsLonger workers new so_far (after_call workers so_far p) r) (planned_is workers old so_far asked at)
-      (longer_call workers old new so_far (moment_of_call old 0, code_of old.count asked) r at width clock (calls so_far.calls so_far.past at.stands));
+      (longer_call workers old new so_far (moment_of_call old 0, code_of old.count asked) r at width (calls so_far.calls so_far.past at.stands));
 }
 
 -- ---- events
 
-longer_event : (workers : ℕ) (old new : LiveView) (so_far : LiveHistory) (y : Happening) (r : Reply) → IsAt workers old so_far → workers_of new.table ≡ workers_of old.table → new.earliest ≡ passed old.earliest y r.answer →
+longer_event : (workers : ℕ) (old new : LiveView) (so_far : LiveHistory) (y : Happening) (r : Reply) → IsAt workers old so_far → workers_of new.table ≡ workers_of old.table →
     Meets new so_far.calls so_far.past y r → IsLonger workers new so_far (after_happening workers so_far y) r
-longer_event workers old new so_far y r at width clock meets =
+longer_event workers old new so_far y r at width meets =
     let calls = so_far.calls in
     let means = meets.stands.table.means in
     let all = width ∙ at.width in
     let entry : entry_of y r ≡ entry_of y (answer calls workers so_far.past y) =
     subst (λ n. entry_of y r ≡ entry_of y (answer calls n so_far.past y)) all (told y r (answer calls (workers_of new.table) so_far.past y) means.2 means.3) in
     subst (λ (e : HistoryEntry). IsLonger workers new so_far (record { calls = calls; past = e ∷ so_far.past }) r) entry (record {
-      at = record { stands = meets.stands; width = all; clock = clock ∙ ap (λ n. passed n y r.answer) at.clock };
+      at = record { stands = meets.stands; width = all };
       lines = meets.lines;
     })
 
 -- an event that the executor meets is the line of an event that is taken
-pub takes_event : (old new : LiveView) (event : Event) (y : Happening) (r : Reply) → Happens old new y r → workers_of new.table ≡ workers_of old.table → new.earliest ≡ passed old.earliest y r.answer →
-    ((so_far : LiveHistory) → task_count so_far.calls ≡ old.count → y ≡ happening_in so_far event) → Takes old new (l.Event event) r
-takes_event old new event y r happens width clock is workers so_far at = record {
+pub takes_event : (old new : LiveView) (event : Event) (y : Happening) (r : Reply) → Happens old new y r → workers_of new.table ≡ workers_of old.table →
+    ((so_far : LiveHistory) → task_count so_far.calls ≡ old.count → y ≡ happening_in so_far event) → ((workers : ℕ) (so_far : LiveHistory) → IsAt workers old so_far → IsOverLimit workers so_far (l.Event event) → ⊥) → TakesLine old new (l.Event event) r
+takes_event old new event y r happens width is within workers so_far at = record {
   may = tt;
+  within = within workers so_far at;
   longer = subst (λ (y : Happening). IsLonger workers new so_far (after_happening workers so_far y) r) (is so_far at.stands.count)
-      (longer_event workers old new so_far y r at width clock (happens so_far.calls so_far.past at.stands));
+      (longer_event workers old new so_far y r at width (happens so_far.calls so_far.past at.stands));
 }
+
+-- an event that is no start is beyond no limit
+pub within_no_start : ⊥ ⊎ (⊥ ⊎ ⊥) → ⊥
+within_no_start (inl over) = over
+within_no_start (inr (inl over)) = over
+within_no_start (inr (inr over)) = over
+
+-- the number of the run that an answer says was begun, and 0 where none was
+abbrev pub run_begun : Answer → ℕ
+run_begun (a.Start worker task run due) = run
+run_begun _ = 0
+
+-- a start is beyond none where the run that it begins has a number
+pub within_start : (old new : LiveView) (worker : ℕ) (r : Reply) → Happens old new (h.Start worker) r → workers_of new.table ≡ workers_of old.table → run_begun r.answer < run_limit →
+    (workers : ℕ) (so_far : LiveHistory) → IsAt workers old so_far → IsOverLimit workers so_far (l.Event (v.Start worker)) → ⊥
+within_start old new worker r happens width low workers so_far at (inl over) = over
+within_start old new worker r happens width low workers so_far at (inr (inl over)) = over
+within_start old new worker r happens width low workers so_far at (inr (inr out)) =
+    let means = (happens so_far.calls so_far.past at.stands).stands.table.means in
+    let said : r.answer ≡ (answer so_far.calls workers so_far.past (h.Start worker)).answer =
+    subst (λ n. r.answer ≡ (answer so_far.calls n so_far.past (h.Start worker)).answer) (width ∙ at.width) means.2 in
+    let none : run_begun r.answer ≡ run_limit = ap run_begun said ∙ ap (λ (x : Reply). run_begun x.answer) out.2 in
+    omega (arith, low, none)
 
 -- a cancel from outside of a number that was given out
 pub cancel_given : (task count given : ℕ) → task < count → given ≡ count → h.Cancel task ≡ h.Cancel (cond (nat_lt task given) task (not_given task))
@@ -135,7 +187,7 @@ still_there [] p n low = absurd (omega (arith, low))
 still_there (x ∷ calls) p zero low = refl
 still_there (x ∷ calls) p (suc n) low = still_there calls p n (omega (arith, low))
 
-behind_all : (calls : List Planned) (p : Planned) (n : ℕ) → n ≡ length calls → slice_get (calls ++ p ∷ []) n ≡ Some p
+pub behind_all : (calls : List Planned) (p : Planned) (n : ℕ) → n ≡ length calls → slice_get (calls ++ p ∷ []) n ≡ Some p
 behind_all [] p n is = ap (slice_get (p ∷ [])) is
 behind_all (x ∷ calls) p zero is = absurd (omega (arith, is))
 behind_all (x ∷ calls) p (suc n) is = behind_all calls p n (omega (arith, is))
@@ -155,7 +207,7 @@ latest : (now clock : ℕ) → max now (max now clock) ≡ max now clock
 latest now clock = grind arith
 
 -- a call that a line makes has the moment of the call that comes next
-pub call_moment : (old new : LiveView) (asked : CallLine) (r : Reply) (workers : ℕ) (so_far : LiveHistory) → Takes old new (l.Call asked) r → IsAt workers old so_far → new.table.moment ≡ next_moment so_far
+pub call_moment : (old new : LiveView) (asked : CallLine) (r : Reply) (workers : ℕ) (so_far : LiveHistory) → TakesLine old new (l.Call asked) r → IsAt workers old so_far → new.table.moment ≡ next_moment so_far
 call_moment old new asked r workers so_far takes at =
     let p = planned_of so_far asked in
     let longer = (takes workers so_far at).longer.at.stands in

@@ -10,14 +10,16 @@ use Rattle.executor_core.specs.declared.types.Event.{Event}
 use Rattle.executor_core.specs.declared.types.Event.TheVariants as v
 use Rattle.executor_core.specs.declared.types.Happening.{Happening}
 use Rattle.executor_core.specs.declared.types.Happening.TheVariants as h
-use Rattle.executor_core.specs.declared.types.Answer.{Answer}
 use Rattle.executor_core.specs.declared.types.Answer.TheVariants as a
-use Rattle.executor_core.specs.Histories.{HistoryEntry, answer, entry_of, happenings, now_of, starts}
+use Rattle.executor_core.specs.Answers.{bare}
+use Rattle.executor_core.specs.Histories.{HistoryEntry, answer, entry_of, happenings, now_of}
 use Rattle.executor_core.specs.Flows.{happening_of, lines_of}
 use Rattle.trace_text.specs.Spelling.{event_line, FitsEvent, lines_text}
 use Rattle.call_text.specs.declared.call.CallLine.{CallLine}
 use Rattle.call_text.specs.declared.call.CallLine.TheVariants as call
 use Rattle.call_text.specs.Spelling.{call_line, FitsCall}
+use Rattle.live_core.specs.Lives.{after_clock, never}
+use Rattle.live_core.specs.Events.{run_limit}
 use Rattle.live_engine.specs.declared.live_line.LiveLine.{LiveLine}
 use Rattle.live_engine.specs.declared.live_line.LiveLine.TheVariants as l
 
@@ -49,16 +51,6 @@ pub record LiveHistory : Type 0 where
 abbrev pub no_history : LiveHistory
 no_history = record { calls = []; past = [] }
 
--- 1 ns after a clock that was accepted, and as before where there was none
-abbrev pub passed : ℕ → Happening → Answer → ℕ
-passed before (h.Clock t) a.Clock = t + 1
-passed before happening answer = before
-
--- 1 ns after the last accepted clock, and 0 before any
-abbrev pub after_clock : List HistoryEntry → ℕ
-after_clock [] = 0
-after_clock (e ∷ past) = passed (after_clock past) e.happening e.answer
-
 -- the moment of the call that comes next: now, or 1 ns after the last accepted clock, whichever is later
 abbrev pub next_moment : LiveHistory → ℕ
 next_moment so_far = max (now_of so_far.calls (happenings so_far.past)) (after_clock so_far.past)
@@ -77,7 +69,7 @@ code_of number call.Ask = c.Ask
 
 -- a number that no task ever has, which stands for one that was not given out
 abbrev pub not_given : ℕ → ℕ
-not_given task = 2 ^ 64 + task
+not_given task = never + task
 
 -- what happens where an event's line comes: a cancel from outside of a number that was not given out names no task, also none that
 -- is given that number later
@@ -113,11 +105,6 @@ abbrev pub MayComeNext : LiveHistory → LiveLine → Type 0
 MayComeNext so_far (l.Call (call.Cancel task)) = task < task_count so_far.calls
 MayComeNext so_far line = Unit {0}
 
--- each of some lines fits, and may come after those before it
-abbrev pub MayCome : ℕ → List LiveLine → Type 0
-MayCome workers [] = Unit {0}
-MayCome workers (line ∷ before) = MayCome workers before × FitsLive line × MayComeNext (live_history workers before) line
-
 -- the lines of the trace
 abbrev pub trace_of : LiveHistory → List ℕ
 trace_of so_far = lines_text (lines_of so_far.calls so_far.past)
@@ -136,10 +123,6 @@ most_numbers = 2 ^ 32
 abbrev pub most_lines : ℕ
 most_lines = 2 ^ 64 - 2
 
--- how many runs of a task are begun at most, so that each has a number (this project's limit)
-abbrev pub most_runs : ℕ
-most_runs = 2 ^ 64 - 1
-
 -- a line makes a call whose moment would be above the limit
 abbrev pub IsTooLate : LiveHistory → LiveLine → Type 0
 IsTooLate so_far (l.Call made) = longest < next_moment so_far
@@ -150,10 +133,14 @@ abbrev pub IsOutOfNumbers : LiveHistory → LiveLine → Type 0
 IsOutOfNumbers so_far (l.Call made) = (submits_task (planned_of so_far made).1 ≡ true) × (most_numbers ≤ task_count so_far.calls)
 IsOutOfNumbers so_far (l.Event event) = ⊥
 
--- a worker asks for work, and so many runs of a task were begun that no number is left for one more
-abbrev pub IsOutOfRuns : LiveHistory → LiveLine → Type 0
-IsOutOfRuns so_far (l.Event (v.Start worker)) = (task : ℕ) × (starts task so_far.past ≡ most_runs)
-IsOutOfRuns so_far line = ⊥
+-- a worker asks for work, and the run that it would begin has no number
+abbrev pub IsOutOfRuns : ℕ → LiveHistory → LiveLine → Type 0
+IsOutOfRuns workers so_far (l.Event (v.Start worker)) = (task due : ℕ) × (answer so_far.calls workers so_far.past (h.Start worker) ≡ bare (a.Start worker task run_limit due))
+IsOutOfRuns workers so_far line = ⊥
+
+-- a line is beyond a limit, however short the trace is
+abbrev pub IsOverLimit : ℕ → LiveHistory → LiveLine → Type 0
+IsOverLimit workers so_far line = IsTooLate so_far line ⊎ (IsOutOfNumbers so_far line ⊎ IsOutOfRuns workers so_far line)
 
 -- with the lines of its answer the trace would be too long
 abbrev pub IsTooMany : ℕ → LiveHistory → LiveLine → Type 0
@@ -161,4 +148,10 @@ IsTooMany workers so_far line = most_lines < trace_length (after_line workers so
 
 -- why there is no room for a line
 abbrev pub IsBeyond : ℕ → LiveHistory → LiveLine → Type 0
-IsBeyond workers so_far line = IsTooLate so_far line ⊎ (IsOutOfNumbers so_far line ⊎ (IsOutOfRuns so_far line ⊎ IsTooMany workers so_far line))
+IsBeyond workers so_far line = IsOverLimit workers so_far line ⊎ IsTooMany workers so_far line
+
+-- each of some lines fits, may come after those before it, and has room
+abbrev pub MayCome : ℕ → List LiveLine → Type 0
+MayCome workers [] = Unit {0}
+MayCome workers (line ∷ before) =
+    MayCome workers before × FitsLive line × MayComeNext (live_history workers before) line × (IsBeyond workers (live_history workers before) line → ⊥)

@@ -2,7 +2,7 @@
 -- All of it is this project's rule.
 use Rattle.std.specs.Prelude.{◌≡◌, ℕ, ◌+◌, ◌<◌, ◌≤◌, List, [], ◌∷◌, ◌++◌, ◌⊎◌, Option, Result, Ok, Err, IfSome, length, take}
 use Rattle.std.specs.Io.KnownBytes.{Appends, Consumes, IsAtEnd}
-use Rattle.queue_code.specs.Calls.{IsOrderlyFrom}
+use Rattle.queue_code.specs.Calls.{IsOrderly}
 use Rattle.executor_core.specs.Counts.{IsWorkerCount}
 use Rattle.executor_core.specs.Histories.{happenings, made, IsHistoryOf}
 use Rattle.trace_text.specs.Reading.{IsPart, IsRead, IsUnread}
@@ -27,17 +27,17 @@ pub record BeginsWith (bytes : List ℕ) (IsSo : LiveLine → Type 0) : Type 0 w
   pub read : IsRead live_line FitsLive bytes line rest
   pub so : IsSo line
 
--- some bytes begin with a line
-abbrev pub BeginsWithLine : List ℕ → Type 0
-BeginsWithLine bytes = BeginsWith bytes (λ line. Unit {0})
-
--- with one that may not come where this is the history
+-- some bytes begin with a line that may not come where this is the history
 abbrev pub BeginsWithBarred : LiveHistory → List ℕ → Type 0
 BeginsWithBarred so_far bytes = BeginsWith bytes (λ line. MayComeNext so_far line → ⊥)
 
--- with one for which there is no room
+-- with one that may come, and for which there is no room
 abbrev pub BeginsBeyond : ℕ → LiveHistory → List ℕ → Type 0
-BeginsBeyond workers so_far bytes = BeginsWith bytes (λ line. IsBeyond workers so_far line)
+BeginsBeyond workers so_far bytes = BeginsWith bytes (λ line. MayComeNext so_far line × IsBeyond workers so_far line)
+
+-- with one that may come, and for which there is room, so that nothing is wanting for it but memory
+abbrev pub BeginsWanting : ℕ → LiveHistory → List ℕ → Type 0
+BeginsWanting workers so_far bytes = BeginsWith bytes (λ line. MayComeNext so_far line × (IsBeyond workers so_far line → ⊥))
 
 -- some bytes begin with no line, or with one that may not come
 abbrev pub BeginsWithNone : LiveHistory → List ℕ → Type 0
@@ -70,7 +70,7 @@ Notes old new calls = new ≡ record (all_noted old calls) { room = new.room }
 
 -- a history of some calls that is allowed: the calls are in order, all of them were made, and each answer is the one that it has to be
 pub record IsLiveHistory (workers : ℕ) (so_far : LiveHistory) : Type 0 where
-  pub orderly : IsOrderlyFrom 0 0 so_far.calls
+  pub orderly : IsOrderly so_far.calls
   pub means : IsHistoryOf so_far.calls workers so_far.past
   pub made : made (happenings so_far.past) ≡ length so_far.calls
 
@@ -116,7 +116,7 @@ Runs (Err x.Read) workers old new = Taken workers old.left new.left old.journal 
     (Writes old new (λ _ _. Unit {0}))
 Runs (Err x.Write) workers old new = Taken workers old.left new.left old.journal new.journal (λ _ _. Unit {0}) (λ _ _. Unit {0})
     (λ _ so_far. (n : ℕ) × Appends old.contents new.contents (take n (trace_of so_far)))
-Runs (Err x.Memory) workers old new = Taken workers old.left new.left old.journal new.journal (λ _ ahead. BeginsWithLine ahead) (λ _ rest. BeginsWithLine rest)
+Runs (Err x.Memory) workers old new = Taken workers old.left new.left old.journal new.journal (BeginsWanting workers) (BeginsWanting workers)
     (Writes old new (λ _ _. Unit {0}))
 Runs (Err _) workers old new = ⊥
 

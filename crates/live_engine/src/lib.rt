@@ -26,14 +26,14 @@
 //! |---|---|---|
 //! | [`RunError::Workers`] | the workers are not 1 to 64 | nothing, and nothing was read |
 //! | [`RunError::EventLine`] | that line, counted from 1, is no line, or a `call cancel K` of a number that was not given out | the answers to all lines before |
-//! | [`RunError::Full`] | a further line follows for which there is no room: see below | the answers to all lines before |
+//! | [`RunError::Full`] | a further line follows that may come, and for which there is no room: see below | the answers to all lines before |
 //! | [`RunError::Read`] | the reader was at fault, or interrupted 1,000 times in a row | the answers to all whole lines read |
 //! | [`RunError::Write`] | the writer was at fault, took nothing, or was interrupted 1,000 times in a row | a front of some lines' answers |
 //! | [`RunError::Memory`] | memory was refused at the start | nothing, and nothing was read |
-//! | | memory was refused for a further line | the answers to all lines before |
+//! | | memory was refused for a further line that may come, and for which there is room | the answers to all lines before |
 //!
 //! There is no room for a call whose moment would be above 2^62 ns, for a submission where 2^32 numbers were given out, for a start
-//! of a task that has no number left for the run, and for a line with whose answer the trace would have 2^64 lines.
+//! that would begin a run whose number is 2^64 - 1, and for a line with whose answer the trace would have more than 2^64 - 2 lines.
 //!
 //! # Memory and cost
 //!

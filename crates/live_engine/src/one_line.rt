@@ -2,7 +2,8 @@
 ghost use Rattle.std.specs.Prelude.{◌≡◌, ℕ, ◌≤◌, OnOk, OnErr, IfErr};
 ghost use Rattle.live_engine.specs.LiveLines.{LiveHistory, FitsLive, most_numbers, trace_length};
 ghost use Rattle.live_engine.specs.own.LiveTurns.{AreCounted};
-ghost use Rattle.live_engine.specs.own.LiveSteps.{Answers, IsAt, Stops};
+ghost use Rattle.live_engine.specs.declared.live_line.LiveLine as live_lines;
+ghost use Rattle.live_engine.specs.own.LiveSteps.{Answers, IsAt, IsNoStep, IsNotTaken};
 
 use crate::answer_texts::put_lines;
 use crate::counts::{Counts, MOST_LINES};
@@ -15,7 +16,8 @@ use live_core::ScheduledExecutor;
 use std::alloc::Allocator;
 
 /// Takes a line, and writes the lines of its answer in place of those that are there. A call is noted before its answer is given
-/// out. Where the line is not taken, nothing is noted or counted, and the executor is somewhere on the way.
+/// out. Where the line is not taken, nothing is noted or counted, and the executor is somewhere on the way. Whether there is memory for
+/// a line is asked last: after whether it may come, and whether there is room for it.
 pub(crate) fn answer_line<A: Allocator>(
     executor: &mut ScheduledExecutor<A>,
     journal: &mut Journal<A>,
@@ -29,29 +31,42 @@ pub(crate) fn answer_line<A: Allocator>(
     ensures answers { OnOk result (Answers executor.old executor.new line lines.new.items counts.old counts.new journal.old journal.new) }
     ensures few { executor.new.count ≤ most_numbers }
     ensures counted { OnOk result (AreCounted counts.new) }
-    ensures refuses { IfErr result (λ end. (workers : ℕ) (so_far : LiveHistory) → IsAt workers executor.old so_far → counts.old.written ≡ trace_length so_far → Stops end workers so_far line) }
+    ensures refuses { IfErr result (λ end. (workers : ℕ) (so_far : LiveHistory) → IsAt workers executor.old so_far → counts.old.written ≡ trace_length so_far → IsNotTaken end workers so_far line) }
     ensures uncounted { OnErr result (counts.new ≡ counts.old) }
     ensures unnoted { OnErr result (journal.new ≡ record journal.old { room = journal.new.room }) }
 {
-    if journal.make_room().is_err() {
-        return Err(PieceEnd::Memory);
+    let answer = match step(executor, line) {
+        Ok(answer) => answer,
+        Err(end) => return Err(end_after(counts.written, end)),
+    };
+    if executor.ended().len() as u64 >= MOST_LINES - counts.written {
+        return Err(PieceEnd::Full);
     }
-    let answer = step(executor, line)?;
     if !put_lines(executor, answer, lines) {
         return Err(PieceEnd::Memory);
     }
-    let more = lines.len() as u64;
-    if more > MOST_LINES - counts.written {
-        return Err(PieceEnd::Full);
-    }
-    match line {
-        LiveLine::Event(_) => {}
-        LiveLine::Call(call) => journal.note(MadeCall {
+    if let LiveLine::Call(call) = line {
+        if journal.make_room().is_err() {
+            return Err(PieceEnd::Memory);
+        }
+        journal.note(MadeCall {
             moment: executor.now(),
             call,
-        }),
+        });
     }
-    counts.written += more;
+    counts.written += lines.len() as u64;
     counts.read += 1;
     Ok(())
+}
+
+/// Why a line is not taken that the executor does not take, where the trace has so many lines: no memory is wanting for one whose
+/// answer has no room.
+#[cold]
+fn end_after(written: u64, end: PieceEnd) -> PieceEnd
+    ensures { (workers : ℕ) (so_far : LiveHistory) (line : live_lines.LiveLine) → written ≡ trace_length so_far → IsNoStep end workers so_far line → IsNotTaken result workers so_far line }
+{
+    match end {
+        PieceEnd::Memory if written >= MOST_LINES => PieceEnd::Full,
+        end => end,
+    }
 }

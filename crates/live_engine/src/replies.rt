@@ -1,5 +1,5 @@
 //! What the executor answers, as the lines of a trace have it.
-ghost use Rattle.std.specs.Prelude.{◌≡◌, ◌^◌, ◌<◌, IfOk, IfErr};
+ghost use Rattle.std.specs.Prelude.{◌≡◌, ◌^◌, ◌<◌, IfOk, IfErr, IfSome};
 ghost use Rattle.sched_time.specs.declared.timing.Timing as timings;
 ghost use Rattle.executor_core.specs.Answers.{bare, kind_of};
 ghost use Rattle.executor_core.specs.declared.types.Answer.TheVariants as answers;
@@ -71,37 +71,31 @@ pub(crate) fn ask_answer(asked: Asked) -> Result<Answer, PieceEnd>
     })
 }
 
-/// The answer to a start that begins this run, or none. More tasks than a line can spell are more than there is memory for.
-pub(crate) fn start_answer(worker: u8, begun: Option<Begun>) -> Result<Answer, PieceEnd>
-    ensures answer { IfOk result (λ answer. bare answer ≡ start_reply worker begun) }
-    ensures memory { IfErr result (λ end. end ≡ e.Memory) }
+/// The answer to a start that begins this run, of a task whose number is below 2^32, or none.
+pub(crate) fn start_answer(worker: u8, begun: Option<Begun>) -> Answer
+    requires { IfSome begun (λ b. b.task.number < 2 ^ 32) }
+    ensures { bare result ≡ start_reply worker begun }
 {
     let Some(begun) = begun else {
-        return Ok(Answer::Idle { worker });
+        return Answer::Idle { worker };
     };
-    let Ok(task) = u32::try_from(begun.task.number) else {
-        return Err(PieceEnd::Memory);
-    };
-    Ok(Answer::Start {
+    Answer::Start {
         worker,
-        task,
+        task: begun.task.number as u32,
         run: begun.run,
         due: begun.due,
-    })
+    }
 }
 
-/// The answer to a finish that ends this run. More tasks than a line can spell are more than there is memory for.
-pub(crate) fn finish_answer(worker: u8, ended: Ended) -> Result<Answer, PieceEnd>
-    ensures answer { IfOk result (λ answer. bare answer ≡ finish_reply worker ended) }
-    ensures memory { IfErr result (λ end. end ≡ e.Memory) }
+/// The answer to a finish that ends this run, of a task whose number is below 2^32.
+pub(crate) fn finish_answer(worker: u8, ended: Ended) -> Answer
+    requires { ended.task.number < 2 ^ 32 }
+    ensures { bare result ≡ finish_reply worker ended }
 {
-    let Ok(task) = u32::try_from(ended.task.number) else {
-        return Err(PieceEnd::Memory);
-    };
-    Ok(Answer::Finish {
+    Answer::Finish {
         worker,
-        task,
+        task: ended.task.number as u32,
         run: ended.run,
         outcome: ended.outcome,
-    })
+    }
 }

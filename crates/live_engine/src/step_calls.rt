@@ -6,7 +6,7 @@ ghost use Rattle.call_text.specs.declared.call.CallLine.TheVariants as call;
 ghost use Rattle.live_core.specs.Said.{ending};
 ghost use Rattle.live_engine.specs.LiveLines.{most_numbers};
 ghost use Rattle.live_engine.specs.declared.live_line.LiveLine.TheVariants as l;
-ghost use Rattle.live_engine.specs.own.LiveSteps.{Takes, Refuses};
+ghost use Rattle.live_engine.specs.own.LiveSteps.{TakesLine, Refuses};
 
 use crate::replies::{ask_answer, shutdown_answer, stop_of, submit_answer};
 use crate::stops::PieceEnd;
@@ -26,7 +26,7 @@ pub(crate) fn step_call<A: Allocator>(
 ) -> Result<Answer, PieceEnd>
     requires fits { FitsCall call }
     requires few { executor.old.count ≤ most_numbers }
-    ensures takes { IfOk result (λ answer. Takes executor.old executor.new (l.Call call) (ending answer executor.new.ended)) }
+    ensures takes { IfOk result (λ answer. TakesLine executor.old executor.new (l.Call call) (ending answer executor.new.ended)) }
     ensures few { executor.new.count ≤ most_numbers }
     ensures refuses { IfErr result (λ end. Refuses end executor.old (l.Call call)) }
 {
@@ -50,7 +50,7 @@ fn schedule<A: Allocator>(
 ) -> Result<Answer, PieceEnd>
     requires fits { delay ≤ longest }
     requires few { executor.old.count ≤ most_numbers }
-    ensures takes { IfOk result (λ answer. Takes executor.old executor.new (l.Call (call.Schedule delay)) (ending answer executor.new.ended)) }
+    ensures takes { IfOk result (λ answer. TakesLine executor.old executor.new (l.Call (call.Schedule delay)) (ending answer executor.new.ended)) }
     ensures few { executor.new.count ≤ most_numbers }
     ensures refuses { IfErr result (λ end. Refuses end executor.old (l.Call (call.Schedule delay))) }
 {
@@ -66,7 +66,7 @@ fn schedule<A: Allocator>(
 /// A task is submitted for one run at once.
 fn execute<A: Allocator>(executor: &mut ScheduledExecutor<A>) -> Result<Answer, PieceEnd>
     requires few { executor.old.count ≤ most_numbers }
-    ensures takes { IfOk result (λ answer. Takes executor.old executor.new (l.Call call.Execute) (ending answer executor.new.ended)) }
+    ensures takes { IfOk result (λ answer. TakesLine executor.old executor.new (l.Call call.Execute) (ending answer executor.new.ended)) }
     ensures few { executor.new.count ≤ most_numbers }
     ensures refuses { IfErr result (λ end. Refuses end executor.old (l.Call call.Execute)) }
 {
@@ -87,7 +87,7 @@ fn at_rate<A: Allocator>(
 ) -> Result<Answer, PieceEnd>
     requires fits { FitsSpans (first, period) }
     requires few { executor.old.count ≤ most_numbers }
-    ensures takes { IfOk result (λ answer. Takes executor.old executor.new (l.Call (call.Rate first period)) (ending answer executor.new.ended)) }
+    ensures takes { IfOk result (λ answer. TakesLine executor.old executor.new (l.Call (call.Rate first period)) (ending answer executor.new.ended)) }
     ensures few { executor.new.count ≤ most_numbers }
     ensures refuses { IfErr result (λ end. Refuses end executor.old (l.Call (call.Rate first period))) }
 {
@@ -108,7 +108,7 @@ fn with_delay<A: Allocator>(
 ) -> Result<Answer, PieceEnd>
     requires fits { FitsSpans (first, delay) }
     requires few { executor.old.count ≤ most_numbers }
-    ensures takes { IfOk result (λ answer. Takes executor.old executor.new (l.Call (call.Fixed first delay)) (ending answer executor.new.ended)) }
+    ensures takes { IfOk result (λ answer. TakesLine executor.old executor.new (l.Call (call.Fixed first delay)) (ending answer executor.new.ended)) }
     ensures few { executor.new.count ≤ most_numbers }
     ensures refuses { IfErr result (λ end. Refuses end executor.old (l.Call (call.Fixed first delay))) }
 {
@@ -124,7 +124,7 @@ fn with_delay<A: Allocator>(
 /// A task is cancelled.
 fn cancel<A: Allocator>(executor: &mut ScheduledExecutor<A>, task: u32) -> Result<Answer, PieceEnd>
     requires few { executor.old.count ≤ most_numbers }
-    ensures takes { IfOk result (λ answer. Takes executor.old executor.new (l.Call (call.Cancel task)) (ending answer executor.new.ended)) }
+    ensures takes { IfOk result (λ answer. TakesLine executor.old executor.new (l.Call (call.Cancel task)) (ending answer executor.new.ended)) }
     ensures few { executor.new.count ≤ most_numbers }
     ensures refuses { IfErr result (λ end. Refuses end executor.old (l.Call (call.Cancel task))) }
 {
@@ -141,7 +141,7 @@ fn set_policy<A: Allocator>(
     value: bool,
 ) -> Result<Answer, PieceEnd>
     requires few { executor.old.count ≤ most_numbers }
-    ensures takes { IfOk result (λ answer. Takes executor.old executor.new (l.Call (call.Policy which value)) (ending answer executor.new.ended)) }
+    ensures takes { IfOk result (λ answer. TakesLine executor.old executor.new (l.Call (call.Policy which value)) (ending answer executor.new.ended)) }
     ensures few { executor.new.count ≤ most_numbers }
     ensures refuses { IfErr result (λ end. Refuses end executor.old (l.Call (call.Policy which value))) }
 {
@@ -154,7 +154,7 @@ fn set_policy<A: Allocator>(
 /// The executor is shut, in order.
 fn shut_down<A: Allocator>(executor: &mut ScheduledExecutor<A>) -> Result<Answer, PieceEnd>
     requires few { executor.old.count ≤ most_numbers }
-    ensures takes { IfOk result (λ answer. Takes executor.old executor.new (l.Call call.Shutdown) (ending answer executor.new.ended)) }
+    ensures takes { IfOk result (λ answer. TakesLine executor.old executor.new (l.Call call.Shutdown) (ending answer executor.new.ended)) }
     ensures few { executor.new.count ≤ most_numbers }
     ensures refuses { IfErr result (λ end. Refuses end executor.old (l.Call call.Shutdown)) }
 {
@@ -167,7 +167,7 @@ fn shut_down<A: Allocator>(executor: &mut ScheduledExecutor<A>) -> Result<Answer
 /// The executor is shut at once.
 fn shut_down_now<A: Allocator>(executor: &mut ScheduledExecutor<A>) -> Result<Answer, PieceEnd>
     requires few { executor.old.count ≤ most_numbers }
-    ensures takes { IfOk result (λ answer. Takes executor.old executor.new (l.Call call.ShutdownNow) (ending answer executor.new.ended)) }
+    ensures takes { IfOk result (λ answer. TakesLine executor.old executor.new (l.Call call.ShutdownNow) (ending answer executor.new.ended)) }
     ensures few { executor.new.count ≤ most_numbers }
     ensures refuses { IfErr result (λ end. Refuses end executor.old (l.Call call.ShutdownNow)) }
 {
@@ -180,7 +180,7 @@ fn shut_down_now<A: Allocator>(executor: &mut ScheduledExecutor<A>) -> Result<An
 /// The executor is asked how far it is.
 fn ask<A: Allocator>(executor: &mut ScheduledExecutor<A>) -> Result<Answer, PieceEnd>
     requires few { executor.old.count ≤ most_numbers }
-    ensures takes { IfOk result (λ answer. Takes executor.old executor.new (l.Call call.Ask) (ending answer executor.new.ended)) }
+    ensures takes { IfOk result (λ answer. TakesLine executor.old executor.new (l.Call call.Ask) (ending answer executor.new.ended)) }
     ensures few { executor.new.count ≤ most_numbers }
     ensures refuses { IfErr result (λ end. Refuses end executor.old (l.Call call.Ask)) }
 {

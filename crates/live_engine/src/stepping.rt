@@ -2,7 +2,7 @@
 ghost use Rattle.std.specs.Prelude.{◌≤◌, IfOk, IfErr};
 ghost use Rattle.live_core.specs.Said.{ending};
 ghost use Rattle.live_engine.specs.LiveLines.{FitsLive, most_numbers};
-ghost use Rattle.live_engine.specs.own.LiveSteps.{Takes, Refuses};
+ghost use Rattle.live_engine.specs.own.LiveSteps.{TakesLine, Refuses};
 
 use crate::live_line::LiveLine;
 use crate::step_calls::step_call;
@@ -19,7 +19,7 @@ pub(crate) fn step<A: Allocator>(
 ) -> Result<Answer, PieceEnd>
     requires fits { FitsLive line }
     requires few { executor.old.count ≤ most_numbers }
-    ensures takes { IfOk result (λ answer. Takes executor.old executor.new line (ending answer executor.new.ended)) }
+    ensures takes { IfOk result (λ answer. TakesLine executor.old executor.new line (ending answer executor.new.ended)) }
     ensures few { executor.new.count ≤ most_numbers }
     ensures refuses { IfErr result (λ end. Refuses end executor.old line) }
 {

@@ -228,6 +228,38 @@ fn a_fault_of_the_writer_ends_the_run(rt: HostRuntime) {
     assert!(rt; sink.taken() == b"0 ask qu".as_slice());
 }
 
+/// Whether a run that wants its journal asks for so many growths, and what it answers where the last of them is refused.
+fn refused(alloc: Global, input: &str, growth: u64) -> (bool, Result<LiveReport, RunError>) {
+    let heap = Refusing::new(alloc);
+    heap.refuse(growth);
+    let mut journal = Journal::new(&heap, true);
+    let mut reader = Pieces::new(input.as_bytes(), 65_536);
+    let mut writer = Writing::new(Vec::new(alloc));
+    let answer = run(&heap, 1, &mut journal, &mut reader, &mut writer);
+    (heap.has_refused(), answer)
+}
+
+/// A line that may not come, and one for which there is no room, ask for no memory.
+#[test]
+fn a_line_that_is_not_taken_asks_for_no_memory(rt: HostRuntime) {
+    for (before, input, error) in [
+        ("", "call cancel 0\n", RunError::EventLine(1)),
+        (
+            "clock 4611686018427387904\n",
+            "clock 4611686018427387904\ncall ask\n",
+            RunError::Full,
+        ),
+    ] {
+        for growth in 1..20u64 {
+            let (is_met_before, _) = refused(rt.alloc(), before, growth);
+            let (is_met, answer) = refused(rt.alloc(), input, growth);
+            assert!(rt; is_met == is_met_before, "{input}: {growth}");
+            let told = if is_met { RunError::Memory } else { error };
+            assert!(rt; answer == Err(told), "{input}: {growth}: {answer:?}");
+        }
+    }
+}
+
 /// Each growth that a run asks for is refused once: what was written is the answers to the lines before.
 #[test]
 fn want_of_memory_ends_the_run(rt: HostRuntime) {

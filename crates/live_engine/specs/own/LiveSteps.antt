@@ -14,49 +14,60 @@ use Rattle.live_engine.specs.declared.live_line.LiveLine.TheVariants as l
 use Rattle.live_engine.specs.declared.counts.Counts.{Counts}
 use Rattle.live_engine.specs.declared.stops.PieceEnd.{PieceEnd}
 use Rattle.live_engine.specs.declared.stops.PieceEnd.TheVariants as e
-use Rattle.live_engine.specs.LiveLines.{LiveHistory, FitsLive, IsBeyond, MayComeNext, after_clock, after_line}
+use Rattle.live_engine.specs.LiveLines.{LiveHistory, FitsLive, IsBeyond, IsOverLimit, MayComeNext, after_line, trace_length}
 
--- the executor stands where a history leads, and knows the last clock that was accepted
+-- the executor stands where a history leads
 pub record IsAt (workers : ℕ) (m : LiveView) (so_far : LiveHistory) : Type 0 where
   pub stands : Stands m so_far.calls so_far.past
   pub width : workers_of m.table ≡ workers
-  pub clock : m.earliest ≡ after_clock so_far.past
 
 -- one history is another and this reply
 pub record IsLonger (workers : ℕ) (new : LiveView) (so_far longer : LiveHistory) (r : Reply) : Type 0 where
   pub at : IsAt workers new longer
   pub lines : lines_of longer.calls longer.past ≡ lines_of so_far.calls so_far.past ++ lines_at new.table.moment r
 
--- a line is taken after this history, with this reply
+-- a line is taken after this history, with this reply: it may come, and is beyond no limit
 pub record TakesAfter (workers : ℕ) (new : LiveView) (so_far : LiveHistory) (line : LiveLine) (r : Reply) : Type 0 where
   pub may : MayComeNext so_far line
+  pub within : IsOverLimit workers so_far line → ⊥
   pub longer : IsLonger workers new so_far (after_line workers so_far line) r
 
 -- whatever history led here, a line is taken with this reply
-abbrev pub Takes : LiveView → LiveView → LiveLine → Reply → Type 0
-Takes old new line r = (workers : ℕ) (so_far : LiveHistory) → IsAt workers old so_far → TakesAfter workers new so_far line r
+abbrev pub TakesLine : LiveView → LiveView → LiveLine → Reply → Type 0
+TakesLine old new line r = (workers : ℕ) (so_far : LiveHistory) → IsAt workers old so_far → TakesAfter workers new so_far line r
 
--- why a line is not taken after this history
-abbrev pub Stops : PieceEnd → ℕ → LiveHistory → LiveLine → Type 0
-Stops e.Part workers so_far line = ⊥
-Stops e.Refused workers so_far line = MayComeNext so_far line → ⊥
-Stops e.Full workers so_far line = IsBeyond workers so_far line
-Stops e.Memory workers so_far line = Unit {0}
+-- why a line is not taken after this history: want of memory is told only of one that may come, and for which there is room
+abbrev pub IsNotTaken : PieceEnd → ℕ → LiveHistory → LiveLine → Type 0
+IsNotTaken e.Part workers so_far line = ⊥
+IsNotTaken e.Refused workers so_far line = MayComeNext so_far line → ⊥
+IsNotTaken e.Full workers so_far line = MayComeNext so_far line × IsBeyond workers so_far line
+IsNotTaken e.Memory workers so_far line = MayComeNext so_far line × (IsBeyond workers so_far line → ⊥)
 
--- whatever history led here, a line is not taken, for this reason
+-- why the executor does not take a line, which knows nothing of the length of the trace: it lacks memory only for one that is
+-- answered by one line
+abbrev pub IsNoStep : PieceEnd → ℕ → LiveHistory → LiveLine → Type 0
+IsNoStep e.Part workers so_far line = ⊥
+IsNoStep e.Refused workers so_far line = MayComeNext so_far line → ⊥
+IsNoStep e.Full workers so_far line = MayComeNext so_far line × IsOverLimit workers so_far line
+IsNoStep e.Memory workers so_far line =
+    MayComeNext so_far line × (IsOverLimit workers so_far line → ⊥) × (trace_length (after_line workers so_far line) ≡ trace_length so_far + 1)
+
+-- whatever history led here, the executor does not take a line, for this reason
 abbrev pub Refuses : PieceEnd → LiveView → LiveLine → Type 0
-Refuses end old line = (workers : ℕ) (so_far : LiveHistory) → IsAt workers old so_far → Stops end workers so_far line
+Refuses end old line = (workers : ℕ) (so_far : LiveHistory) → IsAt workers old so_far → IsNoStep end workers so_far line
 
 -- a journal once a line was taken: with the call that it makes, if it makes one, at this moment
 abbrev pub noted_line : JournalView → LiveLine → ℕ → JournalView
 noted_line journal (l.Event event) moment = journal
 noted_line journal (l.Call call) moment = noted journal (record { moment = moment; call = call })
 
--- a line was taken: it fits, and these are the lines of its answer; it was counted, and the call that it makes was noted
+-- a line was taken: it fits, there is room for it, and these are the lines of its answer; it was counted, and the call that it makes
+-- was noted
 pub record Answers (old new : LiveView) (line : LiveLine) (lines : List Line) (before after : Counts) (journal noted : JournalView) : Type 0 where
   pub reply : Reply
-  pub takes : Takes old new line reply
+  pub takes : TakesLine old new line reply
   pub fits : FitsLive line
+  pub room : (workers : ℕ) (so_far : LiveHistory) → IsAt workers old so_far → before.written ≡ trace_length so_far → IsBeyond workers so_far line → ⊥
   pub given : lines ≡ lines_at new.table.moment reply
   pub counts : after ≡ record { read = before.read + 1; written = before.written + length lines }
   pub notes : noted ≡ record (noted_line journal line new.table.moment) { room = noted.room }

@@ -17,7 +17,7 @@ use Rattle.live_engine.specs.declared.counts.Counts.{Counts}
 use Rattle.live_engine.specs.declared.engine.Turn.{Turn}
 use Rattle.live_engine.specs.declared.engine.Turn.TheVariants as t
 use Rattle.live_engine.specs.LiveLines.{MayCome, input_of, most_lines, no_history, live_history, trace_length, trace_of}
-use Rattle.live_engine.specs.LiveRuns.{BeginsBeyond, BeginsWithBarred, BeginsWithLine, IsLiveHistory, LiveEnds, Notes, Runs, made_calls}
+use Rattle.live_engine.specs.LiveRuns.{BeginsBeyond, BeginsWanting, BeginsWithBarred, IsLiveHistory, LiveEnds, Notes, Runs, made_calls}
 use Rattle.live_engine.specs.own.LiveSteps.{IsAt}
 
 -- what a run runs over: how many workers there are, and what the ends had at first
@@ -60,7 +60,7 @@ abbrev pub IsPieceEnd : PieceEnd → ℕ → LiveView → List LiveLine → List
 IsPieceEnd e.Part workers m lines rest = IsPart rest × IsAt workers m (live_history workers lines)
 IsPieceEnd e.Refused workers m lines rest = IsLiveFront front.Refused rest ⊎ BeginsWithBarred (live_history workers lines) rest
 IsPieceEnd e.Full workers m lines rest = BeginsBeyond workers (live_history workers lines) rest
-IsPieceEnd e.Memory workers m lines rest = BeginsWithLine rest
+IsPieceEnd e.Memory workers m lines rest = BeginsWanting workers (live_history workers lines) rest
 
 -- an executor before anything happened
 pub record Opens (m : LiveView) (workers : ℕ) : Type 0 where

@@ -1,10 +1,13 @@
-use Rattle.std.proofs.Common.{◌≡◌, ◌+◌, length, rules, ap, ◌∙◌, sym, subst, refl}
+use Rattle.std.proofs.Common.{◌≡◌, ◌+◌, ◌-◌, ◌<◌, ◌≤◌, List, length, rules, ap, ◌∙◌, sym, subst, refl}
+use Rattle.task_table.specs.declared.seat.TaskRef.{TaskRef}
 use Rattle.live_core.specs.Said.{ending}
 use Rattle.live_engine.specs.declared.live_line.LiveLine.{LiveLine}
+use Rattle.live_engine.specs.LiveLines.{most_lines}
 use Rattle.live_engine.specs.own.LiveSteps.{noted_line}
-use Rattle.live_engine.proofs.Notings.{noted_after_room, same_after_room}
+use Rattle.live_engine.proofs.Lengths.{no_room, some_room}
+use Rattle.live_engine.proofs.Notings.{noted_after_room, nothing_noted}
 use Rattle.live_engine.proofs.one_line.answer_line.Goals as goal
-use Rattle.live_engine.proofs.one_line.answer_line.Goals.{in-Call, in-Event}
+use Rattle.live_engine.proofs.one_line.answer_line.Goals.{in-Call+else-is_err, in_default}
 
 pub returns-clause-answers : goal.returns-clause-answers
 returns-clause-answers g c =
@@ -12,19 +15,37 @@ returns-clause-answers g c =
     let before = c.args.counts.now in
     let journal = c.args.journal.now in
     let next = c.match-line.journal in
-    let many : c.len-more.result ≡ length c.put_lines.new.lines.items = search (rules, c.len-more.ensures) in
+    let many : c.len.result ≡ length c.put_lines.new.lines.items = search (rules, c.len.ensures) in
     record {
-      reply = ending c.in_ok-answer.answer new.ended;
-      takes = c.in_ok-answer.ensures.takes;
+      reply = ending c.in-Ok.answer new.ended;
+      takes = c.in-Ok.ensures.takes;
       fits = c.requires.fits;
+      room = λ workers so_far at counted.
+          (some_room c.args.executor.now new c.args.line c.in-Ok.answer before.written c.in-Ok.ensures.takes
+          (subst (λ (ended : List TaskRef). length ended < most_lines - before.written) c.ended.ensures c.if-ended-counts.false) workers so_far at counted).1;
       given = c.if-not-put_lines.ensures refl;
       counts = ap (λ n. record { read = before.read + 1; written = before.written + n }) many;
       notes = elim c.match-line.branch [
-        | in-Call w ↦
+        | in-Call+else-is_err w ↦
             subst (λ (line : LiveLine). next ≡ record (noted_line journal line new.table.moment) { room = next.room }) (sym w.in-Call.is)
-            (noted_after_room journal c.make_room.new.self next new.table.moment w.now.result w.in-Call.call c.make_room.ensures.same (w.journal-is ∙ w.note.ensures) w.now.ensures.value)
-        | in-Event w ↦
-            subst (λ (line : LiveLine). next ≡ record (noted_line journal line new.table.moment) { room = next.room }) (sym w.in-Event.is)
-            (same_after_room journal c.make_room.new.self next c.make_room.ensures.same w.journal-is)
+            (noted_after_room journal w.make_room.new.self next new.table.moment w.now.result w.in-Call.call w.make_room.ensures.same (w.journal-is ∙ w.note.ensures) w.now.ensures.value)
+        | in_default w ↦
+            subst (λ (line : LiveLine). next ≡ record (noted_line journal line new.table.moment) { room = next.room }) (sym w.in_default.is)
+            (nothing_noted journal next w.journal-is)
       ];
     }
+
+pub returns-then-ended-counts-clause-refuses : goal.returns-then-ended-counts-clause-refuses
+returns-then-ended-counts-clause-refuses g c =
+    no_room c.args.executor.now c.step.new.executor c.args.line c.in-Ok.answer c.args.counts.now.written c.in-Ok.ensures.takes
+    (subst (λ (ended : List TaskRef). most_lines - c.args.counts.now.written ≤ length ended) c.ended.ensures c.if-ended-counts.true)
+
+pub returns-then-not-put_lines-clause-refuses : goal.returns-then-not-put_lines-clause-refuses
+returns-then-not-put_lines-clause-refuses g c =
+    some_room c.args.executor.now c.step.new.executor c.args.line c.in-Ok.answer c.args.counts.now.written c.in-Ok.ensures.takes
+    (subst (λ (ended : List TaskRef). length ended < most_lines - c.args.counts.now.written) c.ended.ensures c.if-ended-counts.false)
+
+pub returns-then-is_err-clause-refuses : goal.returns-then-is_err-clause-refuses
+returns-then-is_err-clause-refuses g c =
+    some_room c.args.executor.now c.step.new.executor c.args.line c.in-Ok.answer c.args.counts.now.written c.in-Ok.ensures.takes
+    (subst (λ (ended : List TaskRef). length ended < most_lines - c.args.counts.now.written) c.ended.ensures c.if-ended-counts.false)

@@ -4,16 +4,16 @@ use Rattle.call_text.specs.declared.call.CallLine.TheVariants as call
 use Rattle.live_engine.specs.declared.stops.PieceEnd.{PieceEnd}
 use Rattle.live_engine.specs.declared.live_line.LiveLine.TheVariants as l
 use Rattle.live_engine.specs.own.LiveSteps.{Refuses}
-use Rattle.live_engine.proofs.Replied.{call_quiet, refuses_periodic}
+use Rattle.live_engine.proofs.Replied.{call_quiet, refuses_periodic, is_rate}
 use Rattle.live_engine.proofs.step_calls.at_rate.Goals as goal
 
 pub returns-in-Ok-clause-takes : goal.returns-in-Ok-clause-takes
 returns-in-Ok-clause-takes g c =
     let old = c.args.executor.now in
-    call_quiet old c.at_rate.new.self (call.Rate c.args.first c.args.period) _ c.submit_answer.result (old.count + 1) c.in-Ok.ensures.made.makes c.in-Ok.ensures.stays (c.submit_answer.ensures (t.Rate c.args.period) refl) tt
+    call_quiet old c.at_rate.new.self (call.Rate c.args.first c.args.period) _ c.submit_answer.result (old.count + 1) c.in-Ok.ensures.made.makes c.in-Ok.ensures.stays (c.submit_answer.ensures (t.Rate c.args.period) refl) c.in-Ok.ensures.made.near (omega (arith, c.if-numbers-ge-MOST_NUMBERS.false, c.numbers.ensures))
 
 pub returns-in-Err-clause-refuses : goal.returns-in-Err-clause-refuses
 returns-in-Err-clause-refuses g c =
     let error = c.in-Err.error in
     subst (λ (end : PieceEnd). Refuses end c.args.executor.now (l.Call (call.Rate c.args.first c.args.period))) (sym c.stop_of.ensures)
-    (refuses_periodic c.args.period c.args.executor.now (call.Rate c.args.first c.args.period) (t.Rate c.args.period) c.args.first error c.in-Err.ensures.failed c.requires.fits.1.0 (c.requires.fits.0, c.requires.fits.1.1) (omega (arith, c.if-numbers-ge-MOST_NUMBERS.false, c.numbers.ensures)))
+    (refuses_periodic c.args.period c.args.executor.now (call.Rate c.args.first c.args.period) (t.Rate c.args.period) c.args.first error (is_rate c.args.first c.args.period) c.in-Err.ensures.failed c.requires.fits.1.0 (c.requires.fits.0, c.requires.fits.1.1) (omega (arith, c.if-numbers-ge-MOST_NUMBERS.false, c.numbers.ensures)))

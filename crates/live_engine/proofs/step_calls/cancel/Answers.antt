@@ -11,7 +11,7 @@ pub returns-in-Ok-clause-takes : goal.returns-in-Ok-clause-takes
 returns-in-Ok-clause-takes g c =
     let old = c.args.executor.now in
     let made = c.in-Ok.ensures.made in
-    call_quiet old c.cancel_number_by_call.new.self (call.Cancel c.args.task) _ (a.Cancel c.args.task c.in-Ok.effect) old.count made.makes c.in-Ok.ensures.stays refl made.given
+    call_quiet old c.cancel_number_by_call.new.self (call.Cancel c.args.task) _ (a.Cancel c.args.task c.in-Ok.effect) old.count made.makes c.in-Ok.ensures.stays refl made.near made.given
 
 pub returns-in-Err-clause-refuses : goal.returns-in-Err-clause-refuses
 returns-in-Err-clause-refuses g c =

@@ -10,9 +10,9 @@ use Rattle.live_engine.proofs.step_calls.set_policy.Goals as goal
 pub returns-in-Ok-clause-takes : goal.returns-in-Ok-clause-takes
 returns-in-Ok-clause-takes g c =
     let old = c.args.executor.now in
-    call_ending old c.set_policy.new.self (call.Policy c.args.which c.args.value) (a.Policy c.args.which c.args.value) old.count c.in-Ok.ensures.made c.in-Ok.ensures.stays tt
+    call_ending old c.set_policy.new.self (call.Policy c.args.which c.args.value) (a.Policy c.args.which c.args.value) old.count c.in-Ok.ensures.made c.in-Ok.ensures.stays c.in-Ok.ensures.near tt
 
 pub returns-in-Err-clause-refuses : goal.returns-in-Err-clause-refuses
 returns-in-Err-clause-refuses g c =
     let error = c.in-Err.error in
-    subst (λ (end : PieceEnd). Refuses end c.args.executor.now (l.Call (call.Policy c.args.which c.args.value))) (sym c.stop_of.ensures) (refuses_late c.args.executor.now (call.Policy c.args.which c.args.value) error c.in-Err.ensures.failed)
+    subst (λ (end : PieceEnd). Refuses end c.args.executor.now (l.Call (call.Policy c.args.which c.args.value))) (sym c.stop_of.ensures) (refuses_late c.args.executor.now (call.Policy c.args.which c.args.value) error (λ so_far same. tt) c.in-Err.ensures.failed)

@@ -15,9 +15,9 @@ returns-in-Ok-clause-takes g c =
     let old = c.args.executor.now in
     let new = c.shut_down.new.self in
     call_ending old new call.Shutdown c.shutdown_answer.result old.count
-    (subst (λ (answer : Answer). Calls old new (moment_of_call old 0, code.Shutdown) (ending answer new.ended)) (sym c.shutdown_answer.ensures) c.in-Ok.ensures.made.makes) c.in-Ok.ensures.stays tt
+    (subst (λ (answer : Answer). Calls old new (moment_of_call old 0, code.Shutdown) (ending answer new.ended)) (sym c.shutdown_answer.ensures) c.in-Ok.ensures.made.makes) c.in-Ok.ensures.stays c.in-Ok.ensures.near tt
 
 pub returns-in-Err-clause-refuses : goal.returns-in-Err-clause-refuses
 returns-in-Err-clause-refuses g c =
     let error = c.in-Err.error in
-    subst (λ (end : PieceEnd). Refuses end c.args.executor.now (l.Call (call.Shutdown))) (sym c.stop_of.ensures) (refuses_late c.args.executor.now call.Shutdown error c.in-Err.ensures.failed)
+    subst (λ (end : PieceEnd). Refuses end c.args.executor.now (l.Call (call.Shutdown))) (sym c.stop_of.ensures) (refuses_late c.args.executor.now call.Shutdown error (λ so_far same. tt) c.in-Err.ensures.failed)

@@ -10,9 +10,9 @@ use Rattle.live_engine.proofs.step_calls.shut_down_now.Goals as goal
 pub returns-in-Ok-clause-takes : goal.returns-in-Ok-clause-takes
 returns-in-Ok-clause-takes g c =
     let old = c.args.executor.now in
-    call_ending old c.shut_down_now.new.self call.ShutdownNow a.ShutdownNow old.count c.in-Ok.ensures.made c.in-Ok.ensures.stays tt
+    call_ending old c.shut_down_now.new.self call.ShutdownNow a.ShutdownNow old.count c.in-Ok.ensures.made c.in-Ok.ensures.stays c.in-Ok.ensures.near tt
 
 pub returns-in-Err-clause-refuses : goal.returns-in-Err-clause-refuses
 returns-in-Err-clause-refuses g c =
     let error = c.in-Err.error in
-    subst (λ (end : PieceEnd). Refuses end c.args.executor.now (l.Call (call.ShutdownNow))) (sym c.stop_of.ensures) (refuses_late c.args.executor.now call.ShutdownNow error c.in-Err.ensures.failed)
+    subst (λ (end : PieceEnd). Refuses end c.args.executor.now (l.Call (call.ShutdownNow))) (sym c.stop_of.ensures) (refuses_late c.args.executor.now call.ShutdownNow error (λ so_far same. tt) c.in-Err.ensures.failed)

@@ -1,10 +1,11 @@
 -- The finish takes its step, or is answered by an error.
-use Rattle.std.proofs.Common.{vec_capacity, refl, subst}
+use Rattle.std.proofs.Common.{◌<◌, vec_capacity, refl, subst}
 use Rattle.std.specs.Prelude.{IfOk, IfErr}
 use Rattle.executor_core.specs.declared.types.Happening.TheVariants as h
 use Rattle.task_table.specs.Runs.{IsFinishError}
 use Rattle.live_core.specs.Lives.{LiveView, Happens, Stays}
 use Rattle.live_core.specs.Events.{Fails, finish_reply}
+use Rattle.live_core.proofs.Workers.{ended_given}
 use Rattle.live_core.proofs.Occurring.{finish_happens, finish_fails, live_finish}
 use Rattle.live_core.proofs.Leaving.{stays_left, always_on_ok}
 use Rattle.live_core.proofs.executor.ScheduledExecutor.finish.Goals as goal
@@ -47,3 +48,10 @@ returns-clause-stays g c =
     let new : LiveView = record m { table = r.new.table; ended = c.clear.new.self.items } in
     always_on_ok r.result (subst (λ (v : LiveView). Stays v new v.count) c.self.view_is
     (stays_left m new r.new.notes.free r.new.notes.entries r.new.notes.slot_room (vec_capacity e.ended) r.ensures.workers refl r.ensures.leaves (r.ensures.noted e.count (vec_capacity e.ended) c.self.invariant.noted)))
+
+pub returns-clause-given : goal.returns-clause-given
+returns-clause-given g c =
+    let e = c.self.inside in
+    let r = c.end_run in
+    subst (λ (v : LiveView). IfOk r.result (λ x. x.task.number < v.count)) c.self.view_is
+    (ended_given e.table c.args.worker e.count r.result e.notes.free e.notes.entries e.notes.slot_room (vec_capacity e.ended) c.self.invariant.noted r.ensures.ran)

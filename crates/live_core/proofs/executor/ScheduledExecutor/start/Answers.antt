@@ -1,11 +1,12 @@
 -- The start takes its step, or is answered by an error.
-use Rattle.std.proofs.Common.{◌≡◌, vec_capacity, refl, subst}
+use Rattle.std.proofs.Common.{◌≡◌, ◌<◌, IfSome, vec_capacity, refl, subst}
 use Rattle.executor_core.specs.declared.types.Happening.TheVariants as h
 use Rattle.task_table.specs.Runs.{IsFree, IsFull, IsStartError}
 use Rattle.task_table.proofs.Clocks.{start_refused}
 use Rattle.live_core.specs.Lives.{LiveView, Happens, Stays}
 use Rattle.live_core.specs.Events.{Fails, WouldPassLimit, start_reply}
 use Rattle.live_core.proofs.Limited.{would_pass}
+use Rattle.live_core.proofs.Workers.{begun_given}
 use Rattle.live_core.proofs.Occurring.{happens_there, fails_there, live_steps}
 use Rattle.live_core.proofs.Leaving.{stays_left}
 use Rattle.live_core.proofs.executor.ScheduledExecutor.start.Goals as goal
@@ -55,3 +56,10 @@ returns-clause-stays g c =
     let new : LiveView = record m { table = b.new.table; ended = c.clear-2.new.self.items } in
     subst (λ (v : LiveView). Stays v new v.count) c.self.view_is
     (stays_left m new b.new.notes.free b.new.notes.entries b.new.notes.slot_room (vec_capacity e.ended) b.ensures.workers refl b.ensures.leaves (b.ensures.noted e.count (vec_capacity e.ended) c.self.invariant.noted))
+
+pub returns-clause-given : goal.returns-clause-given
+returns-clause-given g c =
+    let e = c.self.inside in
+    let b = c.begin_run in
+    subst (λ (v : LiveView). IfSome b.result (λ r. r.task.number < v.count)) c.self.view_is
+    (begun_given b.new.table c.args.worker e.count b.result b.new.notes.free b.new.notes.entries b.new.notes.slot_room (vec_capacity e.ended) (b.ensures.noted e.count (vec_capacity e.ended) c.self.invariant.noted) b.ensures.runs)
