@@ -1,10 +1,10 @@
 //! One line: it is taken, noted and counted, and its answer is given out as lines.
-ghost use Rattle.std.specs.Prelude.{◌≡◌, ℕ, ◌≤◌, OnOk, OnErr, IfErr};
+ghost use Rattle.std.specs.Prelude.{◌≡◌, ℕ, ◌≤◌, OnOk, OnErr, IfOk, IfErr};
 ghost use Rattle.live_engine.specs.LiveLines.{LiveHistory, FitsLive, most_numbers, trace_length};
 ghost use Rattle.live_engine.specs.own.LiveTurns.{AreCounted};
-ghost use Rattle.live_engine.specs.own.LiveSteps.{Answers, IsAt, Stops};
+ghost use Rattle.live_engine.specs.own.LiveSteps.{Answers, IsAt, Stops, lines_told};
 
-use crate::answer_texts::put_lines;
+use crate::answer_texts::{Told, count_told, tell};
 use crate::counts::{Counts, MOST_LINES};
 use crate::live_line::LiveLine;
 use crate::stepping::step;
@@ -14,19 +14,20 @@ use executor_core::Line;
 use live_core::ScheduledExecutor;
 use std::alloc::Allocator;
 
-/// Takes a line, and writes the lines of its answer in place of those that are there. A call is noted before its answer is given
-/// out. Where the line is not taken, nothing is noted or counted, and the executor is somewhere on the way.
+/// Takes a line, and tells the lines of its answer: where there are several, they are written in place of those in the list. A call
+/// is noted before its answer is given out. Where the line is not taken, nothing is noted or counted, and the executor is somewhere on
+/// the way.
 pub(crate) fn answer_line<A: Allocator>(
     executor: &mut ScheduledExecutor<A>,
     journal: &mut Journal<A>,
     counts: &mut Counts,
     line: LiveLine,
     lines: &mut Vec<Line, A>,
-) -> Result<(), PieceEnd>
+) -> Result<Told, PieceEnd>
     requires fits { FitsLive line }
     requires few { executor.old.count ≤ most_numbers }
     requires counted { AreCounted counts.old }
-    ensures answers { OnOk result (Answers executor.old executor.new line lines.new.items counts.old counts.new journal.old journal.new) }
+    ensures answers { IfOk result (λ told. Answers executor.old executor.new line (lines_told told lines.new.items) counts.old counts.new journal.old journal.new) }
     ensures few { executor.new.count ≤ most_numbers }
     ensures counted { OnOk result (AreCounted counts.new) }
     ensures refuses { IfErr result (λ end. (workers : ℕ) (so_far : LiveHistory) → IsAt workers executor.old so_far → counts.old.written ≡ trace_length so_far → Stops end workers so_far line) }
@@ -37,10 +38,10 @@ pub(crate) fn answer_line<A: Allocator>(
         return Err(PieceEnd::Memory);
     }
     let answer = step(executor, line)?;
-    if !put_lines(executor, answer, lines) {
+    let Some(told) = tell(executor, answer, lines) else {
         return Err(PieceEnd::Memory);
-    }
-    let more = lines.len() as u64;
+    };
+    let more = count_told(told, lines);
     if more > MOST_LINES - counts.written {
         return Err(PieceEnd::Full);
     }
@@ -53,5 +54,5 @@ pub(crate) fn answer_line<A: Allocator>(
     }
     counts.written += more;
     counts.read += 1;
-    Ok(())
+    Ok(told)
 }

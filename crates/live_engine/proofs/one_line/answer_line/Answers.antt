@@ -1,7 +1,8 @@
-use Rattle.std.proofs.Common.{◌≡◌, ◌+◌, length, rules, ap, ◌∙◌, sym, subst, refl}
+use Rattle.std.proofs.Common.{◌≡◌, ◌+◌, List, length, ap, ◌∙◌, sym, subst}
+use Rattle.executor_core.specs.declared.Line.{Line}
 use Rattle.live_core.specs.Said.{ending}
 use Rattle.live_engine.specs.declared.live_line.LiveLine.{LiveLine}
-use Rattle.live_engine.specs.own.LiveSteps.{noted_line}
+use Rattle.live_engine.specs.own.LiveSteps.{lines_told, noted_line}
 use Rattle.live_engine.proofs.Notings.{noted_after_room, same_after_room}
 use Rattle.live_engine.proofs.one_line.answer_line.Goals as goal
 use Rattle.live_engine.proofs.one_line.answer_line.Goals.{in-Call, in-Event}
@@ -12,12 +13,13 @@ returns-clause-answers g c =
     let before = c.args.counts.now in
     let journal = c.args.journal.now in
     let next = c.match-line.journal in
-    let many : c.len-more.result ≡ length c.put_lines.new.lines.items = search (rules, c.len-more.ensures) in
+    let many : c.count_told-more.result ≡ length (lines_told c.in-Some.told c.tell.new.lines.items) =
+    c.count_told-more.ensures ∙ ap (λ (items : List Line). length (lines_told c.in-Some.told items)) c.deref.ensures.value in
     record {
       reply = ending c.in_ok-answer.answer new.ended;
       takes = c.in_ok-answer.ensures.takes;
       fits = c.requires.fits;
-      given = c.if-not-put_lines.ensures refl;
+      given = c.in-Some.ensures;
       counts = ap (λ n. record { read = before.read + 1; written = before.written + n }) many;
       notes = elim c.match-line.branch [
         | in-Call w ↦
