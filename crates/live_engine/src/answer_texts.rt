@@ -44,7 +44,7 @@ pub(crate) fn tell<A: Allocator>(
 }
 
 /// Writes the lines of an answer, which the executor gave last, in place of those that are there. `false` is want of memory.
-#[cold]
+#[inline(always)]
 fn list_lines<A: Allocator>(
     executor: &ScheduledExecutor<A>,
     answer: Answer,
