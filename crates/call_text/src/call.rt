@@ -46,6 +46,7 @@ pub fn read_call(line: &[u8]) -> Option<CallLine>
 
 /// The call whose line stands at the front of some bytes, and what follows its newline. `None` exactly when no call's line stands
 /// there; the limits of its numbers are those of [`read_call`].
+#[inline(always)]
 pub fn split_call(bytes: &[u8]) -> Option<(CallLine, &[u8])>
     ensures { MatchOption result (IsUnread call_line FitsCall bytes.now) (λ r. IsRead call_line FitsCall bytes.now r.0 r.1.now) }
 {
@@ -56,6 +57,7 @@ pub fn split_call(bytes: &[u8]) -> Option<(CallLine, &[u8])>
 }
 
 /// The call of a line that begins with `call `, of which these bytes are what follows.
+#[inline(always)]
 fn split_named(bytes: &[u8]) -> Option<(CallLine, &[u8])>
     ensures { MatchOption result (IsUnread call_line FitsCall (codes "call " ++ bytes.now)) (λ r. IsRead call_line FitsCall (codes "call " ++ bytes.now) r.0 r.1.now) }
 {

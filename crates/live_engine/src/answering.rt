@@ -5,6 +5,7 @@ ghost use Rattle.live_engine.specs.LiveLines.{most_numbers};
 ghost use Rattle.live_engine.specs.declared.live_line.LiveLine as live_lines;
 ghost use Rattle.live_engine.specs.own.LiveTurns.{AreCounted, DoneAt, IsCut, Progress, Setting, Stopped};
 
+use crate::answer_texts::give;
 use crate::counts::Counts;
 use crate::one_line::answer_line;
 use crate::splitting::split_live;
@@ -57,10 +58,11 @@ pub(crate) fn answer_lines<A: Allocator, W: Sink>(
             Ok(next) => next,
             Err(end) => break end,
         };
-        if let Err(end) = answer_line(executor, journal, counts, line, lines) {
-            break end;
-        }
-        if !draft.give_lines(lines, writer) {
+        let told = match answer_line(executor, journal, counts, line, lines) {
+            Ok(told) => told,
+            Err(end) => break end,
+        };
+        if !give(told, lines, draft, writer) {
             return Err(RunError::Write);
         }
         rest = behind;

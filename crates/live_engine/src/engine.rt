@@ -65,7 +65,7 @@ pub(crate) enum Turn {
 pub(crate) struct Engine<A: Allocator> {
     executor: ScheduledExecutor<A>,
     held: Held<A>,
-    /// The lines of the answer at hand.
+    /// The lines of the answer at hand, where it has several.
     lines: Vec<Line, A>,
     /// The text of the answers that was not written yet.
     draft: Draft<A>,

@@ -1,11 +1,11 @@
 //! One line: it is taken, noted and counted, and its answer is given out as lines.
-ghost use Rattle.std.specs.Prelude.{◌≡◌, ℕ, ◌≤◌, OnOk, OnErr, IfErr};
+ghost use Rattle.std.specs.Prelude.{◌≡◌, ℕ, ◌≤◌, OnOk, OnErr, IfOk, IfErr};
 ghost use Rattle.live_engine.specs.LiveLines.{LiveHistory, FitsLive, most_numbers, trace_length};
 ghost use Rattle.live_engine.specs.own.LiveTurns.{AreCounted};
 ghost use Rattle.live_engine.specs.declared.live_line.LiveLine as live_lines;
-ghost use Rattle.live_engine.specs.own.LiveSteps.{Answers, IsAt, IsNoStep, IsNotTaken};
+ghost use Rattle.live_engine.specs.own.LiveSteps.{Answers, IsAt, IsNoStep, IsNotTaken, lines_told};
 
-use crate::answer_texts::put_lines;
+use crate::answer_texts::{Told, count_told, tell};
 use crate::counts::{Counts, MOST_LINES};
 use crate::live_line::LiveLine;
 use crate::stepping::step;
@@ -15,20 +15,20 @@ use executor_core::Line;
 use live_core::ScheduledExecutor;
 use std::alloc::Allocator;
 
-/// Takes a line, and writes the lines of its answer in place of those that are there. A call is noted before its answer is given
-/// out. Where the line is not taken, nothing is noted or counted, and the executor is somewhere on the way. Whether there is memory for
-/// a line is asked last: after whether it may come, and whether there is room for it.
+/// Takes a line, and tells the lines of its answer: where there are several, they are written in place of those in the list. A call
+/// is noted before its answer is given out. Where the line is not taken, nothing is noted or counted, and the executor is somewhere on
+/// the way. Whether there is memory for a line is asked last: after whether it may come, and whether there is room for it.
 pub(crate) fn answer_line<A: Allocator>(
     executor: &mut ScheduledExecutor<A>,
     journal: &mut Journal<A>,
     counts: &mut Counts,
     line: LiveLine,
     lines: &mut Vec<Line, A>,
-) -> Result<(), PieceEnd>
+) -> Result<Told, PieceEnd>
     requires fits { FitsLive line }
     requires few { executor.old.count ≤ most_numbers }
     requires counted { AreCounted counts.old }
-    ensures answers { OnOk result (Answers executor.old executor.new line lines.new.items counts.old counts.new journal.old journal.new) }
+    ensures answers { IfOk result (λ told. Answers executor.old executor.new line (lines_told told lines.new.items) counts.old counts.new journal.old journal.new) }
     ensures few { executor.new.count ≤ most_numbers }
     ensures counted { OnOk result (AreCounted counts.new) }
     ensures refuses { IfErr result (λ end. (workers : ℕ) (so_far : LiveHistory) → IsAt workers executor.old so_far → counts.old.written ≡ trace_length so_far → IsNotTaken end workers so_far line) }
@@ -42,9 +42,9 @@ pub(crate) fn answer_line<A: Allocator>(
     if executor.ended().len() as u64 >= MOST_LINES - counts.written {
         return Err(PieceEnd::Full);
     }
-    if !put_lines(executor, answer, lines) {
+    let Some(told) = tell(executor, answer, lines) else {
         return Err(PieceEnd::Memory);
-    }
+    };
     if let LiveLine::Call(call) = line {
         if journal.make_room().is_err() {
             return Err(PieceEnd::Memory);
@@ -54,9 +54,9 @@ pub(crate) fn answer_line<A: Allocator>(
             call,
         });
     }
-    counts.written += lines.len() as u64;
+    counts.written += count_told(told, lines);
     counts.read += 1;
-    Ok(())
+    Ok(told)
 }
 
 /// Why a line is not taken that the executor does not take, where the trace has so many lines: no memory is wanting for one whose

@@ -1,6 +1,6 @@
 -- Steps: where an executor stands once some lines were taken, and what one line more makes of it.
 -- All of it is this project's rule.
-use Rattle.std.specs.Prelude.{◌≡◌, ℕ, ◌+◌, List, ◌++◌, length}
+use Rattle.std.specs.Prelude.{◌≡◌, ℕ, ◌+◌, List, [], ◌∷◌, ◌++◌, length}
 use Rattle.executor_core.specs.declared.Line.{Line}
 use Rattle.executor_core.specs.Answers.{Reply}
 use Rattle.executor_core.specs.Flows.{lines_at, lines_of}
@@ -12,6 +12,8 @@ use Rattle.live_engine.specs.declared.live_line.LiveLine.{LiveLine}
 use Rattle.call_journal.specs.Journals.{JournalView, noted}
 use Rattle.live_engine.specs.declared.live_line.LiveLine.TheVariants as l
 use Rattle.live_engine.specs.declared.counts.Counts.{Counts}
+use Rattle.live_engine.specs.declared.answer_texts.Told.{Told}
+use Rattle.live_engine.specs.declared.answer_texts.Told.TheVariants as told
 use Rattle.live_engine.specs.declared.stops.PieceEnd.{PieceEnd}
 use Rattle.live_engine.specs.declared.stops.PieceEnd.TheVariants as e
 use Rattle.live_engine.specs.LiveLines.{LiveHistory, FitsLive, IsBeyond, IsOverLimit, MayComeNext, after_line, trace_length}
@@ -60,6 +62,11 @@ Refuses end old line = (workers : ℕ) (so_far : LiveHistory) → IsAt workers o
 abbrev pub noted_line : JournalView → LiveLine → ℕ → JournalView
 noted_line journal (l.Event event) moment = journal
 noted_line journal (l.Call call) moment = noted journal (record { moment = moment; call = call })
+
+-- the lines of an answer: the one that is told, or those of the list
+abbrev pub lines_told : Told → List Line → List Line
+lines_told (told.One line) list = line ∷ []
+lines_told told.Listed list = list
 
 -- a line was taken: it fits, there is room for it, and these are the lines of its answer; it was counted, and the call that it makes
 -- was noted

@@ -1,9 +1,10 @@
-use Rattle.std.proofs.Common.{◌≡◌, ◌+◌, ◌-◌, ◌<◌, ◌≤◌, List, length, rules, ap, ◌∙◌, sym, subst, refl}
+use Rattle.std.proofs.Common.{◌≡◌, ◌+◌, ◌-◌, ◌<◌, ◌≤◌, List, length, ap, ◌∙◌, sym, subst, refl}
+use Rattle.executor_core.specs.declared.Line.{Line}
 use Rattle.task_table.specs.declared.seat.TaskRef.{TaskRef}
 use Rattle.live_core.specs.Said.{ending}
 use Rattle.live_engine.specs.declared.live_line.LiveLine.{LiveLine}
 use Rattle.live_engine.specs.LiveLines.{most_lines}
-use Rattle.live_engine.specs.own.LiveSteps.{noted_line}
+use Rattle.live_engine.specs.own.LiveSteps.{lines_told, noted_line}
 use Rattle.live_engine.proofs.Lengths.{no_room, some_room}
 use Rattle.live_engine.proofs.Notings.{noted_after_room, nothing_noted}
 use Rattle.live_engine.proofs.one_line.answer_line.Goals as goal
@@ -15,7 +16,8 @@ returns-clause-answers g c =
     let before = c.args.counts.now in
     let journal = c.args.journal.now in
     let next = c.match-line.journal in
-    let many : c.len.result ≡ length c.put_lines.new.lines.items = search (rules, c.len.ensures) in
+    let many : c.count_told.result ≡ length (lines_told c.in-Some.told c.tell.new.lines.items) =
+    c.count_told.ensures ∙ ap (λ (items : List Line). length (lines_told c.in-Some.told items)) c.deref.ensures.value in
     record {
       reply = ending c.in-Ok.answer new.ended;
       takes = c.in-Ok.ensures.takes;
@@ -23,7 +25,7 @@ returns-clause-answers g c =
       room = λ workers so_far at counted.
           (some_room c.args.executor.now new c.args.line c.in-Ok.answer before.written c.in-Ok.ensures.takes
           (subst (λ (ended : List TaskRef). length ended < most_lines - before.written) c.ended.ensures c.if-ended-counts.false) workers so_far at counted).1;
-      given = c.if-not-put_lines.ensures refl;
+      given = c.in-Some.ensures;
       counts = ap (λ n. record { read = before.read + 1; written = before.written + n }) many;
       notes = elim c.match-line.branch [
         | in-Call+else-is_err w ↦
