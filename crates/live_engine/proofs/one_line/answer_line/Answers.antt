@@ -1,4 +1,4 @@
-use Rattle.std.proofs.Common.{◌≡◌, ◌+◌, ◌-◌, ◌<◌, ◌≤◌, List, length, ap, ◌∙◌, sym, subst, refl}
+use Rattle.std.proofs.Common.{◌≡◌, ◌+◌, ◌-◌, ◌<◌, ◌≤◌, List, length, ap, ◌∙◌, sym, subst}
 use Rattle.executor_core.specs.declared.Line.{Line}
 use Rattle.task_table.specs.declared.seat.TaskRef.{TaskRef}
 use Rattle.live_core.specs.Said.{ending}
@@ -8,7 +8,7 @@ use Rattle.live_engine.specs.own.LiveSteps.{lines_told, noted_line}
 use Rattle.live_engine.proofs.Lengths.{no_room, some_room}
 use Rattle.live_engine.proofs.Notings.{noted_after_room, nothing_noted}
 use Rattle.live_engine.proofs.one_line.answer_line.Goals as goal
-use Rattle.live_engine.proofs.one_line.answer_line.Goals.{in-Call+else-is_err, in_default}
+use Rattle.live_engine.proofs.one_line.answer_line.Goals.{in-Call+else-is_err, in_default-line}
 
 pub returns-clause-answers : goal.returns-clause-answers
 returns-clause-answers g c =
@@ -31,8 +31,8 @@ returns-clause-answers g c =
         | in-Call+else-is_err w ↦
             subst (λ (line : LiveLine). next ≡ record (noted_line journal line new.table.moment) { room = next.room }) (sym w.in-Call.is)
             (noted_after_room journal w.make_room.new.self next new.table.moment w.now.result w.in-Call.call w.make_room.ensures.same (w.journal-is ∙ w.note.ensures) w.now.ensures.value)
-        | in_default w ↦
-            subst (λ (line : LiveLine). next ≡ record (noted_line journal line new.table.moment) { room = next.room }) (sym w.in_default.is)
+        | in_default-line w ↦
+            subst (λ (line : LiveLine). next ≡ record (noted_line journal line new.table.moment) { room = next.room }) (sym w.in_default-line.is)
             (nothing_noted journal next w.journal-is)
       ];
     }
@@ -42,8 +42,8 @@ returns-then-ended-counts-clause-refuses g c =
     no_room c.args.executor.now c.step.new.executor c.args.line c.in-Ok.answer c.args.counts.now.written c.in-Ok.ensures.takes
     (subst (λ (ended : List TaskRef). most_lines - c.args.counts.now.written ≤ length ended) c.ended.ensures c.if-ended-counts.true)
 
-pub returns-then-not-put_lines-clause-refuses : goal.returns-then-not-put_lines-clause-refuses
-returns-then-not-put_lines-clause-refuses g c =
+pub returns-in_default-clause-refuses : goal.returns-in_default-clause-refuses
+returns-in_default-clause-refuses g c =
     some_room c.args.executor.now c.step.new.executor c.args.line c.in-Ok.answer c.args.counts.now.written c.in-Ok.ensures.takes
     (subst (λ (ended : List TaskRef). length ended < most_lines - c.args.counts.now.written) c.ended.ensures c.if-ended-counts.false)
 
