@@ -4,6 +4,7 @@
 //! what the plain program tells of the same lines.
 mod drawing;
 mod executors;
+mod growths;
 mod refusals;
 mod replies;
 mod sequences;

@@ -1,5 +1,7 @@
 //! Sequences that are drawn: up to 60 lines, of up to 50 tasks and two workers.
 
+ghost use Rattle.std.specs.Prelude.{◌<◌};
+
 use super::{agree, call, event};
 use call_text::CallLine;
 use executor_core::Event;
@@ -13,11 +15,12 @@ use std::test::Fail;
 const WORKERS: u8 = 2;
 
 /// How many lines a sequence has at most, and how many tasks it submits at most.
-const MOST_LINES: u64 = 60;
+const MOST_LINES: u32 = 60;
 
 const MOST_TASKS: u32 = 50;
 
 /// What the next line is drawn from.
+#[derive(Drop)]
 struct Dice {
     /// A pseudo-random number, which is not 0.
     state: u64,
@@ -26,7 +29,7 @@ struct Dice {
     /// The moment that the clock showed last.
     now: u64,
     /// Of 8 lines, how many submit a task.
-    submits: u64,
+    submits: u32,
 }
 
 impl Dice {
@@ -43,11 +46,14 @@ impl Dice {
     }
 
     /// A number below another one.
-    fn below(&mut self, bound: u64) -> u64 {
+    fn below(&mut self, bound: u32) -> u32
+        requires { 0 < bound }
+        ensures { result < bound }
+    {
         let x = self.state ^ (self.state << 13);
         let x = x ^ (x >> 7);
         self.state = x ^ (x << 17);
-        (self.state >> 11).checked_rem(bound).unwrap_or(0)
+        (self.state >> 32) as u32 % bound
     }
 
     /// The next line.
@@ -60,26 +66,25 @@ impl Dice {
             0 => call(self.rare_call()),
             1 => call(self.policy()),
             2 if self.tasks > 0 => call(CallLine::Cancel(self.task())),
-            3 => event(Event::Cancel(self.below(u64::from(self.tasks) + 2) as u32)),
+            3 => event(Event::Cancel(self.below(self.tasks.saturating_add(2)))),
             4 | 5 | 6 => event(self.clock()),
-            7 | 8 | 9 | 10 => event(Event::Start(self.worker())),
-            11 | 12 | 13 => event(Event::Finish(self.worker(), self.ending())),
-            _ => call(CallLine::Ask),
+            7 | 8 | 9 | 10 | 11 => event(Event::Start(self.worker())),
+            _ => event(Event::Finish(self.worker(), self.ending())),
         }
     }
 
     /// A task is submitted.
     fn submission(&mut self) -> CallLine {
-        let first = self.below(5);
+        let first = u64::from(self.below(5));
         match self.below(4) {
             0 => CallLine::Execute,
-            1 => CallLine::Rate(first, 1 + self.below(3)),
-            2 => CallLine::Fixed(first, 1 + self.below(3)),
+            1 => CallLine::Rate(first, 1 + u64::from(self.below(3))),
+            2 => CallLine::Fixed(first, 1 + u64::from(self.below(3))),
             _ => CallLine::Schedule(first),
         }
     }
 
-    /// A call that shuts the executor, or sometimes one that asks.
+    /// A call that asks, or sometimes one that shuts the executor.
     fn rare_call(&mut self) -> CallLine {
         match self.below(8) {
             0 | 1 => CallLine::Shutdown,
@@ -100,12 +105,12 @@ impl Dice {
 
     /// A task that was submitted.
     fn task(&mut self) -> u32 {
-        self.below(u64::from(self.tasks)) as u32
+        self.below(self.tasks.max(1))
     }
 
     /// The clock goes on by 0 to 3 ns, or sometimes back.
     fn clock(&mut self) -> Event {
-        let moment = self.now.saturating_add(self.below(5));
+        let moment = self.now.saturating_add(u64::from(self.below(5)));
         if moment > self.now {
             self.now = moment - 1;
             return Event::Clock(moment - 1);
@@ -162,9 +167,10 @@ fn shortened(alloc: Global, lines: Vec<LiveLine, Global>) -> Result<Vec<LiveLine
     Ok(kept)
 }
 
-/// Both tell the same of each of these sequences.
-fn drawn_agree(rt: &impl Abort, alloc: Global, first: u64, last: u64) -> Result<(), Fail> {
-    for sequence in first..last {
+/// Both tell the same of 1,000 sequences, from the one of this number on.
+fn thousand_agree(rt: &impl Abort, alloc: Global, first: u64) -> Result<(), Fail> {
+    for offset in 0..1_000u64 {
+        let sequence = first.saturating_add(offset);
         let lines = draw(alloc, sequence)?;
         if !agree(alloc, WORKERS, &lines)? {
             let lines = shortened(alloc, lines)?;
@@ -175,6 +181,51 @@ fn drawn_agree(rt: &impl Abort, alloc: Global, first: u64, last: u64) -> Result<
 }
 
 #[test]
-fn sequences_that_are_drawn(rt: HostRuntime) -> Result<(), Fail> {
-    drawn_agree(&rt, rt.alloc(), 0, 10_000)
+fn sequences_of_the_first_thousand(rt: HostRuntime) -> Result<(), Fail> {
+    thousand_agree(&rt, rt.alloc(), 0)
+}
+
+#[test]
+fn sequences_of_the_second_thousand(rt: HostRuntime) -> Result<(), Fail> {
+    thousand_agree(&rt, rt.alloc(), 1_000)
+}
+
+#[test]
+fn sequences_of_the_third_thousand(rt: HostRuntime) -> Result<(), Fail> {
+    thousand_agree(&rt, rt.alloc(), 2_000)
+}
+
+#[test]
+fn sequences_of_the_fourth_thousand(rt: HostRuntime) -> Result<(), Fail> {
+    thousand_agree(&rt, rt.alloc(), 3_000)
+}
+
+#[test]
+fn sequences_of_the_fifth_thousand(rt: HostRuntime) -> Result<(), Fail> {
+    thousand_agree(&rt, rt.alloc(), 4_000)
+}
+
+#[test]
+fn sequences_of_the_sixth_thousand(rt: HostRuntime) -> Result<(), Fail> {
+    thousand_agree(&rt, rt.alloc(), 5_000)
+}
+
+#[test]
+fn sequences_of_the_seventh_thousand(rt: HostRuntime) -> Result<(), Fail> {
+    thousand_agree(&rt, rt.alloc(), 6_000)
+}
+
+#[test]
+fn sequences_of_the_eighth_thousand(rt: HostRuntime) -> Result<(), Fail> {
+    thousand_agree(&rt, rt.alloc(), 7_000)
+}
+
+#[test]
+fn sequences_of_the_ninth_thousand(rt: HostRuntime) -> Result<(), Fail> {
+    thousand_agree(&rt, rt.alloc(), 8_000)
+}
+
+#[test]
+fn sequences_of_the_tenth_thousand(rt: HostRuntime) -> Result<(), Fail> {
+    thousand_agree(&rt, rt.alloc(), 9_000)
 }

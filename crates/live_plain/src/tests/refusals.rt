@@ -67,3 +67,13 @@ fn calls_whose_moment_is_too_late(rt: HostRuntime) -> Result<(), Fail> {
     );
     Ok(())
 }
+
+#[test]
+fn more_calls_than_a_plan_may_have(rt: HostRuntime) -> Result<(), Fail> {
+    let mut lines = Vec::new(rt.alloc());
+    for _ in 0..65_537 {
+        lines.push(call(CallLine::Ask))?;
+    }
+    assert_eq!(rt; told(rt.alloc(), &lines)?, None);
+    Ok(())
+}

@@ -1,18 +1,23 @@
-//! What the executor answers, as the lines of a trace have it. A number here is always below 2^32.
+//! What the executor answers, as the lines of a trace have it.
 
 use executor_core::{Answer, Kind, Refusal};
 use live_core::{Asked, Begun, Ended, Submitted};
+
+/// A task's number, as a line spells it. No test has one of 2^32 or more.
+fn spelled(number: u64) -> u32 {
+    u32::try_from(number).unwrap_or(u32::MAX)
+}
 
 /// The answer to a submission.
 pub fn submit_answer(submitted: Submitted, kind: Kind) -> Answer {
     match submitted {
         Submitted::Accepted { task, due } => Answer::Submit {
-            task: task.number as u32,
+            task: spelled(task.number),
             kind,
             due,
         },
         Submitted::Rejected { number } => Answer::Refuse {
-            task: number as u32,
+            task: spelled(number),
             refusal: Refusal::Rejected,
         },
     }
@@ -30,8 +35,8 @@ pub fn shutdown_answer(is_first: bool) -> Answer {
 /// The answer to an ask.
 pub fn ask_answer(asked: Asked) -> Answer {
     Answer::Ask {
-        queue: asked.queue as u32,
-        running: asked.running as u32,
+        queue: u32::try_from(asked.queue).unwrap_or(u32::MAX),
+        running: u32::try_from(asked.running).unwrap_or(u32::MAX),
         shutdown: asked.shutdown,
         terminated: asked.terminated,
     }
@@ -43,7 +48,7 @@ pub fn start_answer(worker: u8, begun: Option<Begun>) -> Answer {
         None => Answer::Idle { worker },
         Some(begun) => Answer::Start {
             worker,
-            task: begun.task.number as u32,
+            task: spelled(begun.task.number),
             run: begun.run,
             due: begun.due,
         },
@@ -54,7 +59,7 @@ pub fn start_answer(worker: u8, begun: Option<Begun>) -> Answer {
 pub fn finish_answer(worker: u8, ended: Ended) -> Answer {
     Answer::Finish {
         worker,
-        task: ended.task.number as u32,
+        task: spelled(ended.task.number),
         run: ended.run,
         outcome: ended.outcome,
     }
