@@ -1,7 +1,5 @@
 //! The calls of the executor that the lines of calls make.
-ghost use Rattle.std.specs.Prelude.{◌≡◌, ℕ, ◌<◌, ◌≤◌, IfSome, IfNone, MatchOption};
-ghost use Rattle.sched_time.specs.Times.{longest};
-ghost use Rattle.queue_code.specs.Calls.{IsTimed};
+ghost use Rattle.std.specs.Prelude.{◌≡◌, ◌<◌, ◌≤◌, MatchOption};
 ghost use Rattle.queue_code.specs.declared.call.CodeCall.TheVariants as codes;
 ghost use Rattle.call_text.specs.Spelling.{FitsPeriod, FitsSpan};
 ghost use Rattle.live_engine.specs.LiveLines as live;

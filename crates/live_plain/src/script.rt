@@ -46,7 +46,7 @@ impl<A: Allocator> Model for Script<A> {
 }
 
 impl<A: Allocator + Copy> Script<A> {
-    ghost use Rattle.std.specs.Prelude.{◌≡◌, ℕ, ◌+◌, ◌<◌, ◌≤◌, ◌↔◌, if◌then◌else◌, length, reverse, [], max, IfOk, OnOk, IsTrue};
+    ghost use Rattle.std.specs.Prelude.{◌≡◌, ℕ, ◌+◌, ◌<◌, ◌≤◌, ◌↔◌, if◌then◌else◌, length, reverse, [], IfOk, OnOk, IsTrue};
     ghost use Rattle.sched_time.specs.Times.{longest};
     ghost use Rattle.queue_code.specs.Calls.{IsPlanned, most_calls_of_code};
     ghost use Rattle.executor_core.specs.Answers.{is_accepted};
@@ -54,7 +54,7 @@ impl<A: Allocator + Copy> Script<A> {
     ghost use Rattle.live_engine.specs.LiveLines.{LiveHistory, after_line};
     ghost use Rattle.live_engine.specs.declared.live_line.LiveLine.TheVariants as l;
     ghost use Rattle.live_plain.specs.PlainLines.{IsPlain};
-    ghost use Rattle.live_plain.specs.own.Scripts.{Shows, blank, earliest_after, happening_there, moment_in, with_call, with_event};
+    ghost use Rattle.live_plain.specs.own.Scripts.{Shows, blank, happening_there, with_call, with_event};
 
     /// A script before any line.
     pub(crate) fn new(alloc: A) -> Script<A>

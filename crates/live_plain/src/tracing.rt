@@ -8,8 +8,8 @@ use executor_core::Line;
 use live_engine::LiveLine;
 use std::alloc::{AllocError, Allocator};
 
-/// The lines of the trace of some lines of a live input, the oldest first, as an executor gives them whose calls are made while it
-/// runs.
+/// The lines of the trace of some lines of a live input, the oldest first, as an executor of so many workers gives them whose calls
+/// are made while it runs. The workers may be any number here, also one that an executor refuses.
 ///
 /// `None` where some line is not plain: it is a call with a span above 2^62 nanoseconds, or with a period or a fixed delay that is
 /// 0 or above that, or a cancel by a call of a number that was not given out, or a call once 65,536 were made, or a call
