@@ -1,0 +1,31 @@
+//! Want of memory: each growth is refused in turn.
+
+use super::{call, event};
+use crate::trace_of_lines;
+use call_text::CallLine;
+use executor_core::Event;
+use refusing_allocator::Refusing;
+use std::process::Abort;
+use std::test::Fail;
+
+#[test]
+fn each_growth_is_refused_in_turn(rt: HostRuntime) -> Result<(), Fail> {
+    let lines = [
+        call(CallLine::Schedule(0)),
+        call(CallLine::Rate(9, 1)),
+        event(Event::Start(0)),
+        call(CallLine::ShutdownNow),
+    ];
+    for number in 1..100u64 {
+        let heap = Refusing::new(rt.alloc());
+        heap.refuse(number);
+        let wants = trace_of_lines(&heap, 1, &lines).is_err();
+        assert_eq!(rt; wants, heap.has_refused(), "{number}");
+        assert_eq!(rt; heap.used(), 0, "{number}");
+        if !wants {
+            assert!(rt; number > 3, "{number}");
+            return Ok(());
+        }
+    }
+    Err("a growth was refused each time".into())
+}
