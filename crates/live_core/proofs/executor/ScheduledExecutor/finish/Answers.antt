@@ -21,6 +21,15 @@ invariant_of-self g c =
     (finish_fails m r.new.table none c.args.worker c.args.ending r.result c.clear.ensures.items r.ensures.unchanged r.ensures.failed)
     r.ensures.shut c.clear.ensures.capacity (r.ensures.noted e.count (vec_capacity e.ended) c.self.invariant.noted) (r.ensures.alive c.self.invariant.alive)
 
+pub returns-clause-stays : goal.returns-clause-stays
+returns-clause-stays g c =
+    let e = c.self.inside in
+    let m : LiveView = record { table = e.table; count = e.count; accepted = e.accepted; earliest = e.earliest; ended = e.ended.items } in
+    let r = c.end_run in
+    let new : LiveView = record m { table = r.new.table; ended = c.clear.new.self.items } in
+    always_on_ok r.result (subst (λ (v : LiveView). Stays v new v.count) c.self.view_is
+    (stays_left m new r.new.notes.free r.new.notes.entries r.new.notes.slot_room (vec_capacity e.ended) r.ensures.workers refl r.ensures.leaves (r.ensures.noted e.count (vec_capacity e.ended) c.self.invariant.noted)))
+
 pub returns-clause-happens : goal.returns-clause-happens
 returns-clause-happens g c =
     let e = c.self.inside in
@@ -38,12 +47,3 @@ returns-clause-failed g c =
     let new : LiveView = record m { table = r.new.table; ended = c.clear.new.self.items } in
     subst (λ (v : LiveView). IfErr r.result (λ error. IsFinishError v.table c.args.worker error × Fails v new (h.Finish c.args.worker c.args.ending) error)) c.self.view_is
     (finish_fails m r.new.table c.clear.new.self.items c.args.worker c.args.ending r.result c.clear.ensures.items r.ensures.unchanged r.ensures.failed)
-
-pub returns-clause-stays : goal.returns-clause-stays
-returns-clause-stays g c =
-    let e = c.self.inside in
-    let m : LiveView = record { table = e.table; count = e.count; accepted = e.accepted; earliest = e.earliest; ended = e.ended.items } in
-    let r = c.end_run in
-    let new : LiveView = record m { table = r.new.table; ended = c.clear.new.self.items } in
-    always_on_ok r.result (subst (λ (v : LiveView). Stays v new v.count) c.self.view_is
-    (stays_left m new r.new.notes.free r.new.notes.entries r.new.notes.slot_room (vec_capacity e.ended) r.ensures.workers refl r.ensures.leaves (r.ensures.noted e.count (vec_capacity e.ended) c.self.invariant.noted)))

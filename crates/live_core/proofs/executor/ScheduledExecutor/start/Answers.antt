@@ -29,6 +29,15 @@ invariant_of-self-2 g c =
     (happens_there m b.new.table c.clear-2.new.self.items (h.Start c.args.worker) (start_reply c.args.worker b.result) refl refl tt c.clear-2.ensures.items b.ensures.workers b.ensures.steps)
     b.ensures.shut c.clear-2.ensures.capacity (b.ensures.noted e.count (vec_capacity e.ended) c.self.invariant.noted) (b.ensures.alive c.self.invariant.alive)
 
+pub returns-clause-stays : goal.returns-clause-stays
+returns-clause-stays g c =
+    let e = c.self.inside in
+    let m : LiveView = record { table = e.table; count = e.count; accepted = e.accepted; earliest = e.earliest; ended = e.ended.items } in
+    let b = c.begin_run in
+    let new : LiveView = record m { table = b.new.table; ended = c.clear-2.new.self.items } in
+    subst (λ (v : LiveView). Stays v new v.count) c.self.view_is
+    (stays_left m new b.new.notes.free b.new.notes.entries b.new.notes.slot_room (vec_capacity e.ended) b.ensures.workers refl b.ensures.leaves (b.ensures.noted e.count (vec_capacity e.ended) c.self.invariant.noted))
+
 pub returns-clause-happens : goal.returns-clause-happens
 returns-clause-happens g c =
     let e = c.self.inside in
@@ -46,12 +55,3 @@ returns-then-is_spent-clause-failed g c =
     let free : IsFree m.table worker = c.in_default.ensures.free in
     let full : IsFull m.table = c.is_spent.ensures.spent c.if-is_spent.true in
     subst (λ (v : LiveView). IsFree v.table worker × IsFull v.table × WouldPassLimit v worker × (v ≡ v)) c.self.view_is (free, full, would_pass m worker free full, refl)
-
-pub returns-clause-stays : goal.returns-clause-stays
-returns-clause-stays g c =
-    let e = c.self.inside in
-    let m : LiveView = record { table = e.table; count = e.count; accepted = e.accepted; earliest = e.earliest; ended = e.ended.items } in
-    let b = c.begin_run in
-    let new : LiveView = record m { table = b.new.table; ended = c.clear-2.new.self.items } in
-    subst (λ (v : LiveView). Stays v new v.count) c.self.view_is
-    (stays_left m new b.new.notes.free b.new.notes.entries b.new.notes.slot_room (vec_capacity e.ended) b.ensures.workers refl b.ensures.leaves (b.ensures.noted e.count (vec_capacity e.ended) c.self.invariant.noted))
