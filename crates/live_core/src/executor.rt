@@ -59,7 +59,6 @@ impl<A: Allocator> ScheduledExecutor<A> {
         ensures slots { IfOk result (λ e. e.table.slots ≡ []) }
         ensures earliest { IfOk result (λ e. e.earliest ≡ 0) }
         ensures ended { IfOk result (λ e. e.ended ≡ []) }
-        ensures empty { IfOk result (λ e. e.table.slots ≡ []) }
         ensures range { OnOk result (IsWorkerCount workers) }
         ensures failed { IfErr result (λ error. IsMakeError workers error) }
     {

@@ -26,7 +26,8 @@ use Rattle.executor_laws.specs.Additions.{LooksBelow, AllLookBelow, StandsFor}
 use Rattle.executor_laws.proofs.AddedCalls.{counted, task_one}
 use Rattle.executor_laws.proofs.Adding.{calls_may_be_added}
 use Rattle.live_engine.specs.declared.live_line.LiveLine.TheVariants as l
-use Rattle.live_engine.specs.LiveLines.{LiveHistory, after_call, after_clock, after_happening, after_line, not_given, passed}
+use Rattle.live_core.specs.Lives.{after_clock, passed}
+use Rattle.live_engine.specs.LiveLines.{LiveHistory, after_call, after_happening, after_line, not_given}
 use Rattle.live_plain.specs.PlainLines.{lines_in}
 use Rattle.live_plain.specs.own.Scripts.{ScriptView, Shows, last_moment, moment_in, plainly, unnamed, with_call, with_event}
 

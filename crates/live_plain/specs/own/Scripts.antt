@@ -14,7 +14,8 @@ use Rattle.call_text.specs.declared.call.CallLine.{CallLine}
 use Rattle.call_text.specs.declared.call.CallLine.TheVariants as call
 use Rattle.call_text.specs.Spelling.{FitsCall}
 use Rattle.live_engine.specs.declared.live_line.LiveLine.{LiveLine}
-use Rattle.live_engine.specs.LiveLines.{LiveHistory, after_clock, live_history}
+use Rattle.live_core.specs.Lives.{after_clock}
+use Rattle.live_engine.specs.LiveLines.{LiveHistory, live_history}
 use Rattle.live_plain.specs.PlainLines.{ArePlain}
 
 -- ---- a script
