@@ -77,11 +77,6 @@ is_rate first period = record { submits = λ k. refl; may = λ count so_far same
 pub is_fixed : (first delay : ℕ) → IsSubmission (call.Fixed first delay)
 is_fixed first delay = record { submits = λ k. refl; may = λ count so_far same. tt; given = λ count few. few }
 
--- no number is left for one
-pub no_number : (m : LiveView) (asked : CallLine) → IsSubmission asked → most_numbers ≤ m.count → Refuses e.Full m (l.Call asked)
-no_number m asked is many workers so_far at =
-    (is.may m.count so_far at.stands.count, inr (inl (is.submits (task_count so_far.calls), subst (λ n. most_numbers ≤ n) (sym at.stands.count) many)))
-
 -- memory is wanting for one
 no_slot : (m : LiveView) (asked : CallLine) → IsSubmission asked → moment_of_call m 0 ≤ longest → m.count < most_numbers → Refuses e.Memory m (l.Call asked)
 no_slot m asked is near few workers so_far at = (
