@@ -22,3 +22,4 @@ pub mod Few
 pub mod Waiting
 pub mod Limited
 pub mod Leaving
+pub mod Found

@@ -1,6 +1,6 @@
 -- What submissions answer, as the lines of a trace have it, and what an executor tells of its tasks.
 -- All of it is this project's rule, but where a source is named.
-use Rattle.std.specs.Prelude.{◌≡◌, ℕ, ◌+◌, ◌*◌, ◌-◌, ◌^◌, ◌<◌, ◌≤◌, ◌⊎◌, ◌==◌, ◌&&◌, Bool, true, false, List, length, Option, is_some}
+use Rattle.std.specs.Prelude.{◌≡◌, ℕ, ◌+◌, ◌*◌, ◌-◌, ◌^◌, ◌<◌, ◌≤◌, ◌⊎◌, ◌==◌, ◌&&◌, not, Bool, true, false, List, length, Option, Some, None, is_some}
 use Rattle.std.specs.Option.{option_map_or}
 use Rattle.sched_time.specs.declared.timing.Timing.{Timing}
 use Rattle.executor_core.specs.declared.types.Answer.{Answer}
@@ -11,6 +11,7 @@ use Rattle.executor_core.specs.Counts.{IsWorkerCount}
 use Rattle.sched_time.specs.Times.{longest}
 use Rattle.queue_code.specs.declared.call.CodeCall.TheVariants as c
 use Rattle.queue_code.specs.Calls.{Planned, how_many, IsTimed}
+use Rattle.executor_core.specs.declared.task.Task.{Task}
 use Rattle.executor_core.specs.Histories.{HistoryEntry, happenings}
 use Rattle.executor_core.specs.State.{after}
 use Rattle.task_table.specs.declared.seat.Seat.{Seat}
@@ -58,14 +59,32 @@ alive_in slots = how_many holds_alive slots
 abbrev pub TellsWaiting : LiveView → ℕ → Bool → Type 0
 TellsWaiting m number waiting = (calls : List Planned) (past : List HistoryEntry) → Stands m calls past → waiting ≡ waits ((after calls (workers_of m.table) (happenings past)).tasks number)
 
+-- a task is so, which is found in its slot; or it is found in none, and nothing comes of it
+abbrev pub IsFoundAs : Task → Option Seat → Type 0
+IsFoundAs t (Some x) = t ≡ task_in x
+IsFoundAs t None = is_alive t ≡ false
+
+-- whatever calls and history led here, the task of this number is found so
+abbrev pub TellsTask : LiveView → ℕ → Option Seat → Type 0
+TellsTask m number found = (calls : List Planned) (past : List HistoryEntry) → Stands m calls past → IsFoundAs ((after calls (workers_of m.table) (happenings past)).tasks number) found
+
 -- the slot of a task holds it, and it waits for a run
 abbrev pub is_waiting_there : TableView → TaskRef → Bool
 is_waiting_there m task = option_map_or (λ x. (x.number == task.number) && waits (task_in x)) (slot_of m.slots task.slot) false
+
+-- the slot of a task holds it
+abbrev pub is_there : TableView → TaskRef → Bool
+is_there m task = option_map_or (λ x. x.number == task.number) (slot_of m.slots task.slot) false
 
 -- the number that a submission was given
 abbrev pub number_of : Submitted → ℕ
 number_of (su.Accepted task due) = task.number
 number_of (su.Rejected number) = number
+
+-- a submission has a task: it was accepted
+abbrev pub has_task : Submitted → Bool
+has_task (su.Accepted task due) = true
+has_task (su.Rejected number) = false
 
 -- the spans of a submission are within the limit
 abbrev pub IsShort : Timing → ℕ → Type 0
@@ -89,12 +108,14 @@ abbrev pub SlotsFor : List (Option Seat) → List (Option Seat) → Submitted �
 SlotsFor old new (su.Accepted task due) = GrowsWhereTaken 2 old new
 SlotsFor old new (su.Rejected number) = new ≡ old
 
--- a submission has this number, which comes next, and is a call that is made; where it is accepted, its task is in its slot
+-- a submission has this number, which comes next, and is a call that is made; it is accepted exactly where the executor is not shut,
+-- and then its task is in its slot
 pub record Submits (old new : LiveView) (at : ℕ) (timing : Timing) (delay : ℕ) (s : Submitted) : Type 0 where
   pub short : IsShort timing delay
   pub near : moment_of_call old at ≤ longest
   pub number : number_of s ≡ old.count
   pub numbers : old.count < 2 ^ 64 - 1
+  pub accepts : has_task s ≡ not old.table.shut
   pub makes : Calls old new (moment_of_call old at, c.Submit old.count timing delay) (submit_reply timing s)
   pub seated : IsSeated new s
   pub slots : SlotsFor old.table.slots new.table.slots s

@@ -28,10 +28,12 @@ impl<A: Allocator> ScheduledExecutor<A> {
     pub fn clock(&mut self, moment: u64) -> Result<(), EventError>
         ensures accepted { IsOk result ↔ (is_accepted self.old.table.moment moment ≡ true) }
         ensures happens { IfOk result (λ _. Happens self.old self.new (happening.Clock moment) (bare answer.Clock)) }
+        ensures moment { IfOk result (λ _. self.new.table.moment ≡ moment) }
         ensures earliest { IfOk result (λ _. self.new.earliest ≡ moment + 1) }
         ensures workers { IfOk result (λ _. workers_of self.new.table ≡ workers_of self.old.table) }
         ensures count { self.new.count ≡ self.old.count }
         ensures slots { self.new.table.slots ≡ self.old.table.slots }
+        ensures work { self.new.table.work ≡ self.old.table.work }
         ensures ended { self.new.ended ≡ [] }
         ensures failed { IfErr result (λ error. IsClockError self.old.table moment error × events.Fails self.old self.new (happening.Clock moment) error) }
     {

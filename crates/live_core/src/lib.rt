@@ -88,6 +88,7 @@
 //! again with each growth that it asks for refused in turn.
 #![tactic(auto)]
 
+mod ahead;
 mod answers;
 mod cancels;
 mod error;

@@ -114,8 +114,8 @@ impl<A: Allocator> ScheduledExecutor<A> {
         }
     }
 
-    /// The moment of a call that is made at this one.
-    pub(crate) fn moment_of(&self, at: u64) -> u64
+    /// The moment of a call that is made at this one: the greatest of `at`, now, and 1 ns after the last accepted clock.
+    pub fn moment_of(&self, at: u64) -> u64
         ensures { result ≡ moment_of_call self.now at }
     {
         at.max(self.table.now().max(self.earliest))

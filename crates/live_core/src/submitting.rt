@@ -14,7 +14,7 @@ use std::alloc::{AllocError, Allocator};
 
 impl<A: Allocator> ScheduledExecutor<A> {
     ghost use Rattle.live_core.specs.Lives.{Calls, StaysQuiet};
-    ghost use Rattle.live_core.specs.Said.{AreTaken, IsSeated, SlotsFor, submit_reply, number_of};
+    ghost use Rattle.live_core.specs.Said.{AreTaken, IsSeated, SlotsFor, submit_reply, number_of, has_task};
     ghost use Rattle.live_core.specs.declared.answers.Submitted.TheVariants as submitted;
 
     /// A call submits a task at this moment, where the executor is not shut.
@@ -31,6 +31,7 @@ impl<A: Allocator> ScheduledExecutor<A> {
         requires spans { (delay ≤ longest) × IsTimed timing }
         requires few { self.old.count + 1 < 2 ^ 64 }
         ensures number { IfOk result (λ s. number_of s ≡ self.old.count) }
+        ensures accepts { IfOk result (λ s. has_task s ≡ true) }
         ensures seated { IfOk result (λ s. IsSeated self.new s) }
         ensures slots { IfOk result (λ s. SlotsFor self.old.table.slots self.new.table.slots s) }
         ensures full { OnErr result (AreTaken self.old.table.slots) }

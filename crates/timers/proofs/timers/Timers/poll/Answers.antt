@@ -1,0 +1,13 @@
+-- A poll that begins no run leaves the data where they are.
+use Rattle.std.proofs.Common.{subst}
+use Rattle.timers.specs.Timers.{TimersView, GivesNone}
+use Rattle.timers.specs.own.Rooms.{seen}
+use Rattle.timers.proofs.Kept.{kept_unpolled}
+use Rattle.timers.proofs.timers.Timers.poll.Goals as goal
+
+pub returns-in_err-begun-clause-keeps : goal.returns-in_err-begun-clause-keeps
+returns-in_err-begun-clause-keeps g c =
+    let kept = c.self.inside.user_data.items in
+    let new = c.begin.new.executor in
+    subst (λ (v : TimersView). GivesNone v (seen new kept)) c.self.view_is
+    (kept_unpolled c.self.inside.executor new kept c.args.now c.args.worker c.in_err-begun.field-0.0 c.in_err-begun.ensures.failed)
