@@ -1,6 +1,6 @@
 -- What the calls of the library do.
 -- All of it is this project's rule.
-use Rattle.std.specs.Prelude.{◌≡◌, ℕ, ◌+◌, ◌-◌, ◌^◌, ◌<◌, ◌≤◌, ◌↔◌, ◌⊎◌, Bool, true, false, List, [], Option, Some, None, length, take, drop, map, slice_get, option_and_then}
+use Rattle.std.specs.Prelude.{◌≡◌, ℕ, ◌+◌, ◌-◌, ◌^◌, ◌<◌, ◌≤◌, ◌↔◌, ◌⊎◌, Bool, true, false, List, [], Option, Some, None, length, drop, map, slice_get, option_and_then}
 use Rattle.task_word.specs.Words.{Parts}
 use Rattle.queue_code.specs.Calls.{task_count}
 use Rattle.plan_read.specs.declared.faults.PlanFault.{PlanFault}
@@ -18,8 +18,8 @@ use Rattle.executor_core.specs.Histories.{HistoryEntry, IsHistoryOf}
 use Rattle.executor_core.specs.Needs.{IsRipe}
 use Rattle.executor_core.specs.State.{view_of_state}
 use Rattle.executor_core.specs.Tasks.{word_of_task}
-use Rattle.trace_text.specs.Spelling.{lines_text}
-use Rattle.trace_text.specs.Writing.{line_room}
+use Rattle.line_copy.specs.declared.copied.Copied.{Copied}
+use Rattle.line_copy.specs.Copying.{IsCopied}
 use Rattle.sched_engine.specs.Cores.{Opens}
 use Rattle.sched_engine.specs.Running.{RefusesToRun}
 use Rattle.sched_engine.specs.declared.report.RunError.{RunError}
@@ -30,7 +30,6 @@ use Rattle.sched_c.specs.declared.status.Status.TheVariants as s
 use Rattle.sched_c.specs.declared.started.Started.{Started}
 use Rattle.sched_c.specs.declared.state.State.{State}
 use Rattle.sched_c.specs.declared.state.TaskState.{TaskState}
-use Rattle.sched_c.specs.declared.text.Copied.{Copied}
 use Rattle.sched_c.specs.Faults.{fault_of, no_fault}
 use Rattle.sched_c.specs.Numbers.{number_of_status, number_of_phase, number_of_bool}
 use Rattle.sched_c.specs.Seen.{Seen}
@@ -102,16 +101,6 @@ TakesEventOf worker status event old new =
     ((worker < 256) × TakesEvent status event old new) ⊎ ((256 ≤ worker) × RefusesWorker status old new)
 
 -- ---- reading
-
--- of the text of some lines this much was copied into a buffer: that of the first ones, as long as there was room for any line
-pub record IsCopied (all : List Line) (before after : List ℕ) (copied : Copied) : Type 0 where
-  pub lines : copied.lines ≤ length all
-  pub text : take copied.bytes after ≡ lines_text (take copied.lines all)
-  pub bytes : copied.bytes ≤ length before
-  -- each line began where there was room for any line
-  pub room : (n : ℕ) → n < copied.lines → length (lines_text (take n all)) + line_room ≤ length before
-  -- and where one more would begin there is none, or no line is left
-  pub most : (copied.lines ≡ length all) ⊎ (length before < copied.bytes + line_room)
 
 -- what the copying of the text of the lines came to, from the one of this number on, counted from 0
 abbrev pub Copies : Status → ℕ → List ℕ → List ℕ → Copied → Option Seen → Option Seen → Type 0

@@ -9,8 +9,8 @@ use crate::fault::Fault;
 use crate::slot::Slot;
 use crate::started::Started;
 use crate::state::{State, TaskState};
-use crate::text::Copied;
 use executor_core::Event;
+use line_copy::Copied;
 use sched_time::Ending;
 use std::alloc::Global;
 

@@ -47,4 +47,3 @@ mod state;
 mod status;
 #[cfg(test)]
 mod tests;
-mod text;

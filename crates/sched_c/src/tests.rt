@@ -10,7 +10,7 @@ use crate::slot::Slot;
 use crate::started::Started;
 use crate::state::{State, TaskState};
 use crate::status::Status;
-use crate::text::Copied;
+use line_copy::Copied;
 use std::alloc::Global;
 use std::process::Abort;
 

@@ -1,0 +1,3 @@
+pub use Rattle.trace_text.specs.Spelling
+pub use Rattle.trace_text.specs.Writing
+pub mod Copying
