@@ -1,5 +1,5 @@
 //! The timers, and what they tell.
-ghost use Rattle.std.specs.Prelude.{◌≡◌, ◌≤◌, ◌==◌, ◌&&◌, [], true, false, IfOk, IfErr, IfSome, IfNone, OnOk, OnErr, IsOk, length, slice_index_or};
+ghost use Rattle.std.specs.Prelude.{◌≡◌, ◌<◌, ◌≤◌, ◌==◌, ◌&&◌, [], true, false, IfOk, IfErr, IfSome, IfNone, OnOk, OnErr, IsOk, length, slice_index_or};
 ghost use Rattle.sched_time.specs.Times.{longest};
 ghost use Rattle.executor_core.specs.Counts.{IsWorkerCount};
 
@@ -92,8 +92,8 @@ impl<A: Allocator> Timers<A> {
         self.executor.is_waiting(task)
     }
 
-    /// How far a task is that waits or is kept in the queue, or whose run is under way, and `None` of each other one. The task is
-    /// the one of the number, whatever the slot.
+    /// How far a task is that a slot holds: it waits or is kept in the queue, or its run is under way. `None` of one that no slot
+    /// holds, of which nothing comes any more. The task is the one of the number, whatever the slot.
     pub fn seat_of(&self, task: TaskRef) -> Option<Seat>
         ensures history { TellsTask self.now.live task.number result }
         ensures named { IfSome result (λ seat. seat.number ≡ task.number) }
@@ -123,6 +123,7 @@ impl<A: Allocator> Timers<A> {
     /// What was given with the submission of the task at this place of [`ended`](Timers::ended), and `None` behind its end.
     pub fn ended_user_data(&self, place: usize) -> Option<u64>
         ensures given { IfSome result (λ value. IsGivenAt self.now place value) }
+        ensures there { IfSome result (λ _. place < length self.now.live.ended) }
         ensures none { IfNone result (length self.now.live.ended ≤ place) }
     {
         let task = self.executor.ended().get(place)?;

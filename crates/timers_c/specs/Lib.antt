@@ -1,0 +1,16 @@
+pub use Rattle.executor_core.specs.Answers
+pub use Rattle.executor_core.specs.Flows
+pub use Rattle.line_copy.specs.Copying
+pub use Rattle.task_table.specs.Firsts
+pub use Rattle.live_core.specs.Cancels
+pub use Rattle.live_core.specs.Lives
+pub use Rattle.live_core.specs.Said
+pub use Rattle.live_core.specs.Shutting
+pub use Rattle.timers.specs.Timers
+pub mod Calls
+pub mod Many
+pub mod Numbers
+pub mod Seen
+pub mod Slots
+pub mod Texts
+pub mod own

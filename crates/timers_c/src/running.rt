@@ -1,0 +1,75 @@
+//! Polls, and the ends of runs.
+ghost use Rattle.std.specs.Prelude.{◌≡◌, ◌≢◌, Some};
+ghost use Rattle.timers_c.specs.declared.status.Status.TheVariants as statuses;
+ghost use Rattle.timers_c.specs.Calls.{holding, no_end, no_run, TakesFinish, TakesPoll};
+
+use crate::runs::{End, Run};
+use crate::session::Session;
+use crate::slot::Slot;
+use crate::status::Status;
+use sched_time::Ending;
+use std::alloc::Global;
+use timers::{FinishError, PollError};
+
+/// A worker polls.
+pub fn poll(alloc: Global, slot: &mut Slot, now: u64, worker: u32, run: &mut Run) -> Status
+    ensures { TakesPoll result now worker run.new (holding slot.old.full slot.old.held.value) (holding slot.new.full slot.new.held.value) }
+{
+    *run = Run::none();
+    let Some(mut session) = slot.take(alloc) else {
+        return Status::NoTimers;
+    };
+    let (status, begun) = begin(&mut session, now, worker);
+    *slot = Slot::of(session);
+    *run = begun;
+    status
+}
+
+/// A worker polls: what came of it, and the run that it begins, or none.
+pub fn begin(session: &mut Session, now: u64, worker: u32) -> (Status, Run)
+    ensures takes { TakesPoll result.0 now worker result.1 (Some session.old) (Some session.new) }
+    ensures none { result.0 ≢ statuses.Done → result.1 ≡ no_run }
+{
+    match session.poll(now, worker) {
+        Ok(Some(run)) => (Status::Done, Run::of(worker, run)),
+        Ok(None) => (Status::Idle, Run::none()),
+        Err(PollError::NoWorker) => (Status::NoWorker, Run::none()),
+        Err(PollError::Busy) => (Status::Busy, Run::none()),
+        Err(PollError::TooFar) => (Status::TooFar, Run::none()),
+        Err(PollError::Full) => (Status::Full, Run::none()),
+    }
+}
+
+/// The run of a worker has ended so.
+pub fn finish(
+    alloc: Global,
+    slot: &mut Slot,
+    now: u64,
+    worker: u32,
+    ending: Ending,
+    end: &mut End,
+) -> Status
+    ensures { TakesFinish result now worker ending end.new (holding slot.old.full slot.old.held.value) (holding slot.new.full slot.new.held.value) }
+{
+    *end = End::none();
+    let Some(mut session) = slot.take(alloc) else {
+        return Status::NoTimers;
+    };
+    let (status, ended) = end_run(&mut session, now, worker, ending);
+    *slot = Slot::of(session);
+    *end = ended;
+    status
+}
+
+/// The run of a worker has ended so: what came of it, and the end, or none.
+pub fn end_run(session: &mut Session, now: u64, worker: u32, ending: Ending) -> (Status, End)
+    ensures takes { TakesFinish result.0 now worker ending result.1 (Some session.old) (Some session.new) }
+    ensures none { result.0 ≢ statuses.Done → result.1 ≡ no_end }
+{
+    match session.finish(now, worker, ending) {
+        Ok(finished) => (Status::Done, End::of(finished)),
+        Err(FinishError::NoWorker) => (Status::NoWorker, End::none()),
+        Err(FinishError::NotRunning) => (Status::NotRunning, End::none()),
+        Err(FinishError::TooFar) => (Status::TooFar, End::none()),
+    }
+}
