@@ -25,7 +25,8 @@
 //! Each call is one of `timers`, and its contract says of it the same, whatever calls and history led here (`specs/Calls.antt`).
 //! A contract sees a session as [`Seen`](../../specs/Seen.antt): the timers, and the lines that a trace has of the last call that was
 //! taken. These lines take no memory: a session notes the moment that the clock showed and the answer, and the timers have the tasks
-//! that the call ended. `timers_ref_poll_many` and `timers_ref_finish_many` do what the same calls one by one do, as far as they say
+//! that the call ended. `timers_ref_text` makes them one at a time, and copies their text into the caller's buffer
+//! (`specs/Texts.antt`). `timers_ref_poll_many` and `timers_ref_finish_many` do what the same calls one by one do, as far as they say
 //! that they came (`specs/Many.antt`).
 //!
 //! # Errors
@@ -39,6 +40,10 @@
 //! `timers_ref_new` takes the memory of the timers, and the room that the session itself lies in. The submissions and
 //! `timers_ref_reserve` take what those of `timers` do, and no other call answers want of memory; that none asks for any is tested. A
 //! call costs what that of `timers` does, and a few steps more.
+//!
+//! # Tests
+//!
+//! They stand in `src/tests.rt`: what each call does, and its statuses, as a program in C gets them.
 #![tactic(auto)]
 
 mod exports;

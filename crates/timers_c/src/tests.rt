@@ -7,12 +7,17 @@ use crate::exports::{
     timers_ref_reserve, timers_ref_schedule, timers_ref_set_policy, timers_ref_shutdown,
     timers_ref_shutdown_now, timers_ref_state_of, timers_ref_task_of, timers_ref_text,
 };
+use crate::last::Last;
+use crate::lines::{all_spelled, line_at};
 use crate::refs::{Gone, Ref};
 use crate::runs::{End, Ending, Run};
+use crate::said::Said;
 use crate::slot::Slot;
 use crate::state::{Counts, State, TaskState};
 use crate::status::Status;
+use executor_core::{Line, Message};
 use line_copy::Copied;
+use live_core::TaskRef;
 use std::alloc::Global;
 use std::process::Abort;
 
@@ -610,4 +615,28 @@ fn a_small_buffer_takes_a_line_at_a_time(rt: HostRuntime) {
         (status, copied),
         (Status::NoTimers.number(), Copied::none())
     );
+}
+
+#[test]
+fn numbers_that_no_line_has_room_for_are_found(rt: HostRuntime) {
+    let most = (1u64 << 32) - 1;
+    let rejected = Last::call(Said::Reject { task: most });
+    assert!(rt; all_spelled(rejected, 0, &[]));
+    let rejected = Last::call(Said::Reject { task: most + 1 });
+    assert!(rt; !all_spelled(rejected, 0, &[]));
+    let gone = [
+        TaskRef { number: 3, slot: 0 },
+        TaskRef {
+            number: most + 1,
+            slot: 1,
+        },
+    ];
+    assert!(rt; all_spelled(Last::call(Said::ShutdownNow), 0, &gone[..1]));
+    assert!(rt; !all_spelled(Last::call(Said::ShutdownNow), 0, &gone));
+    let first = line_at(Last::call(Said::ShutdownNow), 9, &gone[..1], 1);
+    let end = Line {
+        moment: 9,
+        message: Message::End(3),
+    };
+    assert!(rt; first == Some(end));
 }
