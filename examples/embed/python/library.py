@@ -1,15 +1,21 @@
 """A shared library whose calls take a slot and whole numbers, and answer a status."""
 
+from __future__ import annotations
+
 import ctypes
+from collections.abc import Callable, Mapping, Sequence
+from typing import Any, TypeVar
+
+Held = TypeVar("Held", bound="Closes")
 
 
 class Whole:
     """An argument that is a whole number of this type: ctypes alone would cut off what does not fit."""
 
-    def __init__(self, kind):
+    def __init__(self, kind: type[Any]) -> None:
         self._kind, self._end = kind, 1 << 8 * ctypes.sizeof(kind)
 
-    def from_param(self, number):
+    def from_param(self, number: int) -> Any:
         """The number as the library takes it."""
         if not 0 <= number < self._end:
             raise ValueError(f"{number} is not 0 to {self._end - 1}")
@@ -26,16 +32,17 @@ class Library:
     time. It needs an interpreter that has such a lock.
     """
 
-    def __init__(self, path, front, slot, types):
+    def __init__(self, path: str, front: str, slot: type[ctypes.Structure], types: Mapping[str, Sequence[Any]]) -> None:
         library = ctypes.PyDLL(path)
-        self._calls = {name: getattr(library, front + name) for name in types}
-        for name, call in self._calls.items():
-            call.argtypes, call.restype = [ctypes.POINTER(slot), *types[name]], ctypes.c_uint32
+        self._calls: dict[str, Callable[..., int]] = {}
+        for name, words in types.items():
+            call = self._calls[name] = getattr(library, front + name)
+            call.argtypes, call.restype = [ctypes.POINTER(slot), *words], ctypes.c_uint32
 
-    def __getitem__(self, name):
+    def __getitem__(self, name: str) -> Callable[..., int]:
         return self._calls[name]
 
-    def call(self, name, *words):
+    def call(self, name: str, *words: Any) -> int:
         """The status that a call answers. Where a number does not fit, none is made."""
         try:
             return self._calls[name](*words)
@@ -47,12 +54,14 @@ class Closes:
     """What holds memory of a library, and gives it back by its finalizer `_free`: at `close`, at the end of a `with`, or else with
     its last name or at the end of the program."""
 
-    def close(self):
+    _free: Callable[[], object]
+
+    def close(self) -> None:
         """Frees it. A second call does nothing, and any other is refused."""
         self._free()
 
-    def __enter__(self):
+    def __enter__(self: Held) -> Held:
         return self
 
-    def __exit__(self, *_):
+    def __exit__(self, *_: object) -> None:
         self.close()

@@ -1,0 +1,558 @@
+"""What a pool of threads over timers does, by the machine's clock.
+
+Of times the lower bounds alone are tested, which hold on a machine that is busy with something else too. Where SCHED names the
+program `sched`, the traces of pools are checked with it; else that is left out, which is told.
+"""
+
+import concurrent.futures
+import contextlib
+import gc
+import os
+import queue
+import random
+import subprocess
+import sys
+import threading
+import time
+import traceback
+import weakref
+from pathlib import Path
+from unittest import mock
+
+PYTHON = Path(__file__).resolve().parent.parent / "python"
+sys.path.insert(0, str(PYTHON))
+
+import scheduled_pool
+from recorded_timers import Recorded, found
+from scheduled_pool import ScheduledThreadPoolExecutor
+from timers import Rejected, Timers
+
+PATIENCE = 60   # seconds for what has to come, after which it counts as lost
+
+
+def refuses(kind, call, *words):
+    """A call that has to raise this error."""
+    try:
+        call(*words)
+    except kind as refused:
+        return refused
+    raise AssertionError(f"{call} {words} was not refused")
+
+
+@contextlib.contextmanager
+def pool_of(workers, kind=Timers):
+    """A pool over timers of this kind. At the end it is shut down at once, and has to end."""
+    with mock.patch.object(scheduled_pool, "Timers", kind):
+        pool = ScheduledThreadPoolExecutor(workers)
+    try:
+        yield pool
+    finally:
+        pool.shutdown(wait=False, cancel_futures=True)
+    assert pool.await_termination(PATIENCE) and pool.is_terminated and pool.is_shutdown
+    assert not pool._jobs, pool._jobs
+
+
+def wait_until(condition):
+    """Waits for what has to come."""
+    deadline = time.monotonic() + PATIENCE
+    while not condition():
+        assert time.monotonic() < deadline, "it never came"
+        time.sleep(0.001)
+
+
+def held(pool):
+    """Holds up a worker of a pool until the event that is answered is set."""
+    begun, going = threading.Event(), threading.Event()
+    pool.submit(lambda: (begun.set(), going.wait(PATIENCE)))
+    assert begun.wait(PATIENCE)
+    return going
+
+
+def order():
+    """Calls begin no sooner than they are due, and in the order of that."""
+    with pool_of(1, Recorded) as pool:
+        begun, first, going = [], time.monotonic(), held(pool)
+
+        def note(place):
+            begun.append((place, time.monotonic()))
+
+        delays = [0.09, 0.03, 0.06, 0.03, 0.0, -5, 0.06, 0.03]
+        futures = [pool.schedule(delay, note, place) for place, delay in enumerate(delays)]
+        going.set()
+        concurrent.futures.wait(futures, PATIENCE)
+        dues = [int(words[-1]) for words in pool._timers.words() if words[1] == "submit"][1:]
+        assert [place for place, _ in begun] == sorted(range(len(delays)), key=dues.__getitem__)
+        assert all(moment >= first + max(delays[place], 0) for place, moment in begun)
+
+
+def sooner():
+    """A call that is due sooner is not kept waiting by a leader that waits for a later one, however many workers there are."""
+    for workers in (1, 2, 5):
+        with pool_of(workers) as pool:
+            far = pool.schedule(3600, print)
+            time.sleep(0.02)
+            for delay in (0.02, 0.01, 0.0, 0.03):
+                begun = time.monotonic()
+                assert pool.schedule(delay, time.monotonic).result(PATIENCE) >= begun + delay
+            assert not far.done()
+
+
+def beside():
+    """A heartbeat goes on beside a call that is due much later, for which another worker leads while the heart beats."""
+    for workers in (1, 2, 3):
+        with pool_of(workers) as pool:
+            beats = []
+
+            def beat(pool=pool, beats=beats, workers=workers):
+                begun = time.monotonic()
+                wait_until(lambda: pool._leader is not None or workers == 1 or len(beats) >= 5)
+                beats.append(begun)
+
+            far, first = pool.schedule(3600, print), time.monotonic()
+            pool.schedule_at_fixed_rate(0.01, 0.01, beat)
+            wait_until(lambda beats=beats: len(beats) >= 5)
+            assert all(moment >= first + 0.01 + 0.01 * run for run, moment in enumerate(beats)) and not far.done()
+
+
+def together():
+    """As many calls as there are workers run at a time: each waits here until all of them have begun."""
+    for workers in (2, 7):
+        with pool_of(workers) as pool:
+            for delay in (0.02, 0.0):
+                barrier = threading.Barrier(workers)
+                futures = [pool.schedule(delay, barrier.wait, PATIENCE) for _ in range(workers)]
+                assert sorted(future.result(PATIENCE) for future in futures) == list(range(workers))
+
+
+def rates():
+    """Runs at a fixed rate begin no sooner than they are due, make up for a late one, and do not overlap."""
+    with pool_of(4, Recorded) as pool:
+        begun, busy, first = [], threading.Lock(), time.monotonic()
+
+        def beat():
+            assert busy.acquire(blocking=False)
+            begun.append(time.monotonic())
+            if len(begun) == 2:
+                time.sleep(0.1)
+            busy.release()
+
+        future = pool.schedule_at_fixed_rate(0.02, 0.01, beat)
+        wait_until(lambda: len(begun) >= 15)
+        assert future.cancel() and future.cancelled()
+        assert all(moment >= first + 0.02 + 0.01 * run for run, moment in enumerate(begun)), begun
+        starts = [words for words in pool._timers.words() if words[1] == "start" and words[3:5] == ["task", "0"]]
+        dues = [int(words[-1]) for words in starts]
+        assert [due - dues[0] for due in dues] == [10_000_000 * run for run in range(len(dues))]
+        late = [int(words[0]) - int(words[-1]) for words in starts]
+        assert min(late) >= 0 and late[2] >= 80_000_000 and late[3] >= 70_000_000, late
+
+
+def delays():
+    """Runs with a fixed delay begin no sooner than that after the end of the one before."""
+    with pool_of(2) as pool:
+        begun, ended, first = [], [], time.monotonic()
+
+        def step(pause, *, ends):
+            begun.append(time.monotonic())
+            time.sleep(pause)
+            ends.append(time.monotonic())
+
+        future = pool.schedule_with_fixed_delay(0.01, 0.02, step, 0.01, ends=ended)
+        wait_until(lambda: len(ended) >= 4)
+        future.cancel()
+        assert begun[0] >= first + 0.01 and all(later >= end + 0.02 for end, later in zip(ended, begun[1:]))
+        assert refuses(concurrent.futures.CancelledError, future.result) is not None
+
+
+def withdraws():
+    """A cancel of a future in each state."""
+    with pool_of(2) as pool:
+        told, going, begun = [], threading.Event(), threading.Event()
+
+        def hold(answer):
+            begun.set()
+            going.wait(PATIENCE)
+            return answer
+
+        waiting = pool.schedule(3600, print)
+        waiting.add_done_callback(told.append)
+        assert waiting.cancel() and waiting.cancel() and waiting.cancelled() and told == [waiting] and pool.counts().queue == 0
+        assert concurrent.futures.wait([waiting], PATIENCE).done == {waiting}
+        running = pool.submit(hold, 7)
+        begun.wait(PATIENCE)
+        assert not running.cancel() and running.running() and not running.done()
+        begun.clear()
+        again = pool.schedule_at_fixed_rate(0, 0.001, hold, 8)
+        begun.wait(PATIENCE)
+        assert again.cancel() and again.cancel() and again.cancelled() and pool.counts().running == 2
+        begun.clear()
+        going.set()
+        assert running.result(PATIENCE) == 7 and not running.cancel() and running.result() == 7
+        failed = pool.submit(int, "x")
+        assert isinstance(failed.exception(PATIENCE), ValueError) and not failed.cancel()
+        between = pool.schedule_at_fixed_rate(0, 3600, begun.set)
+        begun.wait(PATIENCE)
+        wait_until(lambda: pool.counts().running == 0)
+        assert pool.counts().queue == 1 and not between.done() and between.cancel() and pool.counts().queue == 0
+        time.sleep(0.02)
+        assert not again.running() and pool.counts() == (0, 0, False, False)
+
+
+def timeouts():
+    """Ten thousand timeouts, of which 99 of 100 are cancelled: the others come, no sooner than they are due, and none that was."""
+    with pool_of(2) as pool:
+        come, left, dues = [], [], []
+
+        def note(place):
+            come.append((place, time.monotonic()))
+
+        for first in range(0, 10_000, 100):
+            dues.append(time.monotonic() + 1)
+            batch = [pool.schedule(1, note, place) for place in range(first, first + 100)]
+            assert all(future.cancel() for future in batch[1:]) and pool.counts().queue <= len(dues)
+            left.append(batch[0])
+        concurrent.futures.wait(left, PATIENCE)
+        time.sleep(0.01)
+        come.sort()
+        assert [place for place, _ in come] == list(range(0, 10_000, 100)) and all(future.done() for future in left)
+        assert all(moment >= due for due, (_, moment) in zip(dues, come))
+
+
+def jobs_that_call():
+    """Jobs submit and cancel, the callbacks of futures too; and a chain of jobs, each of which submits the next one."""
+    with pool_of(2) as pool:
+        far = pool.schedule(3600, print)
+        assert pool.submit(far.cancel).result(PATIENCE) and far.cancelled()
+        inner = pool.submit(pool.schedule, 0.01, pow, 2, 5).result(PATIENCE)
+        assert inner.result(PATIENCE) == 32
+        ended = threading.Event()
+
+        def step(left):
+            if left:
+                pool.schedule(0.0001, step, left - 1)
+            else:
+                ended.set()
+
+        step(200)
+        assert ended.wait(PATIENCE)
+        followed = threading.Event()
+        pool.schedule(0.01, int).add_done_callback(lambda _: pool.schedule(0.01, followed.set))
+        assert followed.wait(PATIENCE)
+        assert pool.schedule(0, dict, delay=1, fn=2, self=3).result(PATIENCE) == {"delay": 1, "fn": 2, "self": 3}
+        beats, itself = [], queue.SimpleQueue()
+
+        def stop_at_three():
+            beats.append(len(beats))
+            if len(beats) == 3:
+                itself.get().cancel()
+
+        pulse = pool.schedule_at_fixed_rate(0.01, 0.001, stop_at_three)
+        itself.put(pulse)
+        concurrent.futures.wait([pulse], PATIENCE)
+        time.sleep(0.01)
+        assert beats == [0, 1, 2] and pulse.cancelled()
+        assert list(pool.map(pow, range(50), [2] * 50)) == [number * number for number in range(50)]
+
+
+def callbacks():
+    """Callbacks are called without the lock, whoever ends a future: another thread may use the pool meanwhile."""
+    ended = []
+
+    def look(future):
+        other = threading.Thread(target=pool.counts)
+        other.start()
+        other.join(PATIENCE)
+        ended.append(not other.is_alive())
+
+    with pool_of(2) as pool:
+        for future in (pool.submit(int), pool.submit(int, "x"), pool.schedule(3600, int)):
+            future.add_done_callback(look)
+        future.cancel()
+        begun, going = threading.Event(), threading.Event()
+        pool.schedule_at_fixed_rate(0, 1, lambda: (begun.set(), going.wait(PATIENCE))).add_done_callback(look)
+        begun.wait(PATIENCE)
+        pool.schedule_at_fixed_rate(3600, 1, int).add_done_callback(look)
+        pool.schedule(3600, int).add_done_callback(look)
+        pool.shutdown(wait=False)
+        pool.executes_delayed = False
+        going.set()
+        assert pool.await_termination(PATIENCE) and ended == [True] * 6, ended
+
+
+def shutdowns():
+    """What a shutdown leaves, by each policy, and at once."""
+    for continues, executes in [(False, True), (False, False), (True, True), (True, False)]:
+        with pool_of(2) as pool:
+            pool.continues_periodic, pool.executes_delayed = continues, executes
+            assert (pool.continues_periodic, pool.executes_delayed) == (continues, executes)
+            beats = []
+            delayed = pool.schedule(0.05 if executes else 3600, pow, 2, 3)
+            pulse = pool.schedule_at_fixed_rate(0.02 if continues else 3600, 0.02, beats.append, 1)
+            pool.shutdown(wait=False)
+            assert pool.is_shutdown and delayed.cancelled() is not executes and pulse.cancelled() is not continues
+            refuses(RuntimeError, pool.submit, print)
+            refuses(RuntimeError, pool.schedule, 1, print)
+            refuses(RuntimeError, pool.schedule_at_fixed_rate, 1, 1, print)
+            refuses(RuntimeError, pool.schedule_with_fixed_delay, 1, 1, print)
+            if executes:
+                assert delayed.result(PATIENCE) == 8
+            if continues:
+                wait_until(lambda beats=beats: len(beats) >= 3)
+                assert not pool.is_terminated and not pulse.done()
+                pool.continues_periodic = False
+                concurrent.futures.wait([pulse], PATIENCE)
+            assert pulse.cancelled() and pool.await_termination(PATIENCE)
+    with pool_of(1) as pool:
+        begun, going = threading.Event(), threading.Event()
+        running = pool.submit(lambda: (begun.set(), going.wait(PATIENCE)))
+        begun.wait(PATIENCE)
+        due, far, pulse = pool.submit(print), pool.schedule(3600, print), pool.schedule_at_fixed_rate(0, 1, print)
+        pool.shutdown(wait=False, cancel_futures=True)
+        assert due.cancelled() and far.cancelled() and pulse.cancelled() and not running.done()
+        assert concurrent.futures.wait([due, far, pulse], 0).not_done == set()
+        going.set()
+        assert pool.await_termination(PATIENCE) and running.result(0)[1]
+
+
+def last_cancel():
+    """A pool that is shut ends with a cancel of the last task that waits, and so with a policy that ends it."""
+    with pool_of(3) as pool:
+        far = pool.schedule(3600, print)
+        pool.shutdown(wait=False)
+        assert not pool.await_termination(0.05) and far.cancel() and pool.await_termination(PATIENCE)
+    with pool_of(3) as pool:
+        far = pool.schedule(3600, print)
+        pool.shutdown(wait=False)
+        pool.executes_delayed = False
+        assert far.cancelled() and pool.await_termination(PATIENCE)
+    with ScheduledThreadPoolExecutor(2) as pool:
+        late = pool.schedule(0.05, pow, 3, 2)
+    assert pool.is_terminated and late.result(0) == 9
+
+
+def endless():
+    """A job that does not end holds up the end of a pool, until it does."""
+    with pool_of(2) as pool:
+        begun, going = threading.Event(), threading.Event()
+        job = pool.submit(lambda: (begun.set(), going.wait(PATIENCE)))
+        begun.wait(PATIENCE)
+        first = time.monotonic()
+        assert not pool.await_termination(0.05) and time.monotonic() >= first + 0.05
+        pool.shutdown(wait=False)
+        assert not pool.await_termination(0) and not pool.await_termination(0.05) and not pool.is_terminated and pool.is_shutdown
+        going.set()
+        assert pool.await_termination(PATIENCE) and pool.is_terminated and job.done()
+        assert isinstance(refuses(RuntimeError, pool.submit, print), Rejected)
+    with pool_of(1) as pool:
+        assert isinstance(pool.submit(pool.shutdown).exception(PATIENCE), RuntimeError) and pool.is_shutdown
+
+
+def slow():
+    """What is due while the one worker is busy comes after that, all of it, in the order in which it was due."""
+    with pool_of(1, Recorded) as pool:
+        ran, going = [], held(pool)
+        pulse = pool.schedule_at_fixed_rate(0.001, 0.01, int)
+        futures = [pool.schedule(0.04 - place / 1000, ran.append, place) for place in range(40)]
+        time.sleep(0.1)
+        going.set()
+        concurrent.futures.wait(futures, PATIENCE)
+        pulse.cancel()
+        dues = [int(words[-1]) for words in pool._timers.words() if words[1] == "start" and words[3] == "task"]
+        assert sorted(ran) == list(range(40)) and dues == sorted(dues) and len(dues) >= 1 + 4 + 40
+
+
+def failures():
+    """An exception of a job stands in its future, and a task that runs again and again ends with it."""
+    with pool_of(2) as pool:
+        class Unusual(BaseException):
+            """No Exception."""
+
+        def fail_at_three():
+            beats.append(len(beats))
+            if len(beats) == 3:
+                raise Unusual("three")
+
+        beats = []
+        third = pool.schedule_at_fixed_rate(0, 0.001, fail_at_three)
+        for future in (third, pool.schedule_with_fixed_delay(0, 0.001, divmod, 1, 0)):
+            assert isinstance(future.exception(PATIENCE), Unusual | ZeroDivisionError) and not future.cancelled()
+            assert not future.cancel()
+        time.sleep(0.01)
+        assert beats == [0, 1, 2] and isinstance(pool.submit(sys.exit, 3).exception(PATIENCE), SystemExit)
+        refuses(ZeroDivisionError, pool.schedule(0.001, divmod, 1, 0).result, PATIENCE)
+        assert pool.submit(pow, 2, 3).result(PATIENCE) == 8
+        for call, *words in [
+            (pool.schedule, float("nan")), (pool.schedule, float("inf")), (pool.schedule, 1e10), (pool.schedule, 1e30),
+            (pool.schedule_at_fixed_rate, 1, 0), (pool.schedule_at_fixed_rate, 1, -1), (pool.schedule_with_fixed_delay, 1, 0),
+            (pool.schedule_with_fixed_delay, 1, 1e-10),
+        ]:
+            refuses(ValueError, call, *words, print)
+    for workers in (0, 65, -1, 1.5):
+        refuses(ValueError, ScheduledThreadPoolExecutor, workers)
+
+
+def drops():
+    """A pool keeps nothing of a job that is over: neither what it was called with, nor its failure."""
+    class Kept:
+        """What can be counted."""
+        alive = 0
+
+        def __init__(self):
+            Kept.alive += 1
+
+        def __del__(self):
+            Kept.alive -= 1
+
+        def fail(self):
+            """Fails, with itself in the traceback."""
+            raise ValueError(self)
+
+    with pool_of(2) as pool:
+        gc.disable()
+        pool.submit(id, Kept()).result(PATIENCE)
+        pool.schedule(3600, id, Kept()).cancel()
+        pool.submit(Kept().fail).exception(PATIENCE)
+        wait_until(lambda: Kept.alive == 0)
+        gc.enable()
+
+
+def threads():
+    """Threads have names. Where one can not be started, those that were started end. A pool is dropped with its last name."""
+    with ScheduledThreadPoolExecutor(2, thread_name_prefix="beat") as pool:
+        assert pool.submit(lambda: threading.current_thread().name).result(PATIENCE) in ("beat_0", "beat_1")
+    left = weakref.ref(pool)
+    del pool
+    gc.collect()
+    assert left() is None
+    start, started = threading.Thread.start, []
+
+    def start_two(thread):
+        if len(started) == 2:
+            raise RuntimeError("no third")
+        started.append(thread)
+        start(thread)
+
+    with mock.patch.object(threading.Thread, "start", start_two):
+        refuses(RuntimeError, ScheduledThreadPoolExecutor, 4)
+    for thread in started:
+        thread.join(PATIENCE)
+        assert not thread.is_alive()
+
+
+def idle():
+    """Workers that wait do not look again and again."""
+    with pool_of(8, Recorded) as pool:
+        far = pool.schedule(3600, print)
+        pool.schedule(0.3, int).result(PATIENCE)
+        assert pool._timers.polls <= 8 * 4, pool._timers.polls
+        far.cancel()
+
+
+def storm(pool, clients, turns):
+    """Threads submit and cancel at random. Each job runs once, or its future is cancelled. Answers how many were cancelled."""
+    counts = [0] * (clients * turns)
+    futures = [None] * (clients * turns)
+
+    def count(place):
+        counts[place] += 1
+
+    def use(client):
+        chance = random.Random(client)
+        for place in range(client * turns, (client + 1) * turns):
+            futures[place] = pool.schedule(chance.choice([0, 0.0001, 0.001, 0.01, 0.05]), count, place)
+            if chance.random() < 0.5:
+                futures[chance.randrange(client * turns, place + 1)].cancel()
+
+    users = [threading.Thread(target=use, args=(client,)) for client in range(clients)]
+    for user in users:
+        user.start()
+    for user in users:
+        user.join()
+    assert concurrent.futures.wait(futures, PATIENCE).not_done == set()
+    assert [future.cancelled() for future in futures] == [count == 0 for count in counts] and max(counts) == 1
+    return counts.count(0)
+
+
+def storms():
+    """Many threads use a pool of many workers."""
+    switch = sys.getswitchinterval()
+    sys.setswitchinterval(1e-5)
+    with pool_of(8) as pool:
+        assert 0 < storm(pool, 8, 400) < 8 * 400
+    sys.setswitchinterval(switch)
+
+
+def traced(workers, continues):
+    """The timers of a pool that was used in each way, and then shut down."""
+    with pool_of(workers, Recorded) as pool:
+        pool.continues_periodic = continues
+        pulse = pool.schedule_at_fixed_rate(0.001, 0.002, time.monotonic)
+        pool.schedule_with_fixed_delay(0.001, 0.002, time.sleep, 0.001)
+        pool.schedule_at_fixed_rate(0.01, 0.001, divmod, 1, 0)
+        storm(pool, 4, 50)
+        refuses(ZeroDivisionError, pool.submit(divmod, 1, 0).result, PATIENCE)
+        pulse.cancel()
+        late = pool.schedule(0.02, int)
+        pool.schedule(3600, print)
+        pool.counts()
+        pool.shutdown(wait=False)
+        refuses(RuntimeError, pool.submit, print)
+        late.result(PATIENCE)
+        pool.executes_delayed = False
+    return pool._timers
+
+
+def traces(program):
+    """The traces of pools are those of the one history that their calls allow; and one with a line less is not."""
+    for workers, continues in [(1, False), (4, True)]:
+        timers = traced(workers, continues)
+        trace = "".join(timers.trace)
+        answer = found(program, timers, trace)
+        assert answer == "conforms\n", answer
+        lines = trace.splitlines(keepends=True)
+        start = next(place for place, line in enumerate(lines) if " start " in line and " task " in line)
+        assert found(program, timers, "".join(lines[:start] + lines[start + 1:])).startswith("breaks ")
+
+
+LEFT_ALONE = """
+import os, sys, threading, time
+sys.path.insert(0, sys.argv[1])
+from scheduled_pool import ScheduledThreadPoolExecutor
+pool, held = ScheduledThreadPoolExecutor(2), threading.Event()
+
+def hold():
+    with pool._changed:
+        held.set()
+        time.sleep(0.1)
+
+pool.schedule(0.3, print, "late")
+pool.schedule_at_fixed_rate(3600, 3600, print, "never")
+threading.Thread(target=hold).start()
+held.wait()
+child = os.fork()
+if child == 0:
+    sys.exit(5)
+print("child", os.waitstatus_to_exitcode(os.waitpid(child, 0)[1]))
+"""
+
+
+def left_alone():
+    """A program that leaves its pool alone ends once what waits for a single run has had it. A forked child has no pool, whoever
+    held the lock as it was forked."""
+    words = [sys.executable, "-W", "ignore", "-c", LEFT_ALONE, PYTHON]
+    ended = subprocess.run(words, stdout=subprocess.PIPE, stderr=subprocess.STDOUT, text=True, timeout=PATIENCE)
+    assert (ended.returncode, sorted(ended.stdout.splitlines())) == (0, ["child 5", "late"]), ended.stdout
+
+
+for test in (order, sooner, beside, together, rates, delays, withdraws, timeouts, jobs_that_call, callbacks, shutdowns,
+             last_cancel, endless, slow, failures, drops, threads, idle, storms, left_alone):
+    try:
+        test()
+    except BaseException:
+        traceback.print_exc()
+        os._exit(1)   # at once: a pool that does not end would hold up the end of this program
+if "SCHED" in os.environ:
+    traces(os.environ["SCHED"])
+else:
+    print("SCHED names no program: no trace was checked")
+print("each answer came")
