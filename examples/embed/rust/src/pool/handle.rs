@@ -1,0 +1,95 @@
+//! The handle of a task.
+
+use super::result::{JoinError, ResultCell};
+use super::shared::Shared;
+use crate::timers::TaskRef;
+use std::fmt;
+use std::sync::Arc;
+use std::time::Duration;
+
+/// A task of a pool, by which it is cancelled, and its result is waited for.
+///
+/// A task goes on where its handle is dropped. A handle may be shared by threads, also by the jobs of its pool; a job that waits
+/// for another one takes up a worker.
+pub struct Handle<T> {
+    pool: Arc<Shared>,
+    task: TaskRef,
+    cell: Arc<ResultCell<T>>,
+}
+
+impl<T> Handle<T> {
+    pub(super) fn new(pool: Arc<Shared>, task: TaskRef, cell: Arc<ResultCell<T>>) -> Handle<T> {
+        Handle { pool, task, cell }
+    }
+
+    /// Cancels the task, and says whether that had an effect. It has none where the task is over, or was cancelled before. A job
+    /// that waits is dropped by this call. One that runs goes on, and what it gives is dropped: the task is cancelled all the same.
+    pub fn cancel(&self) -> bool {
+        let (cancelled, _job) = self.pool.with(|state, _now| {
+            let (cancelled, job) = state.cancel(self.task);
+            if cancelled {
+                self.cell.tell(Err(JoinError::Cancelled));
+            }
+            (cancelled, job)
+        });
+        cancelled
+    }
+
+    /// Whether the task is over: it has its value, has panicked or is cancelled.
+    pub fn is_done(&self) -> bool {
+        self.cell.is_told()
+    }
+
+    /// Whether the task is cancelled, by a handle or by a shutdown.
+    pub fn is_cancelled(&self) -> bool {
+        self.cell.is_cancelled()
+    }
+
+    /// Waits until the task is over.
+    pub fn wait(&self) {
+        self.cell.wait();
+    }
+
+    /// Waits until the task is over, at most so long, and says whether it is.
+    pub fn wait_timeout(&self, timeout: Duration) -> bool {
+        self.cell.wait_timeout(timeout)
+    }
+
+    /// Waits until the task is over, and takes its value. A periodic task is over once it is cancelled, has panicked, or is ended
+    /// by a shutdown, and has no value.
+    ///
+    /// # Errors
+    ///
+    /// The task was cancelled, or its job panicked.
+    pub fn join(self) -> Result<T, JoinError> {
+        self.cell.wait();
+        self.cell.take().expect("it is told")
+    }
+
+    /// The same, waiting at most so long: the handle comes back where the task is not over by then.
+    pub fn join_timeout(self, timeout: Duration) -> Result<Result<T, JoinError>, Handle<T>> {
+        if self.cell.wait_timeout(timeout) {
+            Ok(self.join())
+        } else {
+            Err(self)
+        }
+    }
+
+    /// How long the task waits still for its next run: nothing where that is due. `None`: it does not wait.
+    pub fn remaining(&self) -> Option<Duration> {
+        self.pool.with(|state, now| state.remaining(now, self.task))
+    }
+
+    /// The number of its submission, by which a trace names it.
+    pub fn number(&self) -> u64 {
+        self.task.number
+    }
+}
+
+impl<T> fmt::Debug for Handle<T> {
+    fn fmt(&self, f: &mut fmt::Formatter) -> fmt::Result {
+        f.debug_struct("Handle")
+            .field("number", &self.task.number)
+            .finish_non_exhaustive()
+    }
+}
