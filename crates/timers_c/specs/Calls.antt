@@ -115,7 +115,7 @@ Reserves _ tasks old new = ⊥
 
 -- ---- submissions
 
--- the slot that a ref of a submission that is rejected has, which no task has
+-- the slot that a ref of a submission that is rejected has
 abbrev pub no_slot : ℕ
 no_slot = 2 ^ 32 - 1
 
@@ -147,9 +147,9 @@ pub record Submits (old new : Seen) (now : ℕ) (timing : Timing) (first user_da
 -- what a submission came to, with the ref that was written
 abbrev pub TakesSubmission : Status → ℕ → Timing → ℕ → ℕ → Ref → Option Seen → Option Seen → Type 0
 TakesSubmission s.Done now timing first user_data ref (Some old) (Some new) =
-    (task : TaskRef) × (due : ℕ) × Submits old new now timing first user_data (su.Accepted task due) × (ref ≡ ref_of task)
+    (task : TaskRef) × (due : ℕ) × Submits old new now timing first user_data (su.Accepted task due) × (ref ≡ ref_of_submitted (su.Accepted task due))
 TakesSubmission s.Shut now timing first user_data ref (Some old) (Some new) =
-    (number : ℕ) × Submits old new now timing first user_data (su.Rejected number) × (ref ≡ record { number = number; slot = no_slot })
+    (number : ℕ) × Submits old new now timing first user_data (su.Rejected number) × (ref ≡ ref_of_submitted (su.Rejected number))
 TakesSubmission s.Illegal now timing first user_data ref (Some old) (Some new) = IsRefused old.timers.live now timing first ce.Illegal × (new ≡ old) × (ref ≡ no_ref)
 TakesSubmission s.TooLong now timing first user_data ref (Some old) (Some new) = IsRefused old.timers.live now timing first ce.TooLong × (new ≡ old) × (ref ≡ no_ref)
 TakesSubmission s.TooFar now timing first user_data ref (Some old) (Some new) = IsRefused old.timers.live now timing first ce.TooFar × (new ≡ old) × (ref ≡ no_ref)
