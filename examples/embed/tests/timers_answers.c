@@ -768,6 +768,23 @@ static void far_number(void) {
     WANT(timers_text(&slot, 0, out, sizeof out, &copied) == TIMERS_NUMBER && timers_free(&slot) == TIMERS_DONE);
 }
 
+/* Many tasks are alive, and no submission wants memory where there is some; nor does room for a million tasks and more. */
+static void many_alive(void) {
+    timers_slot slot = made(1);
+    timers_ref task;
+    for (uint64_t number = 0; number < 70000; number++) {
+        if (timers_schedule(&slot, 0, 70000 - number, number, &task) != TIMERS_DONE || task.number != number) {
+            WANT(!"each of them is accepted");
+            break;
+        }
+    }
+    WANT(state_of(&slot).alive == 70000);
+    WANT(timers_reserve(&slot, (1 << 20) + 1) == TIMERS_DONE);
+    timers_run run;
+    WANT(timers_poll(&slot, 70001, 0, &run) == TIMERS_DONE && run.data == 69999);
+    WANT(timers_free(&slot) == TIMERS_DONE);
+}
+
 int main(int count, char **words) {
     submissions_without_timers();
     looks_without_timers();
@@ -791,6 +808,7 @@ int main(int count, char **words) {
     lines();
     in_words();
     in_order();
+    many_alive();
     WANT(blocks == 0);
     long growths = with_growths_refused(), reserved = with_reserve_refused();
     WANT(growths > 0 && reserved > 0);
