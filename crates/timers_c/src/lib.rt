@@ -43,7 +43,7 @@
 //!
 //! # Tests
 //!
-//! They stand in `src/tests.rt`: what each call does, and its statuses, as a program in C gets them.
+//! They are in C, in `examples/embed/tests`: each answer of each call, and each growth refused in turn; `tools/embed` runs them.
 #![tactic(auto)]
 
 mod exports;
@@ -64,6 +64,4 @@ mod state;
 mod status;
 mod submission;
 mod submitting;
-#[cfg(test)]
-mod tests;
 mod text;
