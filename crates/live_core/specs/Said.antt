@@ -59,9 +59,9 @@ alive_in slots = how_many holds_alive slots
 abbrev pub TellsWaiting : LiveView → ℕ → Bool → Type 0
 TellsWaiting m number waiting = (calls : List Planned) (past : List HistoryEntry) → Stands m calls past → waiting ≡ waits ((after calls (workers_of m.table) (happenings past)).tasks number)
 
--- a task is so, which is found in its slot; or it is found in none, and nothing comes of it
+-- a task is so, which is found in its slot, and of which something may come; or it is found in none, and nothing comes of it
 abbrev pub IsFoundAs : Task → Option Seat → Type 0
-IsFoundAs t (Some x) = t ≡ task_in x
+IsFoundAs t (Some x) = (t ≡ task_in x) × (is_alive t ≡ true)
 IsFoundAs t None = is_alive t ≡ false
 
 -- whatever calls and history led here, the task of this number is found so

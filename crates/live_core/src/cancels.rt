@@ -34,6 +34,7 @@ impl<A: Allocator> ScheduledExecutor<A> {
     ///
     /// [`EventError::NoTask`] where no submission was given the number yet: the cancel has happened then, and the executor is as it
     /// was, but that [`ended`](ScheduledExecutor::ended) is empty.
+    #[inline(always)]
     pub fn cancel(&mut self, task: TaskRef) -> Result<CancelEffect, EventError>
         ensures stays { StaysQuiet self.old self.new self.old.count }
         ensures done { IfOk result (λ effect. CancelsOutside self.old self.new task.number effect) }
@@ -107,6 +108,7 @@ impl<A: Allocator> ScheduledExecutor<A> {
     }
 
     /// The task of a number, which this slot holds, or none, is cancelled from outside.
+    #[inline(always)]
     fn cancel_at(&mut self, number: u64, slot: Option<u32>) -> Result<CancelEffect, EventError>
         requires { IsSlotOf self.old.table.slots number slot }
         ensures stays { StaysQuiet self.old self.new self.old.count }
@@ -172,6 +174,7 @@ impl<A: Allocator> ScheduledExecutor<A> {
     }
 
     /// The task of a number, which has this slot, is cancelled from outside.
+    #[inline(always)]
     fn cancel_held(&mut self, number: u64, slot: u32) -> CancelEffect
         requires given { number < self.old.count }
         requires held { IsSlotOf self.old.table.slots number (Some slot) }

@@ -25,6 +25,7 @@ impl<A: Allocator> ScheduledExecutor<A> {
     /// [`EventError::Backward`] where that is before [`now`](ScheduledExecutor::now), and [`EventError::TooFar`] where it is
     /// past 2^62. The clock has happened then, and the executor is as it was, but that [`ended`](ScheduledExecutor::ended) is
     /// empty.
+    #[inline(always)]
     pub fn clock(&mut self, moment: u64) -> Result<(), EventError>
         ensures accepted { IsOk result ↔ (is_accepted self.old.table.moment moment ≡ true) }
         ensures happens { IfOk result (λ _. Happens self.old self.new (happening.Clock moment) (bare answer.Clock)) }
@@ -57,6 +58,7 @@ impl<A: Allocator> ScheduledExecutor<A> {
     /// [`StartError::Refused`] where there is no such worker, or it has a run under way: the start has happened then, and the
     /// executor is as it was, but that [`ended`](ScheduledExecutor::ended) is empty. [`StartError::Full`] where else the first
     /// task that is due has had 2^64 - 1 runs: nothing has happened then, and nothing has changed.
+    #[inline(always)]
     pub fn start(&mut self, worker: u8) -> Result<Option<Begun>, StartError>
         ensures happens { IfOk result (λ begun. Happens self.old self.new (happening.Start worker) (events.start_reply worker begun)) }
         ensures stays { OnOk result (Stays self.old self.new self.old.count) }
@@ -84,6 +86,7 @@ impl<A: Allocator> ScheduledExecutor<A> {
     ///
     /// [`EventError::NoWorker`] where there is no such worker, and [`EventError::NotRunning`] where it has no run under way.
     /// The finish has happened then, and the executor is as it was, but that [`ended`](ScheduledExecutor::ended) is empty.
+    #[inline(always)]
     pub fn finish(&mut self, worker: u8, ending: Ending) -> Result<Ended, EventError>
         ensures happens { IfOk result (λ e. Happens self.old self.new (happening.Finish worker ending) (events.finish_reply worker e)) }
         ensures stays { OnOk result (Stays self.old self.new self.old.count) }

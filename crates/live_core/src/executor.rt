@@ -40,7 +40,7 @@ impl<A: Allocator> Model for ScheduledExecutor<A> {
 impl<A: Allocator> ScheduledExecutor<A> {
     ghost use Rattle.task_table.specs.Tables.{workers_of};
     ghost use Rattle.live_core.specs.Lives.{Stands};
-    ghost use Rattle.live_core.specs.Said.{IsMakeError, TellsWaiting, tasks_in, alive_in, is_waiting_there};
+    ghost use Rattle.live_core.specs.Said.{AreTaken, IsMakeError, TellsWaiting, tasks_in, alive_in, is_waiting_there};
     ghost use Rattle.std.specs.Option.{option_map_or};
     ghost use Rattle.task_table.specs.Seats.{task_in, slot_of, waits};
 
@@ -99,6 +99,14 @@ impl<A: Allocator> ScheduledExecutor<A> {
         ensures alive { result ≡ alive_in self.now.table.slots }
     {
         self.table.slots() - self.notes.free_slots()
+    }
+
+    /// Whether each slot holds a task: the next submission that is accepted makes more slots then.
+    pub fn is_full(&self) -> bool
+        ensures full { result ≡ true → AreTaken self.now.table.slots }
+        ensures room { result ≡ false → AreTaken self.now.table.slots → ⊥ }
+    {
+        self.notes.free_slots() == 0
     }
 
     /// Whether a task waits for a run. The task is the one of the number, whatever the slot.

@@ -27,6 +27,7 @@ pub(crate) fn slot_of_number<A: Allocator>(
 }
 
 /// The same for the number of a task, where its own slot is looked at first.
+#[inline(always)]
 pub(crate) fn slot_of_task<A: Allocator>(
     table: &TaskTable<A>,
     notes: &Notes<A>,

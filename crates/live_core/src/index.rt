@@ -1,12 +1,12 @@
 //! Which slot each number has.
-ghost use Rattle.std.specs.Prelude.{◌≡◌, ℕ, ◌+◌, ◌<◌, ◌≤◌, ◌++◌, [], ◌∷◌, length, false, IfSome, IfNone, OnOk, OnErr};
+ghost use Rattle.std.specs.Prelude.{◌≡◌, ℕ, ◌+◌, ◌<◌, ◌≤◌, ◌++◌, [], ◌∷◌, length, take, false, IfSome, IfNone, OnOk, OnErr};
 ghost use Rattle.std.specs.List.{filter};
 ghost use Rattle.live_core.specs.Said.{tasks_in};
 ghost use Rattle.live_core.specs.own.Slots.{IsBelow, HasEntry, HasNone, IsIndex, held_numbers, is_held};
 
 use std::alloc::{AllocError, Allocator};
 use std::marker::Model;
-use task_table::{TaskRef, TaskTable};
+use task_table::{Seat, TaskRef, TaskTable};
 
 /// The slots of tasks by their numbers. An entry whose slot holds another task by now, or none, is stale.
 ///
@@ -60,20 +60,13 @@ impl<A: Allocator> NumberIndex<A> {
     }
 
     /// Drops the entries whose slot in this table holds another task by now, or none.
+    #[cold]
+    #[inline(never)]
     pub(crate) fn compact<B: Allocator>(&mut self, table: &TaskTable<B>)
         ensures left { self.new ≡ record self.old { entries = filter (is_held (held_numbers table.now.slots)) self.old.entries } }
         ensures few { length self.new.entries ≤ tasks_in table.now.slots }
     {
-        let mut kept = 0;
-        let mut i = 0;
-        while i < self.entries.len() {
-            let entry = self.entries[i];
-            if holds(table, entry) {
-                self.entries[kept] = entry;
-                kept += 1;
-            }
-            i += 1;
-        }
+        let kept = keep_held(&mut self.entries, table.seats());
         self.entries.truncate(kept);
     }
 
@@ -119,12 +112,37 @@ impl<A: Allocator> NumberIndex<A> {
     }
 }
 
+/// Moves the entries whose slot holds their task to the front, in their order, and says how many there are.
+fn keep_held(entries: &mut [TaskRef], slots: &[Option<Seat>]) -> usize
+    ensures kept { take result entries.new ≡ filter (is_held (held_numbers slots.now)) entries.old }
+    ensures size { length entries.new ≡ length entries.old }
+{
+    let mut kept = 0;
+    let mut i = 0;
+    while i < entries.len() {
+        let entry = entries[i];
+        if is_held_in(slots, entry) {
+            entries[kept] = entry;
+            kept += 1;
+        }
+        i += 1;
+    }
+    kept
+}
+
 /// Whether the slot of a task holds it.
 pub(crate) fn holds<A: Allocator>(table: &TaskTable<A>, task: TaskRef) -> bool
     ensures { result ≡ is_held (held_numbers table.now.slots) task }
 {
-    match table.seat(task.slot) {
-        Some(seat) => seat.number == task.number,
-        None => false,
+    is_held_in(table.seats(), task)
+}
+
+/// The same for what the slots hold.
+fn is_held_in(slots: &[Option<Seat>], task: TaskRef) -> bool
+    ensures { result ≡ is_held (held_numbers slots.now) task }
+{
+    match slots.get(task.slot as usize) {
+        Some(Some(seat)) => seat.number == task.number,
+        _ => false,
     }
 }

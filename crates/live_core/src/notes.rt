@@ -105,8 +105,8 @@ impl<A: Allocator> Notes<A> {
         ensures entries { self.new.entries ≡ self.old.entries }
     {
         self.free.reserve(slots as usize)?;
-        // With twice as many entries as slots, at least half of them are stale when it is full.
-        self.index.reserve(2 * slots as usize)
+        // With four times as many entries as slots, at least three of four are stale when it is full.
+        self.index.reserve(4 * slots as usize)
     }
 
     /// Notes that the slots from one to the one before another are empty.

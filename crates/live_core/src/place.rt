@@ -25,6 +25,7 @@ pub(crate) struct Placed {
 
 /// A call submits a task at the moment `at`: it has the number `count`, and comes into the slot that was noted last as empty. No
 /// task is ended.
+#[inline(always)]
 pub(crate) fn place<A: Allocator>(
     table: &mut TaskTable<A>,
     notes: &mut Notes<A>,
@@ -57,9 +58,9 @@ pub(crate) fn place<A: Allocator>(
         unreachable!();
     };
     let number = count;
-    let due = table.admit(slot, number, at, timing, delay);
     let task = TaskRef { number, slot };
     notes.add(task);
     ended.clear();
+    let due = table.admit(slot, number, at, timing, delay);
     Placed { task, due }
 }

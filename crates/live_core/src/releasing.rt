@@ -15,6 +15,7 @@ use std::alloc::Allocator;
 use task_table::TaskTable;
 
 /// Empties the slot of a task of which nothing may come any more, and notes that it is empty.
+#[inline(always)]
 pub(crate) fn release<A: Allocator>(table: &mut TaskTable<A>, notes: &mut Notes<A>, slot: u32)
     requires noted { (count : ℕ) × (ended_room : ℕ) × AreNoted table.old.slots count notes.old.free notes.old.entries notes.old.slot_room ended_room }
     requires over { (x : seats.Seat) × (slot_of table.old.slots slot ≡ Some x) × (is_alive (task_in x) ≡ false) }

@@ -15,6 +15,7 @@ use task_table::{TaskRef, TaskTable};
 /// # Errors
 ///
 /// `AllocError` where each slot holds a task, and memory for more is refused, or there are 2^30 slots: the table is as it was then.
+#[inline(always)]
 pub(crate) fn make_room<A: Allocator>(
     table: &mut TaskTable<A>,
     notes: &mut Notes<A>,
@@ -39,6 +40,7 @@ pub(crate) fn make_room<A: Allocator>(
 }
 
 /// Makes an empty slot, where there is none: twice as many slots, and four.
+#[inline(always)]
 fn make_slot<A: Allocator>(
     table: &mut TaskTable<A>,
     notes: &mut Notes<A>,
@@ -67,6 +69,8 @@ fn make_slot<A: Allocator>(
 }
 
 /// Makes room for so many slots in all, and notes that the new ones are empty.
+#[cold]
+#[inline(never)]
 pub(crate) fn grow<A: Allocator>(
     table: &mut TaskTable<A>,
     notes: &mut Notes<A>,

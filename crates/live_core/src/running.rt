@@ -22,6 +22,7 @@ use task_table::{Begun, Ended, TaskTable};
 
 /// A worker that has no work asks for some, and begins a run of the first task that is due, or none. The kept tasks that it meets
 /// are dropped, and their slots emptied. The first task that is due has not had 2^64 - 1 runs.
+#[inline(always)]
 pub(crate) fn begin_run<A: Allocator>(
     table: &mut TaskTable<A>,
     notes: &mut Notes<A>,
@@ -47,6 +48,7 @@ pub(crate) fn begin_run<A: Allocator>(
 }
 
 /// Drops the kept tasks that the next start meets, if it is not refused, and empties their slots.
+#[inline(always)]
 fn drop_met<A: Allocator>(table: &mut TaskTable<A>, notes: &mut Notes<A>)
     requires noted { (count : ℕ) × (ended_room : ℕ) × AreNoted table.old.slots count notes.old.free notes.old.entries notes.old.slot_room ended_room }
     ensures noted { (count ended_room : ℕ) → AreNoted table.old.slots count notes.old.free notes.old.entries notes.old.slot_room ended_room → AreNoted table.new.slots count notes.new.free notes.new.entries notes.new.slot_room ended_room }
@@ -61,6 +63,7 @@ fn drop_met<A: Allocator>(table: &mut TaskTable<A>, notes: &mut Notes<A>)
 }
 
 /// A worker ends the run that it has under way. The slot of its task is emptied, if no run comes after it.
+#[inline(always)]
 pub(crate) fn end_run<A: Allocator>(
     table: &mut TaskTable<A>,
     notes: &mut Notes<A>,
@@ -89,6 +92,7 @@ pub(crate) fn end_run<A: Allocator>(
 }
 
 /// Empties the slot of a task whose run ended so, if no run comes after it.
+#[inline(always)]
 fn release_left<A: Allocator>(table: &mut TaskTable<A>, notes: &mut Notes<A>, ended: Ended)
     requires noted { (count : ℕ) × (ended_room : ℕ) × AreNoted table.old.slots count notes.old.free notes.old.entries notes.old.slot_room ended_room }
     requires left { (x : seats.Seat) × (slot_of table.old.slots ended.task.slot ≡ Some x) × IsLeft ended.outcome x }

@@ -13,6 +13,7 @@ use std::alloc::Allocator;
 use task_table::{Seat, TaskTable};
 
 /// Empties a slot where nothing may come of its task any more, and notes that it is empty.
+#[inline(always)]
 pub(crate) fn release_spent<A: Allocator>(table: &mut TaskTable<A>, notes: &mut Notes<A>, slot: u32)
     requires { (count : ℕ) × (ended_room : ℕ) × AreNoted table.old.slots count notes.old.free notes.old.entries notes.old.slot_room ended_room }
     ensures noted { (count ended_room : ℕ) → AreNoted table.old.slots count notes.old.free notes.old.entries notes.old.slot_room ended_room → AreNoted table.new.slots count notes.new.free notes.new.entries notes.new.slot_room ended_room }
@@ -33,9 +34,11 @@ pub(crate) fn release_spent<A: Allocator>(table: &mut TaskTable<A>, notes: &mut 
 fn is_spent(seat: &Seat) -> bool
     ensures { result ≡ not (is_alive (task_in seat.now)) }
 {
-    match seat.phase {
-        Stage::Waiting => seat.cancelled && !seat.kept,
-        Stage::Running => false,
-        Stage::Vacant | Stage::Done | Stage::Failed | Stage::Dropped => !seat.kept,
+    if seat.kept || matches!(seat.phase, Stage::Running) {
+        return false;
     }
+    if seat.cancelled {
+        return true;
+    }
+    !matches!(seat.phase, Stage::Waiting)
 }

@@ -22,6 +22,7 @@ impl<A: Allocator> ScheduledExecutor<A> {
     /// [`CallError::TooLong`] where `delay` is above 2^62, [`CallError::TooFar`] where the moment of the call would be,
     /// [`CallError::Full`] where 2^64 - 1 numbers were given out, and [`CallError::Memory`] where each slot holds a task, and memory
     /// for more is refused, or there are 2^30: nothing has changed then.
+    #[inline(always)]
     pub fn schedule(&mut self, at: u64, delay: u64) -> Result<Submitted, CallError>
         ensures made { IfOk result (λ s. Submits self.old self.new at timings.Once delay s) }
         ensures stays { OnOk result (StaysQuiet self.old self.new (self.old.count + 1)) }
@@ -88,6 +89,7 @@ impl<A: Allocator> ScheduledExecutor<A> {
     }
 
     /// Submits a task that is timed so.
+    #[inline(always)]
     fn submit(&mut self, at: u64, timing: Timing, delay: u64) -> Result<Submitted, CallError>
         requires { IsTimed timing }
         ensures made { IfOk result (λ s. Submits self.old self.new at timing delay s) }

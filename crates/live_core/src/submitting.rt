@@ -18,6 +18,7 @@ impl<A: Allocator> ScheduledExecutor<A> {
     ghost use Rattle.live_core.specs.declared.answers.Submitted.TheVariants as submitted;
 
     /// A call submits a task at this moment, where the executor is not shut.
+    #[inline(always)]
     pub(crate) fn accept(
         &mut self,
         moment: u64,
@@ -45,6 +46,7 @@ impl<A: Allocator> ScheduledExecutor<A> {
             &mut self.ended,
             self.count,
         )?;
+        self.accepted += 1;
         let placed = place(
             &mut self.table,
             &mut self.notes,
@@ -55,7 +57,6 @@ impl<A: Allocator> ScheduledExecutor<A> {
             delay,
         );
         self.count += 1;
-        self.accepted += 1;
         Ok(Submitted::Accepted {
             task: placed.task,
             due: placed.due,

@@ -48,6 +48,7 @@ fn put<R: Rank>(heap: &mut [Entry<R>], places: &mut [u32], place: usize, entry: 
 
 /// Lets an entry rise from the hole: those above that it comes before move down. Says how often it touched the heap: the
 /// comparisons, and the entries that moved.
+#[inline(always)]
 pub(crate) fn rise<R: Rank>(
     heap: &mut [Entry<R>],
     places: &mut [u32],
@@ -70,11 +71,11 @@ pub(crate) fn rise<R: Rank>(
     let mut touches = 0;
     while hole > 0 {
         let parent = (hole - 1) / 2;
-        let above = at(heap, parent);
         touches += 1;
-        if R::is_before(above, entry) {
+        if R::is_before(at(heap, parent), entry) {
             break;
         }
+        let above = at(heap, parent);
         put(heap, places, hole, above);
         touches += 1;
         hole = parent;
@@ -85,6 +86,7 @@ pub(crate) fn rise<R: Rank>(
 
 /// Lets the hole sink to a place with none below: the lesser of the entries right below it moves up. Says where the hole
 /// is then, and how often it touched the heap: the comparisons, and the entries that moved.
+#[inline(always)]
 fn sink<R: Rank>(heap: &mut [Entry<R>], places: &mut [u32], mut hole: usize) -> (usize, u64)
     requires inside { hole < length heap.old }
     requires few { length heap.old < 2 ^ 32 }
@@ -119,6 +121,7 @@ fn sink<R: Rank>(heap: &mut [Entry<R>], places: &mut [u32], mut hole: usize) -> 
 
 /// Puts an entry of the queue in the place of one that leaves. Says how often it touched the heap: the comparisons, the
 /// entries that moved, and the entry itself.
+#[inline(always)]
 fn replace<R: Rank>(heap: &mut [Entry<R>], places: &mut [u32], place: usize, entry: Entry<R>) -> u64
     requires inside { place < length heap.old }
     requires few { length heap.old < 2 ^ 32 }

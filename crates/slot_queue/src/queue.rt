@@ -152,6 +152,7 @@ impl<R: Rank, A: Allocator> SlotQueue<R, A> {
     }
 
     /// Takes out the entry of a slot, and says whether there was one. Where there was none the queue is unchanged.
+    #[inline(always)]
     pub fn remove(&mut self, slot: u32) -> bool
         ensures there { result ≡ is_some (key_in self.old.entries slot) }
         ensures removed { self.new.entries ≡ slice_set self.old.entries slot None }

@@ -1,5 +1,5 @@
 //! What stands between entries that are due at one moment.
-ghost use Rattle.std.specs.Prelude.{◌≡◌, ℕ, ◌+◌, ◌*◌, ◌^◌};
+ghost use Rattle.std.specs.Prelude.{◌≡◌, ℕ};
 ghost use Rattle.slot_queue.specs.Entries.{seen, is_before};
 
 use crate::entry::Entry;
@@ -27,7 +27,10 @@ impl Rank for NoRank {
     fn is_before(one: Entry<NoRank>, other: Entry<NoRank>) -> bool
         ensures { result ≡ is_before (seen (λ _. 0) one) (seen (λ _. 0) other) }
     {
-        key(one.due, u64::from(one.slot)) < key(other.due, u64::from(other.slot))
+        if one.due != other.due {
+            return one.due < other.due;
+        }
+        one.slot < other.slot
     }
 }
 
@@ -38,14 +41,9 @@ impl Rank for u64 {
     fn is_before(one: Entry<u64>, other: Entry<u64>) -> bool
         ensures { result ≡ is_before (seen (λ number. number) one) (seen (λ number. number) other) }
     {
-        let (first, second) = (key(one.due, one.rank), key(other.due, other.rank));
-        first < second || (first == second && one.slot < other.slot)
+        if one.due != other.due {
+            return one.due < other.due;
+        }
+        one.rank < other.rank || (one.rank == other.rank && one.slot < other.slot)
     }
-}
-
-/// Two numbers as one, by which they are compared without a branch.
-fn key(high: u64, low: u64) -> u128
-    ensures { result ≡ high * 2 ^ 64 + low }
-{
-    (u128::from(high) << 64) + u128::from(low)
 }

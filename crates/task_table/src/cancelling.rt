@@ -1,5 +1,6 @@
 //! Cancels of tasks that have a slot, by a call or from outside, and calls that change no task.
-ghost use Rattle.std.specs.Prelude.{◌≡◌, ℕ, ◌≤◌, ◌&&◌, not, List, Some};
+ghost use Rattle.std.specs.Prelude.{◌≡◌, ℕ, ◌<◌, ◌≤◌, ◌&&◌, not, true, List, Some, None, length, slice_set};
+ghost use Rattle.slot_queue.specs.Queues.{key_in};
 ghost use Rattle.queue_code.specs.Calls.{Planned};
 ghost use Rattle.queue_code.specs.declared.call.CodeCall.TheVariants as call;
 ghost use Rattle.sched_time.specs.Times.{longest};
@@ -13,17 +14,18 @@ ghost use Rattle.executor_core.specs.declared.types.Refusal.TheVariants as refus
 ghost use Rattle.task_table.specs.Changes as changes;
 ghost use Rattle.task_table.specs.Ends as effects_of;
 ghost use Rattle.task_table.specs.Seats as phases;
+ghost use Rattle.task_table.specs.Seats.{slot_of};
 ghost use Rattle.task_table.specs.declared.seat.Seat as seats;
 
 use crate::seat::Seat;
 use crate::table::TaskTable;
 use executor_core::{CancelEffect, Stage};
-use slot_queue::Entry;
+use slot_queue::{Entry, SlotQueue};
 use std::alloc::Allocator;
 
 impl<A: Allocator> TaskTable<A> {
     ghost use Rattle.task_table.specs.Tables.{workers_of, Stands, Takes, IsNextCall, CallSteps, EventSteps};
-    ghost use Rattle.task_table.specs.Seats.{slot_of, IsNew};
+    ghost use Rattle.task_table.specs.Seats.{IsNew};
     ghost use Rattle.task_table.specs.Ends.{effect_of, effect_gone};
     ghost use Rattle.task_table.specs.own.Formed.{IsFormed};
 
@@ -44,6 +46,7 @@ impl<A: Allocator> TaskTable<A> {
 
     /// The task in a slot, which is not empty, is cancelled from outside. The answer says whether that had an effect: never
     /// [`CancelEffect::Absent`].
+    #[inline(always)]
     pub fn cancel(&mut self, slot: u32) -> CancelEffect
         requires there { (x : seats.Seat) × (slot_of self.old.slots slot ≡ Some x) }
         ensures effect { (x : seats.Seat) → slot_of self.old.slots slot ≡ Some x → result ≡ effect_of x }
@@ -67,6 +70,7 @@ impl<A: Allocator> TaskTable<A> {
     }
 
     /// Cancels the task in a slot, if a cancel has an effect on it.
+    #[inline(always)]
     fn cancel_held(&mut self, slot: u32) -> CancelEffect
         requires { (x : seats.Seat) × (slot_of self.old.slots slot ≡ Some x) }
         ensures effect { (x : seats.Seat) → slot_of self.old.slots slot ≡ Some x → result ≡ effect_of x }
@@ -82,21 +86,29 @@ impl<A: Allocator> TaskTable<A> {
     }
 
     /// Cancels a task that is not over, and keeps it where it waits and cancelled tasks stay in the queue.
+    #[inline(always)]
     fn cancel_seat(&mut self, slot: u32, seat: Seat)
         requires there { slot_of self.old.slots slot ≡ Some seat }
         requires live { effect_of seat ≡ effects.Yes }
         ensures { self.new ≡ changes.put self.old slot (changes.cancelled self.old.policies.removes seat) }
     {
-        let due = seat.due;
-        let rank = seat.number;
         let removes = self.policies.removes;
-        let stays = stays_queued(seat.phase, removes);
-        self.queue.remove(slot);
-        self.slots[slot as usize] = Some(cancelled_seat(seat, removes));
-        if stays {
-            self.kept.insert(Entry { due, rank, slot });
+        cancel_in(&mut self.slots, slot, removes);
+        if stays_queued(seat.phase, removes) {
+            keep(&mut self.kept, slot, seat.due, seat.number);
         }
+        self.queue.remove(slot);
     }
+}
+
+/// Adds the entry of a task to those that are kept.
+#[inline(never)]
+fn keep<A: Allocator>(kept: &mut SlotQueue<u64, A>, slot: u32, due: u64, rank: u64)
+    requires known { slot < length kept.old.entries }
+    requires absent { key_in kept.old.entries slot ≡ None }
+    ensures inserted { kept.new.entries ≡ slice_set kept.old.entries slot (Some (record { due = due; rank = rank })) }
+{
+    kept.insert(Entry { due, rank, slot });
 }
 
 /// What a cancel does to a task.
@@ -112,16 +124,16 @@ fn effect_on(seat: &Seat) -> CancelEffect
     }
 }
 
-/// A task once it is cancelled, where cancelled tasks maybe leave the queue.
-fn cancelled_seat(seat: Seat, removes: bool) -> Seat
-    ensures { result ≡ changes.cancelled removes seat }
+/// Cancels the task in a slot, where cancelled tasks maybe leave the queue.
+fn cancel_in<A: Allocator>(slots: &mut Vec<Option<Seat>, A>, slot: u32, removes: bool)
+    requires there { (x : seats.Seat) × (slot_of slots.old.items slot ≡ Some x) }
+    ensures { (x : seats.Seat) → slot_of slots.old.items slot ≡ Some x → slots.new.items ≡ slice_set slots.old.items slot (Some (changes.cancelled removes x)) }
 {
-    let kept = seat.kept || stays_queued(seat.phase, removes);
-    let cancelled = true;
-    Seat {
-        cancelled,
-        kept,
-        ..seat
+    if let Some(seat) = &mut slots[slot as usize] {
+        seat.cancelled = true;
+        if stays_queued(seat.phase, removes) {
+            seat.kept = true;
+        }
     }
 }
 
@@ -129,7 +141,7 @@ fn cancelled_seat(seat: Seat, removes: bool) -> Seat
 fn stays_queued(phase: Stage, removes: bool) -> bool
     ensures { result ≡ (phases.is_waiting_in phase && not removes) }
 {
-    is_waiting(phase) && !removes
+    !removes && is_waiting(phase)
 }
 
 /// Whether a task in this phase waits for a run.

@@ -25,6 +25,7 @@ impl<A: Allocator> TaskTable<A> {
     /// comes any more. `None` says that it meets none; the table is then as it was.
     ///
     /// Each call that drops one makes the number of kept tasks smaller, so that a loop of such calls ends.
+    #[inline(always)]
     pub fn drop_met(&mut self) -> Option<u32>
         ensures dropped { IfSome result (λ slot. Drops self.old self.new slot) }
         ensures steps { IfSome result (λ _. (worker : ℕ) → IsFree self.old worker → (calls : List Planned) (past : List HistoryEntry)
@@ -76,6 +77,7 @@ impl<A: Allocator> TaskTable<A> {
     }
 
     /// Drops the task in a slot from the queue.
+    #[inline(never)]
     fn drop_at(&mut self, slot: u32)
         requires { (x : seats.Seat) × (slot_of self.old.slots slot ≡ Some x) × (x.kept ≡ true) }
         ensures dropped { (x : seats.Seat) → slot_of self.old.slots slot ≡ Some x → self.new ≡ changes.put self.old slot (changes.unkept x) }

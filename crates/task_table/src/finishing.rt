@@ -27,6 +27,7 @@ impl<A: Allocator> TaskTable<A> {
     ///
     /// [`EventError::NoWorker`] where there is no such worker, and [`EventError::NotRunning`] where it has no run under way.
     /// The table is then as it was.
+    #[inline(always)]
     pub fn finish(&mut self, worker: u8, ending: Ending) -> Result<Ended, EventError>
         ensures ended { IfOk result (λ ended. Ends self.old self.new worker ending ended) }
         ensures unchanged { OnErr result (self.new ≡ self.old) }
@@ -77,6 +78,7 @@ impl<A: Allocator> TaskTable<A> {
     }
 
     /// A worker ends the run of the task in a slot, which it has under way.
+    #[inline(always)]
     fn end_run(&mut self, worker: u8, slot: u32, seat: Seat, ending: Ending) -> Ended
         requires formed { IsFormed self.old }
         requires worker { worker < workers_of self.old }
@@ -97,6 +99,7 @@ impl<A: Allocator> TaskTable<A> {
     }
 
     /// The run of a worker's task ended with this outcome, and the task holds this due moment from then on.
+    #[inline(always)]
     fn end(&mut self, worker: u8, slot: u32, seat: Seat, outcome: Outcome, due: u64)
         requires works { slice_index_or self.old.work worker None ≡ Some slot }
         requires there { slot_of self.old.slots slot ≡ Some seat }

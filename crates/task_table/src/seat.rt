@@ -7,13 +7,13 @@ use sched_time::Timing;
 pub struct Seat {
     /// The number of its submission.
     pub number: u64,
-    pub phase: Stage,
     /// The number of the run that it waits for, that is under way, or that was its last.
     pub run: u64,
     /// The due moment of that run, and after the last one that of the run that would come, in nanoseconds.
     pub due: u64,
     /// How often it runs.
     pub timing: Timing,
+    pub phase: Stage,
     /// It was cancelled.
     pub cancelled: bool,
     /// It was cancelled while it waited, and still stands in the queue.

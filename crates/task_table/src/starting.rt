@@ -103,6 +103,7 @@ impl<A: Allocator> TaskTable<A> {
     ///
     /// [`StartError::Refused`] where there is no such worker, or it has a run under way, and [`StartError::Full`] where else
     /// the first task that is due has had 2^64 - 1 runs. The table is then as it was.
+    #[inline(always)]
     pub fn start(&mut self, worker: u8) -> Result<Option<Begun>, StartError>
         requires { IsFree self.old worker → NoneMet self.old }
         ensures started { IfOk result (λ begun. Starts self.old self.new worker begun) }
@@ -116,6 +117,7 @@ impl<A: Allocator> TaskTable<A> {
     }
 
     /// A worker that has no work asks for some.
+    #[inline(always)]
     fn start_free(&mut self, worker: u8) -> Result<Option<Begun>, StartError>
         requires free { IsFree self.old worker }
         requires met { NoneMet self.old }
@@ -130,6 +132,7 @@ impl<A: Allocator> TaskTable<A> {
     }
 
     /// A worker that has no work begins a run of the first task that is due, in this slot.
+    #[inline(always)]
     fn start_first(&mut self, worker: u8, slot: u32) -> Result<Option<Begun>, StartError>
         requires free { IsFree self.old worker }
         requires met { NoneMet self.old }
@@ -163,15 +166,16 @@ impl<A: Allocator> TaskTable<A> {
     }
 
     /// A worker that has no work runs the first task that is due.
+    #[inline(always)]
     fn begin(&mut self, worker: u8, slot: u32, seat: Seat)
         requires free { IsFree self.old worker }
         requires first { IsFirstDue self.old slot seat }
         requires room { seat.run + 1 < 2 ^ 64 }
         ensures { self.new ≡ changes.started self.old worker slot seat }
     {
-        self.queue.remove(slot);
         let phase = Stage::Running;
         self.slots[slot as usize] = Some(Seat { phase, ..seat });
+        self.queue.remove(slot);
         self.work[worker as usize] = Some(slot);
     }
 }

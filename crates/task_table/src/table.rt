@@ -108,6 +108,13 @@ impl<A: Allocator> TaskTable<A> {
         }
     }
 
+    /// What each slot holds.
+    pub fn seats(&self) -> &[Option<Seat>]
+        ensures { result.now ≡ self.now.slots }
+    {
+        &self.slots
+    }
+
     /// The moment, 0 to 2^62 nanoseconds: the greatest of the accepted clocks and the calls made.
     pub fn now(&self) -> u64
         ensures value { result ≡ self.now.moment }
@@ -162,6 +169,7 @@ impl<A: Allocator> TaskTable<A> {
     /// `at` of the call. The answer is its due moment, at most 2^63 nanoseconds.
     ///
     /// `delay` is at most 2^62 nanoseconds, as the period or the fixed delay of `timing` is.
+    #[inline(always)]
     pub fn admit(&mut self, slot: u32, number: u64, at: u64, timing: Timing, delay: u64) -> u64
         requires unshut { self.old.shut ≡ false }
         requires slot { slot < length self.old.slots }
@@ -184,10 +192,10 @@ impl<A: Allocator> TaskTable<A> {
             cancelled: false,
             kept: false,
         };
+        self.moment = at;
         self.slots[slot as usize] = Some(seat);
         let rank = number;
         self.queue.insert(Entry { due, rank, slot });
-        self.moment = at;
         due
     }
 

@@ -17,7 +17,7 @@ use Rattle.live_core.specs.Said.{AreTaken, has_task, tasks_in}
 use Rattle.live_core.proofs.Held.{tasks_grown}
 use Rattle.timers.specs.Timers.{TimersView}
 use Rattle.timers.specs.Calls.{Submits, SlotsFor}
-use Rattle.timers.specs.own.Rooms.{Grows, IsReady, MakesRoom}
+use Rattle.timers.specs.own.Rooms.{Grows, HasRoomFor, IsReady, MakesRoom}
 
 -- what stands in a slot, where there are more
 pub slot_grown : (slots : List (Option Seat)) (n i : ℕ) → slot_of (slots ++ replicate n None) i ≡ slot_of slots i
@@ -149,6 +149,12 @@ same_size m new at delay timing s ready p = by s p.accepts p.slots
 same_slots : (m new : LiveView) (s : Submitted) → length new.table.slots ≡ length m.table.slots → said.SlotsFor m.table.slots new.table.slots s → SlotsFor m.table.slots new.table.slots s
 same_slots m new (su.Accepted task due) same slots = inl same
 same_slots m new (su.Rejected number) same slots = slots
+
+-- a submission that was made was ready to be made
+pub ready_of : (old mid : TimersView) (new : LiveView) (at delay : ℕ) (timing : Timing) (s : Submitted) → HasRoomFor old mid at delay → said.Submits mid.live new at timing delay s → MakesRoom old mid × IsReady mid.live at delay
+ready_of old mid new at delay timing s (inl (same, some)) made =
+    (inl same, record { short = made.short.0; near = made.near; numbers = made.numbers; room = λ _ taken. some (subst (λ (v : TimersView). AreTaken v.live.table.slots) same taken) })
+ready_of old mid new at delay timing s (inr ready) made = ready
 
 -- room is made, and then it is one
 pub submits_after : (old mid : TimersView) (new : LiveView) (at delay : ℕ) (timing : Timing) (s : Submitted) → MakesRoom old mid → IsReady mid.live at delay → said.Submits mid.live new at timing delay s → Submits old.live new at timing delay s

@@ -25,6 +25,7 @@ impl<A: Allocator> Timers<A> {
     /// [`PollError::NoWorker`] where there is no such worker, [`PollError::Busy`] where it has a run under way, and
     /// [`PollError::TooFar`] where the moment is above 2^62: nothing has changed then. [`PollError::Full`] where else the first
     /// task that is due has had 2^64 - 1 runs: the clock has shown the moment then, and nothing else has happened.
+    #[inline(always)]
     pub fn poll(&mut self, now: u64, worker: u8) -> Result<Option<Run>, PollError>
         ensures polls { IfOk result (λ run. Polls self.old.live self.new.live now worker run) }
         ensures given { IfOk result (λ run. IfSome run (λ r. WasGivenWith self.old r.task.number r.user_data)) }
@@ -50,6 +51,7 @@ impl<A: Allocator> Timers<A> {
     ///
     /// [`FinishError::NoWorker`] where there is no such worker, [`FinishError::NotRunning`] where it has no run under way, and
     /// [`FinishError::TooFar`] where the moment is above 2^62: nothing has changed then.
+    #[inline(always)]
     pub fn finish(&mut self, now: u64, worker: u8, ending: Ending) -> Result<Finished, FinishError>
         ensures finishes { IfOk result (λ f. Finishes self.old.live self.new.live now worker ending f) }
         ensures given { IfOk result (λ f. WasGivenWith self.old f.task.number f.user_data) }
@@ -75,6 +77,7 @@ impl<A: Allocator> Timers<A> {
     /// # Errors
     ///
     /// [`CallError::NoTask`] where no submission was given the number yet: nothing has happened then.
+    #[inline(always)]
     pub fn cancel(&mut self, task: TaskRef) -> Result<CancelEffect, CallError>
         ensures stays { OnOk result (StaysQuiet self.old.live self.new.live self.old.live.count) }
         ensures keeps { GivesNone self.old self.new }

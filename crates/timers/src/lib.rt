@@ -45,7 +45,7 @@
 //!
 //! A call that is refused changes nothing: [`CallError`] and [`FinishError`] say why, and [`PollError`] too, but that
 //! [`PollError::Full`], after 2^64 - 1 runs of one task, leaves the clock at the moment of the poll. A cancel of a number that was
-//! not given out changes no task.
+//! not given out is refused with [`CallError::NoTask`].
 //!
 //! # Memory and cost
 //!

@@ -11,6 +11,7 @@ use sched_time::Ending;
 use std::alloc::Allocator;
 
 /// The clock shows a moment, and then a worker starts, where it has no run under way.
+#[inline(always)]
 pub(crate) fn begin<A: Allocator>(
     executor: &mut ScheduledExecutor<A>,
     now: u64,
@@ -35,6 +36,7 @@ pub(crate) fn begin<A: Allocator>(
 }
 
 /// The clock shows a moment, and then a worker finishes, where it has a run under way.
+#[inline(always)]
 pub(crate) fn end<A: Allocator>(
     executor: &mut ScheduledExecutor<A>,
     now: u64,

@@ -23,6 +23,7 @@ impl<A: Allocator> Timers<A> {
     /// [`CallError::TooLong`] where `delay` is above 2^62, [`CallError::TooFar`] where the moment of the call would be,
     /// [`CallError::Full`] where 2^64 - 1 numbers were given out, and [`CallError::Memory`] where each slot holds a task, and memory
     /// for more is refused, or there are 2^30: nothing has changed then.
+    #[inline(always)]
     pub fn schedule(&mut self, now: u64, delay: u64, user_data: u64) -> Result<Submitted, CallError>
         ensures made { IfOk result (λ s. Submits self.old.live self.new.live now timings.Once delay s) }
         ensures gives { OnOk result (Gives self.old self.new user_data) }

@@ -8,7 +8,7 @@ ghost use Rattle.live_core.specs.Said.{IsSubmitError};
 ghost use Rattle.live_core.specs.Said as said;
 ghost use Rattle.timers.specs.Timers.{Gives};
 ghost use Rattle.timers.specs.Calls.{Submits};
-ghost use Rattle.timers.specs.own.Rooms.{HasPlace, IsLegal, IsReady, MakesRoom, seen, stored};
+ghost use Rattle.timers.specs.own.Rooms.{HasPlace, HasRoomFor, IsLegal, IsReady, MakesRoom, seen, stored};
 
 use crate::room::make_room;
 use live_core::{CallError, ScheduledExecutor, Submitted};
@@ -20,6 +20,7 @@ use std::alloc::Allocator;
 /// # Errors
 ///
 /// Those of the executor: nothing has changed then.
+#[inline(always)]
 pub(crate) fn submit<A: Allocator>(
     executor: &mut ScheduledExecutor<A>,
     user_data: &mut Vec<u64, A>,
@@ -39,15 +40,36 @@ pub(crate) fn submit<A: Allocator>(
     ensures user_data { OnErr result (user_data.new.items ≡ user_data.old.items) }
     ensures failed { IfErr result (λ error. IsSubmitError executor.old at timing delay error) }
 {
-    prepare(executor, user_data, at, delay)?;
-    let Ok(submitted) = make_call(executor, at, timing, delay) else {
-        unreachable!();
-    };
+    make_place(executor, user_data, at, delay)?;
+    let submitted = make_call(executor, at, timing, delay)?;
     store(user_data, submitted, value);
     Ok(submitted)
 }
 
+/// Makes sure that a slot holds no task, where a submission at this moment asks for one.
+#[inline(always)]
+fn make_place<A: Allocator>(
+    executor: &mut ScheduledExecutor<A>,
+    user_data: &mut Vec<u64, A>,
+    at: u64,
+    delay: u64,
+) -> Result<(), CallError>
+    requires size { length user_data.old.items ≡ length executor.old.table.slots }
+    ensures size { length user_data.new.items ≡ length executor.new.table.slots }
+    ensures place { OnOk result (HasRoomFor (seen executor.old user_data.old.items) (seen executor.new user_data.new.items) at delay) }
+    ensures executor { OnErr result (executor.new ≡ executor.old) }
+    ensures user_data { OnErr result (user_data.new.items ≡ user_data.old.items) }
+    ensures failed { IfErr result (λ error. (timing : timings.Timing) → IsTimed timing → IsSubmitError executor.old at timing delay error) }
+{
+    if !executor.is_full() {
+        return Ok(());
+    }
+    prepare(executor, user_data, at, delay)
+}
+
 /// Makes ready for a submission at this moment: after it no error comes of one.
+#[cold]
+#[inline(never)]
 fn prepare<A: Allocator>(
     executor: &mut ScheduledExecutor<A>,
     user_data: &mut Vec<u64, A>,
@@ -81,6 +103,7 @@ fn prepare<A: Allocator>(
 }
 
 /// Makes the call of a submission that is timed so.
+#[inline(always)]
 fn make_call<A: Allocator>(
     executor: &mut ScheduledExecutor<A>,
     at: u64,
@@ -90,6 +113,7 @@ fn make_call<A: Allocator>(
     requires legal { IsLegal timing }
     ensures made { IfOk result (λ s. said.Submits executor.old executor.new at timing delay s) }
     ensures stays { OnOk result (StaysQuiet executor.old executor.new (executor.old.count + 1)) }
+    ensures refused { OnErr result (executor.new ≡ executor.old) }
     ensures failed { IfErr result (λ error. IsSubmitError executor.old at timing delay error) }
 {
     match timing {
@@ -100,6 +124,7 @@ fn make_call<A: Allocator>(
 }
 
 /// Stores the data of a submission in the slot of its task, where it has one.
+#[inline(always)]
 fn store<A: Allocator>(user_data: &mut Vec<u64, A>, submitted: Submitted, value: u64)
     requires { HasPlace submitted user_data.old.items }
     ensures { user_data.new.items ≡ stored submitted value user_data.old.items }

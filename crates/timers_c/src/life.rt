@@ -23,7 +23,7 @@ pub fn new(alloc: Global, slot: &mut Slot, workers: u32) -> Status
     let Ok(session) = Box::new(alloc, session) else {
         return Status::NoMemory;
     };
-    *slot = Slot::of(session);
+    slot.put(session);
     Status::Done
 }
 
@@ -46,6 +46,6 @@ pub fn reserve(alloc: Global, slot: &mut Slot, tasks: u32) -> Status
         return Status::NoTimers;
     };
     let made = session.reserve(tasks).is_ok();
-    *slot = Slot::of(session);
+    slot.put(session);
     if made { Status::Done } else { Status::NoMemory }
 }

@@ -26,7 +26,7 @@ pub fn poll_many(
         return Status::NoTimers;
     };
     let (status, count) = poll_each(&mut session, now, runs);
-    *slot = Slot::of(session);
+    slot.put(session);
     *begun = count;
     status
 }
@@ -67,7 +67,7 @@ pub fn finish_many(
     };
     let room = endings.len().min(ends.len());
     let (status, count) = finish_each(&mut session, now, &endings[..room], ends);
-    *slot = Slot::of(session);
+    slot.put(session);
     *ended = count;
     status
 }

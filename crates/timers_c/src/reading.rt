@@ -17,7 +17,7 @@ pub fn read_due(alloc: Global, slot: &mut Slot, due: &mut u64) -> Status
         return Status::NoTimers;
     };
     let next = session.timers().next_due();
-    *slot = Slot::of(session);
+    slot.put(session);
     match next {
         Some(moment) => {
             *due = moment;
@@ -37,7 +37,7 @@ pub fn read_task(alloc: Global, slot: &mut Slot, task: Ref, state: &mut TaskStat
     };
     let numbers = session.timers().numbers();
     let seat = session.timers().seat_of(task.task());
-    *slot = Slot::of(session);
+    slot.put(session);
     if task.number >= numbers {
         return Status::NoTask;
     }
@@ -54,7 +54,7 @@ pub fn read(alloc: Global, slot: &mut Slot, state: &mut State) -> Status
         return Status::NoTimers;
     };
     *state = State::of(&session);
-    *slot = Slot::of(session);
+    slot.put(session);
     Status::Done
 }
 
@@ -67,7 +67,7 @@ pub fn read_ended(alloc: Global, slot: &mut Slot, place: usize, gone: &mut Gone)
         return Status::NoTimers;
     };
     let found = session.gone_at(place);
-    *slot = Slot::of(session);
+    slot.put(session);
     match found {
         Some(found) => {
             *gone = found;

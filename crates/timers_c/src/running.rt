@@ -12,20 +12,22 @@ use std::alloc::Global;
 use timers::{FinishError, PollError};
 
 /// A worker polls.
+#[inline(always)]
 pub fn poll(alloc: Global, slot: &mut Slot, now: u64, worker: u32, run: &mut Run) -> Status
     ensures { TakesPoll result now worker run.new (holding slot.old.full slot.old.held.value) (holding slot.new.full slot.new.held.value) }
 {
-    *run = Run::none();
     let Some(mut session) = slot.take(alloc) else {
+        *run = Run::none();
         return Status::NoTimers;
     };
     let (status, begun) = begin(&mut session, now, worker);
-    *slot = Slot::of(session);
+    slot.put(session);
     *run = begun;
     status
 }
 
 /// A worker polls: what came of it, and the run that it begins, or none.
+#[inline(always)]
 pub fn begin(session: &mut Session, now: u64, worker: u32) -> (Status, Run)
     ensures takes { TakesPoll result.0 now worker result.1 (Some session.old) (Some session.new) }
     ensures none { result.0 ≢ statuses.Done → result.1 ≡ no_run }
@@ -41,6 +43,7 @@ pub fn begin(session: &mut Session, now: u64, worker: u32) -> (Status, Run)
 }
 
 /// The run of a worker has ended so.
+#[inline(always)]
 pub fn finish(
     alloc: Global,
     slot: &mut Slot,
@@ -51,17 +54,18 @@ pub fn finish(
 ) -> Status
     ensures { TakesFinish result now worker ending end.new (holding slot.old.full slot.old.held.value) (holding slot.new.full slot.new.held.value) }
 {
-    *end = End::none();
     let Some(mut session) = slot.take(alloc) else {
+        *end = End::none();
         return Status::NoTimers;
     };
     let (status, ended) = end_run(&mut session, now, worker, ending);
-    *slot = Slot::of(session);
+    slot.put(session);
     *end = ended;
     status
 }
 
 /// The run of a worker has ended so: what came of it, and the end, or none.
+#[inline(always)]
 pub fn end_run(session: &mut Session, now: u64, worker: u32, ending: Ending) -> (Status, End)
     ensures takes { TakesFinish result.0 now worker ending result.1 (Some session.old) (Some session.new) }
     ensures none { result.0 ≢ statuses.Done → result.1 ≡ no_end }

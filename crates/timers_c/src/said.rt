@@ -15,8 +15,8 @@ use timers::{Finished, Run};
 pub enum Said {
     /// The task was accepted.
     Submit {
-        task: u64,
         kind: Kind,
+        task: u64,
         /// The due moment of its first run, at most 2^63 nanoseconds.
         due: u64,
     },
@@ -26,8 +26,8 @@ pub enum Said {
     },
     /// A cancel had this effect.
     Outside {
-        task: u64,
         effect: CancelEffect,
+        task: u64,
     },
     /// A policy was set.
     Policy {

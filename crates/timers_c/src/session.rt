@@ -84,6 +84,7 @@ impl Session {
     /// # Errors
     ///
     /// Those of the timers: nothing has changed then.
+    #[inline(always)]
     pub fn submit(
         &mut self,
         now: u64,
@@ -104,6 +105,7 @@ impl Session {
     /// # Errors
     ///
     /// `NoTask` where no submission was given the number yet: nothing has changed then.
+    #[inline(always)]
     pub fn cancel(&mut self, task: TaskRef) -> Result<CancelEffect, CallError>
         ensures made { IfOk result (λ effect. Cancels self.old self.new task.number effect) }
         ensures refused { OnErr result (self.new ≡ self.old) }
@@ -120,6 +122,7 @@ impl Session {
     /// # Errors
     ///
     /// Those of the timers. Nothing has changed then, but that the clock has shown the moment where the error is `Full`.
+    #[inline(always)]
     pub fn poll(&mut self, now: u64, worker: u32) -> Result<Option<Run>, PollError>
         ensures begins { IfOk result (λ run. Begins self.old self.new now worker run) }
         ensures failed { IfErr result (λ error. FailsToBegin self.old self.new now worker error) }
@@ -146,6 +149,7 @@ impl Session {
     /// # Errors
     ///
     /// Those of the timers: nothing has changed then.
+    #[inline(always)]
     pub fn finish(&mut self, now: u64, worker: u32, ending: Ending) -> Result<Finished, FinishError>
         ensures ends { IfOk result (λ f. EndsRun self.old self.new now worker ending f) }
         ensures refused { OnErr result (self.new ≡ self.old) }

@@ -22,7 +22,7 @@ pub fn set_policy(alloc: Global, slot: &mut Slot, now: u64, policy: u32, value: 
         return Status::NoTimers;
     };
     let set = session.set_policy(now, which, value).is_ok();
-    *slot = Slot::of(session);
+    slot.put(session);
     if set { Status::Done } else { Status::TooFar }
 }
 
@@ -48,7 +48,7 @@ pub fn shut_down(alloc: Global, slot: &mut Slot, now: u64, first: &mut u32) -> S
         return Status::NoTimers;
     };
     let shut = session.shut_down(now);
-    *slot = Slot::of(session);
+    slot.put(session);
     match shut {
         Ok(is_first) => {
             *first = bool_number(is_first);
@@ -66,7 +66,7 @@ pub fn shut_down_now(alloc: Global, slot: &mut Slot, now: u64) -> Status
         return Status::NoTimers;
     };
     let shut = session.shut_down_now(now).is_ok();
-    *slot = Slot::of(session);
+    slot.put(session);
     if shut { Status::Done } else { Status::TooFar }
 }
 
@@ -79,7 +79,7 @@ pub fn ask(alloc: Global, slot: &mut Slot, now: u64, counts: &mut Counts) -> Sta
         return Status::NoTimers;
     };
     let asked = session.ask(now);
-    *slot = Slot::of(session);
+    slot.put(session);
     match asked {
         Ok(asked) => {
             *counts = Counts::of(asked);

@@ -32,17 +32,6 @@ impl Slot {
         }
     }
 
-    /// A slot with timers.
-    pub(crate) fn of(session: Box<Session, Global>) -> Slot
-        ensures full { result.full ≡ true }
-        ensures value { result.held.value ≡ session.value }
-    {
-        Slot {
-            held: Held::of(Kept::of(session)),
-            full: true,
-        }
-    }
-
     /// Takes the timers out, if there are any, and leaves the slot empty.
     pub(crate) fn take(&mut self, alloc: Global) -> Option<Box<Session, Global>>
         ensures there { is_some result ≡ self.old.full }
@@ -55,5 +44,15 @@ impl Slot {
         }
         let slot = std::mem::replace(self, Slot::empty(alloc));
         Some(slot.held.into_kept().into_box())
+    }
+
+    /// Puts timers into the slot, which is empty.
+    pub(crate) fn put(&mut self, session: Box<Session, Global>)
+        requires { self.old.full ≡ false }
+        ensures full { self.new.full ≡ true }
+        ensures value { self.new.held.value ≡ session.value }
+    {
+        self.held = Held::of(Kept::of(session));
+        self.full = true;
     }
 }

@@ -28,6 +28,7 @@ pub enum Submission {
 
 impl Submission {
     /// Makes the submission, with these data.
+    #[inline(always)]
     pub fn make(
         self,
         timers: &mut Timers<Global>,
@@ -60,6 +61,7 @@ impl Submission {
     }
 
     /// What is answered where this became of it.
+    #[inline(always)]
     pub fn answer(self, submitted: Submitted) -> Said
         ensures { bare (answer_of result) ≡ submit_reply (timing_of self) submitted }
     {

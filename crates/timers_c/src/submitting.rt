@@ -13,6 +13,7 @@ use live_core::{CallError, Submitted};
 use std::alloc::Global;
 
 /// A submission, with these data.
+#[inline(always)]
 pub fn submit(
     alloc: Global,
     slot: &mut Slot,
@@ -23,12 +24,12 @@ pub fn submit(
 ) -> Status
     ensures { TakesSubmission result now (timing_of submission) (first_of submission) user_data task.new (holding slot.old.full slot.old.held.value) (holding slot.new.full slot.new.held.value) }
 {
-    *task = Ref::none();
     let Some(mut session) = slot.take(alloc) else {
+        *task = Ref::none();
         return Status::NoTimers;
     };
     let submitted = session.submit(now, submission, user_data);
-    *slot = Slot::of(session);
+    slot.put(session);
     match submitted {
         Ok(submitted) => {
             *task = Ref::of_submitted(submitted);
@@ -37,31 +38,40 @@ pub fn submit(
                 Submitted::Rejected { .. } => Status::Shut,
             }
         }
-        Err(CallError::Illegal) => Status::Illegal,
-        Err(CallError::TooLong) => Status::TooLong,
-        Err(CallError::TooFar) => Status::TooFar,
-        Err(CallError::Full) => Status::Full,
-        Err(CallError::Memory) => Status::NoMemory,
-        Err(CallError::NoTask) => unreachable!(),
+        Err(error) => {
+            *task = Ref::none();
+            match error {
+                CallError::Illegal => Status::Illegal,
+                CallError::TooLong => Status::TooLong,
+                CallError::TooFar => Status::TooFar,
+                CallError::Full => Status::Full,
+                CallError::Memory => Status::NoMemory,
+                CallError::NoTask => unreachable!(),
+            }
+        }
     }
 }
 
 /// A cancel of the task of a number.
+#[inline(always)]
 pub fn cancel(alloc: Global, slot: &mut Slot, task: Ref, effect: &mut u32) -> Status
     ensures { TakesCancel result task effect.new (holding slot.old.full slot.old.held.value) (holding slot.new.full slot.new.held.value) }
 {
-    *effect = 0;
     let Some(mut session) = slot.take(alloc) else {
+        *effect = 0;
         return Status::NoTimers;
     };
     let cancelled = session.cancel(task.task());
-    *slot = Slot::of(session);
+    slot.put(session);
     match cancelled {
         Ok(done) => {
             *effect = effect_number(done);
             Status::Done
         }
-        Err(_) => Status::NoTask,
+        Err(_) => {
+            *effect = 0;
+            Status::NoTask
+        }
     }
 }
 

@@ -28,7 +28,7 @@ pub fn text(
     if spelled {
         *copied = put_lines(&session, from, out);
     }
-    *slot = Slot::of(session);
+    slot.put(session);
     if spelled {
         Status::Done
     } else {

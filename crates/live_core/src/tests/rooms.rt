@@ -15,9 +15,11 @@ fn room_is_made_for_so_many_tasks_in_all(rt: HostRuntime) -> Result<(), Fail> {
         &rt,
         &[
             (Step::Reserve(0), DONE),
+            (Step::IsFull, Told::Full(true)),
             (Step::Reserve(3), DONE),
             (Step::Reserve(2), DONE),
             (Step::Reserve(3), DONE),
+            (Step::IsFull, Told::Full(false)),
             (Step::Look, Told::Looks(0, 0)),
             (Step::Numbers, Told::Numbers(0)),
             (Step::Execute(0), accepted(0, 2, 0)),
@@ -26,7 +28,9 @@ fn room_is_made_for_so_many_tasks_in_all(rt: HostRuntime) -> Result<(), Fail> {
             (Step::Execute(0), accepted(2, 4, 0)),
             (Step::Execute(0), accepted(3, 3, 0)),
             (Step::Execute(0), accepted(4, 0, 0)),
+            (Step::IsFull, Told::Full(true)),
             (Step::Execute(0), accepted(5, 13, 0)),
+            (Step::IsFull, Told::Full(false)),
             (Step::Look, Told::Looks(0, 6)),
         ],
     )

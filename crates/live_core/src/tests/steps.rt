@@ -35,6 +35,7 @@ pub enum Step {
     Policies,
     IsShut,
     Numbers,
+    IsFull,
     Ends,
 }
 
@@ -57,6 +58,7 @@ pub enum Told {
     Policies(Policies),
     Shut(bool),
     Numbers(u64),
+    Full(bool),
     /// How many tasks the last happening ended, and their numbers as the digits of a number: 1 and then 2 is 12.
     Ends(usize, u64),
 }
@@ -178,6 +180,7 @@ pub fn look<A: Allocator>(executor: &ScheduledExecutor<A>, step: Step) -> Told {
         Step::Policies => Told::Policies(executor.policies()),
         Step::IsShut => Told::Shut(executor.is_shut()),
         Step::Numbers => Told::Numbers(executor.numbers()),
+        Step::IsFull => Told::Full(executor.is_full()),
         Step::Ends => ends(executor),
         _ => Told::Looks(executor.now(), executor.len()),
     }

@@ -50,3 +50,7 @@ pub record IsReady (m : LiveView) (at delay : ℕ) : Type 0 where
   pub near : moment_of_call m at ≤ longest
   pub numbers : m.count < 2 ^ 64 - 1
   pub room : m.table.shut ≡ false → AreTaken m.table.slots → ⊥
+
+-- nothing has changed, and not each slot holds a task; or room was made, and no error comes of a submission with such a delay then
+abbrev pub HasRoomFor : TimersView → TimersView → ℕ → ℕ → Type 0
+HasRoomFor old new at delay = ((new ≡ old) × (AreTaken old.live.table.slots → ⊥)) ⊎ (MakesRoom old new × IsReady new.live at delay)

@@ -15,9 +15,9 @@ use Rattle.timers_c.specs.declared.said.Said.TheVariants as said
 
 -- what a call was answered, as the lines of a trace have it
 abbrev pub answer_of : Said → Answer
-answer_of (said.Submit task kind due) = a.Submit task kind due
+answer_of (said.Submit kind task due) = a.Submit task kind due
 answer_of (said.Reject task) = a.Refuse task refusal.Rejected
-answer_of (said.Outside task effect) = a.Outside task effect
+answer_of (said.Outside effect task) = a.Outside task effect
 answer_of (said.Policy which value) = a.Policy which value
 answer_of (said.Shutdown first) = shutdown_answer first
 answer_of said.ShutdownNow = a.ShutdownNow

@@ -31,7 +31,7 @@ loop-hole-preserved g c =
     let inside : i < length h = omega (arith, c.loop-hole.invariant.inside, all) in
     let after = c.put.ensures.heap ∙ ap (λ (e : Seen). set h i e) c.at-above.ensures in
     let noted = c.put.ensures.places ∙ ap (λ (e : Seen). set c.loop-hole.places e.slot i) c.at-above.ensures in
-    let order : IsInHeapOrder x (entry_at h up) = ap (λ (e : Seen). is_before e x) (sym c.at-above.ensures) ∙ sym c.is_before.ensures ∙ c.if-is_before.false in
+    let order : IsInHeapOrder x (entry_at h up) = ap (λ (e : Seen). is_before e x) (sym c.at.ensures) ∙ sym c.is_before.ensures ∙ c.if-is_before.false in
     let begun : c.args.hole < length (seen_all rank c.args.heap.now) = omega (arith, c.requires.inside, seen_long rank c.args.heap.now) in
     record {
       inside = omega (arith, c.put.ensures.heap_length, c.loop-hole.invariant.inside);
@@ -61,7 +61,7 @@ returns-clause-heap g c =
     let last : 0 < i → IsInHeapOrder (entry_at h (parent i)) x =
     elim c.loop-hole-test.branch [
       | else-loop-hole-test w ↦ λ some. absurd (omega arith)
-      | then-loop-hole-test+then-is_before w ↦ λ some. ordered_from_before (entry_at h (parent i)) x (ap (λ (e : Seen). is_before e x) (sym w.at-above.ensures) ∙ sym w.is_before.ensures ∙ w.if-is_before.true)
+      | then-loop-hole-test+then-is_before w ↦ λ some. ordered_from_before (entry_at h (parent i)) x (ap (λ (e : Seen). is_before e x) (sym w.at.ensures) ∙ sym w.is_before.ensures ∙ w.if-is_before.true)
     ]
     in
     subst IsHeap (sym c.put-2.ensures.heap) (heap_filled h i x (omega (arith, c.loop-hole.invariant.inside, seen_long rank c.loop-hole.heap)) c.loop-hole.invariant.around c.loop-hole.invariant.above last)
@@ -97,7 +97,7 @@ returns-clause-exact g c =
     elim c.loop-hole-test.branch [
       | else-loop-hole-test w ↦ ap (λ (n : ℕ). moving h i n) w.touches-is ∙ rises_top x c.args.hole first now c.loop-hole.invariant.exact (omega arith)
       | then-loop-hole-test+then-is_before w ↦ ap (λ (n : ℕ). moving h i n) w.touches-is
-          ∙ rises_end x c.args.hole first now c.loop-hole.invariant.exact (omega arith) (ap (λ (e : Seen). is_before e x) (sym w.at-above.ensures) ∙ sym w.is_before.ensures ∙ w.if-is_before.true)
+          ∙ rises_end x c.args.hole first now c.loop-hole.invariant.exact (omega arith) (ap (λ (e : Seen). is_before e x) (sym w.at.ensures) ∙ sym w.is_before.ensures ∙ w.if-is_before.true)
     ]
     in
     ap (λ (m : Moving). m.touches) end
