@@ -73,7 +73,7 @@
 //! Memory is asked for by `new`, by the four submissions and by [`reserve`](ScheduledExecutor::reserve), for lines by `add_lines`,
 //! and by no other call; a submission asks only where each slot holds a task. Where it is refused, nothing has changed. There are as
 //! many slots as `reserve` was asked for, or at most twice as many as there were tasks alive at once, and two; none is given back.
-//! Each has room for a task, an entry in each of two queues, two entries in an index by number, and notes that it is empty and that
+//! Each has room for a task, an entry in each of two queues, four entries in an index by number, and notes that it is empty and that
 //! its task was ended.
 //!
 //! With n tasks alive, a submission, a start, a finish or a cancel takes a time in the order of log n, for changes of binary heaps
