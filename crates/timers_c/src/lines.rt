@@ -2,6 +2,8 @@
 ghost use Rattle.std.specs.Prelude.{◌≡◌, ◌<◌, true, length, map, is_some, slice_get, IfSome};
 ghost use Rattle.std.specs.List.{list_all};
 ghost use Rattle.executor_core.specs.Flows.{end_line};
+ghost use Rattle.executor_core.specs.declared.types.Answer.TheVariants as answer;
+ghost use Rattle.executor_core.specs.declared.types.Message.TheVariants as message;
 ghost use Rattle.task_table.specs.Endings.{numbers_of};
 ghost use Rattle.live_core.specs.Lined as lined;
 ghost use Rattle.timers_c.specs.Texts as texts;
@@ -17,10 +19,11 @@ use live_core::TaskRef;
 pub fn line_count(last: Last, moment: u64, ended: &[TaskRef]) -> usize
     ensures { result ≡ length (lines_of_last last moment ended.now) }
 {
-    let clock = if last.clock.is_some() { 1 } else { 0 };
-    match last.said {
-        Some(_) => clock + 1 + ended.len(),
-        None => clock,
+    match last {
+        Last::Nothing => 0,
+        Last::Clock { .. } => 1,
+        Last::Call { .. } => 1 + ended.len(),
+        Last::Event { .. } => 2 + ended.len(),
     }
 }
 
@@ -28,9 +31,11 @@ pub fn line_count(last: Last, moment: u64, ended: &[TaskRef]) -> usize
 pub fn all_spelled(last: Last, moment: u64, ended: &[TaskRef]) -> bool
     ensures { result ≡ are_spelled (lines_of_last last moment ended.now) }
 {
-    match last.said {
-        Some(said) => answer_in(said).is_some() && all_narrow(ended, moment),
-        None => true,
+    match last {
+        Last::Nothing | Last::Clock { .. } => true,
+        Last::Call { said } | Last::Event { said, .. } => {
+            answer_in(said).is_some() && all_narrow(ended, moment)
+        }
     }
 }
 
@@ -60,25 +65,30 @@ pub fn line_at(last: Last, moment: u64, ended: &[TaskRef], place: usize) -> Opti
     requires { are_spelled (lines_of_last last moment ended.now) ≡ true }
     ensures { result ≡ slice_get (lines_of_last last moment ended.now) place }
 {
-    let Some(shown) = last.clock else {
-        return said_line(last.said, moment, ended, place);
-    };
-    if place == 0 {
-        let message = Message::Answer(Answer::Clock);
-        return Some(Line {
-            moment: shown,
-            message,
-        });
+    match last {
+        Last::Nothing => None,
+        Last::Clock { moment } if place == 0 => Some(clock_line(moment)),
+        Last::Clock { .. } => None,
+        Last::Call { said } => said_line(said, moment, ended, place),
+        Last::Event { moment, .. } if place == 0 => Some(clock_line(moment)),
+        Last::Event { said, .. } => said_line(said, moment, ended, place - 1),
     }
-    said_line(last.said, moment, ended, place - 1)
+}
+
+/// The line of a clock that shows a moment.
+fn clock_line(moment: u64) -> Line
+    ensures { result ≡ record { moment = moment; message = message.Answer answer.Clock } }
+{
+    let message = Message::Answer(Answer::Clock);
+    Line { moment, message }
 }
 
 /// The line at a place of those behind that of the clock: the answer, and then the tasks that were ended.
-fn said_line(said: Option<Said>, moment: u64, ended: &[TaskRef], place: usize) -> Option<Line>
+fn said_line(said: Said, moment: u64, ended: &[TaskRef], place: usize) -> Option<Line>
     requires { are_spelled (said_lines said moment ended.now) ≡ true }
     ensures { result ≡ slice_get (said_lines said moment ended.now) place }
 {
-    let answer = answer_in(said?)?;
+    let answer = answer_in(said)?;
     if place == 0 {
         let message = Message::Answer(answer);
         return Some(Line { moment, message });

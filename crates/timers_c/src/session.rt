@@ -54,7 +54,7 @@ impl Session {
     {
         Ok(Session {
             timers: Timers::new(alloc, told_workers(workers))?,
-            last: Last::none(),
+            last: Last::Nothing,
         })
     }
 
@@ -96,7 +96,8 @@ impl Session {
         ensures failed { IfErr result (λ error. IsRefused self.old.timers.live now (timing_of submission) (first_of submission) error) }
     {
         let submitted = submission.make(&mut self.timers, now, user_data)?;
-        self.last = Last::call(submission.answer(submitted));
+        let said = submission.answer(submitted);
+        self.last = Last::Call { said };
         Ok(submitted)
     }
 
@@ -113,7 +114,8 @@ impl Session {
     {
         let effect = self.timers.cancel(task)?;
         let task = task.number;
-        self.last = Last::call(Said::Outside { task, effect });
+        let said = Said::Outside { task, effect };
+        self.last = Last::Call { said };
         Ok(effect)
     }
 
@@ -135,12 +137,13 @@ impl Session {
         let run = match self.timers.poll(now, worker) {
             Ok(run) => run,
             Err(PollError::Full) => {
-                self.last = Last::clock(moment);
+                self.last = Last::Clock { moment };
                 return Err(PollError::Full);
             }
             Err(error) => return Err(error),
         };
-        self.last = Last::event(moment, Said::begun(worker, run));
+        let said = Said::begun(worker, run);
+        self.last = Last::Event { moment, said };
         Ok(run)
     }
 
@@ -161,7 +164,8 @@ impl Session {
         }
         let worker = worker as u8;
         let ended = self.timers.finish(now, worker, ending)?;
-        self.last = Last::event(moment, Said::finished(worker, ended));
+        let said = Said::finished(worker, ended);
+        self.last = Last::Event { moment, said };
         Ok(ended)
     }
 
@@ -176,7 +180,8 @@ impl Session {
         ensures failed { OnErr result (IsFar self.old now) }
     {
         self.timers.set_policy(now, which, value)?;
-        self.last = Last::call(Said::Policy { which, value });
+        let said = Said::Policy { which, value };
+        self.last = Last::Call { said };
         Ok(())
     }
 
@@ -191,7 +196,8 @@ impl Session {
         ensures failed { OnErr result (IsFar self.old now) }
     {
         let first = self.timers.shut_down(now)?;
-        self.last = Last::call(Said::Shutdown { first });
+        let said = Said::Shutdown { first };
+        self.last = Last::Call { said };
         Ok(first)
     }
 
@@ -206,7 +212,8 @@ impl Session {
         ensures failed { OnErr result (IsFar self.old now) }
     {
         self.timers.shut_down_now(now)?;
-        self.last = Last::call(Said::ShutdownNow);
+        let said = Said::ShutdownNow;
+        self.last = Last::Call { said };
         Ok(())
     }
 
@@ -221,7 +228,8 @@ impl Session {
         ensures failed { OnErr result (IsFar self.old now) }
     {
         let asked = self.timers.ask(now)?;
-        self.last = Last::call(Said::Ask(asked));
+        let said = Said::Ask(asked);
+        self.last = Last::Call { said };
         Ok(asked)
     }
 

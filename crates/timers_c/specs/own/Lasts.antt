@@ -1,5 +1,5 @@
 -- The lines of the last call, by what a session notes of it. (This project's rule.)
-use Rattle.std.specs.Prelude.{ℕ, List, [], ◌++◌, Option, Some, None}
+use Rattle.std.specs.Prelude.{ℕ, List, [], ◌++◌}
 use Rattle.executor_core.specs.declared.types.Answer.{Answer}
 use Rattle.executor_core.specs.declared.types.Answer.TheVariants as a
 use Rattle.executor_core.specs.declared.types.Line.{Line}
@@ -10,6 +10,7 @@ use Rattle.task_table.specs.declared.seat.TaskRef.{TaskRef}
 use Rattle.live_core.specs.Said.{ending}
 use Rattle.live_core.specs.Shutting.{shutdown_answer}
 use Rattle.timers_c.specs.declared.last.Last.{Last}
+use Rattle.timers_c.specs.declared.last.Last.TheVariants as last
 use Rattle.timers_c.specs.declared.said.Said.{Said}
 use Rattle.timers_c.specs.declared.said.Said.TheVariants as said
 
@@ -26,16 +27,13 @@ answer_of (said.Start worker task run due) = a.Start worker task run due
 answer_of (said.Idle worker) = a.Idle worker
 answer_of (said.Finish worker task run outcome) = a.Finish worker task run outcome
 
--- the line of the clock, where there is one
-abbrev pub clock_lines : Option ℕ → List Line
-clock_lines None = []
-clock_lines (Some moment) = lines_at moment (bare a.Clock)
-
--- the line of the answer, where there is one, and those of the tasks that the call ended
-abbrev pub said_lines : Option Said → ℕ → List TaskRef → List Line
-said_lines None moment ended = []
-said_lines (Some s) moment ended = lines_at moment (ending (answer_of s) ended)
+-- the line of the answer, and those of the tasks that the call ended
+abbrev pub said_lines : Said → ℕ → List TaskRef → List Line
+said_lines s moment ended = lines_at moment (ending (answer_of s) ended)
 
 -- the lines of the last call, where it is this moment now, and these are the tasks that it ended
 abbrev pub lines_of_last : Last → ℕ → List TaskRef → List Line
-lines_of_last last moment ended = clock_lines last.clock ++ said_lines last.said moment ended
+lines_of_last last.Nothing moment ended = []
+lines_of_last (last.Clock shown) moment ended = lines_at shown (bare a.Clock)
+lines_of_last (last.Call s) moment ended = said_lines s moment ended
+lines_of_last (last.Event shown s) moment ended = lines_at shown (bare a.Clock) ++ said_lines s moment ended
