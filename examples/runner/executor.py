@@ -4,9 +4,10 @@ import contextlib
 import os
 import subprocess
 
-from inputs import Fault
+from basics import Fault
 
 MOST_EVENTS = 2**32 - 1
+PART = ".part"
 ANSWERS = {"clock", "start", "finish", "outside", "error"}
 
 
@@ -14,7 +15,7 @@ class Executor:
     """`sched run`, which takes events one at a time. What it answers is the trace."""
 
     def __init__(self, program: str, plan: str, workers: int, trace: str) -> None:
-        self.workers, self.trace, self.part = workers, trace, trace + ".part"
+        self.workers, self.trace, self.part = workers, trace, trace + PART
         if not os.path.basename(trace) or (os.path.exists(trace) and not os.path.isfile(trace)):
             raise Fault(f"trace: {trace!r} can't be a file")
         try:
@@ -22,7 +23,12 @@ class Executor:
         except OSError as error:
             raise Fault(f"trace: {self.part!r} not written: {error.strerror}") from error
         words, pipe = [program, "run", plan, "--workers", str(workers), "--limit", str(MOST_EVENTS)], subprocess.PIPE
-        self.process = subprocess.Popen(words, stdin=pipe, stdout=pipe, encoding="latin-1", start_new_session=True)
+        try:
+            self.process = subprocess.Popen(words, stdin=pipe, stdout=pipe, encoding="latin-1", start_new_session=True)
+        except OSError as error:
+            self.file.close()
+            os.unlink(self.part)
+            raise Fault(f"program: {program!r} not started: {error.strerror}") from error
 
     def event(self, event: str) -> list[list[str]]:
         """Gives an event. Returns the words of each line that it is answered, its own line last."""
@@ -58,6 +64,12 @@ class Executor:
             self.lost()
         self.file.close()
         os.replace(self.part, self.trace)
+
+    def discard(self) -> None:
+        """Takes back a trace in which nothing stands."""
+        self.file.close()
+        with contextlib.suppress(FileNotFoundError):
+            os.unlink(self.part)
 
     def abandon(self) -> None:
         """Ends the program, where it still runs."""

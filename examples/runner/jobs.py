@@ -1,0 +1,154 @@
+"""The jobs: a file of TOML, with a table for each name of a task."""
+
+import math
+import os
+import tomllib
+from collections.abc import Callable, Iterable
+from dataclasses import dataclass
+from pathlib import Path
+
+from basics import SECOND, Fault
+
+LONGEST_SPAN_S = 2**62 / SECOND
+MOST_RETRIES = 1_000
+USUAL_PAUSE_S = 1
+
+
+@dataclass(frozen=True)
+class Job:
+    """A command, and how it is run. Spans are nanoseconds, texts are bytes as the system takes them, paths are whole."""
+
+    command: list[bytes]
+    timeout: int
+    goes_on: bool
+    directory: bytes | None
+    environment: dict[bytes, bytes]
+    output: bytes | None
+    retries: int
+    pause: int
+
+
+# ---- the value of a key, which is none where the key is left out; a ValueError where it is none of the key's
+
+
+def text_of(value: object) -> bytes:
+    if not isinstance(value, str) or "\0" in value:
+        raise ValueError
+    return value.encode()
+
+
+def command_of(value: object) -> list[bytes]:
+    texts = [text_of(text) for text in value] if isinstance(value, list) else []
+    if not texts or not texts[0]:
+        raise ValueError
+    return texts
+
+
+def span_of(value: object) -> int:
+    """A number of seconds, whole or not, in nanoseconds."""
+    if type(value) not in (int, float) or not 0 <= value <= LONGEST_SPAN_S:
+        raise ValueError
+    return math.ceil(value * SECOND)
+
+
+def timeout_of(value: object) -> int:
+    timeout = span_of(value)
+    if timeout == 0:
+        raise ValueError
+    return timeout
+
+
+def pause_of(value: object) -> int:
+    return span_of(USUAL_PAUSE_S if value is None else value)
+
+
+def goes_on_of(value: object) -> bool:
+    """Whether a task goes on after a run that failed."""
+    if value not in (None, "stop", "go_on"):
+        raise ValueError
+    return value == "go_on"
+
+
+def path_of(value: object) -> bytes | None:
+    """The whole path of one that is taken from the runner's folder."""
+    if value is None:
+        return None
+    if value == "":
+        raise ValueError
+    return os.path.abspath(text_of(value))
+
+
+def environment_of(value: object) -> dict[bytes, bytes]:
+    if value is None:
+        return {}
+    if not isinstance(value, dict) or not all(name and "=" not in name for name in value):
+        raise ValueError
+    return {text_of(name): text_of(text) for name, text in value.items()}
+
+
+def retries_of(value: object) -> int:
+    if value is None:
+        return 0
+    if type(value) is not int or not 0 <= value <= MOST_RETRIES:
+        raise ValueError
+    return value
+
+
+@dataclass(frozen=True)
+class Key:
+    """A key of a table: the field that it fills, how its value is read, and the fault of a value that is none of it."""
+
+    field: str
+    read: Callable[[object], object]
+    fault: str
+    wanted: str
+
+
+KEYS = {
+    "command": Key("command", command_of, "BadCommand", "a list of texts is wanted, a program and its arguments"),
+    "timeout_s": Key("timeout", timeout_of, "BadTimeout", "timeout_s is wanted, a number of seconds above 0"),
+    "on_failure": Key("goes_on", goes_on_of, "BadOnFailure", 'on_failure is "stop" or "go_on"'),
+    "directory": Key("directory", path_of, "BadDirectory", "a text is wanted, the path of a folder"),
+    "environment": Key("environment", environment_of, "BadEnvironment", "a table of texts is wanted, by names without '='"),
+    "output": Key("output", path_of, "BadOutput", "a text is wanted, the path of a file"),
+    "retries": Key("retries", retries_of, "BadRetries", f"a whole number is wanted, 0 to {MOST_RETRIES}"),
+    "retry_pause_s": Key("pause", pause_of, "BadRetryPause", "a number of seconds is wanted, 0 or above"),
+}
+
+
+def job_of(name: str, table: object) -> Job:
+    """The job of a table of JOBS."""
+    if not isinstance(table, dict):
+        raise Fault(f"jobs: WrongType {name!r}: a table is wanted")
+    for word in sorted(table.keys() - KEYS.keys()):
+        raise Fault(f"jobs: UnknownKey {name!r} {word!r}")
+    fields = {}
+    for word, key in KEYS.items():
+        try:
+            fields[key.field] = key.read(table.get(word))
+        except ValueError as error:
+            raise Fault(f"jobs: {key.fault} {name!r}: {key.wanted}") from error
+    return Job(**fields)
+
+
+def read_jobs(path: str, names: set[str]) -> dict[str, Job]:
+    """The jobs of the file, by their names, which are the names of the plan's tasks."""
+    try:
+        tables = tomllib.loads(Path(path).read_bytes().decode())
+    except OSError as error:
+        raise Fault(f"jobs: file not read: {error.strerror}") from error
+    except (ValueError, RecursionError) as error:
+        raise Fault(f"jobs: Toml: {error}") from error
+    for name in sorted(tables.keys() - names):
+        raise Fault(f"jobs: UnknownName {name!r}: no task of the plan has it")
+    for name in sorted(names - tables.keys()):
+        raise Fault(f"jobs: Missing {name!r}: a task of the plan has no job")
+    return {name: job_of(name, table) for name, table in tables.items()}
+
+
+def keep_outputs_from(files: Iterable[str], jobs: dict[str, Job]) -> None:
+    """No job may write into these files, which are the runner's own."""
+    taken = {os.path.realpath(os.fsencode(file)) for file in files}
+    for name, job in jobs.items():
+        if job.output is not None and os.path.realpath(job.output) in taken:
+            raise Fault(f"jobs: BadOutput {name!r}: the file is the plan, the jobs or the trace")

@@ -1,0 +1,290 @@
+"""The loop between the clock, the program and the jobs."""
+
+import os
+import selectors
+import sys
+import time
+from collections import deque
+from collections.abc import Callable
+from dataclasses import dataclass
+from functools import partial
+
+from basics import SECOND, Fault, tell
+from executor import Executor
+from jobs import Job
+from processes import NOT_STARTED, NotStarted, Process, Scarce
+from start import Start
+
+MOST_INPUT_BYTES = 64
+LONGEST_SLEEP_S = 86_400.0
+FIRST_DELAY, LONGEST_DELAY = SECOND // 100, SECOND
+
+
+@dataclass
+class Run:
+    """A run of a task, with its last attempt. Moments are nanoseconds since the start of the plan."""
+
+    worker: int
+    task: int
+    number: int
+    due: int
+    start: int
+    attempt: int = 1
+    began: int = 0
+    code: int = NOT_STARTED
+    process: Process | None = None
+    tries_at: int | None = None
+    delay: int = 0
+    has_waited: bool = False
+    is_cancelled: bool = False
+
+
+class Runner:
+    """It sleeps until there is something to do."""
+
+    def __init__(self, executor: Executor, names: list[str], calls: deque[int], jobs: dict[str, Job], signals: int) -> None:
+        self.executor, self.names, self.calls, self.jobs, self.signals = executor, names, calls, jobs, signals
+        self.idle = set(range(executor.workers))
+        self.waiting: dict[int, int] = {}
+        self.running: dict[int, Run] = {}
+        self.runs = self.failed = 0
+        self.is_stopping = False
+        self.rest = b""
+        self.origin: int | None = None
+        self.selector = selectors.PollSelector()
+        self.watch(signals, self.stop)
+        self.watch(executor.process.stdout, executor.lost)
+
+    def watch(self, file: object, call: Callable[[], None]) -> None:
+        """From now on this is called when there is something to read."""
+        self.selector.register(file, selectors.EVENT_READ, call)
+
+    def sleep(self, seconds: float) -> bool:
+        """Sleeps so long at most, and does what comes. Answers whether work is still taken."""
+        for key, _ in self.selector.select(seconds):
+            key.data()
+        return not self.is_stopping
+
+    # ---- the plan
+
+    def run(self, start: Start | None) -> bool:
+        """Runs the plan to its end, from a moment of the wall clock on if there is one. Answers whether it was begun."""
+        begun = None if start is None else start.wait(self.sleep)
+        if start is not None and begun is None:
+            return False
+        self.event("clock 0")  # the program is ready once it has answered
+        self.origin = time.monotonic_ns() if begun is None else begun
+        if sys.stdin is not None:
+            self.watch(0, self.read_input)
+        while not self.is_over():
+            self.sleep(self.seconds_to_sleep())
+            self.end_hung()
+            self.try_again()
+            self.take_due()
+        return True
+
+    def now(self) -> int:
+        return time.monotonic_ns() - self.origin
+
+    def is_over(self) -> bool:
+        return not self.running and (self.is_stopping or not (self.calls or self.waiting))
+
+    def next_due(self) -> int | None:
+        """The moment of the next call of the plan, or at which a task is due next if a worker is idle."""
+        if self.is_stopping:
+            return None
+        moments = list(self.waiting.values()) if self.idle else []
+        return min(moments + [self.calls[0]] if self.calls else moments, default=None)
+
+    def seconds_to_sleep(self) -> float:
+        """How long there is nothing to do, where no job ends, no line is read and no signal comes."""
+        moments = [self.next_due(), *(run.tries_at for run in self.running.values())]
+        moments += [run.process.ends_at for run in self.running.values() if run.process is not None]
+        seconds = [(moment - self.now()) / SECOND for moment in moments if moment is not None]
+        return min([*seconds, LONGEST_SLEEP_S])
+
+    def event(self, event: str) -> list[str]:
+        """Gives an event, and notes which tasks wait from then on. Returns the words of the event's own line."""
+        answers = self.executor.event(event)
+        for words in answers:
+            match words[1:]:
+                case ["submit", task, _, "due", due] | ["finish", _, "task", task, "run", _, "again", "due", due]:
+                    self.waiting[int(task)] = int(due)
+                case ["cancel" | "outside", task, "yes"]:
+                    self.waiting.pop(int(task), None)
+                    self.note_cancelled(int(task))
+                case ["end", task] | ["start", _, "task", task, *_]:
+                    self.waiting.pop(int(task), None)
+        return answers[-1]
+
+    def tick(self) -> int:
+        """Gives the clock, which makes all calls of the plan up to now."""
+        now = self.now()
+        self.event(f"clock {now}")
+        while self.calls and self.calls[0] <= now:
+            self.calls.popleft()
+        return now
+
+    def take_due(self) -> None:
+        """Makes the calls that are reached, and starts what is due while a worker is idle."""
+        while (moment := self.next_due()) is not None and moment <= self.now():
+            now = self.tick()
+            if self.idle and min(self.waiting.values(), default=now + 1) <= now:
+                self.start()
+
+    # ---- runs, and their attempts
+
+    def start(self) -> None:
+        """Starts the task that was due first."""
+        words = self.event(f"start {min(self.idle)}")
+        if "task" not in words:
+            raise Fault(f"program: a task is due, and it answers {' '.join(words)!r}")
+        run = Run(*(int(words[place]) for place in (2, 4, 6, 8, 0)))
+        self.idle.remove(run.worker)
+        self.running[run.worker] = run
+        self.begin(run)
+
+    def job(self, run: Run) -> Job:
+        return self.jobs[self.names[run.task]]
+
+    def title(self, run: Run, with_attempt: bool = False) -> str:
+        attempt = f" attempt {run.attempt}" if with_attempt else ""
+        return f"{self.names[run.task]} task {run.task} run {run.number}{attempt}"
+
+    def begin(self, run: Run) -> None:
+        """Begins an attempt of a run."""
+        job, run.began = self.job(run), self.now()
+        header = f"==> {self.title(run, with_attempt=job.retries > 0)} <==\n"
+        try:
+            run.process = Process(job, header.encode(), run.began)
+        except Scarce as lack:
+            self.put_off(run, lack)
+        except NotStarted as error:
+            tell(f"runner: {self.names[run.task]} not started: {error}")
+            self.end_attempt(run, error.code)
+        else:
+            run.delay = 0
+            self.watch_end(run)
+
+    def watch_end(self, run: Run) -> None:
+        """From now on the end of the run's process is seen."""
+        try:
+            self.watch(run.process.descriptor(), partial(self.reap, run))
+        except Scarce as lack:
+            self.put_off(run, lack)
+        else:
+            run.delay = 0
+
+    def put_off(self, run: Run, lack: Scarce) -> None:
+        """Has a run wait for what there is too little of: a while, and longer each time."""
+        if not run.has_waited:
+            self.tell(self.now(), f"{self.title(run)} waits: {lack}")
+        run.has_waited = True
+        run.delay = min(2 * run.delay or FIRST_DELAY, LONGEST_DELAY)
+        run.tries_at = self.now() + run.delay
+
+    def try_again(self) -> None:
+        """Goes on with what has waited long enough."""
+        for run in list(self.running.values()):
+            if run.tries_at is None or run.tries_at > self.now():
+                continue
+            run.tries_at = None
+            if run.process is not None:
+                self.watch_end(run)
+            elif run.is_cancelled:
+                self.finish(run)
+            else:
+                self.begin(run)
+
+    def note_cancelled(self, task: int) -> None:
+        """A run of the task that is under way has no further attempt, and ends where none is under way."""
+        for run in self.running.values():
+            if run.task == task:
+                run.is_cancelled = True
+                run.tries_at = self.now() if run.process is None else run.tries_at
+
+    def end_hung(self) -> None:
+        """Ends jobs that run past their timeout."""
+        for run in self.running.values():
+            if run.process is not None:
+                run.process.end_if_hung(self.now())
+
+    def reap(self, run: Run) -> None:
+        """A job has ended."""
+        self.selector.unregister(run.process.pidfd)
+        code, run.process = run.process.end(), None
+        self.end_attempt(run, code)
+
+    def end_attempt(self, run: Run, code: int) -> None:
+        """Ends an attempt. If it failed there is another one after a pause, if one is left and still wanted."""
+        run.code, job = code, self.job(run)
+        if not code or run.attempt > job.retries or run.is_cancelled or self.is_stopping:
+            self.finish(run)
+            return
+        now = self.now()
+        took, pause = (now - run.began) / 1e6, job.pause / SECOND
+        self.tell(now, f"{self.title(run, with_attempt=True)}: failed {code} in {took:.1f} ms, again in {pause:.1f} s")
+        run.attempt += 1
+        run.tries_at = now + job.pause
+
+    def finish(self, run: Run) -> None:
+        """Gives the end of a run, and tells it."""
+        del self.running[run.worker]
+        now, code = self.tick(), run.code
+        words = self.event(f"finish {run.worker} {'fail' if code and not self.job(run).goes_on else 'ok'} {code}")
+        self.idle.add(run.worker)
+        self.runs, self.failed = self.runs + 1, self.failed + (code != 0)
+        end = (f"failed {code}" if code else "ok") + (", dropped" if "dropped" in words else "")
+        took, late = (now - run.start) / 1e6, (run.start - run.due) / 1e6
+        self.tell(now, f"{self.title(run)}: {end} in {took:.1f} ms, {late:.1f} ms late")
+
+    def tell(self, now: int, text: str) -> None:
+        tell(f"{now / SECOND:.3f} s {text}")
+
+    # ---- what comes from outside
+
+    def read_input(self) -> None:
+        """Reads lines of standard input. Of one that is too long a front is kept, which is no `cancel` either."""
+        try:
+            piece = os.read(0, 65_536)
+        except OSError:
+            piece = b""
+        *lines, rest = (self.rest + piece).split(b"\n")
+        self.rest = rest[:MOST_INPUT_BYTES]
+        for line in lines:
+            self.obey(line[:MOST_INPUT_BYTES].decode(errors="replace"))
+        if not piece:
+            self.selector.unregister(0)
+            if self.rest:
+                tell("runner: input: BadLine: the last line has no end")
+
+    def obey(self, line: str) -> None:
+        """Cancels each task of the name in the line that waits or runs."""
+        match line.split(" "):
+            case ["cancel", name] if name in self.jobs:
+                now = self.tick()
+                live = [*self.waiting, *(run.task for run in self.running.values())]
+                answers = [self.event(f"cancel {task}") for task in sorted(live) if self.names[task] == name]
+                self.tell(now, f"{name}: {sum(words[-1] == 'yes' for words in answers)} cancelled")
+            case ["cancel", name]:
+                tell(f"runner: input: UnknownName {name!r}")
+            case _:
+                tell(f"runner: input: BadLine {line!r}")
+
+    def stop(self) -> None:
+        """From now on no work is taken, and a run of which no attempt is under way ends."""
+        self.is_stopping = True
+        self.selector.unregister(self.signals)
+        if self.origin is None:
+            tell("stopping: not started")
+            return
+        still = [run for run in self.running.values() if run.process is None]
+        self.tell(self.now(), f"stopping: {len(self.running) - len(still)} running")
+        for run in still:
+            self.finish(run)
+
+    def end_all(self) -> None:
+        """Ends all jobs that still run."""
+        for run in self.running.values():
+            if run.process is not None:
+                run.process.kill()
