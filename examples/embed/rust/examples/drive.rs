@@ -94,7 +94,10 @@ fn main() -> ExitCode {
         Ok(()) => ExitCode::SUCCESS,
         Err(fault) => {
             eprintln!("{fault}");
-            let of_words = matches!(fault, Fault::Words | Fault::Executor(ExecutorError::Workers));
+            let of_words = matches!(
+                fault,
+                Fault::Words | Fault::Executor(ExecutorError::Workers)
+            );
             ExitCode::from(if of_words { 2 } else { 1 })
         }
     }

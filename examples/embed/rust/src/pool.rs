@@ -1,14 +1,12 @@
 //! Threads that run tasks at their moments: [`Timers`](crate::Timers) with a clock, a lock and workers.
 //!
-//! ```no_run
+//! ```
 //! use std::time::Duration;
 //!
-//! # fn main() -> Result<(), Box<dyn std::error::Error>> {
 //! let pool = sched::ScheduledThreadPool::new(2)?;
 //! let answer = pool.schedule(Duration::from_millis(5), || 6 * 7)?;
-//! println!("{}", answer.join()?);
-//! # Ok(())
-//! # }
+//! assert_eq!(answer.join(), Ok(42));
+//! # Ok::<(), Box<dyn std::error::Error>>(())
 //! ```
 //!
 //! Moments are nanoseconds of the monotonic clock, [`Instant`](std::time::Instant), since the pool was made.
@@ -52,6 +50,7 @@
 //! its result is there, and once the pool is terminated, that of each task is. No thread takes the pool's lock with that of a cell
 //! held.
 
+mod error;
 mod handle;
 mod job;
 mod recorder;
@@ -60,6 +59,7 @@ mod shared;
 mod state;
 
 use crate::timers::{Counts, Policy, TimersError};
+pub use error::PoolError;
 pub use handle::Handle;
 use job::{Job, Once, Repeated};
 pub use recorder::Recording;
@@ -69,39 +69,31 @@ use shared::Shared;
 use state::{State, When};
 use std::convert::Infallible;
 use std::fmt;
-use std::io;
 use std::sync::Arc;
 use std::thread::{self, JoinHandle};
 use std::time::Duration;
-
-/// Why there is no pool.
-#[derive(Debug)]
-pub enum PoolError {
-    /// The number of threads is not 1 to 64, or memory ran out.
-    Timers(TimersError),
-    /// The system refused a thread.
-    Thread(io::Error),
-}
-
-impl fmt::Display for PoolError {
-    fn fmt(&self, f: &mut fmt::Formatter) -> fmt::Result {
-        match self {
-            PoolError::Timers(error) => write!(f, "{error}"),
-            PoolError::Thread(error) => write!(f, "no thread: {error}"),
-        }
-    }
-}
-
-impl std::error::Error for PoolError {}
 
 /// A fixed number of threads that run jobs once, after a delay, or again and again.
 ///
 /// A job that panics fails: its handle has the panic's text, no run comes after it, and the thread goes on. Of jobs that are due at
 /// the same moment the one that was submitted first begins first. Runs of one task do not overlap.
 ///
-/// A submission is refused as [`TimersError::Rejected`] once the pool is shut, as [`TimersError::Illegal`] where a period, or a
+/// A submission is refused as [`TimersError::Rejected`] once the pool is shut, as [`TimersError::ZeroPeriod`] where a period, or a
 /// delay between runs, is zero, and as [`TimersError::TooLong`] where a span is above 2^62 nanoseconds, which is 146 years. Its job
-/// is dropped then.
+/// is dropped then. Where memory runs out, it is refused as [`TimersError::OutOfMemory`].
+///
+/// ```
+/// use std::time::Duration;
+///
+/// let pool = sched::ScheduledThreadPool::new(2)?;
+/// let soon = pool.schedule(Duration::from_millis(1), || 6 * 7)?;
+/// let late = pool.schedule(Duration::from_secs(3_600), || 0)?;
+/// assert_eq!(soon.join()?, 42);
+/// assert!(late.cancel());
+/// pool.shutdown();
+/// assert!(pool.await_termination(Duration::from_secs(60)));
+/// # Ok::<(), Box<dyn std::error::Error>>(())
+/// ```
 ///
 /// # Drop
 ///
@@ -119,6 +111,13 @@ impl ScheduledThreadPool {
     /// # Errors
     ///
     /// The number is another one, memory ran out, or the system refused a thread. No thread is left then.
+    ///
+    /// ```
+    /// let pool = sched::ScheduledThreadPool::new(4)?;
+    /// assert_eq!(pool.threads(), 4);
+    /// assert!(sched::ScheduledThreadPool::new(65).is_err());
+    /// # Ok::<(), sched::PoolError>(())
+    /// ```
     pub fn new(threads: usize) -> Result<ScheduledThreadPool, PoolError> {
         ScheduledThreadPool::of(threads, |_| {})
     }
@@ -131,9 +130,8 @@ impl ScheduledThreadPool {
 
     /// A pool whose state was prepared before it had a thread.
     fn of(threads: usize, prepare: impl FnOnce(&mut State)) -> Result<Self, PoolError> {
-        let workers =
-            u32::try_from(threads).map_err(|_| PoolError::Timers(TimersError::Workers))?;
-        let mut state = State::new(workers).map_err(PoolError::Timers)?;
+        let workers = u32::try_from(threads).map_err(|_| TimersError::Workers)?;
+        let mut state = State::new(workers)?;
         prepare(&mut state);
         let mut pool = ScheduledThreadPool {
             shared: Arc::new(Shared::new(state)),
@@ -149,6 +147,20 @@ impl ScheduledThreadPool {
     }
 
     /// Submits a job that runs once, `delay` from now.
+    ///
+    /// # Errors
+    ///
+    /// The type's page says when a submission is refused.
+    ///
+    /// ```
+    /// use std::time::{Duration, Instant};
+    ///
+    /// let pool = sched::ScheduledThreadPool::new(1)?;
+    /// let before = Instant::now();
+    /// let waited = pool.schedule(Duration::from_millis(5), move || before.elapsed())?;
+    /// assert!(waited.join()? >= Duration::from_millis(5));
+    /// # Ok::<(), Box<dyn std::error::Error>>(())
+    /// ```
     pub fn schedule<T: Send + 'static>(
         &self,
         delay: Duration,
@@ -158,6 +170,17 @@ impl ScheduledThreadPool {
     }
 
     /// Submits a job that runs once, at once.
+    ///
+    /// # Errors
+    ///
+    /// The type's page says when a submission is refused.
+    ///
+    /// ```
+    /// let pool = sched::ScheduledThreadPool::new(1)?;
+    /// let sum = pool.execute(|| (1..=100).sum::<u32>())?;
+    /// assert_eq!(sum.join()?, 5_050);
+    /// # Ok::<(), Box<dyn std::error::Error>>(())
+    /// ```
     pub fn execute<T: Send + 'static>(
         &self,
         job: impl FnOnce() -> T + Send + 'static,
@@ -167,6 +190,24 @@ impl ScheduledThreadPool {
 
     /// Submits a job that runs first `first` from now, and then at a fixed rate: each run is due `period` after the one before it
     /// was due. Runs that are late come one after the other, until they have caught up.
+    ///
+    /// # Errors
+    ///
+    /// The type's page says when a submission is refused.
+    ///
+    /// ```
+    /// use std::sync::mpsc;
+    /// use std::time::Duration;
+    ///
+    /// let pool = sched::ScheduledThreadPool::new(1)?;
+    /// let (beat, beats) = mpsc::channel();
+    /// let pulse = pool.schedule_at_fixed_rate(Duration::ZERO, Duration::from_millis(1), move || {
+    ///     let _ = beat.send(());
+    /// })?;
+    /// assert_eq!(beats.iter().take(3).count(), 3);
+    /// assert!(pulse.cancel());
+    /// # Ok::<(), Box<dyn std::error::Error>>(())
+    /// ```
     pub fn schedule_at_fixed_rate(
         &self,
         first: Duration,
@@ -178,6 +219,22 @@ impl ScheduledThreadPool {
     }
 
     /// Submits a job that runs first `first` from now, and then each time `delay` after the run before it ended.
+    ///
+    /// # Errors
+    ///
+    /// The type's page says when a submission is refused.
+    ///
+    /// ```
+    /// use sched::{ScheduledThreadPool, TimersError};
+    /// use std::time::Duration;
+    ///
+    /// let pool = ScheduledThreadPool::new(1)?;
+    /// let refused = pool.schedule_with_fixed_delay(Duration::ZERO, Duration::ZERO, || ());
+    /// assert_eq!(refused.err(), Some(TimersError::ZeroPeriod));
+    /// let pause = Duration::from_millis(1);
+    /// assert!(pool.schedule_with_fixed_delay(pause, pause, || ())?.cancel());
+    /// # Ok::<(), Box<dyn std::error::Error>>(())
+    /// ```
     pub fn schedule_with_fixed_delay(
         &self,
         first: Duration,
@@ -201,12 +258,37 @@ impl ScheduledThreadPool {
     }
 
     /// Whether periodic tasks run on after an orderly shutdown: false at first. To set it to false after one ends those that wait.
+    ///
+    /// ```
+    /// use std::time::Duration;
+    ///
+    /// let pool = sched::ScheduledThreadPool::new(1)?;
+    /// let hour = Duration::from_secs(3_600);
+    /// let pulse = pool.schedule_at_fixed_rate(hour, hour, || ())?;
+    /// pool.set_continue_after_shutdown(true);
+    /// pool.shutdown();
+    /// assert!(!pulse.is_cancelled());
+    /// pool.set_continue_after_shutdown(false);
+    /// assert!(pulse.is_cancelled());
+    /// # Ok::<(), Box<dyn std::error::Error>>(())
+    /// ```
     pub fn set_continue_after_shutdown(&self, value: bool) {
         self.set_policy(Policy::Continue, value);
     }
 
     /// Whether tasks that wait for their one run have it after an orderly shutdown: true at first. To set it to false after one
     /// ends those that are not due yet.
+    ///
+    /// ```
+    /// use std::time::Duration;
+    ///
+    /// let pool = sched::ScheduledThreadPool::new(1)?;
+    /// let late = pool.schedule(Duration::from_secs(3_600), || ())?;
+    /// pool.set_execute_after_shutdown(false);
+    /// pool.shutdown();
+    /// assert!(late.is_cancelled() && pool.is_terminated());
+    /// # Ok::<(), Box<dyn std::error::Error>>(())
+    /// ```
     pub fn set_execute_after_shutdown(&self, value: bool) {
         self.set_policy(Policy::Execute, value);
     }
@@ -214,6 +296,16 @@ impl ScheduledThreadPool {
     /// Whether a task that is cancelled while it waits leaves the queue at once: false at first. Else it stands there, without its
     /// job, until a worker looks for work at its moment or later. Once the pool is shut each one leaves at once, whatever is set
     /// here.
+    ///
+    /// ```
+    /// use std::time::Duration;
+    ///
+    /// let pool = sched::ScheduledThreadPool::new(1)?;
+    /// pool.set_remove_on_cancel(true);
+    /// pool.schedule(Duration::from_secs(3_600), || ())?.cancel();
+    /// assert_eq!(pool.counts().queue, 0);
+    /// # Ok::<(), Box<dyn std::error::Error>>(())
+    /// ```
     pub fn set_remove_on_cancel(&self, value: bool) {
         self.set_policy(Policy::Remove, value);
     }
@@ -225,42 +317,118 @@ impl ScheduledThreadPool {
 
     /// Shuts the pool down in order: submissions are rejected from now on, and the policies say which of the tasks that wait still
     /// run. The others are cancelled. It does not wait.
+    ///
+    /// ```
+    /// use std::time::Duration;
+    ///
+    /// let pool = sched::ScheduledThreadPool::new(1)?;
+    /// let soon = pool.schedule(Duration::from_millis(1), || 6 * 7)?;
+    /// pool.shutdown();
+    /// assert!(pool.execute(|| ()).is_err());
+    /// assert_eq!(soon.join()?, 42);
+    /// # Ok::<(), Box<dyn std::error::Error>>(())
+    /// ```
     pub fn shutdown(&self) {
         self.shared.with(State::shut_down);
     }
 
     /// Shuts the pool down at once: submissions are rejected from now on, and all tasks that wait are cancelled. How many those
     /// were. The runs under way go on, and no run comes after them. It does not wait.
+    ///
+    /// ```
+    /// use std::time::Duration;
+    ///
+    /// let pool = sched::ScheduledThreadPool::new(1)?;
+    /// let late = pool.schedule(Duration::from_secs(3_600), || ())?;
+    /// assert_eq!(pool.shutdown_now(), 1);
+    /// assert!(late.is_cancelled());
+    /// # Ok::<(), Box<dyn std::error::Error>>(())
+    /// ```
     pub fn shutdown_now(&self) -> usize {
         self.shared.with(State::shut_down_now).len()
     }
 
     /// Waits until the pool is terminated, at most so long, and says whether it is.
+    ///
+    /// ```
+    /// use std::time::Duration;
+    ///
+    /// let pool = sched::ScheduledThreadPool::new(1)?;
+    /// assert!(!pool.await_termination(Duration::from_millis(1)));
+    /// pool.shutdown();
+    /// assert!(pool.await_termination(Duration::from_secs(60)));
+    /// # Ok::<(), sched::PoolError>(())
+    /// ```
+    #[must_use = "it says whether the pool has ended in time"]
     pub fn await_termination(&self, timeout: Duration) -> bool {
         self.shared.await_end(timeout)
     }
 
     /// Whether it was shut down.
+    ///
+    /// ```
+    /// let pool = sched::ScheduledThreadPool::new(1)?;
+    /// assert!(!pool.is_shutdown());
+    /// pool.shutdown();
+    /// assert!(pool.is_shutdown());
+    /// # Ok::<(), sched::PoolError>(())
+    /// ```
+    #[must_use]
     pub fn is_shutdown(&self) -> bool {
         self.shared.with(|state, _now| state.is_shut())
     }
 
     /// Whether it was shut down, and no task waits or runs any more.
+    ///
+    /// ```
+    /// let pool = sched::ScheduledThreadPool::new(1)?;
+    /// assert!(!pool.is_terminated());
+    /// pool.shutdown();
+    /// assert!(pool.is_terminated());
+    /// # Ok::<(), sched::PoolError>(())
+    /// ```
+    #[must_use]
     pub fn is_terminated(&self) -> bool {
         self.shared.with(|state, _now| state.is_terminated())
     }
 
     /// How many tasks stand in the queue and run, at one moment.
+    ///
+    /// ```
+    /// use std::time::Duration;
+    ///
+    /// let pool = sched::ScheduledThreadPool::new(1)?;
+    /// pool.schedule(Duration::from_secs(3_600), || ())?;
+    /// let counts = pool.counts();
+    /// assert_eq!((counts.queue, counts.running), (1, 0));
+    /// # Ok::<(), Box<dyn std::error::Error>>(())
+    /// ```
     pub fn counts(&self) -> Counts {
         self.shared.with(State::counts)
     }
 
     /// How many submissions there were, with those that were rejected.
+    ///
+    /// ```
+    /// let pool = sched::ScheduledThreadPool::new(1)?;
+    /// pool.execute(|| ())?;
+    /// pool.shutdown();
+    /// assert!(pool.execute(|| ()).is_err());
+    /// assert_eq!(pool.submissions(), 2);
+    /// # Ok::<(), Box<dyn std::error::Error>>(())
+    /// ```
+    #[must_use]
     pub fn submissions(&self) -> u64 {
         self.shared.with(|state, _now| state.timed().numbers)
     }
 
     /// How many threads it has.
+    ///
+    /// ```
+    /// assert_eq!(sched::ScheduledThreadPool::new(3)?.threads(), 3);
+    /// # Ok::<(), sched::PoolError>(())
+    /// ```
+    #[must_use]
     pub fn threads(&self) -> usize {
         self.threads.len()
     }
@@ -269,6 +437,18 @@ impl ScheduledThreadPool {
     #[doc(hidden)]
     pub fn recording(&self) -> Option<Recording> {
         self.shared.with(|state, _now| state.recording())
+    }
+}
+
+impl fmt::Debug for ScheduledThreadPool {
+    fn fmt(&self, f: &mut fmt::Formatter<'_>) -> fmt::Result {
+        let state = self.shared.with(|state, _now| state.timed());
+        f.debug_struct("ScheduledThreadPool")
+            .field("threads", &self.threads())
+            .field("alive", &state.alive)
+            .field("shut", &state.shut)
+            .field("terminated", &state.terminated)
+            .finish_non_exhaustive()
     }
 }
 

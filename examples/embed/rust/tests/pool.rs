@@ -762,8 +762,8 @@ fn what_is_not_allowed_is_refused() {
     }
     let rate = pool.schedule_at_fixed_rate(HOUR, Duration::ZERO, || ());
     let fixed = pool.schedule_with_fixed_delay(HOUR, Duration::ZERO, || ());
-    assert_eq!(rate.expect_err("no period"), TimersError::Illegal);
-    assert_eq!(fixed.expect_err("no delay"), TimersError::Illegal);
+    assert_eq!(rate.expect_err("no period"), TimersError::ZeroPeriod);
+    assert_eq!(fixed.expect_err("no delay"), TimersError::ZeroPeriod);
     assert_eq!(pool.submissions(), 0);
 }
 

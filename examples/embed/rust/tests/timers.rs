@@ -24,16 +24,16 @@ fn finished(timers: &mut Timers, now: u64, worker: u32) -> Outcome {
 }
 
 /// How far a task is.
-fn phase(timers: &mut Timers, task: TaskRef) -> Phase {
+fn phase(timers: &Timers, task: TaskRef) -> Phase {
     timers.task(task).expect("a number").phase
 }
 
 /// The data of the tasks that the last call ended.
-fn ended(timers: &mut Timers) -> Vec<u64> {
+fn ended(timers: &Timers) -> Vec<u64> {
     timers.ended().map(|gone| gone.data).collect()
 }
 
-fn lines(timers: &mut Timers) -> Vec<String> {
+fn lines(timers: &Timers) -> Vec<String> {
     timers.lines().expect("small numbers").collect()
 }
 
@@ -60,7 +60,7 @@ fn a_task_runs_once_it_is_due() {
     };
     assert_eq!(timers.poll(16, 1), Ok(Some(run)));
     assert_eq!(
-        (timers.next_due(), phase(&mut timers, task)),
+        (timers.next_due(), phase(&timers, task)),
         (None, Phase::Running)
     );
     let end = End {
@@ -70,7 +70,7 @@ fn a_task_runs_once_it_is_due() {
         outcome: Outcome::Done(3),
     };
     assert_eq!(timers.finish(17, 1, 3), Ok(end));
-    assert_eq!(phase(&mut timers, task), Phase::Gone);
+    assert_eq!(phase(&timers, task), Phase::Gone);
 }
 
 #[test]
@@ -125,11 +125,11 @@ fn a_cancel_does_what_the_phase_lets_it() {
     let mut timers = timers(1);
     let waits = timers.schedule(0, 5, 0).expect("memory");
     assert_eq!(timers.cancel(waits), Ok(Effect::Cancelled));
-    assert_eq!(phase(&mut timers, waits), Phase::Kept);
+    assert_eq!(phase(&timers, waits), Phase::Kept);
     assert_eq!(timers.cancel(waits), Ok(Effect::Over));
     assert_eq!(timers.next_due(), None);
     assert_eq!(begun(&mut timers, 5, 0), None);
-    assert_eq!(phase(&mut timers, waits), Phase::Gone);
+    assert_eq!(phase(&timers, waits), Phase::Gone);
 
     let runs = timers.execute(6, 1).expect("memory");
     assert_eq!(begun(&mut timers, 7, 0), Some(1));
@@ -143,9 +143,9 @@ fn a_cancel_does_what_the_phase_lets_it() {
         .expect("a moment");
     let removed = timers.schedule(9, 5, 0).expect("memory");
     assert_eq!(timers.cancel(removed), Ok(Effect::Cancelled));
-    assert_eq!(phase(&mut timers, removed), Phase::Gone);
+    assert_eq!(phase(&timers, removed), Phase::Gone);
 
-    assert_eq!(timers.shut_down(20), Ok(true));
+    assert_eq!(timers.shutdown(20), Ok(true));
     let Err(TimersError::Rejected(rejected)) = timers.execute(20, 0) else {
         panic!("the timers are shut");
     };
@@ -174,7 +174,7 @@ fn a_slot_names_no_other_task() {
         ..first
     };
     assert_eq!(timers.cancel(mixed), Ok(Effect::Over));
-    assert_eq!(phase(&mut timers, second), Phase::Waiting);
+    assert_eq!(phase(&timers, second), Phase::Waiting);
 }
 
 #[test]
@@ -195,10 +195,10 @@ fn a_shutdown_ends_what_the_policies_say() {
         timers
             .set_policy(1, Policy::Execute, once)
             .expect("a moment");
-        assert_eq!(timers.shut_down(2), Ok(true));
-        assert_eq!(ended(&mut timers), wanted);
-        assert_eq!(timers.shut_down(3), Ok(false));
-        assert_eq!(ended(&mut timers), []);
+        assert_eq!(timers.shutdown(2), Ok(true));
+        assert_eq!(ended(&timers), wanted);
+        assert_eq!(timers.shutdown(3), Ok(false));
+        assert_eq!(ended(&timers), []);
         let state = timers.state();
         assert_eq!(state.policy(Policy::Continue), periodic);
         assert_eq!(state.policy(Policy::Execute), once);
@@ -213,13 +213,13 @@ fn a_shutdown_at_once_ends_all_that_waits() {
     let periodic = timers.at_rate(0, 0, 1, 7).expect("memory");
     let waits = timers.schedule(0, 100, 8).expect("memory");
     assert_eq!(begun(&mut timers, 1, 0), Some(7));
-    timers.shut_down_now(2).expect("a moment");
+    timers.shutdown_now(2).expect("a moment");
     let gone = Gone {
         task: waits,
         data: 8,
     };
     assert_eq!(timers.ended().collect::<Vec<_>>(), [gone]);
-    assert_eq!(lines(&mut timers), ["2 shutdown now", "2 end 1"]);
+    assert_eq!(lines(&timers), ["2 shutdown now", "2 end 1"]);
     let counts = Counts {
         queue: 0,
         running: 1,
@@ -228,7 +228,7 @@ fn a_shutdown_at_once_ends_all_that_waits() {
     };
     assert_eq!(timers.ask(2), Ok(counts));
     assert_eq!(finished(&mut timers, 3, 0), Outcome::Ended);
-    assert_eq!(phase(&mut timers, periodic), Phase::Gone);
+    assert_eq!(phase(&timers, periodic), Phase::Gone);
     assert!(timers.ask(3).expect("a moment").terminated);
 }
 
@@ -279,8 +279,8 @@ fn each_refusal_leaves_the_timers_as_they_were() {
     );
     let mut timers = timers(64);
     timers.reserve(100).expect("memory");
-    assert_eq!(timers.at_rate(0, 1, 0, 0), Err(TimersError::Illegal));
-    assert_eq!(timers.with_delay(0, 1, 0, 0), Err(TimersError::Illegal));
+    assert_eq!(timers.at_rate(0, 1, 0, 0), Err(TimersError::ZeroPeriod));
+    assert_eq!(timers.with_delay(0, 1, 0, 0), Err(TimersError::ZeroPeriod));
     assert_eq!(
         timers.schedule(0, FARTHEST + 1, 0),
         Err(TimersError::TooLong)
@@ -317,28 +317,25 @@ fn each_refusal_leaves_the_timers_as_they_were() {
 #[test]
 fn calls_are_answered_in_lines() {
     let mut timers = timers(1);
-    assert_eq!(lines(&mut timers), [""; 0]);
+    assert_eq!(lines(&timers), [""; 0]);
     let task = timers.at_rate(3, 2, 10, 0).expect("memory");
-    assert_eq!(lines(&mut timers), ["3 submit 0 rate due 5"]);
+    assert_eq!(lines(&timers), ["3 submit 0 rate due 5"]);
     timers
         .poll(5, 0)
         .expect("a free worker")
         .expect("it is due");
-    assert_eq!(
-        lines(&mut timers),
-        ["5 clock", "5 start 0 task 0 run 0 due 5"]
-    );
+    assert_eq!(lines(&timers), ["5 clock", "5 start 0 task 0 run 0 due 5"]);
     timers.cancel(task).expect("a number");
-    assert_eq!(lines(&mut timers), ["5 outside 0 yes"]);
+    assert_eq!(lines(&timers), ["5 outside 0 yes"]);
     timers.finish(7, 0, 1).expect("a run");
     assert_eq!(
-        lines(&mut timers),
+        lines(&timers),
         ["7 clock", "7 finish 0 task 0 run 0 dropped"]
     );
     timers
         .set_policy(7, Policy::Execute, false)
         .expect("a moment");
-    assert_eq!(lines(&mut timers), ["8 policy execute false"]);
+    assert_eq!(lines(&timers), ["8 policy execute false"]);
 }
 
 #[test]

@@ -1,7 +1,7 @@
 //! Each answer of the wrappers.
 use sched::{
-    DelayQueue, Entry, Event, Executor, ExecutorError, Fault, InsertManyError, Phase, QueueError,
-    Run, Task,
+    DelayQueue, Entry, Event, Executor, ExecutorError, Fault, FaultKind, InsertManyError, Phase,
+    QueueError, Run, Task,
 };
 
 const PLAN: &[u8] =
@@ -98,9 +98,9 @@ fn an_executor_answers_in_lines() {
 fn an_executor_is_refused() {
     let refusal = |plan, workers, limit| Executor::new(plan, workers, limit).err();
     let fault = Fault {
-        kind: 3,
-        block: 0,
-        call: 0,
+        kind: FaultKind::Version,
+        block: None,
+        call: None,
     };
     assert_eq!(refusal(b"", 0, 0), Some(ExecutorError::Plan(fault)));
     assert_eq!(refusal(PLAN, 65, 0), Some(ExecutorError::Workers));

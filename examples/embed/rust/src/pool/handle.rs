@@ -11,6 +11,17 @@ use std::time::Duration;
 ///
 /// A task goes on where its handle is dropped. A handle may be shared by threads, also by the jobs of its pool; a job that waits
 /// for another one takes up a worker.
+///
+/// ```
+/// use std::time::Duration;
+///
+/// let pool = sched::ScheduledThreadPool::new(2)?;
+/// let reply = pool.schedule(Duration::from_millis(1), || "in time")?;
+/// let timeout = pool.schedule(Duration::from_secs(3_600), || "too late")?;
+/// assert_eq!(reply.join()?, "in time");
+/// assert!(timeout.cancel());
+/// # Ok::<(), Box<dyn std::error::Error>>(())
+/// ```
 pub struct Handle<T> {
     pool: Arc<Shared>,
     task: TaskRef,
@@ -24,6 +35,16 @@ impl<T> Handle<T> {
 
     /// Cancels the task, and says whether that had an effect. It has none where the task is over, or was cancelled before. A job
     /// that waits is dropped by this call. One that runs goes on, and what it gives is dropped: the task is cancelled all the same.
+    ///
+    /// ```
+    /// use std::time::Duration;
+    ///
+    /// let pool = sched::ScheduledThreadPool::new(1)?;
+    /// let late = pool.schedule(Duration::from_secs(3_600), || ())?;
+    /// assert!(late.cancel());
+    /// assert!(!late.cancel());
+    /// # Ok::<(), Box<dyn std::error::Error>>(())
+    /// ```
     pub fn cancel(&self) -> bool {
         let (cancelled, _job) = self.pool.with(|state, _now| {
             let (cancelled, job) = state.cancel(self.task);
@@ -36,21 +57,60 @@ impl<T> Handle<T> {
     }
 
     /// Whether the task is over: it has its value, has panicked or is cancelled.
+    ///
+    /// ```
+    /// let pool = sched::ScheduledThreadPool::new(1)?;
+    /// let job = pool.execute(|| 6 * 7)?;
+    /// job.wait();
+    /// assert!(job.is_done());
+    /// # Ok::<(), Box<dyn std::error::Error>>(())
+    /// ```
+    #[must_use]
     pub fn is_done(&self) -> bool {
         self.cell.is_told()
     }
 
     /// Whether the task is cancelled, by a handle or by a shutdown.
+    ///
+    /// ```
+    /// use std::time::Duration;
+    ///
+    /// let pool = sched::ScheduledThreadPool::new(1)?;
+    /// let late = pool.schedule(Duration::from_secs(3_600), || ())?;
+    /// assert!(!late.is_cancelled());
+    /// pool.shutdown_now();
+    /// assert!(late.is_cancelled());
+    /// # Ok::<(), Box<dyn std::error::Error>>(())
+    /// ```
+    #[must_use]
     pub fn is_cancelled(&self) -> bool {
         self.cell.is_cancelled()
     }
 
-    /// Waits until the task is over.
+    /// Waits until the task is over. [`join`](Self::join) takes its value too.
+    ///
+    /// ```
+    /// let pool = sched::ScheduledThreadPool::new(1)?;
+    /// let job = pool.execute(|| 6 * 7)?;
+    /// job.wait();
+    /// assert_eq!(job.join()?, 42);
+    /// # Ok::<(), Box<dyn std::error::Error>>(())
+    /// ```
     pub fn wait(&self) {
         self.cell.wait();
     }
 
     /// Waits until the task is over, at most so long, and says whether it is.
+    ///
+    /// ```
+    /// use std::time::Duration;
+    ///
+    /// let pool = sched::ScheduledThreadPool::new(1)?;
+    /// let late = pool.schedule(Duration::from_secs(3_600), || ())?;
+    /// assert!(!late.wait_timeout(Duration::from_millis(1)));
+    /// # Ok::<(), Box<dyn std::error::Error>>(())
+    /// ```
+    #[must_use = "it says whether the task was over in time"]
     pub fn wait_timeout(&self, timeout: Duration) -> bool {
         self.cell.wait_timeout(timeout)
     }
@@ -61,12 +121,35 @@ impl<T> Handle<T> {
     /// # Errors
     ///
     /// The task was cancelled, or its job panicked.
+    ///
+    /// ```
+    /// let pool = sched::ScheduledThreadPool::new(1)?;
+    /// let job = pool.execute(|| 6 * 7)?;
+    /// assert_eq!(job.join(), Ok(42));
+    /// # Ok::<(), Box<dyn std::error::Error>>(())
+    /// ```
     pub fn join(self) -> Result<T, JoinError> {
         self.cell.wait();
         self.cell.take().expect("it is told")
     }
 
-    /// The same, waiting at most so long: the handle comes back where the task is not over by then.
+    /// The same, waiting at most so long.
+    ///
+    /// # Errors
+    ///
+    /// The task is not over by then: the handle comes back. Within, as [`join`](Self::join).
+    ///
+    /// ```
+    /// use std::time::Duration;
+    ///
+    /// let pool = sched::ScheduledThreadPool::new(1)?;
+    /// let late = pool.schedule(Duration::from_secs(3_600), || ())?;
+    /// match late.join_timeout(Duration::from_millis(1)) {
+    ///     Ok(result) => result?,
+    ///     Err(late) => assert!(late.cancel()),
+    /// }
+    /// # Ok::<(), Box<dyn std::error::Error>>(())
+    /// ```
     pub fn join_timeout(self, timeout: Duration) -> Result<Result<T, JoinError>, Handle<T>> {
         if self.cell.wait_timeout(timeout) {
             Ok(self.join())
@@ -76,18 +159,39 @@ impl<T> Handle<T> {
     }
 
     /// How long the task waits still for its next run: nothing where that is due. `None`: it does not wait.
+    ///
+    /// ```
+    /// use std::time::Duration;
+    ///
+    /// let pool = sched::ScheduledThreadPool::new(1)?;
+    /// let hour = Duration::from_secs(3_600);
+    /// let late = pool.schedule(hour, || ())?;
+    /// assert!(late.remaining().is_some_and(|left| left <= hour));
+    /// late.cancel();
+    /// assert_eq!(late.remaining(), None);
+    /// # Ok::<(), Box<dyn std::error::Error>>(())
+    /// ```
+    #[must_use]
     pub fn remaining(&self) -> Option<Duration> {
         self.pool.with(|state, now| state.remaining(now, self.task))
     }
 
     /// The number of its submission, by which a trace names it.
+    ///
+    /// ```
+    /// let pool = sched::ScheduledThreadPool::new(1)?;
+    /// let numbers = [pool.execute(|| ())?.number(), pool.execute(|| ())?.number()];
+    /// assert_eq!(numbers, [0, 1]);
+    /// # Ok::<(), Box<dyn std::error::Error>>(())
+    /// ```
+    #[must_use]
     pub fn number(&self) -> u64 {
         self.task.number
     }
 }
 
 impl<T> fmt::Debug for Handle<T> {
-    fn fmt(&self, f: &mut fmt::Formatter) -> fmt::Result {
+    fn fmt(&self, f: &mut fmt::Formatter<'_>) -> fmt::Result {
         f.debug_struct("Handle")
             .field("number", &self.task.number)
             .finish_non_exhaustive()

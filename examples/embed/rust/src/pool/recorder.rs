@@ -28,7 +28,7 @@ pub struct Recorder {
 
 impl Recorder {
     /// Adds the lines of the last call, and the call itself where a plan has such calls: a poll, a finish and a cancel are events.
-    pub fn note(&mut self, call: Option<Call>, timers: &mut Timers) {
+    pub fn note(&mut self, call: Option<Call>, timers: &Timers) {
         let lines: Vec<String> = timers
             .lines()
             .expect("a recording is short enough for each number")

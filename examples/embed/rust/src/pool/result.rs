@@ -1,11 +1,24 @@
 //! Where a job and its handle meet: what came of a task.
 
+use std::error::Error;
 use std::fmt;
 use std::sync::{Condvar, Mutex, MutexGuard};
 use std::time::Duration;
 
 /// Why a task has no value.
-#[derive(Clone, Debug, PartialEq, Eq)]
+///
+/// ```
+/// use sched::{JoinError, ScheduledThreadPool};
+///
+/// let pool = ScheduledThreadPool::new(1)?;
+/// let job = pool.execute(|| -> u32 { panic!("no disk") })?;
+/// let error = job.join().unwrap_err();
+/// assert_eq!(error, JoinError::Panicked("no disk".to_owned()));
+/// assert_eq!(error.to_string(), "the job panicked: no disk");
+/// # Ok::<(), Box<dyn std::error::Error>>(())
+/// ```
+#[derive(Clone, Debug, PartialEq, Eq, Hash)]
+#[non_exhaustive]
 pub enum JoinError {
     /// It was cancelled, by its handle or by a shutdown.
     Cancelled,
@@ -14,7 +27,7 @@ pub enum JoinError {
 }
 
 impl fmt::Display for JoinError {
-    fn fmt(&self, f: &mut fmt::Formatter) -> fmt::Result {
+    fn fmt(&self, f: &mut fmt::Formatter<'_>) -> fmt::Result {
         match self {
             JoinError::Cancelled => write!(f, "the task was cancelled"),
             JoinError::Panicked(text) => write!(f, "the job panicked: {text}"),
@@ -22,7 +35,7 @@ impl fmt::Display for JoinError {
     }
 }
 
-impl std::error::Error for JoinError {}
+impl Error for JoinError {}
 
 /// The place of a result, and those who wait for it.
 pub struct ResultCell<T> {

@@ -158,14 +158,14 @@ impl State {
 
     /// Shuts down in order, and gives back the jobs of the tasks that this ends.
     pub fn shut_down(&mut self, now: u64) -> Vec<Box<dyn Job>> {
-        possible(self.timers.shut_down(now));
+        possible(self.timers.shutdown(now));
         self.note(Some(Call::ShutDown));
         self.close(now)
     }
 
     /// Shuts down at once, and gives back the jobs of the tasks that waited.
     pub fn shut_down_now(&mut self, now: u64) -> Vec<Box<dyn Job>> {
-        possible(self.timers.shut_down_now(now));
+        possible(self.timers.shutdown_now(now));
         self.note(Some(Call::ShutDownNow));
         self.close(now)
     }
@@ -178,12 +178,12 @@ impl State {
     }
 
     /// How far the timers are.
-    pub fn timed(&mut self) -> Timed {
+    pub fn timed(&self) -> Timed {
         self.timers.state()
     }
 
     /// How long a task waits still for its next run. `None`: it does not wait.
-    pub fn remaining(&mut self, now: u64, task: TaskRef) -> Option<Duration> {
+    pub fn remaining(&self, now: u64, task: TaskRef) -> Option<Duration> {
         let task = self.timers.task(task)?;
         (task.phase == Phase::Waiting).then(|| until(now, task.due))
     }
@@ -247,7 +247,7 @@ impl State {
     /// Keeps the last call and its lines, where they are kept.
     fn note(&mut self, call: Option<Call>) {
         if let Some(recorder) = &mut self.recorder {
-            recorder.note(call, &mut self.timers);
+            recorder.note(call, &self.timers);
         }
     }
 

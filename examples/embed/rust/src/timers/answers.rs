@@ -1,11 +1,20 @@
 //! What calls on timers are told, and what they answer.
 
 use super::calls::{self, TaskRef};
-use super::error::TimersError;
-use std::fmt;
 
-/// How a run that is to be ended ended.
-#[derive(Clone, Copy, Debug, PartialEq, Eq)]
+/// How a run that is to be ended ended, for [`Timers::finish_many`](crate::Timers::finish_many).
+///
+/// ```
+/// use sched::timers::{Ending, Outcome, Timers};
+///
+/// let mut timers = Timers::new(1)?;
+/// timers.execute(0, 70)?;
+/// timers.poll(1, 0)?;
+/// let ended = timers.finish_many(2, &[Ending { worker: 0, result: Err(5) }])?;
+/// assert_eq!(ended[0].outcome, Outcome::Failed(5));
+/// # Ok::<(), Box<dyn std::error::Error>>(())
+/// ```
+#[derive(Clone, Copy, Debug, PartialEq, Eq, Hash)]
 pub struct Ending {
     /// The worker that has it under way.
     pub worker: u32,
@@ -29,7 +38,17 @@ impl Ending {
 }
 
 /// What becomes of a task whose run has ended.
-#[derive(Clone, Copy, Debug, PartialEq, Eq)]
+///
+/// ```
+/// use sched::timers::{Outcome, Timers};
+///
+/// let mut timers = Timers::new(1)?;
+/// timers.at_rate(0, 5, 10, 70)?;
+/// timers.poll(6, 0)?;
+/// assert_eq!(timers.finish(7, 0, 1)?.outcome, Outcome::Again(15));
+/// # Ok::<(), sched::TimersError>(())
+/// ```
+#[derive(Clone, Copy, Debug, PartialEq, Eq, Hash)]
 pub enum Outcome {
     /// It is done, with the value of its run.
     Done(u64),
@@ -43,14 +62,16 @@ pub enum Outcome {
     Ended,
 }
 
-/// A run that a worker has ended.
-#[derive(Clone, Copy, Debug, PartialEq, Eq)]
+/// A run that a worker has ended, as [`Timers::finish`](crate::Timers::finish) and [`Timers::fail`](crate::Timers::fail) tell it.
+#[derive(Clone, Copy, Debug, PartialEq, Eq, Hash)]
 pub struct End {
+    /// The task.
     pub task: TaskRef,
     /// The number of the run, 0 for the first one of its task.
     pub run: u64,
     /// What was given with the submission.
     pub data: u64,
+    /// What becomes of the task.
     pub outcome: Outcome,
 }
 
@@ -76,24 +97,8 @@ impl End {
     }
 }
 
-/// What some finishes of one call did, and why the finish behind them was refused.
-#[derive(Clone, Debug, PartialEq, Eq)]
-pub struct FinishManyError {
-    /// The runs that were ended.
-    pub ended: Vec<End>,
-    pub why: TimersError,
-}
-
-impl fmt::Display for FinishManyError {
-    fn fmt(&self, f: &mut fmt::Formatter) -> fmt::Result {
-        write!(f, "finish {}: {}", self.ended.len(), self.why)
-    }
-}
-
-impl std::error::Error for FinishManyError {}
-
-/// What a cancel did.
-#[derive(Clone, Copy, Debug, PartialEq, Eq)]
+/// What a cancel did, as [`Timers::cancel`](crate::Timers::cancel) tells.
+#[derive(Clone, Copy, Debug, PartialEq, Eq, Hash)]
 pub enum Effect {
     /// Nothing: the submission was rejected.
     Rejected,
@@ -116,7 +121,19 @@ impl Effect {
 }
 
 /// How far a task is.
-#[derive(Clone, Copy, Debug, PartialEq, Eq)]
+///
+/// ```
+/// use sched::timers::{Phase, Timers};
+///
+/// let mut timers = Timers::new(1)?;
+/// let task = timers.schedule(0, 5, 70)?;
+/// timers.cancel(task)?;
+/// assert_eq!(timers.task(task).map(|task| task.phase), Some(Phase::Kept));
+/// timers.poll(5, 0)?;
+/// assert_eq!(timers.task(task).map(|task| task.phase), Some(Phase::Gone));
+/// # Ok::<(), sched::TimersError>(())
+/// ```
+#[derive(Clone, Copy, Debug, PartialEq, Eq, Hash)]
 pub enum Phase {
     /// It is over, or was cancelled and left the queue, or its submission was rejected.
     Gone,
@@ -128,9 +145,10 @@ pub enum Phase {
     Kept,
 }
 
-/// A task as it stands.
-#[derive(Clone, Copy, Debug, PartialEq, Eq)]
+/// A task as it stands, as [`Timers::task`](crate::Timers::task) tells.
+#[derive(Clone, Copy, Debug, PartialEq, Eq, Hash)]
 pub struct Task {
+    /// How far it is.
     pub phase: Phase,
     /// The number of the run that it waits for, or that is under way; 0 where the task is gone.
     pub run: u64,
@@ -160,7 +178,20 @@ impl Task {
 }
 
 /// What the timers do with tasks after an orderly shutdown, and after a cancel.
-#[derive(Clone, Copy, Debug, PartialEq, Eq)]
+///
+/// ```
+/// use sched::timers::{Policy, Timers};
+///
+/// let mut timers = Timers::new(1)?;
+/// assert!(timers.state().policy(Policy::Execute));
+/// timers.set_policy(0, Policy::Execute, false)?;
+/// timers.schedule(0, 5, 70)?;
+/// timers.shutdown(1)?; // the task that waits has no run any more
+/// assert_eq!(timers.ended().map(|gone| gone.data).collect::<Vec<_>>(), [70]);
+/// # Ok::<(), sched::TimersError>(())
+/// ```
+#[derive(Clone, Copy, Debug, PartialEq, Eq, Hash)]
+#[non_exhaustive]
 pub enum Policy {
     /// Periodic tasks run on after an orderly shutdown: false at first.
     Continue,
@@ -181,8 +212,8 @@ impl Policy {
     }
 }
 
-/// How far the timers are.
-#[derive(Clone, Copy, Debug, PartialEq, Eq)]
+/// How far the timers are, as [`Timers::state`](crate::Timers::state) tells.
+#[derive(Clone, Copy, Debug, PartialEq, Eq, Hash)]
 pub struct State {
     /// The greatest moment so far, in nanoseconds.
     pub now: u64,
@@ -218,13 +249,23 @@ impl State {
     }
 
     /// Whether a policy is true.
+    ///
+    /// ```
+    /// use sched::timers::{Policy, Timers};
+    ///
+    /// let state = Timers::new(1)?.state();
+    /// assert!(state.policy(Policy::Execute) && !state.policy(Policy::Continue));
+    /// # Ok::<(), sched::TimersError>(())
+    /// ```
+    #[must_use]
     pub fn policy(&self, policy: Policy) -> bool {
         self.policies >> policy.raw() & 1 == 1
     }
 }
 
-/// How many tasks there are.
-#[derive(Clone, Copy, Debug, PartialEq, Eq)]
+/// How many tasks there are, as [`Timers::ask`](crate::Timers::ask) and
+/// [`ScheduledThreadPool::counts`](crate::ScheduledThreadPool::counts) tell.
+#[derive(Clone, Copy, Debug, PartialEq, Eq, Hash)]
 pub struct Counts {
     /// How many tasks wait, or are kept in the queue after a cancel.
     pub queue: usize,

@@ -1,6 +1,7 @@
-//! The functions, structs and numbers of `include/timers.h`. None of the pointers is null.
+//! The functions, structs and numbers of `include/timers.h`.
 
 use std::ffi::c_void;
+use std::ptr;
 
 pub const DONE: u32 = 0;
 pub const NO_MEMORY: u32 = 1;
@@ -39,16 +40,38 @@ pub const POLICY_REMOVE: u32 = 2;
 /// How many bytes are enough for any line, with its newline.
 pub const LINE_ROOM: usize = 128;
 
-/// Room for timers, with them or without.
+/// Room for timers. Its fields are the library's: each slot is empty, or as a call of the library left it.
 #[repr(C)]
 pub struct Slot {
-    pub hidden: *mut c_void,
-    pub full: bool,
+    hidden: *mut c_void,
+    full: bool,
 }
 
-/// A task. A ref that is out of date names its own task still, and no other.
+impl Default for Slot {
+    /// A slot without timers.
+    fn default() -> Slot {
+        Slot {
+            hidden: ptr::null_mut(),
+            full: false,
+        }
+    }
+}
+
+// SAFETY: that timers may cross to another thread is proved (`Send` in `crates/timers_c`).
+unsafe impl Send for Slot {}
+
+/// A task. A ref that is out of date names its own task still, and no other. Refs are ordered as their tasks were submitted.
+///
+/// ```
+/// let mut timers = sched::Timers::new(1)?;
+/// let first = timers.execute(0, 70)?;
+/// let second = timers.execute(0, 71)?;
+/// assert!(first < second);
+/// assert_eq!((first.number, second.number), (0, 1));
+/// # Ok::<(), sched::TimersError>(())
+/// ```
 #[repr(C)]
-#[derive(Clone, Copy, Debug, Default, PartialEq, Eq, Hash)]
+#[derive(Clone, Copy, Debug, Default, PartialEq, Eq, PartialOrd, Ord, Hash)]
 pub struct TaskRef {
     /// The number of its submission, from 0.
     pub number: u64,
@@ -56,10 +79,11 @@ pub struct TaskRef {
     pub slot: u32,
 }
 
-/// A run that a worker has begun.
+/// A run that a worker has begun, as [`Timers::poll`](crate::Timers::poll) tells it.
 #[repr(C)]
-#[derive(Clone, Copy, Debug, Default, PartialEq, Eq)]
+#[derive(Clone, Copy, Debug, Default, PartialEq, Eq, Hash)]
 pub struct Run {
+    /// The task.
     pub task: TaskRef,
     /// The number of the run, 0 for the first one of its task.
     pub run: u64,
@@ -90,10 +114,11 @@ pub struct Ending {
     pub failed: u32,
 }
 
-/// A task that the last call ended.
+/// A task that the last call ended, as [`Timers::ended`](crate::Timers::ended) tells it.
 #[repr(C)]
-#[derive(Clone, Copy, Debug, Default, PartialEq, Eq)]
+#[derive(Clone, Copy, Debug, Default, PartialEq, Eq, Hash)]
 pub struct Gone {
+    /// The task.
     pub task: TaskRef,
     /// What was given with the submission.
     pub data: u64,
@@ -143,74 +168,82 @@ pub struct Copied {
     pub bytes: usize,
 }
 
+// SAFETY: these are the functions of the header. That each one ends, and touches no memory but what it is handed and what the slot
+// holds, is proved. A function that is handed a pointer owes that it leads to as many places as the number behind it says.
 unsafe extern "C" {
-    pub fn timers_ref_new(slot: *mut Slot, workers: u32) -> u32;
-    pub fn timers_ref_free(slot: *mut Slot) -> u32;
-    pub fn timers_ref_reserve(slot: *mut Slot, tasks: u32) -> u32;
-    pub fn timers_ref_schedule(
-        slot: *mut Slot,
+    pub safe fn timers_ref_new(slot: &mut Slot, workers: u32) -> u32;
+    pub safe fn timers_ref_free(slot: &mut Slot) -> u32;
+    pub safe fn timers_ref_reserve(slot: &mut Slot, tasks: u32) -> u32;
+    pub safe fn timers_ref_schedule(
+        slot: &mut Slot,
         now: u64,
         delay: u64,
         data: u64,
-        task: *mut TaskRef,
+        task: &mut TaskRef,
     ) -> u32;
-    pub fn timers_ref_execute(slot: *mut Slot, now: u64, data: u64, task: *mut TaskRef) -> u32;
-    pub fn timers_ref_rate(
-        slot: *mut Slot,
+    pub safe fn timers_ref_execute(slot: &mut Slot, now: u64, data: u64, task: &mut TaskRef)
+    -> u32;
+    pub safe fn timers_ref_rate(
+        slot: &mut Slot,
         now: u64,
         first: u64,
         period: u64,
         data: u64,
-        task: *mut TaskRef,
+        task: &mut TaskRef,
     ) -> u32;
-    pub fn timers_ref_fixed(
-        slot: *mut Slot,
+    pub safe fn timers_ref_fixed(
+        slot: &mut Slot,
         now: u64,
         first: u64,
         delay: u64,
         data: u64,
-        task: *mut TaskRef,
+        task: &mut TaskRef,
     ) -> u32;
-    pub fn timers_ref_cancel(slot: *mut Slot, task: *const TaskRef, effect: *mut u32) -> u32;
-    pub fn timers_ref_poll(slot: *mut Slot, now: u64, worker: u32, run: *mut Run) -> u32;
-    pub fn timers_ref_poll_many(
-        slot: *mut Slot,
+    pub safe fn timers_ref_cancel(slot: &mut Slot, task: &TaskRef, effect: &mut u32) -> u32;
+    pub safe fn timers_ref_poll(slot: &mut Slot, now: u64, worker: u32, run: &mut Run) -> u32;
+    pub unsafe fn timers_ref_poll_many(
+        slot: &mut Slot,
         now: u64,
         runs: *mut Run,
         n: usize,
-        begun: *mut usize,
+        begun: &mut usize,
     ) -> u32;
-    pub fn timers_ref_finish(
-        slot: *mut Slot,
+    pub safe fn timers_ref_finish(
+        slot: &mut Slot,
         now: u64,
         worker: u32,
         value: u64,
-        end: *mut End,
+        end: &mut End,
     ) -> u32;
-    pub fn timers_ref_fail(slot: *mut Slot, now: u64, worker: u32, code: u32, end: *mut End)
-    -> u32;
-    pub fn timers_ref_finish_many(
-        slot: *mut Slot,
+    pub safe fn timers_ref_fail(
+        slot: &mut Slot,
+        now: u64,
+        worker: u32,
+        code: u32,
+        end: &mut End,
+    ) -> u32;
+    pub unsafe fn timers_ref_finish_many(
+        slot: &mut Slot,
         now: u64,
         endings: *const Ending,
         endings_length: usize,
         ends: *mut End,
         ends_length: usize,
-        ended: *mut usize,
+        ended: &mut usize,
     ) -> u32;
-    pub fn timers_ref_next_due(slot: *mut Slot, due: *mut u64) -> u32;
-    pub fn timers_ref_task_of(slot: *mut Slot, task: *const TaskRef, state: *mut Task) -> u32;
-    pub fn timers_ref_state_of(slot: *mut Slot, state: *mut State) -> u32;
-    pub fn timers_ref_ask(slot: *mut Slot, now: u64, counts: *mut Counts) -> u32;
-    pub fn timers_ref_set_policy(slot: *mut Slot, now: u64, policy: u32, value: bool) -> u32;
-    pub fn timers_ref_shutdown(slot: *mut Slot, now: u64, first: *mut u32) -> u32;
-    pub fn timers_ref_shutdown_now(slot: *mut Slot, now: u64) -> u32;
-    pub fn timers_ref_ended(slot: *mut Slot, place: usize, gone: *mut Gone) -> u32;
-    pub fn timers_ref_text(
-        slot: *mut Slot,
+    pub safe fn timers_ref_next_due(slot: &mut Slot, due: &mut u64) -> u32;
+    pub safe fn timers_ref_task_of(slot: &mut Slot, task: &TaskRef, state: &mut Task) -> u32;
+    pub safe fn timers_ref_state_of(slot: &mut Slot, state: &mut State) -> u32;
+    pub safe fn timers_ref_ask(slot: &mut Slot, now: u64, counts: &mut Counts) -> u32;
+    pub safe fn timers_ref_set_policy(slot: &mut Slot, now: u64, policy: u32, value: bool) -> u32;
+    pub safe fn timers_ref_shutdown(slot: &mut Slot, now: u64, first: &mut u32) -> u32;
+    pub safe fn timers_ref_shutdown_now(slot: &mut Slot, now: u64) -> u32;
+    pub safe fn timers_ref_ended(slot: &mut Slot, place: usize, gone: &mut Gone) -> u32;
+    pub unsafe fn timers_ref_text(
+        slot: &mut Slot,
         from: usize,
         out: *mut u8,
         room: usize,
-        copied: *mut Copied,
+        copied: &mut Copied,
     ) -> u32;
 }
