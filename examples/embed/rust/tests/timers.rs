@@ -219,6 +219,9 @@ fn a_shutdown_at_once_ends_all_that_waits() {
         data: 8,
     };
     assert_eq!(timers.ended().collect::<Vec<_>>(), [gone]);
+    let mut left = timers.ended();
+    assert_eq!((left.len(), left.next(), left.len()), (1, Some(gone), 0));
+    assert_eq!((left.next(), left.next(), left.len()), (None, None, 0));
     assert_eq!(lines(&timers), ["2 shutdown now", "2 end 1"]);
     let counts = Counts {
         queue: 0,
@@ -325,6 +328,12 @@ fn calls_are_answered_in_lines() {
         .expect("a free worker")
         .expect("it is due");
     assert_eq!(lines(&timers), ["5 clock", "5 start 0 task 0 run 0 due 5"]);
+    let mut left = timers.lines().expect("small numbers");
+    assert_eq!(
+        (left.len(), left.next().is_some(), left.len()),
+        (2, true, 1)
+    );
+    assert_eq!(left.nth(1), None);
     timers.cancel(task).expect("a number");
     assert_eq!(lines(&timers), ["5 outside 0 yes"]);
     timers.finish(7, 0, 1).expect("a run");

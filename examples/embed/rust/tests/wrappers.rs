@@ -63,6 +63,12 @@ fn an_executor_answers_in_lines() {
     assert_eq!(executor.take(Event::Clock(5)), Ok(()));
     let lines: Vec<String> = executor.lines().collect();
     assert_eq!(lines, ["0 submit 0 rate due 5", "5 clock"]);
+    let mut left = executor.lines();
+    assert_eq!(
+        (left.len(), left.next().is_some(), left.len()),
+        (2, true, 1)
+    );
+    assert_eq!(left.clone().last().as_deref(), Some("5 clock"));
     assert!(executor.ripe() && executor.tasks() == 1);
     assert_eq!(executor.started(), None);
     assert_eq!(executor.take(Event::Start(0)), Ok(()));
@@ -92,6 +98,80 @@ fn an_executor_answers_in_lines() {
     assert_eq!((executor.now(), executor.taken()), (5, 3));
     let lines: Vec<String> = executor.lines().collect();
     assert_eq!(lines, ["5 outside 0 yes"]);
+}
+
+/// The texts of the faults are those of blocks of version 1, and of a first line that is none.
+#[test]
+fn a_plan_is_refused_by_its_first_fault() {
+    let long = " ".repeat(1_048_577);
+    let header = |keys: &str| format!("version = 1\n[[block]]\n{keys}");
+    let calls = |calls: &str| header(&format!("call = [{calls}]"));
+    let a = r#"{ op = "execute", name = "a" }"#;
+    let b = r#"{ op = "execute", name = "b" }"#;
+    let cancel = r#"{ op = "cancel", name = "a" }"#;
+    let twice = format!("times = 2\nevery = 5\ncall = [{a}]\n[[block]]\nat = 9\ncall = [{cancel}]");
+    let early = format!("at = 9\ncall = [{a}]\n[[block]]\ncall = [{b}]");
+    let often = format!("times = 65536\nevery = 0\ncall = [{a}, {cancel}]");
+    for (text, kind, block, call) in [
+        (long, FaultKind::TooLong, None, None),
+        ("version".to_owned(), FaultKind::Toml, None, None),
+        ("version = 3".to_owned(), FaultKind::Version, None, None),
+        (header("x = 1"), FaultKind::UnknownKey, Some(1), None),
+        (header("times = 2"), FaultKind::Missing, Some(1), None),
+        (header("at = true"), FaultKind::WrongType, Some(1), None),
+        (header("unit = 'year'"), FaultKind::BadUnit, Some(1), None),
+        (header("times = 0"), FaultKind::BadTimes, Some(1), None),
+        (header("every = -1"), FaultKind::Negative, Some(1), None),
+        (
+            calls("{ op = 'execute', name = '' }"),
+            FaultKind::BadName,
+            Some(1),
+            Some(1),
+        ),
+        (
+            calls(&format!("{a}, {b}, {a}")),
+            FaultKind::DuplicateName,
+            Some(1),
+            Some(3),
+        ),
+        (
+            calls(&format!("{b}, {cancel}")),
+            FaultKind::UnknownName,
+            Some(1),
+            Some(2),
+        ),
+        (header(&twice), FaultKind::Ambiguous, Some(2), Some(1)),
+        (header(&early), FaultKind::OutOfOrder, Some(2), None),
+        (
+            header("at = 4611686018427387905"),
+            FaultKind::TooLarge,
+            Some(1),
+            None,
+        ),
+        (header(&often), FaultKind::TooMany, Some(1), None),
+    ] {
+        let fault = Fault { kind, block, call };
+        let refused = Executor::new(text.as_bytes(), 1, 1).err();
+        assert_eq!(refused, Some(ExecutorError::Plan(fault)), "{kind}");
+    }
+}
+
+#[test]
+fn a_fault_is_told_with_its_place() {
+    let fault = |block, call| Fault {
+        kind: FaultKind::Missing,
+        block,
+        call,
+    };
+    for (fault, text) in [
+        (fault(None, None), "a key is missing"),
+        (fault(Some(2), None), "block 2: a key is missing"),
+        (fault(Some(2), Some(7)), "block 2, call 7: a key is missing"),
+    ] {
+        assert_eq!(fault.to_string(), text);
+        let whole = format!("the text is no plan: {text}");
+        assert_eq!(ExecutorError::from(fault).to_string(), whole);
+    }
 }
 
 #[test]

@@ -31,6 +31,20 @@ pub enum Event {
 }
 
 /// How far a task has come.
+///
+/// ```
+/// # let plan = b"version = 2\n[[block]]\ncall = [{ op = \"execute\", name = \"once\" }]";
+/// use sched::executor::{Event, Executor, Phase};
+///
+/// let mut executor = Executor::new(plan, 1, 100)?; // of one task, which runs once
+/// let mut phases = Vec::new();
+/// for event in [Event::Start(0), Event::Clock(0), Event::Start(0), Event::Finish(0, 7)] {
+///     executor.take(event)?;
+///     phases.extend(executor.task(0).map(|task| task.phase));
+/// }
+/// assert_eq!(phases, [Phase::Vacant, Phase::New, Phase::Running, Phase::Done]);
+/// # Ok::<(), sched::ExecutorError>(())
+/// ```
 #[derive(Clone, Copy, Debug, PartialEq, Eq, Hash)]
 pub enum Phase {
     /// Not submitted yet, or its submission was refused.
@@ -60,6 +74,18 @@ impl Phase {
 }
 
 /// How far a task is, as [`Executor::task`](crate::Executor::task) tells. A cancelled task stands still.
+///
+/// ```
+/// # let plan = b"version = 2\n[[block]]\ncall = [{ op = \"execute\", name = \"once\" }]";
+/// use sched::executor::{Event, Executor, Phase, Task};
+///
+/// let mut executor = Executor::new(plan, 1, 100)?; // of one task
+/// executor.take(Event::Clock(0))?;
+/// executor.take(Event::Cancel(0))?;
+/// let cancelled = Task { phase: Phase::New, run: 0, cancelled: true };
+/// assert_eq!(executor.task(0), Some(cancelled));
+/// # Ok::<(), sched::ExecutorError>(())
+/// ```
 #[derive(Clone, Copy, Debug, PartialEq, Eq, Hash)]
 pub struct Task {
     /// How far it has come.

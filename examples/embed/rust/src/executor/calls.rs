@@ -99,6 +99,18 @@ pub struct Task {
 }
 
 /// A run that was started, as [`Executor::started`](crate::Executor::started) tells it.
+///
+/// ```
+/// # let plan = b"version = 2\n[[block]]\ncall = [{ op = \"execute\", name = \"once\" }]";
+/// use sched::executor::{Event, Executor, Run};
+///
+/// let mut executor = Executor::new(plan, 1, 100)?; // of a task that is due at once
+/// executor.take(Event::Clock(3))?;
+/// executor.take(Event::Start(0))?;
+/// let run = Run { run: 0, due: 0, task: 0, worker: 0 };
+/// assert_eq!(executor.started(), Some(run));
+/// # Ok::<(), sched::ExecutorError>(())
+/// ```
 #[repr(C)]
 #[derive(Clone, Copy, Debug, Default, PartialEq, Eq, Hash)]
 pub struct Run {

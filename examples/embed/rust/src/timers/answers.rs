@@ -63,6 +63,17 @@ pub enum Outcome {
 }
 
 /// A run that a worker has ended, as [`Timers::finish`](crate::Timers::finish) and [`Timers::fail`](crate::Timers::fail) tell it.
+///
+/// ```
+/// use sched::timers::{End, Outcome, Timers};
+///
+/// let mut timers = Timers::new(1)?;
+/// let task = timers.execute(0, 70)?;
+/// timers.poll(1, 0)?;
+/// let end = End { task, run: 0, data: 70, outcome: Outcome::Done(42) };
+/// assert_eq!(timers.finish(2, 0, 42)?, end);
+/// # Ok::<(), sched::TimersError>(())
+/// ```
 #[derive(Clone, Copy, Debug, PartialEq, Eq, Hash)]
 pub struct End {
     /// The task.
@@ -98,6 +109,17 @@ impl End {
 }
 
 /// What a cancel did, as [`Timers::cancel`](crate::Timers::cancel) tells.
+///
+/// ```
+/// use sched::timers::{Effect, Timers};
+///
+/// let mut timers = Timers::new(1)?;
+/// let task = timers.execute(0, 70)?;
+/// timers.poll(1, 0)?;
+/// timers.finish(2, 0, 42)?;
+/// assert_eq!(timers.cancel(task)?, Effect::Over);
+/// # Ok::<(), sched::TimersError>(())
+/// ```
 #[derive(Clone, Copy, Debug, PartialEq, Eq, Hash)]
 pub enum Effect {
     /// Nothing: the submission was rejected.
@@ -146,6 +168,16 @@ pub enum Phase {
 }
 
 /// A task as it stands, as [`Timers::task`](crate::Timers::task) tells.
+///
+/// ```
+/// use sched::timers::{Phase, Task, Timers};
+///
+/// let mut timers = Timers::new(1)?;
+/// let task = timers.schedule(0, 5, 70)?;
+/// let waits = Task { phase: Phase::Waiting, run: 0, due: 5, cancelled: false };
+/// assert_eq!(timers.task(task), Some(waits));
+/// # Ok::<(), sched::TimersError>(())
+/// ```
 #[derive(Clone, Copy, Debug, PartialEq, Eq, Hash)]
 pub struct Task {
     /// How far it is.
@@ -213,6 +245,16 @@ impl Policy {
 }
 
 /// How far the timers are, as [`Timers::state`](crate::Timers::state) tells.
+///
+/// ```
+/// let mut timers = sched::Timers::new(1)?;
+/// timers.execute(3, 70)?;
+/// timers.shutdown_now(5)?;
+/// let state = timers.state();
+/// assert_eq!((state.now, state.alive, state.ended, state.lines), (5, 0, 1, 2));
+/// assert!(state.shut && state.terminated);
+/// # Ok::<(), sched::TimersError>(())
+/// ```
 #[derive(Clone, Copy, Debug, PartialEq, Eq, Hash)]
 pub struct State {
     /// The greatest moment so far, in nanoseconds.
@@ -265,6 +307,16 @@ impl State {
 
 /// How many tasks there are, as [`Timers::ask`](crate::Timers::ask) and
 /// [`ScheduledThreadPool::counts`](crate::ScheduledThreadPool::counts) tell.
+///
+/// ```
+/// use sched::timers::{Counts, Timers};
+///
+/// let mut timers = Timers::new(1)?;
+/// timers.execute(0, 70)?;
+/// let waits = Counts { queue: 1, running: 0, shut: false, terminated: false };
+/// assert_eq!(timers.ask(1)?, waits);
+/// # Ok::<(), sched::TimersError>(())
+/// ```
 #[derive(Clone, Copy, Debug, PartialEq, Eq, Hash)]
 pub struct Counts {
     /// How many tasks wait, or are kept in the queue after a cancel.

@@ -80,6 +80,16 @@ pub struct TaskRef {
 }
 
 /// A run that a worker has begun, as [`Timers::poll`](crate::Timers::poll) tells it.
+///
+/// ```
+/// use sched::timers::{Run, Timers};
+///
+/// let mut timers = Timers::new(1)?;
+/// let task = timers.schedule(0, 5, 70)?;
+/// let run = Run { task, run: 0, due: 5, data: 70, worker: 0 };
+/// assert_eq!(timers.poll(6, 0)?, Some(run));
+/// # Ok::<(), sched::TimersError>(())
+/// ```
 #[repr(C)]
 #[derive(Clone, Copy, Debug, Default, PartialEq, Eq, Hash)]
 pub struct Run {
@@ -115,6 +125,16 @@ pub struct Ending {
 }
 
 /// A task that the last call ended, as [`Timers::ended`](crate::Timers::ended) tells it.
+///
+/// ```
+/// use sched::timers::{Gone, Timers};
+///
+/// let mut timers = Timers::new(1)?;
+/// let task = timers.schedule(0, 5, 70)?;
+/// timers.shutdown_now(1)?;
+/// assert_eq!(timers.ended().next(), Some(Gone { task, data: 70 }));
+/// # Ok::<(), sched::TimersError>(())
+/// ```
 #[repr(C)]
 #[derive(Clone, Copy, Debug, Default, PartialEq, Eq, Hash)]
 pub struct Gone {
