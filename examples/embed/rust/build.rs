@@ -53,6 +53,7 @@ fn name_of(archive: &Path) -> Option<&str> {
 /// The archives that are to be linked.
 fn archives() -> Vec<PathBuf> {
     let Some(named) = env::var_os(VARIABLE) else {
+        println!("cargo::rerun-if-changed={FOLDER}");
         return archives_in(Path::new(FOLDER));
     };
     env::split_paths(&named)
@@ -89,7 +90,6 @@ fn advise() {
 fn main() {
     println!("cargo::rerun-if-env-changed={VARIABLE}");
     println!("cargo::rerun-if-changed=build.rs");
-    println!("cargo::rerun-if-changed={FOLDER}");
     let archives = archives();
     if archives.is_empty() {
         advise();

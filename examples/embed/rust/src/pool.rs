@@ -62,6 +62,7 @@ use crate::timers::{Counts, Policy, TimersError};
 pub use error::PoolError;
 pub use handle::Handle;
 use job::{Job, Once, Repeated};
+#[doc(hidden)]
 pub use recorder::Recording;
 pub use result::JoinError;
 use result::ResultCell;
