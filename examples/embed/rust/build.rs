@@ -4,7 +4,7 @@
 
 use std::env;
 use std::fs;
-use std::path::{Path, PathBuf};
+use std::path::{self, Path, PathBuf};
 
 /// What names the archives.
 const VARIABLE: &str = "ARCHIVES";
@@ -64,7 +64,7 @@ fn archives() -> Vec<PathBuf> {
 /// Has an archive linked.
 fn link(archive: &Path) {
     println!("cargo::rerun-if-changed={}", archive.display());
-    let place = archive.canonicalize().ok();
+    let place = path::absolute(archive).ok().filter(|path| path.is_file());
     let folder = place.as_deref().and_then(Path::parent);
     let (Some(name), Some(folder)) = (name_of(archive), folder) else {
         println!(

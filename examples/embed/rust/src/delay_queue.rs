@@ -55,6 +55,8 @@ impl DelayQueue {
     ///
     /// [`QueueError::OutOfMemory`].
     ///
+    /// # Examples
+    ///
     /// ```
     /// let queue = sched::DelayQueue::new(100)?;
     /// assert!(queue.is_empty());
@@ -74,6 +76,8 @@ impl DelayQueue {
     ///
     /// [`QueueError::UnknownTask`], and then [`QueueError::HasEntry`].
     ///
+    /// # Examples
+    ///
     /// ```
     /// use sched::{DelayQueue, QueueError};
     ///
@@ -91,6 +95,8 @@ impl DelayQueue {
     /// # Errors
     ///
     /// Which one was refused, and why. Those before it are in the queue.
+    ///
+    /// # Examples
     ///
     /// ```
     /// use sched::{DelayQueue, Entry};
@@ -111,6 +117,8 @@ impl DelayQueue {
 
     /// Takes out the least entry, if it is due at the moment `now`.
     ///
+    /// # Examples
+    ///
     /// ```
     /// use sched::{DelayQueue, Entry};
     ///
@@ -128,6 +136,8 @@ impl DelayQueue {
 
     /// Takes out entries that are due at the moment `now`, the least first, as many as `out` has room for, and writes them there:
     /// how many. Fewer than there is room for say that no more are due. What stands behind them is as it was.
+    ///
+    /// # Examples
     ///
     /// ```
     /// use sched::{DelayQueue, Entry};
@@ -152,6 +162,8 @@ impl DelayQueue {
 
     /// The least entry, due or not. It stays.
     ///
+    /// # Examples
+    ///
     /// ```
     /// let mut queue = sched::DelayQueue::new(1)?;
     /// assert_eq!(queue.peek(), None);
@@ -168,6 +180,8 @@ impl DelayQueue {
 
     /// Takes out the entry of a task, and says whether there was one.
     ///
+    /// # Examples
+    ///
     /// ```
     /// let mut queue = sched::DelayQueue::new(1)?;
     /// queue.insert(5_000, 0)?;
@@ -180,6 +194,8 @@ impl DelayQueue {
     }
 
     /// When a task is due, or `None` where it has no entry.
+    ///
+    /// # Examples
     ///
     /// ```
     /// let mut queue = sched::DelayQueue::new(2)?;
@@ -198,6 +214,8 @@ impl DelayQueue {
 
     /// Whether a task has an entry.
     ///
+    /// # Examples
+    ///
     /// ```
     /// let mut queue = sched::DelayQueue::new(2)?;
     /// queue.insert(5_000, 0)?;
@@ -210,6 +228,8 @@ impl DelayQueue {
     }
 
     /// How many entries there are.
+    ///
+    /// # Examples
     ///
     /// ```
     /// let mut queue = sched::DelayQueue::new(2)?;
@@ -226,6 +246,8 @@ impl DelayQueue {
 
     /// Whether there is no entry.
     ///
+    /// # Examples
+    ///
     /// ```
     /// let mut queue = sched::DelayQueue::new(2)?;
     /// assert!(queue.is_empty());
@@ -239,6 +261,8 @@ impl DelayQueue {
     }
 
     /// How often the calls so far compared two entries, or changed the place of an entry that stays.
+    ///
+    /// # Examples
     ///
     /// ```
     /// let mut queue = sched::DelayQueue::new(2)?;
@@ -259,6 +283,8 @@ impl DelayQueue {
     }
 
     /// The entries that are due at the moment `now`, the least first. Each leaves the queue as it is given out.
+    ///
+    /// # Examples
     ///
     /// ```
     /// let mut queue = sched::DelayQueue::new(3)?;
@@ -291,6 +317,8 @@ impl Drop for DelayQueue {
 }
 
 /// The entries that are due at a moment, as [`DelayQueue::due`] gives them. Those that were not asked for stay in the queue.
+///
+/// # Examples
 ///
 /// ```
 /// let mut queue = sched::DelayQueue::new(2)?;

@@ -51,6 +51,8 @@ impl Executor {
     /// [`ExecutorError::Plan`], then [`ExecutorError::Workers`], then [`ExecutorError::Limit`]; and
     /// [`ExecutorError::OutOfMemory`], which says nothing of the text.
     ///
+    /// # Examples
+    ///
     /// ```
     /// use sched::{Executor, ExecutorError};
     ///
@@ -82,6 +84,8 @@ impl Executor {
     ///
     /// [`ExecutorError::Worker`], then [`ExecutorError::Full`]. Nothing changed then.
     ///
+    /// # Examples
+    ///
     /// ```
     /// use sched::{Event, Executor, ExecutorError};
     ///
@@ -107,6 +111,8 @@ impl Executor {
     }
 
     /// The run that the last event started. `None` where it was no start that got a task.
+    ///
+    /// # Examples
     ///
     /// ```
     /// # let plan = b"version = 2\n[[block]]\ncall = [{ op = \"execute\", name = \"once\" }]";
@@ -134,6 +140,8 @@ impl Executor {
 
     /// The lines that answer the last event, without their newlines.
     ///
+    /// # Examples
+    ///
     /// ```
     /// use sched::{Event, Executor};
     ///
@@ -154,6 +162,8 @@ impl Executor {
 
     /// The moment, in nanoseconds: the greatest of the accepted clocks and the calls made.
     ///
+    /// # Examples
+    ///
     /// ```
     /// use sched::{Event, Executor};
     ///
@@ -170,6 +180,8 @@ impl Executor {
 
     /// How many events were taken.
     ///
+    /// # Examples
+    ///
     /// ```
     /// use sched::{Event, Executor};
     ///
@@ -185,6 +197,8 @@ impl Executor {
 
     /// How many tasks the plan has.
     ///
+    /// # Examples
+    ///
     /// ```
     /// # let plan = b"version = 2\n[[block]]\ncall = [{ op = \"execute\", name = \"once\" }]";
     /// let executor = sched::Executor::new(plan, 1, 100)?; // of one task
@@ -197,6 +211,8 @@ impl Executor {
     }
 
     /// Whether the due moment of some task in the queue is reached: where it is not, a start gets no task.
+    ///
+    /// # Examples
     ///
     /// ```
     /// # let plan = b"version = 2\n[[block]]\ncall = [{ op = \"execute\", name = \"once\" }]";
@@ -214,6 +230,8 @@ impl Executor {
     }
 
     /// How far the task of a number is. `None` where the plan has no task of this number.
+    ///
+    /// # Examples
     ///
     /// ```
     /// # let plan = b"version = 2\n[[block]]\ncall = [{ op = \"execute\", name = \"once\" }]";
@@ -266,6 +284,8 @@ impl Drop for Executor {
 }
 
 /// The lines that answer an event, as [`Executor::lines`] gives them.
+///
+/// # Examples
 ///
 /// ```
 /// # let plan = b"version = 2\n[[block]]\ncall = [{ op = \"execute\", name = \"once\" }]";

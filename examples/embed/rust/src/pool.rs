@@ -83,6 +83,8 @@ use std::time::Duration;
 /// delay between runs, is zero, and as [`TimersError::TooLong`] where a span is above 2^62 nanoseconds, which is 146 years. Its job
 /// is dropped then. Where memory runs out, it is refused as [`TimersError::OutOfMemory`].
 ///
+/// # Examples
+///
 /// ```
 /// use std::time::Duration;
 ///
@@ -112,6 +114,8 @@ impl ScheduledThreadPool {
     /// # Errors
     ///
     /// The number is another one, memory ran out, or the system refused a thread. No thread is left then.
+    ///
+    /// # Examples
     ///
     /// ```
     /// let pool = sched::ScheduledThreadPool::new(4)?;
@@ -153,6 +157,8 @@ impl ScheduledThreadPool {
     ///
     /// The type's page says when a submission is refused.
     ///
+    /// # Examples
+    ///
     /// ```
     /// use std::time::{Duration, Instant};
     ///
@@ -176,6 +182,8 @@ impl ScheduledThreadPool {
     ///
     /// The type's page says when a submission is refused.
     ///
+    /// # Examples
+    ///
     /// ```
     /// let pool = sched::ScheduledThreadPool::new(1)?;
     /// let sum = pool.execute(|| (1..=100).sum::<u32>())?;
@@ -195,6 +203,8 @@ impl ScheduledThreadPool {
     /// # Errors
     ///
     /// The type's page says when a submission is refused.
+    ///
+    /// # Examples
     ///
     /// ```
     /// use std::sync::mpsc;
@@ -224,6 +234,8 @@ impl ScheduledThreadPool {
     /// # Errors
     ///
     /// The type's page says when a submission is refused.
+    ///
+    /// # Examples
     ///
     /// ```
     /// use sched::{ScheduledThreadPool, TimersError};
@@ -260,6 +272,8 @@ impl ScheduledThreadPool {
 
     /// Whether periodic tasks run on after an orderly shutdown: false at first. To set it to false after one ends those that wait.
     ///
+    /// # Examples
+    ///
     /// ```
     /// use std::time::Duration;
     ///
@@ -280,6 +294,8 @@ impl ScheduledThreadPool {
     /// Whether tasks that wait for their one run have it after an orderly shutdown: true at first. To set it to false after one
     /// ends those that are not due yet.
     ///
+    /// # Examples
+    ///
     /// ```
     /// use std::time::Duration;
     ///
@@ -297,6 +313,8 @@ impl ScheduledThreadPool {
     /// Whether a task that is cancelled while it waits leaves the queue at once: false at first. Else it stands there, without its
     /// job, until a worker looks for work at its moment or later. Once the pool is shut each one leaves at once, whatever is set
     /// here.
+    ///
+    /// # Examples
     ///
     /// ```
     /// use std::time::Duration;
@@ -319,6 +337,8 @@ impl ScheduledThreadPool {
     /// Shuts the pool down in order: submissions are rejected from now on, and the policies say which of the tasks that wait still
     /// run. The others are cancelled. It does not wait.
     ///
+    /// # Examples
+    ///
     /// ```
     /// use std::time::Duration;
     ///
@@ -336,6 +356,8 @@ impl ScheduledThreadPool {
     /// Shuts the pool down at once: submissions are rejected from now on, and all tasks that wait are cancelled. How many those
     /// were. The runs under way go on, and no run comes after them. It does not wait.
     ///
+    /// # Examples
+    ///
     /// ```
     /// use std::time::Duration;
     ///
@@ -350,6 +372,8 @@ impl ScheduledThreadPool {
     }
 
     /// Waits until the pool is terminated, at most so long, and says whether it is.
+    ///
+    /// # Examples
     ///
     /// ```
     /// use std::time::Duration;
@@ -367,6 +391,8 @@ impl ScheduledThreadPool {
 
     /// Whether it was shut down.
     ///
+    /// # Examples
+    ///
     /// ```
     /// let pool = sched::ScheduledThreadPool::new(1)?;
     /// assert!(!pool.is_shutdown());
@@ -381,6 +407,8 @@ impl ScheduledThreadPool {
 
     /// Whether it was shut down, and no task waits or runs any more.
     ///
+    /// # Examples
+    ///
     /// ```
     /// let pool = sched::ScheduledThreadPool::new(1)?;
     /// assert!(!pool.is_terminated());
@@ -394,6 +422,8 @@ impl ScheduledThreadPool {
     }
 
     /// How many tasks stand in the queue and run, at one moment.
+    ///
+    /// # Examples
     ///
     /// ```
     /// use std::time::Duration;
@@ -410,6 +440,8 @@ impl ScheduledThreadPool {
 
     /// How many submissions there were, with those that were rejected.
     ///
+    /// # Examples
+    ///
     /// ```
     /// let pool = sched::ScheduledThreadPool::new(1)?;
     /// pool.execute(|| ())?;
@@ -424,6 +456,8 @@ impl ScheduledThreadPool {
     }
 
     /// How many threads it has.
+    ///
+    /// # Examples
     ///
     /// ```
     /// assert_eq!(sched::ScheduledThreadPool::new(3)?.threads(), 3);

@@ -80,6 +80,8 @@ impl Timers {
     ///
     /// [`TimersError::Workers`], and then [`TimersError::OutOfMemory`].
     ///
+    /// # Examples
+    ///
     /// ```
     /// use sched::{Timers, TimersError};
     ///
@@ -101,6 +103,8 @@ impl Timers {
     ///
     /// [`TimersError::OutOfMemory`].
     ///
+    /// # Examples
+    ///
     /// ```
     /// let mut timers = sched::Timers::new(1)?;
     /// timers.reserve(1_000)?;
@@ -117,6 +121,8 @@ impl Timers {
     /// In this order, here and for each other submission: [`TimersError::ZeroPeriod`], where there is a period or a delay between
     /// runs; [`TimersError::TooLong`]; [`TimersError::TooFar`]; [`TimersError::Full`]; [`TimersError::Rejected`], once the timers
     /// are shut; and [`TimersError::OutOfMemory`].
+    ///
+    /// # Examples
     ///
     /// ```
     /// let mut timers = sched::Timers::new(1)?;
@@ -137,6 +143,8 @@ impl Timers {
     ///
     /// As [`schedule`](Self::schedule).
     ///
+    /// # Examples
+    ///
     /// ```
     /// let mut timers = sched::Timers::new(1)?;
     /// timers.execute(10, 70)?;
@@ -155,6 +163,8 @@ impl Timers {
     /// # Errors
     ///
     /// As [`schedule`](Self::schedule).
+    ///
+    /// # Examples
     ///
     /// ```
     /// let mut timers = sched::Timers::new(1)?;
@@ -184,6 +194,8 @@ impl Timers {
     ///
     /// As [`schedule`](Self::schedule).
     ///
+    /// # Examples
+    ///
     /// ```
     /// let mut timers = sched::Timers::new(1)?;
     /// timers.with_delay(0, 5, 10, 70)?;
@@ -212,6 +224,8 @@ impl Timers {
     ///
     /// [`TimersError::NoTask`].
     ///
+    /// # Examples
+    ///
     /// ```
     /// use sched::timers::{Effect, Timers};
     ///
@@ -238,6 +252,8 @@ impl Timers {
     /// [`TimersError::NoWorker`]; [`TimersError::Busy`]; [`TimersError::TooFar`]; and [`TimersError::Full`], where the task that is
     /// due has had 2^64 - 1 runs.
     ///
+    /// # Examples
+    ///
     /// ```
     /// let mut timers = sched::Timers::new(1)?;
     /// timers.schedule(0, 5, 70)?;
@@ -258,6 +274,8 @@ impl Timers {
     /// # Errors
     ///
     /// As [`poll`](Self::poll), with the number of runs that were begun before.
+    ///
+    /// # Examples
     ///
     /// ```
     /// use sched::timers::{Run, Timers};
@@ -285,6 +303,8 @@ impl Timers {
     ///
     /// [`TimersError::NoWorker`], then [`TimersError::NotRunning`], then [`TimersError::TooFar`].
     ///
+    /// # Examples
+    ///
     /// ```
     /// use sched::timers::{Outcome, Timers};
     ///
@@ -308,6 +328,8 @@ impl Timers {
     ///
     /// As [`finish`](Self::finish).
     ///
+    /// # Examples
+    ///
     /// ```
     /// use sched::timers::{Outcome, Timers};
     ///
@@ -330,6 +352,8 @@ impl Timers {
     /// # Errors
     ///
     /// As [`finish`](Self::finish), with the runs that were ended before.
+    ///
+    /// # Examples
     ///
     /// ```
     /// use sched::timers::{Ending, Outcome, Timers};
@@ -366,6 +390,8 @@ impl Timers {
 
     /// The moment at which the first task that waits is due: before it no poll begins a run. `None`: no task waits.
     ///
+    /// # Examples
+    ///
     /// ```
     /// let mut timers = sched::Timers::new(1)?;
     /// assert_eq!(timers.next_due(), None);
@@ -384,6 +410,8 @@ impl Timers {
     }
 
     /// How far a task is. `None`: no submission was given the number yet.
+    ///
+    /// # Examples
     ///
     /// ```
     /// use sched::timers::{Phase, TaskRef, Timers};
@@ -409,6 +437,8 @@ impl Timers {
 
     /// How far the timers are.
     ///
+    /// # Examples
+    ///
     /// ```
     /// let mut timers = sched::Timers::new(1)?;
     /// timers.execute(3, 70)?;
@@ -433,6 +463,8 @@ impl Timers {
     ///
     /// [`TimersError::TooFar`].
     ///
+    /// # Examples
+    ///
     /// ```
     /// let mut timers = sched::Timers::new(1)?;
     /// timers.execute(0, 70)?;
@@ -453,6 +485,8 @@ impl Timers {
     /// # Errors
     ///
     /// [`TimersError::TooFar`].
+    ///
+    /// # Examples
     ///
     /// ```
     /// use sched::timers::{Phase, Policy, Timers};
@@ -475,6 +509,8 @@ impl Timers {
     /// # Errors
     ///
     /// [`TimersError::TooFar`].
+    ///
+    /// # Examples
     ///
     /// ```
     /// let mut timers = sched::Timers::new(1)?;
@@ -501,6 +537,8 @@ impl Timers {
     ///
     /// [`TimersError::TooFar`].
     ///
+    /// # Examples
+    ///
     /// ```
     /// let mut timers = sched::Timers::new(1)?;
     /// timers.schedule(0, 5, 70)?;
@@ -513,6 +551,8 @@ impl Timers {
     }
 
     /// The tasks that the last call ended as it set a policy or shut the timers down, by their numbers, ascending.
+    ///
+    /// # Examples
     ///
     /// ```
     /// let mut timers = sched::Timers::new(1)?;
@@ -536,6 +576,8 @@ impl Timers {
     /// # Errors
     ///
     /// [`TimersError::Number`].
+    ///
+    /// # Examples
     ///
     /// ```
     /// let mut timers = sched::Timers::new(1)?;
@@ -583,6 +625,8 @@ impl Drop for Timers {
 
 /// The tasks that a call ended, as [`Timers::ended`] gives them.
 ///
+/// # Examples
+///
 /// ```
 /// let mut timers = sched::Timers::new(1)?;
 /// timers.schedule(0, 5, 70)?;
@@ -626,6 +670,8 @@ impl ExactSizeIterator for Ended<'_> {}
 impl FusedIterator for Ended<'_> {}
 
 /// The lines of a call, as [`Timers::lines`] gives them.
+///
+/// # Examples
 ///
 /// ```
 /// let mut timers = sched::Timers::new(1)?;

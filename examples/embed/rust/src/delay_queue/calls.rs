@@ -33,6 +33,8 @@ unsafe impl Send for Slot {}
 
 /// A task, and the moment at which it is due. Entries are ordered as they leave a queue: by moment, and at one moment by task.
 ///
+/// # Examples
+///
 /// ```
 /// use sched::Entry;
 ///

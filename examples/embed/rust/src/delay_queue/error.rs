@@ -6,6 +6,8 @@ use std::fmt;
 
 /// Why a call was refused. The queue is then as it was.
 ///
+/// # Examples
+///
 /// ```
 /// use sched::{DelayQueue, QueueError};
 ///
@@ -54,6 +56,8 @@ impl Error for QueueError {}
 /// Which of many entries was refused, and why. Those before it are in the queue, and none of the others is.
 ///
 /// Its text tells the reason too, so it has no [`source`](Error::source).
+///
+/// # Examples
 ///
 /// ```
 /// use sched::{DelayQueue, Entry};

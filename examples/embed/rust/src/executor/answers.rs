@@ -4,6 +4,8 @@ use super::calls;
 
 /// What the program tells the executor.
 ///
+/// # Examples
+///
 /// ```
 /// use sched::{Event, Executor};
 ///
@@ -31,6 +33,8 @@ pub enum Event {
 }
 
 /// How far a task has come.
+///
+/// # Examples
 ///
 /// ```
 /// # let plan = b"version = 2\n[[block]]\ncall = [{ op = \"execute\", name = \"once\" }]";
@@ -74,6 +78,8 @@ impl Phase {
 }
 
 /// How far a task is, as [`Executor::task`](crate::Executor::task) tells. A cancelled task stands still.
+///
+/// # Examples
 ///
 /// ```
 /// # let plan = b"version = 2\n[[block]]\ncall = [{ op = \"execute\", name = \"once\" }]";

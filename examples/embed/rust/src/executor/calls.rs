@@ -100,6 +100,8 @@ pub struct Task {
 
 /// A run that was started, as [`Executor::started`](crate::Executor::started) tells it.
 ///
+/// # Examples
+///
 /// ```
 /// # let plan = b"version = 2\n[[block]]\ncall = [{ op = \"execute\", name = \"once\" }]";
 /// use sched::executor::{Event, Executor, Run};

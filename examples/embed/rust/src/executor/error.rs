@@ -9,6 +9,8 @@ use std::fmt;
 ///
 /// Its text tells what is wrong with a plan too, so it has no [`source`](Error::source).
 ///
+/// # Examples
+///
 /// ```
 /// use sched::{Executor, ExecutorError};
 ///

@@ -6,6 +6,8 @@ use std::fmt;
 
 /// What is wrong with a plan's text, and where: the first fault of the text. `docs/RULES.md` says what a text may say.
 ///
+/// # Examples
+///
 /// ```
 /// use sched::executor::{Fault, FaultKind};
 /// use sched::{Executor, ExecutorError};
@@ -53,6 +55,8 @@ impl fmt::Display for Fault {
 impl Error for Fault {}
 
 /// What may be wrong with a plan's text.
+///
+/// # Examples
 ///
 /// ```
 /// use sched::executor::FaultKind;

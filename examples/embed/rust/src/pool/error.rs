@@ -9,6 +9,8 @@ use std::io;
 ///
 /// Its text tells that of the error within too, so its [`source`](Error::source) is what that error came from.
 ///
+/// # Examples
+///
 /// ```
 /// use sched::{PoolError, ScheduledThreadPool, TimersError};
 ///

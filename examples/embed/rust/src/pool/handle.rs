@@ -12,6 +12,8 @@ use std::time::Duration;
 /// A task goes on where its handle is dropped. A handle may be shared by threads, also by the jobs of its pool; a job that waits
 /// for another one takes up a worker.
 ///
+/// # Examples
+///
 /// ```
 /// use std::time::Duration;
 ///
@@ -36,6 +38,8 @@ impl<T> Handle<T> {
     /// Cancels the task, and says whether that had an effect. It has none where the task is over, or was cancelled before. A job
     /// that waits is dropped by this call. One that runs goes on, and what it gives is dropped: the task is cancelled all the same.
     ///
+    /// # Examples
+    ///
     /// ```
     /// use std::time::Duration;
     ///
@@ -58,6 +62,8 @@ impl<T> Handle<T> {
 
     /// Whether the task is over: it has its value, has panicked or is cancelled.
     ///
+    /// # Examples
+    ///
     /// ```
     /// let pool = sched::ScheduledThreadPool::new(1)?;
     /// let job = pool.execute(|| 6 * 7)?;
@@ -71,6 +77,8 @@ impl<T> Handle<T> {
     }
 
     /// Whether the task is cancelled, by a handle or by a shutdown.
+    ///
+    /// # Examples
     ///
     /// ```
     /// use std::time::Duration;
@@ -89,6 +97,8 @@ impl<T> Handle<T> {
 
     /// Waits until the task is over. [`join`](Self::join) takes its value too.
     ///
+    /// # Examples
+    ///
     /// ```
     /// let pool = sched::ScheduledThreadPool::new(1)?;
     /// let job = pool.execute(|| 6 * 7)?;
@@ -101,6 +111,8 @@ impl<T> Handle<T> {
     }
 
     /// Waits until the task is over, at most so long, and says whether it is.
+    ///
+    /// # Examples
     ///
     /// ```
     /// use std::time::Duration;
@@ -122,6 +134,8 @@ impl<T> Handle<T> {
     ///
     /// The task was cancelled, or its job panicked.
     ///
+    /// # Examples
+    ///
     /// ```
     /// let pool = sched::ScheduledThreadPool::new(1)?;
     /// let job = pool.execute(|| 6 * 7)?;
@@ -138,6 +152,8 @@ impl<T> Handle<T> {
     /// # Errors
     ///
     /// The task is not over by then: the handle comes back. Within, as [`join`](Self::join).
+    ///
+    /// # Examples
     ///
     /// ```
     /// use std::time::Duration;
@@ -160,6 +176,8 @@ impl<T> Handle<T> {
 
     /// How long the task waits still for its next run: nothing where that is due. `None`: it does not wait.
     ///
+    /// # Examples
+    ///
     /// ```
     /// use std::time::Duration;
     ///
@@ -177,6 +195,8 @@ impl<T> Handle<T> {
     }
 
     /// The number of its submission, by which a trace names it.
+    ///
+    /// # Examples
     ///
     /// ```
     /// let pool = sched::ScheduledThreadPool::new(1)?;

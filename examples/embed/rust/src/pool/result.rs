@@ -7,6 +7,8 @@ use std::time::Duration;
 
 /// Why a task has no value.
 ///
+/// # Examples
+///
 /// ```
 /// use sched::{JoinError, ScheduledThreadPool};
 ///

@@ -4,6 +4,8 @@ use super::calls::{self, TaskRef};
 
 /// How a run that is to be ended ended, for [`Timers::finish_many`](crate::Timers::finish_many).
 ///
+/// # Examples
+///
 /// ```
 /// use sched::timers::{Ending, Outcome, Timers};
 ///
@@ -39,6 +41,8 @@ impl Ending {
 
 /// What becomes of a task whose run has ended.
 ///
+/// # Examples
+///
 /// ```
 /// use sched::timers::{Outcome, Timers};
 ///
@@ -63,6 +67,8 @@ pub enum Outcome {
 }
 
 /// A run that a worker has ended, as [`Timers::finish`](crate::Timers::finish) and [`Timers::fail`](crate::Timers::fail) tell it.
+///
+/// # Examples
 ///
 /// ```
 /// use sched::timers::{End, Outcome, Timers};
@@ -110,6 +116,8 @@ impl End {
 
 /// What a cancel did, as [`Timers::cancel`](crate::Timers::cancel) tells.
 ///
+/// # Examples
+///
 /// ```
 /// use sched::timers::{Effect, Timers};
 ///
@@ -144,6 +152,8 @@ impl Effect {
 
 /// How far a task is.
 ///
+/// # Examples
+///
 /// ```
 /// use sched::timers::{Phase, Timers};
 ///
@@ -168,6 +178,8 @@ pub enum Phase {
 }
 
 /// A task as it stands, as [`Timers::task`](crate::Timers::task) tells.
+///
+/// # Examples
 ///
 /// ```
 /// use sched::timers::{Phase, Task, Timers};
@@ -211,6 +223,8 @@ impl Task {
 
 /// What the timers do with tasks after an orderly shutdown, and after a cancel.
 ///
+/// # Examples
+///
 /// ```
 /// use sched::timers::{Policy, Timers};
 ///
@@ -245,6 +259,8 @@ impl Policy {
 }
 
 /// How far the timers are, as [`Timers::state`](crate::Timers::state) tells.
+///
+/// # Examples
 ///
 /// ```
 /// let mut timers = sched::Timers::new(1)?;
@@ -292,6 +308,8 @@ impl State {
 
     /// Whether a policy is true.
     ///
+    /// # Examples
+    ///
     /// ```
     /// use sched::timers::{Policy, Timers};
     ///
@@ -307,6 +325,8 @@ impl State {
 
 /// How many tasks there are, as [`Timers::ask`](crate::Timers::ask) and
 /// [`ScheduledThreadPool::counts`](crate::ScheduledThreadPool::counts) tell.
+///
+/// # Examples
 ///
 /// ```
 /// use sched::timers::{Counts, Timers};

@@ -62,6 +62,8 @@ unsafe impl Send for Slot {}
 
 /// A task. A ref that is out of date names its own task still, and no other. Refs are ordered as their tasks were submitted.
 ///
+/// # Examples
+///
 /// ```
 /// let mut timers = sched::Timers::new(1)?;
 /// let first = timers.execute(0, 70)?;
@@ -80,6 +82,8 @@ pub struct TaskRef {
 }
 
 /// A run that a worker has begun, as [`Timers::poll`](crate::Timers::poll) tells it.
+///
+/// # Examples
 ///
 /// ```
 /// use sched::timers::{Run, Timers};
@@ -125,6 +129,8 @@ pub struct Ending {
 }
 
 /// A task that the last call ended, as [`Timers::ended`](crate::Timers::ended) tells it.
+///
+/// # Examples
 ///
 /// ```
 /// use sched::timers::{Gone, Timers};

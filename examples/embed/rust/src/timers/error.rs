@@ -8,6 +8,8 @@ use std::fmt;
 /// Why a call was refused. The timers are then as they were, but that a rejected submission has its number, and that a poll which
 /// finds no number left has moved the moment.
 ///
+/// # Examples
+///
 /// ```
 /// use sched::{Timers, TimersError};
 ///
@@ -99,6 +101,8 @@ impl Error for TimersError {}
 ///
 /// Its text tells the reason too, so it has no [`source`](Error::source).
 ///
+/// # Examples
+///
 /// ```
 /// use sched::timers::{PollManyError, Run, Timers, TimersError};
 ///
@@ -130,6 +134,8 @@ impl Error for PollManyError {}
 /// What some finishes of one call did, and why the finish behind them was refused.
 ///
 /// Its text tells the reason too, so it has no [`source`](Error::source).
+///
+/// # Examples
 ///
 /// ```
 /// use sched::timers::{Ending, Timers, TimersError};
