@@ -23,7 +23,7 @@ impl<S: Default> SlotCell<S> {
         self.0.get_mut()
     }
 
-    /// Lends the slot to a call that only looks. The call may be of nothing but the library.
+    /// Lends the slot to a call that only looks. What is handed in calls the library and nothing else.
     pub fn look<R>(&self, call: impl FnOnce(&mut S) -> R) -> R {
         let mut slot = self.0.take();
         let answer = call(&mut slot);

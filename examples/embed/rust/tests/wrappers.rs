@@ -43,6 +43,7 @@ fn many_entries_come_and_go_in_one_call() {
     let mut out = entries([(9, 9); 4]);
     assert_eq!(queue.poll_many(7, &mut out), 2);
     assert_eq!(out, entries([(7, 0), (7, 2), (9, 9), (9, 9)]));
+    assert_eq!(queue.due(u64::MAX).size_hint(), (0, Some(1)));
     assert_eq!(queue.due(u64::MAX).count(), 1);
 }
 

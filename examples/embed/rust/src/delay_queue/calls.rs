@@ -51,7 +51,7 @@ pub struct Entry {
 }
 
 // SAFETY: these are the functions of the header. That each one ends, and touches no memory but what it is handed and what the slot
-// holds, is proved. A function that is handed a pointer owes that it leads to as many places as the number behind it says.
+// holds, is proved. Who hands a pointer to one owes that it leads to as many places as the number behind it says.
 unsafe extern "C" {
     pub safe fn dq_ref_new(slot: &mut Slot, tasks: u32) -> u32;
     pub safe fn dq_ref_free(slot: &mut Slot) -> u32;

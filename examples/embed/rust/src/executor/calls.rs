@@ -127,7 +127,7 @@ pub struct Run {
 }
 
 // SAFETY: these are the functions of the header. That each one ends, and touches no memory but what it is handed and what the slot
-// holds, is proved. A function that is handed a pointer owes that it leads to as many bytes as the number behind it says.
+// holds, is proved. Who hands a pointer to one owes that it leads to as many bytes as the number behind it says.
 unsafe extern "C" {
     pub unsafe fn sched_ref_new(
         slot: &mut Slot,
