@@ -295,7 +295,7 @@ impl Drop for Executor {
 /// executor.take(Event::Clock(3))?;
 /// let mut lines = executor.lines();
 /// assert_eq!(lines.len(), 2);
-/// assert_eq!(lines.next().as_deref(), Some("0 submit 0 execute due 0"));
+/// assert_eq!(lines.next().as_deref(), Some("0 submit 0 schedule due 0"));
 /// assert_eq!(lines.next().as_deref(), Some("3 clock"));
 /// assert_eq!(lines.next(), None);
 /// # Ok::<(), sched::ExecutorError>(())
