@@ -101,60 +101,59 @@ fn an_executor_answers_in_lines() {
     assert_eq!(lines, ["5 outside 0 yes"]);
 }
 
-/// The texts of the faults are those of blocks of version 1, and of a first line that is none.
+/// The text of a plan of one block of version 1, with these keys, or of more where the keys go on to those.
+fn blocks(keys: &str) -> String {
+    format!("version = 1\n[[block]]\n{keys}")
+}
+
+/// The executor of this text is refused by this fault.
+fn refuses(text: &str, kind: FaultKind, block: Option<u32>, call: Option<u32>) {
+    let fault = Fault { kind, block, call };
+    let refused = Executor::new(text.as_bytes(), 1, 1).err();
+    assert_eq!(refused, Some(ExecutorError::Plan(fault)), "{kind}");
+}
+
 #[test]
-fn a_plan_is_refused_by_its_first_fault() {
-    let long = " ".repeat(1_048_577);
-    let header = |keys: &str| format!("version = 1\n[[block]]\n{keys}");
-    let calls = |calls: &str| header(&format!("call = [{calls}]"));
-    let a = r#"{ op = "execute", name = "a" }"#;
-    let b = r#"{ op = "execute", name = "b" }"#;
-    let cancel = r#"{ op = "cancel", name = "a" }"#;
-    let twice = format!("times = 2\nevery = 5\ncall = [{a}]\n[[block]]\nat = 9\ncall = [{cancel}]");
-    let early = format!("at = 9\ncall = [{a}]\n[[block]]\ncall = [{b}]");
-    let often = format!("times = 65536\nevery = 0\ncall = [{a}, {cancel}]");
-    for (text, kind, block, call) in [
-        (long, FaultKind::TooLong, None, None),
-        ("version".to_owned(), FaultKind::Toml, None, None),
-        ("version = 3".to_owned(), FaultKind::Version, None, None),
-        (header("x = 1"), FaultKind::UnknownKey, Some(1), None),
-        (header("times = 2"), FaultKind::Missing, Some(1), None),
-        (header("at = true"), FaultKind::WrongType, Some(1), None),
-        (header("unit = 'year'"), FaultKind::BadUnit, Some(1), None),
-        (header("times = 0"), FaultKind::BadTimes, Some(1), None),
-        (header("every = -1"), FaultKind::Negative, Some(1), None),
-        (
-            calls("{ op = 'execute', name = '' }"),
-            FaultKind::BadName,
-            Some(1),
-            Some(1),
-        ),
-        (
-            calls(&format!("{a}, {b}, {a}")),
-            FaultKind::DuplicateName,
-            Some(1),
-            Some(3),
-        ),
-        (
-            calls(&format!("{b}, {cancel}")),
-            FaultKind::UnknownName,
-            Some(1),
-            Some(2),
-        ),
-        (header(&twice), FaultKind::Ambiguous, Some(2), Some(1)),
-        (header(&early), FaultKind::OutOfOrder, Some(2), None),
-        (
-            header("at = 4611686018427387905"),
-            FaultKind::TooLarge,
-            Some(1),
-            None,
-        ),
-        (header(&often), FaultKind::TooMany, Some(1), None),
+fn a_text_is_refused_as_a_whole() {
+    refuses(&" ".repeat(1_048_577), FaultKind::TooLong, None, None);
+    refuses("version", FaultKind::Toml, None, None);
+    refuses("version = 3", FaultKind::Version, None, None);
+}
+
+#[test]
+fn a_text_is_refused_by_its_first_block() {
+    for (keys, kind) in [
+        ("x = 1", FaultKind::UnknownKey),
+        ("times = 2", FaultKind::Missing),
+        ("at = true", FaultKind::WrongType),
+        ("unit = 'year'", FaultKind::BadUnit),
+        ("times = 0", FaultKind::BadTimes),
+        ("every = -1", FaultKind::Negative),
+        ("at = 4611686018427387905", FaultKind::TooLarge),
     ] {
-        let fault = Fault { kind, block, call };
-        let refused = Executor::new(text.as_bytes(), 1, 1).err();
-        assert_eq!(refused, Some(ExecutorError::Plan(fault)), "{kind}");
+        refuses(&blocks(keys), kind, Some(1), None);
     }
+}
+
+#[test]
+fn a_text_is_refused_by_its_calls() {
+    let a = "{ op = 'execute', name = 'a' }";
+    let cancel = "{ op = 'cancel', name = 'a' }";
+    let nameless = blocks("call = [{ op = 'execute', name = '' }]");
+    refuses(&nameless, FaultKind::BadName, Some(1), Some(1));
+    let twins = blocks(&format!("call = [{a}, {cancel}, {a}]"));
+    refuses(&twins, FaultKind::DuplicateName, Some(1), Some(3));
+    let unknown = blocks(&format!("call = [{cancel}]"));
+    refuses(&unknown, FaultKind::UnknownName, Some(1), Some(1));
+    let often = blocks(&format!("times = 65536\nevery = 0\ncall = [{a}, {cancel}]"));
+    refuses(&often, FaultKind::TooMany, Some(1), None);
+    let repeated =
+        format!("times = 2\nevery = 5\ncall = [{a}]\n[[block]]\nat = 9\ncall = [{cancel}]");
+    refuses(&blocks(&repeated), FaultKind::Ambiguous, Some(2), Some(1));
+    let early = blocks(&format!(
+        "at = 9\ncall = [{a}]\n[[block]]\ncall = [{cancel}]"
+    ));
+    refuses(&early, FaultKind::OutOfOrder, Some(2), None);
 }
 
 #[test]
