@@ -5,7 +5,7 @@
 
 A line for each in each of three turns: the median, the 99th percentile and the greatest of the moment at which a timer began less
 the one at which it was to begin, in microseconds. There is one worker where no number is named. The shared library is that which
-examples/embed/python/run_timers builds, or the one that TIMERS names.
+examples/embed/python/run_timers builds, or the one that LIBTIMERS names.
 """
 
 import sched
@@ -15,7 +15,7 @@ from pathlib import Path
 
 sys.path.append(str(Path(__file__).resolve().parent.parent.parent / "examples" / "embed" / "python"))
 
-from scheduled_pool import ScheduledThreadPoolExecutor
+from sched_timers import ScheduledThreadPoolExecutor
 
 TIMERS = 1000
 TURNS = 3

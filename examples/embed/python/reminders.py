@@ -1,19 +1,29 @@
 """Reminders, many in one call."""
 
-from delay_queue import HAS_ENTRY, DelayQueue, QueueError
+from __future__ import annotations
+
+from sched_timers import DelayQueue
+from sched_timers.delay_queue import EntryExistsError
 
 MINUTE = 60_000_000_000
 NAMES = ["stretch", "drink water", "look up", "call home"]
 
-with DelayQueue(len(NAMES)) as reminders:
-    reminders.insert([(30 * MINUTE, 0), (20 * MINUTE, 1), (20 * MINUTE, 2), (90 * MINUTE, 3)])
-    try:
-        reminders.insert([(10 * MINUTE, 1)])
-    except QueueError as refused:
-        assert refused.status == HAS_ENTRY
-        print(f"{NAMES[1]}: {refused}")
-    reminders.remove(3)
-    print(f"{len(reminders)} reminders, the next in {reminders.peek()[0] // MINUTE} minutes")
-    for now in (10, 25, 60):
-        for due, task in reminders.poll(now * MINUTE):
-            print(f"{now} minutes: {NAMES[task]}")
+
+def main() -> None:
+    """Prints each reminder at its minute."""
+    with DelayQueue(len(NAMES)) as reminders:
+        reminders.insert([(30 * MINUTE, 0), (20 * MINUTE, 1), (20 * MINUTE, 2), (90 * MINUTE, 3)])
+        try:
+            reminders.insert([(10 * MINUTE, 1)])
+        except EntryExistsError as refused:
+            print(f"{NAMES[1]}: {refused}")
+        reminders.remove(3)
+        if (first := reminders.peek()) is not None:
+            print(f"{len(reminders)} reminders, the next in {first.due // MINUTE} minutes")
+        for now in (10, 25, 60):
+            for entry in reminders.poll(now * MINUTE):
+                print(f"{now} minutes: {NAMES[entry.task]}")
+
+
+if __name__ == "__main__":
+    main()

@@ -1,7 +1,8 @@
 """What a pool of threads over timers does, by the machine's clock.
 
-Of times the lower bounds alone are tested, which hold on a machine that is busy with something else too. Where SCHED names the
-program `sched`, the traces of pools are checked with it; else that is left out, which is told.
+Of times the lower bounds alone are tested, which hold on a machine that is busy with something
+else too. Where SCHED names the program `sched`, the traces of pools are checked with it; else that
+is left out, which is told.
 """
 
 import concurrent.futures
@@ -10,33 +11,20 @@ import gc
 import os
 import queue
 import random
+import re
 import subprocess
 import sys
 import threading
 import time
 import traceback
 import weakref
-from pathlib import Path
 from unittest import mock
 
-PYTHON = Path(__file__).resolve().parent.parent / "python"
-sys.path.insert(0, str(PYTHON))
-
-import scheduled_pool
-from recorded_timers import Recorded, found
-from scheduled_pool import ScheduledThreadPoolExecutor
-from timers import Rejected, Timers
+from recorded_timers import PYTHON, Recorded, end_with_traces, found, refuses
+from sched_timers import ScheduledThreadPoolExecutor, scheduled_pool
+from sched_timers.timers import RejectedError, Timers
 
 PATIENCE = 60   # seconds for what has to come, after which it counts as lost
-
-
-def refuses(kind, call, *words):
-    """A call that has to raise this error."""
-    try:
-        call(*words)
-    except kind as refused:
-        return refused
-    raise AssertionError(f"{call} {words} was not refused")
 
 
 @contextlib.contextmanager
@@ -86,7 +74,8 @@ def order():
 
 
 def sooner():
-    """A call that is due sooner is not kept waiting by a leader that waits for a later one, however many workers there are."""
+    """A call that is due sooner is not kept waiting by a leader that waits for a later one,
+    however many workers there are."""
     for workers in (1, 2, 5):
         with pool_of(workers) as pool:
             far = pool.schedule(3600, print)
@@ -98,7 +87,8 @@ def sooner():
 
 
 def beside():
-    """A heartbeat goes on beside a call that is due much later, for which another worker leads while the heart beats."""
+    """A heartbeat goes on beside a call that is due much later, for which another worker leads
+    while the heart beats."""
     for workers in (1, 2, 3):
         with pool_of(workers) as pool:
             beats = []
@@ -111,21 +101,25 @@ def beside():
             far, first = pool.schedule(3600, print), time.monotonic()
             pool.schedule_at_fixed_rate(0.01, 0.01, beat)
             wait_until(lambda beats=beats: len(beats) >= 5)
-            assert all(moment >= first + 0.01 + 0.01 * run for run, moment in enumerate(beats)) and not far.done()
+            assert all(moment >= first + 0.01 + 0.01 * run for run, moment in enumerate(beats))
+            assert not far.done()
 
 
 def together():
-    """As many calls as there are workers run at a time: each waits here until all of them have begun."""
+    """As many calls as there are workers run at a time: each waits here until all of them have
+    begun."""
     for workers in (2, 7):
         with pool_of(workers) as pool:
             for delay in (0.02, 0.0):
                 barrier = threading.Barrier(workers)
                 futures = [pool.schedule(delay, barrier.wait, PATIENCE) for _ in range(workers)]
-                assert sorted(future.result(PATIENCE) for future in futures) == list(range(workers))
+                places = sorted(future.result(PATIENCE) for future in futures)
+                assert places == list(range(workers))
 
 
 def rates():
-    """Runs at a fixed rate begin no sooner than they are due, make up for a late one, and do not overlap."""
+    """Runs at a fixed rate begin no sooner than they are due, make up for a late one, and do not
+    overlap."""
     with pool_of(4, Recorded) as pool:
         begun, busy, first = [], threading.Lock(), time.monotonic()
 
@@ -140,7 +134,8 @@ def rates():
         wait_until(lambda: len(begun) >= 15)
         assert future.cancel() and future.cancelled()
         assert all(moment >= first + 0.02 + 0.01 * run for run, moment in enumerate(begun)), begun
-        starts = [words for words in pool._timers.words() if words[1] == "start" and words[3:5] == ["task", "0"]]
+        starts = [words for words in pool._timers.words()
+                  if words[1] == "start" and words[3:5] == ["task", "0"]]
         dues = [int(words[-1]) for words in starts]
         assert [due - dues[0] for due in dues] == [10_000_000 * run for run in range(len(dues))]
         late = [int(words[0]) - int(words[-1]) for words in starts]
@@ -160,7 +155,8 @@ def delays():
         future = pool.schedule_with_fixed_delay(0.01, 0.02, step, 0.01, ends=ended)
         wait_until(lambda: len(ended) >= 4)
         future.cancel()
-        assert begun[0] >= first + 0.01 and all(later >= end + 0.02 for end, later in zip(ended, begun[1:]))
+        assert begun[0] >= first + 0.01
+        assert all(later >= end + 0.02 for end, later in zip(ended, begun[1:]))
         assert refuses(concurrent.futures.CancelledError, future.result) is not None
 
 
@@ -176,7 +172,8 @@ def withdraws():
 
         waiting = pool.schedule(3600, print)
         waiting.add_done_callback(told.append)
-        assert waiting.cancel() and waiting.cancel() and waiting.cancelled() and told == [waiting] and pool.counts().queue == 0
+        assert waiting.cancel() and waiting.cancel() and waiting.cancelled() and told == [waiting]
+        assert pool.counts().queue == 0
         assert concurrent.futures.wait([waiting], PATIENCE).done == {waiting}
         running = pool.submit(hold, 7)
         begun.wait(PATIENCE)
@@ -184,7 +181,8 @@ def withdraws():
         begun.clear()
         again = pool.schedule_at_fixed_rate(0, 0.001, hold, 8)
         begun.wait(PATIENCE)
-        assert again.cancel() and again.cancel() and again.cancelled() and pool.counts().running == 2
+        assert again.cancel() and again.cancel() and again.cancelled()
+        assert pool.counts().running == 2
         begun.clear()
         going.set()
         assert running.result(PATIENCE) == 7 and not running.cancel() and running.result() == 7
@@ -193,13 +191,15 @@ def withdraws():
         between = pool.schedule_at_fixed_rate(0, 3600, begun.set)
         begun.wait(PATIENCE)
         wait_until(lambda: pool.counts().running == 0)
-        assert pool.counts().queue == 1 and not between.done() and between.cancel() and pool.counts().queue == 0
+        assert pool.counts().queue == 1 and not between.done() and between.cancel()
+        assert pool.counts().queue == 0
         time.sleep(0.02)
         assert not again.running() and pool.counts() == (0, 0, False, False)
 
 
 def timeouts():
-    """Ten thousand timeouts, of which 99 of 100 are cancelled: the others come, no sooner than they are due, and none that was."""
+    """Ten thousand timeouts, of which 99 of 100 are cancelled: the others come, no sooner than
+    they are due, and none that was."""
     with pool_of(2) as pool:
         come, left, dues = [], [], []
 
@@ -209,17 +209,20 @@ def timeouts():
         for first in range(0, 10_000, 100):
             dues.append(time.monotonic() + 1)
             batch = [pool.schedule(1, note, place) for place in range(first, first + 100)]
-            assert all(future.cancel() for future in batch[1:]) and pool.counts().queue <= len(dues)
+            assert all(future.cancel() for future in batch[1:])
+            assert pool.counts().queue <= len(dues)
             left.append(batch[0])
         concurrent.futures.wait(left, PATIENCE)
         time.sleep(0.01)
         come.sort()
-        assert [place for place, _ in come] == list(range(0, 10_000, 100)) and all(future.done() for future in left)
+        assert [place for place, _ in come] == list(range(0, 10_000, 100))
+        assert all(future.done() for future in left)
         assert all(moment >= due for due, (_, moment) in zip(dues, come))
 
 
 def jobs_that_call():
-    """Jobs submit and cancel, the callbacks of futures too; and a chain of jobs, each of which submits the next one."""
+    """Jobs submit and cancel, the callbacks of futures too; and a chain of jobs, each of which
+    submits the next one."""
     with pool_of(2) as pool:
         far = pool.schedule(3600, print)
         assert pool.submit(far.cancel).result(PATIENCE) and far.cancelled()
@@ -238,7 +241,8 @@ def jobs_that_call():
         followed = threading.Event()
         pool.schedule(0.01, int).add_done_callback(lambda _: pool.schedule(0.01, followed.set))
         assert followed.wait(PATIENCE)
-        assert pool.schedule(0, dict, delay=1, fn=2, self=3).result(PATIENCE) == {"delay": 1, "fn": 2, "self": 3}
+        named = pool.schedule(0, dict, delay=1, fn=2, self=3)
+        assert named.result(PATIENCE) == {"delay": 1, "fn": 2, "self": 3}
         beats, itself = [], queue.SimpleQueue()
 
         def stop_at_three():
@@ -251,11 +255,13 @@ def jobs_that_call():
         concurrent.futures.wait([pulse], PATIENCE)
         time.sleep(0.01)
         assert beats == [0, 1, 2] and pulse.cancelled()
-        assert list(pool.map(pow, range(50), [2] * 50)) == [number * number for number in range(50)]
+        squares = [number * number for number in range(50)]
+        assert list(pool.map(pow, range(50), [2] * 50)) == squares
 
 
 def callbacks():
-    """Callbacks are called without the lock, whoever ends a future: another thread may use the pool meanwhile."""
+    """Callbacks are called without the lock, whoever ends a future: another thread may use the
+    pool meanwhile."""
     ended = []
 
     def look(future):
@@ -269,7 +275,8 @@ def callbacks():
             future.add_done_callback(look)
         future.cancel()
         begun, going = threading.Event(), threading.Event()
-        pool.schedule_at_fixed_rate(0, 1, lambda: (begun.set(), going.wait(PATIENCE))).add_done_callback(look)
+        pulse = pool.schedule_at_fixed_rate(0, 1, lambda: (begun.set(), going.wait(PATIENCE)))
+        pulse.add_done_callback(look)
         begun.wait(PATIENCE)
         pool.schedule_at_fixed_rate(3600, 1, int).add_done_callback(look)
         pool.schedule(3600, int).add_done_callback(look)
@@ -289,7 +296,8 @@ def shutdowns():
             delayed = pool.schedule(0.05 if executes else 3600, pow, 2, 3)
             pulse = pool.schedule_at_fixed_rate(0.02 if continues else 3600, 0.02, beats.append, 1)
             pool.shutdown(wait=False)
-            assert pool.is_shutdown and delayed.cancelled() is not executes and pulse.cancelled() is not continues
+            assert pool.is_shutdown and delayed.cancelled() is not executes
+            assert pulse.cancelled() is not continues
             refuses(RuntimeError, pool.submit, print)
             refuses(RuntimeError, pool.schedule, 1, print)
             refuses(RuntimeError, pool.schedule_at_fixed_rate, 1, 1, print)
@@ -306,7 +314,8 @@ def shutdowns():
         begun, going = threading.Event(), threading.Event()
         running = pool.submit(lambda: (begun.set(), going.wait(PATIENCE)))
         begun.wait(PATIENCE)
-        due, far, pulse = pool.submit(print), pool.schedule(3600, print), pool.schedule_at_fixed_rate(0, 1, print)
+        due, far = pool.submit(print), pool.schedule(3600, print)
+        pulse = pool.schedule_at_fixed_rate(0, 1, print)
         pool.shutdown(wait=False, cancel_futures=True)
         assert due.cancelled() and far.cancelled() and pulse.cancelled() and not running.done()
         assert concurrent.futures.wait([due, far, pulse], 0).not_done == set()
@@ -315,11 +324,13 @@ def shutdowns():
 
 
 def last_cancel():
-    """A pool that is shut ends with a cancel of the last task that waits, and so with a policy that ends it."""
+    """A pool that is shut ends with a cancel of the last task that waits, and so with a policy
+    that ends it."""
     with pool_of(3) as pool:
         far = pool.schedule(3600, print)
         pool.shutdown(wait=False)
-        assert not pool.await_termination(0.05) and far.cancel() and pool.await_termination(PATIENCE)
+        assert not pool.await_termination(0.05) and far.cancel()
+        assert pool.await_termination(PATIENCE)
     with pool_of(3) as pool:
         far = pool.schedule(3600, print)
         pool.shutdown(wait=False)
@@ -339,16 +350,19 @@ def endless():
         first = time.monotonic()
         assert not pool.await_termination(0.05) and time.monotonic() >= first + 0.05
         pool.shutdown(wait=False)
-        assert not pool.await_termination(0) and not pool.await_termination(0.05) and not pool.is_terminated and pool.is_shutdown
+        assert not pool.await_termination(0) and not pool.await_termination(0.05)
+        assert not pool.is_terminated and pool.is_shutdown
         going.set()
         assert pool.await_termination(PATIENCE) and pool.is_terminated and job.done()
-        assert isinstance(refuses(RuntimeError, pool.submit, print), Rejected)
+        assert isinstance(refuses(RuntimeError, pool.submit, print), RejectedError)
     with pool_of(1) as pool:
-        assert isinstance(pool.submit(pool.shutdown).exception(PATIENCE), RuntimeError) and pool.is_shutdown
+        assert isinstance(pool.submit(pool.shutdown).exception(PATIENCE), RuntimeError)
+        assert pool.is_shutdown
 
 
 def slow():
-    """What is due while the one worker is busy comes after that, all of it, in the order in which it was due."""
+    """What is due while the one worker is busy comes after that, all of it, in the order in which
+    it was due."""
     with pool_of(1, Recorded) as pool:
         ran, going = [], held(pool)
         pulse = pool.schedule_at_fixed_rate(0.001, 0.01, int)
@@ -357,12 +371,14 @@ def slow():
         going.set()
         concurrent.futures.wait(futures, PATIENCE)
         pulse.cancel()
-        dues = [int(words[-1]) for words in pool._timers.words() if words[1] == "start" and words[3] == "task"]
+        dues = [int(words[-1]) for words in pool._timers.words()
+                if words[1] == "start" and words[3] == "task"]
         assert sorted(ran) == list(range(40)) and dues == sorted(dues) and len(dues) >= 1 + 4 + 40
 
 
 def failures():
-    """An exception of a job stands in its future, and a task that runs again and again ends with it."""
+    """An exception of a job stands in its future, and a task that runs again and again ends with
+    it."""
     with pool_of(2) as pool:
         class Unusual(BaseException):
             """No Exception."""
@@ -375,24 +391,51 @@ def failures():
         beats = []
         third = pool.schedule_at_fixed_rate(0, 0.001, fail_at_three)
         for future in (third, pool.schedule_with_fixed_delay(0, 0.001, divmod, 1, 0)):
-            assert isinstance(future.exception(PATIENCE), Unusual | ZeroDivisionError) and not future.cancelled()
+            assert isinstance(future.exception(PATIENCE), Unusual | ZeroDivisionError)
+            assert not future.cancelled()
             assert not future.cancel()
         time.sleep(0.01)
-        assert beats == [0, 1, 2] and isinstance(pool.submit(sys.exit, 3).exception(PATIENCE), SystemExit)
+        assert beats == [0, 1, 2]
+        assert isinstance(pool.submit(sys.exit, 3).exception(PATIENCE), SystemExit)
         refuses(ZeroDivisionError, pool.schedule(0.001, divmod, 1, 0).result, PATIENCE)
         assert pool.submit(pow, 2, 3).result(PATIENCE) == 8
         for call, *words in [
-            (pool.schedule, float("nan")), (pool.schedule, float("inf")), (pool.schedule, 1e10), (pool.schedule, 1e30),
-            (pool.schedule_at_fixed_rate, 1, 0), (pool.schedule_at_fixed_rate, 1, -1), (pool.schedule_with_fixed_delay, 1, 0),
+            (pool.schedule, float("nan")), (pool.schedule, float("inf")), (pool.schedule, 1e10),
+            (pool.schedule, 1e30), (pool.schedule_at_fixed_rate, 1, 0),
+            (pool.schedule_at_fixed_rate, 1, -1), (pool.schedule_with_fixed_delay, 1, 0),
             (pool.schedule_with_fixed_delay, 1, 1e-10),
         ]:
             refuses(ValueError, call, *words, print)
-    for workers in (0, 65, -1, 1.5):
+
+
+def kinds():
+    """What is no number, no call or no flag is refused, and leaves no task; a bool is no number.
+    How a pool is shown."""
+    with pool_of(2) as pool:
+        for call, *words in [
+            (pool.schedule, "1"), (pool.schedule, None), (pool.schedule, True),
+            (pool.schedule_at_fixed_rate, 1, "1"), (pool.schedule_at_fixed_rate, False, 1),
+            (pool.schedule_with_fixed_delay, 1, True),
+        ]:
+            refuses(TypeError, call, *words, print)
+        for call, *words in [(pool.submit, 5), (pool.schedule, 1, None), (pool.submit,)]:
+            refuses(TypeError, call, *words)
+        refuses(TypeError, setattr, pool, "continues_periodic", 1)
+        assert pool.counts() == (0, 0, False, False) and not pool._jobs
+        assert not pool.continues_periodic
+        shown = "'ScheduledThreadPoolExecutor-[0-9]+' workers=2 tasks=0"
+        assert re.fullmatch(f"<ScheduledThreadPoolExecutor {shown}>", repr(pool)), pool
+        pool.shutdown()
+        assert re.fullmatch(f"<ScheduledThreadPoolExecutor {shown} shut>", repr(pool)), pool
+    for workers in (0, 65, -1):
         refuses(ValueError, ScheduledThreadPoolExecutor, workers)
+    for workers in (1.5, "2", None, True):
+        refuses(TypeError, ScheduledThreadPoolExecutor, workers)
 
 
 def drops():
-    """A pool keeps nothing of a job that is over: neither what it was called with, nor its failure."""
+    """A pool keeps nothing of a job that is over: neither what it was called with, nor its
+    failure."""
     class Kept:
         """What can be counted."""
         alive = 0
@@ -417,9 +460,11 @@ def drops():
 
 
 def threads():
-    """Threads have names. Where one can not be started, those that were started end. A pool is dropped with its last name."""
+    """Threads have names. Where one can not be started, those that were started end. A pool is
+    dropped with its last name."""
     with ScheduledThreadPoolExecutor(2, thread_name_prefix="beat") as pool:
-        assert pool.submit(lambda: threading.current_thread().name).result(PATIENCE) in ("beat_0", "beat_1")
+        name = pool.submit(lambda: threading.current_thread().name).result(PATIENCE)
+        assert name in ("beat_0", "beat_1")
     left = weakref.ref(pool)
     del pool
     gc.collect()
@@ -449,7 +494,8 @@ def idle():
 
 
 def storm(pool, clients, turns):
-    """Threads submit and cancel at random. Each job runs once, or its future is cancelled. Answers how many were cancelled."""
+    """Threads submit and cancel at random. Each job runs once, or its future is cancelled. Answers
+    how many were cancelled."""
     counts = [0] * (clients * turns)
     futures = [None] * (clients * turns)
 
@@ -459,7 +505,8 @@ def storm(pool, clients, turns):
     def use(client):
         chance = random.Random(client)
         for place in range(client * turns, (client + 1) * turns):
-            futures[place] = pool.schedule(chance.choice([0, 0.0001, 0.001, 0.01, 0.05]), count, place)
+            delay = chance.choice([0, 0.0001, 0.001, 0.01, 0.05])
+            futures[place] = pool.schedule(delay, count, place)
             if chance.random() < 0.5:
                 futures[chance.randrange(client * turns, place + 1)].cancel()
 
@@ -469,7 +516,8 @@ def storm(pool, clients, turns):
     for user in users:
         user.join()
     assert concurrent.futures.wait(futures, PATIENCE).not_done == set()
-    assert [future.cancelled() for future in futures] == [count == 0 for count in counts] and max(counts) == 1
+    assert [future.cancelled() for future in futures] == [count == 0 for count in counts]
+    assert max(counts) == 1
     return counts.count(0)
 
 
@@ -503,21 +551,24 @@ def traced(workers, continues):
 
 
 def traces(program):
-    """The traces of pools are those of the one history that their calls allow; and one with a line less is not."""
+    """The traces of pools are those of the one history that their calls allow; and one with a line
+    less is not."""
     for workers, continues in [(1, False), (4, True)]:
         timers = traced(workers, continues)
         trace = "".join(timers.trace)
         answer = found(program, timers, trace)
         assert answer == "conforms\n", answer
         lines = trace.splitlines(keepends=True)
-        start = next(place for place, line in enumerate(lines) if " start " in line and " task " in line)
-        assert found(program, timers, "".join(lines[:start] + lines[start + 1:])).startswith("breaks ")
+        start = next(place for place, line in enumerate(lines)
+                     if " start " in line and " task " in line)
+        less = "".join(lines[:start] + lines[start + 1:])
+        assert found(program, timers, less).startswith("breaks ")
 
 
 LEFT_ALONE = """
 import os, sys, threading, time
 sys.path.insert(0, sys.argv[1])
-from scheduled_pool import ScheduledThreadPoolExecutor
+from sched_timers import ScheduledThreadPoolExecutor
 pool, held = ScheduledThreadPoolExecutor(2), threading.Event()
 
 def hold():
@@ -537,22 +588,21 @@ print("child", os.waitstatus_to_exitcode(os.waitpid(child, 0)[1]))
 
 
 def left_alone():
-    """A program that leaves its pool alone ends once what waits for a single run has had it. A forked child has no pool, whoever
-    held the lock as it was forked."""
+    """A program that leaves its pool alone ends once what waits for a single run has had it. A
+    forked child has no pool, whoever held the lock as it was forked."""
     words = [sys.executable, "-W", "ignore", "-c", LEFT_ALONE, PYTHON]
-    ended = subprocess.run(words, stdout=subprocess.PIPE, stderr=subprocess.STDOUT, text=True, timeout=PATIENCE)
-    assert (ended.returncode, sorted(ended.stdout.splitlines())) == (0, ["child 5", "late"]), ended.stdout
+    ended = subprocess.run(words, stdout=subprocess.PIPE, stderr=subprocess.STDOUT, text=True,
+                           timeout=PATIENCE)
+    assert ended.returncode == 0, ended.stdout
+    assert sorted(ended.stdout.splitlines()) == ["child 5", "late"], ended.stdout
 
 
-for test in (order, sooner, beside, together, rates, delays, withdraws, timeouts, jobs_that_call, callbacks, shutdowns,
-             last_cancel, endless, slow, failures, drops, threads, idle, storms, left_alone):
+for test in (order, sooner, beside, together, rates, delays, withdraws, timeouts, jobs_that_call,
+             callbacks, shutdowns, last_cancel, endless, slow, failures, kinds, drops, threads,
+             idle, storms, left_alone):
     try:
         test()
     except BaseException:
         traceback.print_exc()
         os._exit(1)   # at once: a pool that does not end would hold up the end of this program
-if "SCHED" in os.environ:
-    traces(os.environ["SCHED"])
-else:
-    print("SCHED names no program: no trace was checked")
-print("each answer came")
+end_with_traces(traces)

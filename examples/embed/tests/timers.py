@@ -1,100 +1,170 @@
 """What timers in Python answer, and what their wrapper refuses.
 
-Where SCHED names the program `sched`, the traces of these tests are checked with it; else that is left out, which is told.
+Where SCHED names the program `sched`, the traces of these tests are checked with it; else that is
+left out, which is told.
 """
 
 import gc
-import os
+import pickle
 import resource
-import sys
-from pathlib import Path
 from unittest import mock
 
-sys.path.insert(0, str(Path(__file__).resolve().parent.parent / "python"))
-
-import timers_calls as calls
-from recorded_timers import Recorded, found
-from timers import (ERRORS, BadWorkers, Busy, Closed, Effect, End, Ending, Gone, Illegal, NoMemory, NotRunning, NoTask, NoWorker,
-                    Outcome, Phase, Policy, Rejected, Run, TaskRef, TaskState, Timers, TimersError, TooFar, TooLong)
+from recorded_timers import Recorded, end_with_traces, found, refuses
+from sched_timers import ClosedError, SchedError
+from sched_timers.timers import (
+    Effect, End, Ending, Gone, IllegalArgumentError, MomentTooFarError, NotRunningError, Outcome,
+    Phase, Policy, RejectedError, Run, SpanTooLongError, Status, TaskRef, TaskState, Timers,
+    TimersClosedError, TimersError, TimersMemoryError, UnknownTaskError, UnknownWorkerError,
+    WorkerBusyError, WorkerCountError)
+from sched_timers.timers_errors import ERRORS
 
 LONGEST = 1 << 62
-NO_ERRORS = {calls.DONE, calls.SHUT, calls.IDLE, calls.HAS_TIMERS, calls.NULL}   # what is none of ERRORS, or never comes
-
-
-def refuses(kind, call, *words):
-    """A call that has to raise this error."""
-    try:
-        call(*words)
-    except kind as refused:
-        return refused
-    raise AssertionError(f"{call} {words} was not refused")
+# What is none of ERRORS, or never comes.
+NO_ERRORS = {Status.DONE, Status.SHUT, Status.IDLE, Status.HAS_TIMERS}
 
 
 def numbers():
     """Numbers that do not fit change nothing."""
-    for workers in (-1, 1 << 32, 1.5, "1"):
+    for workers in (-1, 1 << 32):
         refuses(ValueError, Timers, workers)
     timers = Timers(2)
     timers.execute(5)
     before = timers.state(), timers.text()
     for call, *words in [
-        (timers.reserve, -1), (timers.reserve, 1 << 32), (timers.schedule, -1, 0), (timers.schedule, 0, -1),
-        (timers.schedule, 0, 0.5), (timers.schedule, 0, 1 << 64), (timers.schedule, 0, 0, 1 << 64), (timers.execute, 0, -1),
-        (timers.at_rate, 0, 0, -1), (timers.at_rate, 0, -1, 1), (timers.with_delay, 0, 0, 1 << 64), (timers.poll, -1),
-        (timers.poll, 0, -1), (timers.poll, 0, 1 << 32), (timers.finish, 0, 0, -1), (timers.finish, 0, 0, 1 << 64),
-        (timers.fail, 0, 0, 1 << 32), (timers.ask, -1), (timers.set_policy, 0, -1, True), (timers.shutdown, 1 << 64),
-        (timers.shutdown_now, -1), (timers.execute, 0, 1 << 64), (timers.poll_many, 5, [0, -1]),
-        (timers.poll_many, 5, [0, 1 << 32]), (timers.poll_many, -1, [0]), (timers.finish_many, 5, [Ending(0), Ending(0, 1 << 64)]),
-        (timers.finish_many, 5, [Ending(0), Ending(-1)]),
+        (timers.reserve, -1), (timers.reserve, 1 << 32), (timers.schedule, -1, 0),
+        (timers.schedule, 0, -1), (timers.schedule, 0, 1 << 64), (timers.schedule, 0, 0, 1 << 64),
+        (timers.execute, 0, -1), (timers.execute, 0, 1 << 64), (timers.at_rate, 0, 0, -1),
+        (timers.at_rate, 0, -1, 1), (timers.with_delay, 0, 0, 1 << 64), (timers.poll, -1),
+        (timers.poll, 0, -1), (timers.poll, 0, 1 << 32), (timers.finish, 0, 0, -1),
+        (timers.finish, 0, 0, 1 << 64), (timers.fail, 0, 0, 1 << 32), (timers.ask, -1),
+        (timers.set_policy, 0, -1, True), (timers.shutdown, 1 << 64), (timers.shutdown_now, -1),
+        (timers.poll_many, 5, [0, -1]), (timers.poll_many, 5, [0, 1 << 32]),
+        (timers.poll_many, -1, [0]), (timers.finish_many, 5, [Ending(0), Ending(0, 1 << 64)]),
+        (timers.finish_many, 5, [Ending(0), Ending(-1)]), (timers.finish_many, 5, [(0, 0)]),
     ]:
-        refuses(ValueError, call, *words)
-    for task in [(-1, 0), (1 << 64, 0), (0, -1), (0, 1 << 32), (0.5, 0), (0,), (0, 0, 0)]:
+        assert not isinstance(refuses(ValueError, call, *words), SchedError)
+    for task in [(-1, 0), (1 << 64, 0), (0, -1), (0, 1 << 32), (0,), (0, 0, 0)]:
         refuses(ValueError, timers.cancel, task)
         refuses(ValueError, timers.task, task)
     assert (timers.state(), timers.text()) == before
 
 
+def kinds():
+    """Arguments that are no numbers, or no flags, change nothing. A bool is no number."""
+    for workers in (1.5, "1", None, True):
+        refuses(TypeError, Timers, workers)
+    timers = Timers(2)
+    timers.execute(5)
+    before = timers.state(), timers.text()
+    for call, *words in [
+        (timers.reserve, 1.0), (timers.reserve, False), (timers.schedule, 0, 0.5),
+        (timers.schedule, True, 5), (timers.schedule, 0, None), (timers.schedule, 0, 0, "data"),
+        (timers.execute, b"0"), (timers.at_rate, 0, 0, 0.1), (timers.with_delay, 0, 0, True),
+        (timers.poll, 0.0), (timers.poll, 5, False), (timers.poll, 5, [0]),
+        (timers.finish, 0, 0, 1.5), (timers.fail, 0, 0, True), (timers.ask, None),
+        (timers.set_policy, 0, "remove", True), (timers.set_policy, 0, True, Policy.REMOVE),
+        (timers.set_policy, 0, Policy.REMOVE, 1), (timers.set_policy, 0, Policy.REMOVE, None),
+        (timers.shutdown, 0.5), (timers.shutdown_now, "0"), (timers.poll_many, 5, [0, 0.5]),
+        (timers.poll_many, 5, [True]), (timers.poll_many, 5, 0), (timers.poll_many, "5", [0]),
+        (timers.finish_many, 5, [Ending(0), Ending(0, 0.5)]), (timers.finish_many, 5, [0]),
+        (timers.finish_many, 5, [Ending(False)]), (timers.finish_many, 5, [Ending(0, 0, 1)]),
+    ]:
+        refuses(TypeError, call, *words)
+    for task in [0, None, (0.5, 0), (0, True), "ab"]:
+        refuses(TypeError, timers.cancel, task)
+        refuses(TypeError, timers.task, task)
+    assert (timers.state(), timers.text()) == before
+
+
+def members():
+    """Which tasks are in the timers, how many, and how timers are shown."""
+    timers = Timers(2)
+    assert len(timers) == 0 and not timers and repr(timers) == "<Timers workers=2 alive=0 now=0>"
+    task, other = timers.execute(7), timers.schedule(7, 10)
+    assert task in timers and other in timers and len(timers) == 2
+    for stranger in (TaskRef(2, 0), TaskRef(-1, 0), TaskRef(0, 0.5), 0, (0, 0), "task", None):
+        assert stranger not in timers
+    assert timers.cancel(other) and other in timers and len(timers) == 2
+    assert timers.poll(7).task == task and task in timers and timers.finish(7)
+    assert task not in timers and repr(timers) == "<Timers workers=2 alive=1 now=7>"
+    with timers as same:
+        assert same is timers and not timers.closed
+    assert timers.closed and repr(timers) == "<Timers closed>"
+    for call in (timers.__len__, timers.__enter__, lambda: task in timers, lambda: None in timers):
+        assert isinstance(refuses(TimersClosedError, call), ClosedError)
+
+
 def errors():
     """Each error of a call, after which the timers are as they were."""
-    assert set(ERRORS) | NO_ERRORS == set(range(len(calls.TEXTS)))
+    assert set(ERRORS) | NO_ERRORS == set(Status) and not set(ERRORS) & NO_ERRORS
     for workers in (0, 65, 257):
-        refuses(BadWorkers, Timers, workers)
+        refuses(WorkerCountError, Timers, workers)
     timers = Timers(2)
     timers.execute(0)
     timers.poll(5, 1)
     before = timers.state(), timers.text()
     for kind, call, *words in [
-        (Illegal, timers.at_rate, 0, 0, 0), (Illegal, timers.with_delay, 0, 0, 0), (Illegal, timers.set_policy, 0, 3, True),
-        (Illegal, timers.at_rate, LONGEST + 1, LONGEST + 1, 0), (TooLong, timers.schedule, LONGEST + 1, LONGEST + 1),
-        (TooLong, timers.at_rate, 0, LONGEST + 1, 1), (TooLong, timers.with_delay, 0, 0, LONGEST + 1),
-        (TooFar, timers.schedule, LONGEST + 1, LONGEST), (TooFar, timers.execute, LONGEST + 1), (TooFar, timers.poll, LONGEST + 1),
-        (TooFar, timers.finish, LONGEST + 1, 1), (TooFar, timers.ask, LONGEST + 1), (TooFar, timers.shutdown, LONGEST + 1),
-        (TooFar, timers.shutdown_now, LONGEST + 1), (TooFar, timers.set_policy, LONGEST + 1, Policy.REMOVE, True),
-        (NoWorker, timers.poll, LONGEST + 1, 2), (NoWorker, timers.finish, 5, 2), (NoWorker, timers.fail, 5, 2),
-        (Busy, timers.poll, 5, 1), (NotRunning, timers.finish, 5), (NotRunning, timers.fail, 5),
-        (NoTask, timers.cancel, TaskRef(1, 0)), (NoTask, timers.task, TaskRef(1, 0)), (NoMemory, timers.reserve, (1 << 32) - 1),
+        (IllegalArgumentError, timers.at_rate, 0, 0, 0),
+        (IllegalArgumentError, timers.with_delay, 0, 0, 0),
+        (IllegalArgumentError, timers.set_policy, 0, 3, True),
+        (IllegalArgumentError, timers.at_rate, LONGEST + 1, LONGEST + 1, 0),
+        (SpanTooLongError, timers.schedule, LONGEST + 1, LONGEST + 1),
+        (SpanTooLongError, timers.at_rate, 0, LONGEST + 1, 1),
+        (SpanTooLongError, timers.with_delay, 0, 0, LONGEST + 1),
+        (MomentTooFarError, timers.schedule, LONGEST + 1, LONGEST),
+        (MomentTooFarError, timers.execute, LONGEST + 1),
+        (MomentTooFarError, timers.poll, LONGEST + 1),
+        (MomentTooFarError, timers.finish, LONGEST + 1, 1),
+        (MomentTooFarError, timers.ask, LONGEST + 1),
+        (MomentTooFarError, timers.shutdown, LONGEST + 1),
+        (MomentTooFarError, timers.shutdown_now, LONGEST + 1),
+        (MomentTooFarError, timers.set_policy, LONGEST + 1, Policy.REMOVE, True),
+        (UnknownWorkerError, timers.poll, LONGEST + 1, 2),
+        (UnknownWorkerError, timers.finish, 5, 2), (UnknownWorkerError, timers.fail, 5, 2),
+        (WorkerBusyError, timers.poll, 5, 1), (NotRunningError, timers.finish, 5),
+        (NotRunningError, timers.fail, 5), (UnknownTaskError, timers.cancel, TaskRef(1, 0)),
+        (UnknownTaskError, timers.task, TaskRef(1, 0)),
+        (TimersMemoryError, timers.reserve, (1 << 32) - 1),
     ]:
-        assert isinstance(refuses(kind, call, *words), TimersError)
+        refused = refuses(kind, call, *words)
+        assert type(refused) is kind and isinstance(refused, TimersError)
+        assert isinstance(refused, SchedError) and str(refused) == refused.status.text
         assert (timers.state(), timers.text()) == before, (call, words)
     timers.close()
     timers.close()
     for call, *words in [
-        (timers.state,), (timers.lines,), (timers.next_due,), (timers.ended,), (timers.execute, 0), (timers.poll, 0),
-        (timers.poll_many, 0, [0]), (timers.finish_many, 0, [Ending(0)]), (timers.shutdown, 0), (timers.reserve, 1),
+        (timers.state,), (timers.lines,), (timers.next_due,), (timers.ended,),
+        (timers.execute, 0), (timers.poll, 0), (timers.poll_many, 0, [0]),
+        (timers.finish_many, 0, [Ending(0)]), (timers.shutdown, 0), (timers.reserve, 1),
     ]:
-        refuses(Closed, call, *words)
+        refuses(TimersClosedError, call, *words)
+
+
+def copies():
+    """An error that is sent to another process arrives as it was."""
+    for error in [NotRunningError([Ending(0)]), RejectedError(TaskRef(3, 4)), WorkerCountError()]:
+        copied = pickle.loads(pickle.dumps(error))
+        assert type(copied) is type(error) and vars(copied) == vars(error)
+        assert str(copied) == str(error) == error.status.text
 
 
 def runs():
-    """Ties go by submission, rates make up for late runs, and a fixed delay counts from the end of a run."""
+    """Ties go by submission, rates make up for late runs, and a fixed delay counts from the end of
+    a run."""
     with Timers(1) as timers:
-        late, first, second = timers.schedule(0, 30, 3), timers.schedule(0, 20, 1), timers.schedule(0, 20, 2)
-        assert timers.next_due() == 20 and timers.poll(19) is None and timers.lines() == ["19 clock", "19 start 0 idle"]
-        assert timers.poll(31) == Run(first, 0, 20, 1, 0) and timers.lines() == ["31 clock", "31 start 0 task 1 run 0 due 20"]
+        late = timers.schedule(0, 30, 3)
+        first, second = timers.schedule(0, 20, 1), timers.schedule(0, 20, 2)
+        assert timers.next_due() == 20 and timers.poll(19) is None
+        assert timers.lines() == ["19 clock", "19 start 0 idle"]
+        assert timers.poll(31) == Run(first, 0, 20, 1, 0)
+        assert timers.lines() == ["31 clock", "31 start 0 task 1 run 0 due 20"]
         assert timers.task(first) == TaskState(0, 20, Phase.RUNNING, False)
-        assert timers.finish(31, value=9) == End(first, 0, 1, 9, Outcome.DONE) and timers.task(first).phase is Phase.GONE
-        assert timers.poll(31) == Run(second, 0, 20, 2, 0) and timers.fail(31, code=4) == End(second, 0, 2, 4, Outcome.FAILED)
-        assert timers.poll(31) == Run(late, 0, 30, 3, 0) and timers.finish(31).outcome is Outcome.DONE
+        assert timers.finish(31, value=9) == End(first, 0, 1, 9, Outcome.DONE)
+        assert timers.task(first).phase is Phase.GONE
+        assert timers.poll(31) == Run(second, 0, 20, 2, 0)
+        assert timers.fail(31, code=4) == End(second, 0, 2, 4, Outcome.FAILED)
+        assert timers.poll(31) == Run(late, 0, 30, 3, 0)
+        assert timers.finish(31).outcome is Outcome.DONE
         assert timers.next_due() is None and timers.state().alive == 0
         rate = timers.at_rate(100, 10, 10, 7)
         for number in range(3):
@@ -102,27 +172,36 @@ def runs():
             assert timers.finish(135) == End(rate, number, 7, 120 + 10 * number, Outcome.AGAIN)
         assert timers.poll(135) is None and timers.cancel(rate)
         fixed = timers.with_delay(200, 10, 10)
-        assert timers.poll(215) == Run(fixed, 0, 210, 0, 0) and timers.finish(220).value == 230 and timers.poll(229) is None
-        assert timers.poll(230).run == 1 and timers.fail(231).outcome is Outcome.FAILED and timers.next_due() is None
+        assert timers.poll(215) == Run(fixed, 0, 210, 0, 0) and timers.finish(220).value == 230
+        assert timers.poll(229) is None
+        assert timers.poll(230).run == 1 and timers.fail(231).outcome is Outcome.FAILED
+        assert timers.next_due() is None
         never = timers.schedule(LONGEST, LONGEST)
-        assert timers.next_due() == 2 * LONGEST and timers.poll(LONGEST) is None and timers.cancel(never)
+        assert timers.next_due() == 2 * LONGEST and timers.poll(LONGEST) is None
+        assert timers.cancel(never)
 
 
 def cancels():
     """A cancel in each state of a task; and one of a task that is over, whose slot another has."""
     timers = Timers(1)
     once = timers.schedule(0, 10)
-    assert timers.cancel(once) is Effect.YES and timers.cancel(once) is Effect.NO and not timers.cancel(once)
+    assert timers.cancel(once) is Effect.YES and timers.cancel(once) is Effect.NO
+    assert not timers.cancel(once)
     assert timers.task(once) == TaskState(0, 10, Phase.KEPT, True) and timers.ask(1).queue == 1
-    assert timers.poll(10) is None and timers.task(once) == TaskState(0, 0, Phase.GONE, False) and timers.ask(11).queue == 0
+    assert timers.poll(10) is None and timers.task(once) == TaskState(0, 0, Phase.GONE, False)
+    assert timers.ask(11).queue == 0
     timers.set_policy(11, Policy.REMOVE, True)
     removed = timers.schedule(11, 10)
-    assert timers.cancel(removed) and timers.task(removed).phase is Phase.GONE and timers.state().alive == 0
+    assert timers.cancel(removed) and timers.task(removed).phase is Phase.GONE
+    assert timers.state().alive == 0
     rate = timers.at_rate(12, 0, 5)
-    assert timers.poll(12) and timers.cancel(rate) and timers.task(rate) == TaskState(0, 12, Phase.RUNNING, True)
-    assert timers.cancel(rate) is Effect.NO and timers.finish(13).outcome is Outcome.DROPPED and timers.next_due() is None
+    assert timers.poll(12) and timers.cancel(rate)
+    assert timers.task(rate) == TaskState(0, 12, Phase.RUNNING, True)
+    assert timers.cancel(rate) is Effect.NO and timers.finish(13).outcome is Outcome.DROPPED
+    assert timers.next_due() is None
     failing = timers.at_rate(13, 0, 5)
-    assert timers.poll(14).task == failing and timers.cancel(failing) and timers.fail(14).outcome is Outcome.DROPPED
+    assert timers.poll(14).task == failing and timers.cancel(failing)
+    assert timers.fail(14).outcome is Outcome.DROPPED
     while (other := timers.execute(14)).slot != rate.slot:
         pass
     assert timers.cancel(rate) is Effect.NO and timers.task(other).phase is Phase.WAITING
@@ -130,57 +209,74 @@ def cancels():
     assert timers.finish(15).task == over and timers.cancel(over) is Effect.NO
     timers.shutdown(15)
     number = timers.state().numbers
-    rejected = refuses(Rejected, timers.execute, 15).task
-    assert rejected == TaskRef(number, (1 << 32) - 1) and timers.lines() == [f"16 refuse {number} rejected"]
-    assert timers.cancel(rejected) is Effect.NONE and not timers.cancel(rejected) and timers.task(rejected).phase is Phase.GONE
+    rejected = refuses(RejectedError, timers.execute, 15).task
+    assert rejected == TaskRef(number, (1 << 32) - 1)
+    assert timers.lines() == [f"16 refuse {number} rejected"]
+    assert timers.cancel(rejected) is Effect.NONE and not timers.cancel(rejected)
+    assert timers.task(rejected).phase is Phase.GONE
 
 
 def policies():
     """What each policy ends at a shutdown, and after it."""
     timers = Timers(1)
     assert timers.state().policies == {Policy.EXECUTE}
-    kept, once, rate = timers.schedule(0, 9), timers.schedule(0, 10, 1), timers.at_rate(0, 10, 10, 2)
+    kept, once = timers.schedule(0, 9), timers.schedule(0, 10, 1)
+    rate = timers.at_rate(0, 10, 10, 2)
     timers.cancel(kept)
     timers.set_policy(0, Policy.CONTINUE, True)
     assert timers.state().policies == {Policy.EXECUTE, Policy.CONTINUE} and timers.ended() == []
-    assert timers.shutdown(1) and timers.ended() == [] and not timers.shutdown(1) and timers.lines() == ["1 shutdown again"]
+    assert timers.shutdown(1) and timers.ended() == [] and not timers.shutdown(1)
+    assert timers.lines() == ["1 shutdown again"]
     timers.set_policy(2, Policy.EXECUTE, False)
-    assert timers.ended() == [Gone(once, 1)] and timers.lines() == ["2 policy execute false", "2 end 1"]
+    assert timers.ended() == [Gone(once, 1)]
+    assert timers.lines() == ["2 policy execute false", "2 end 1"]
     assert timers.state().ended == 1 and timers.state().shut and not timers.state().terminated
-    assert timers.poll(10).task == rate and timers.finish(11).outcome is Outcome.AGAIN and timers.poll(20).run == 1
+    assert timers.poll(10).task == rate and timers.finish(11).outcome is Outcome.AGAIN
+    assert timers.poll(20).run == 1
     timers.set_policy(21, Policy.CONTINUE, False)
-    assert timers.ended() == [] and timers.finish(22).outcome is Outcome.ENDED and timers.state().terminated
+    assert timers.ended() == [] and timers.finish(22).outcome is Outcome.ENDED
+    assert timers.state().terminated
 
 
 def stops():
-    """A shutdown at once ends all that waits, in more lines than are copied at a time, and what runs ends with its run."""
+    """A shutdown at once ends all that waits, in more lines than are copied at a time, and what
+    runs ends with its run."""
     late = LONGEST - 2
     with Timers(2) as timers:
         tasks = [timers.schedule(0, LONGEST, number) for number in range(4000)]
         assert timers.at_rate(0, 0, 1) == timers.poll(0).task
         timers.shutdown_now(late)
         assert timers.ended() == [Gone(task, number) for number, task in enumerate(tasks)]
-        assert timers.lines() == [f"{late} shutdown now", *(f"{late} end {number}" for number in range(4000))]
+        ends = [f"{late} end {number}" for number in range(4000)]
+        assert timers.lines() == [f"{late} shutdown now", *ends]
         assert timers.state().lines == 4001 and timers.ask(late) == (0, 1, True, False)
-        assert timers.finish(LONGEST - 1).outcome is Outcome.ENDED and timers.ask(LONGEST) == (0, 0, True, True)
+        assert timers.finish(LONGEST - 1).outcome is Outcome.ENDED
+        assert timers.ask(LONGEST) == (0, 0, True, True)
 
 
 def many():
     """Calls for many workers, each up to the first that gets nothing or is refused."""
     timers = Timers(3)
     tasks = [timers.schedule(0, 1, data) for data in range(2)]
-    assert timers.poll_many(0, []) == [] and timers.poll_many(0, [2, 0, 1]) == [] and timers.finish_many(0, []) == []
+    assert timers.poll_many(0, []) == [] and timers.poll_many(0, [2, 0, 1]) == []
+    assert timers.finish_many(0, []) == []
     begun = timers.poll_many(1, [2, 0, 1])
-    assert begun == [Run(tasks[0], 0, 1, 0, 2), Run(tasks[1], 0, 1, 1, 0)] and timers.lines() == ["1 clock", "1 start 1 idle"]
-    refused = refuses(NotRunning, timers.finish_many, 2, [Ending(2, 7), Ending(1), Ending(0)])
-    assert refused.before == [End(tasks[0], 0, 0, 7, Outcome.DONE)] and timers.task(tasks[1]).phase is Phase.RUNNING
+    assert begun == [Run(tasks[0], 0, 1, 0, 2), Run(tasks[1], 0, 1, 1, 0)]
+    assert timers.lines() == ["1 clock", "1 start 1 idle"]
+    refused = refuses(NotRunningError, timers.finish_many, 2, [Ending(2, 7), Ending(1), Ending(0)])
+    assert refused.before == [End(tasks[0], 0, 0, 7, Outcome.DONE)]
+    assert timers.task(tasks[1]).phase is Phase.RUNNING
     other = timers.execute(3)
-    refused = refuses(Busy, timers.poll_many, 3, [1, 0, 2])
+    refused = refuses(WorkerBusyError, timers.poll_many, 3, [1, 0, 2])
     assert refused.before == [Run(other, 0, 3, 0, 1)]
-    refused = refuses(Illegal, timers.finish_many, 4, iter([Ending(1), Ending(0, 1 << 32, True)]))
+    endings = iter([Ending(1), Ending(0, 1 << 32, True)])
+    refused = refuses(IllegalArgumentError, timers.finish_many, 4, endings)
     assert [end.outcome for end in refused.before] == [Outcome.DONE]
-    assert refuses(Illegal, timers.finish_many, 4, [Ending(9, 1 << 32, True)]).before == []
-    assert timers.finish_many(4, [Ending(0, (1 << 32) - 1, True)]) == [End(tasks[1], 0, 1, (1 << 32) - 1, Outcome.FAILED)]
+    refused = refuses(IllegalArgumentError, timers.finish_many, 4, [Ending(9, 1 << 32, True)])
+    assert refused.before == []
+    most = (1 << 32) - 1
+    ended = timers.finish_many(4, [Ending(0, most, True)])
+    assert ended == [End(tasks[1], 0, 1, most, Outcome.FAILED)]
 
 
 def frees():
@@ -192,7 +288,8 @@ def frees():
 
 
 def traces(program):
-    """The traces of the tests above are those of the one history that their calls allow. Calls that are refused leave none."""
+    """The traces of the tests above are those of the one history that their calls allow. Calls
+    that are refused leave none."""
     made = []
 
     class Noted(Recorded):
@@ -203,7 +300,7 @@ def traces(program):
             made.append(self)
 
     with mock.patch.dict(globals(), Timers=Noted):
-        for test in (numbers, errors, runs, cancels, policies, stops):
+        for test in (numbers, kinds, members, errors, runs, cancels, policies, stops):
             test()
     for timers in made:
         answer = found(program, timers, "".join(timers.trace))
@@ -212,10 +309,6 @@ def traces(program):
             assert found(program, timers, "".join(timers.trace[1:])).startswith("breaks ")
 
 
-for test in (numbers, errors, runs, cancels, policies, stops, many, frees):
+for test in (numbers, kinds, members, errors, copies, runs, cancels, policies, stops, many, frees):
     test()
-if "SCHED" in os.environ:
-    traces(os.environ["SCHED"])
-else:
-    print("SCHED names no program: no trace was checked")
-print("each answer came")
+end_with_traces(traces)
