@@ -19,10 +19,10 @@ def main() -> None:
             print(f"{NAMES[1]}: {refused}")
         reminders.remove(3)
         if (first := reminders.peek()) is not None:
-            print(f"{len(reminders)} reminders, the next in {first.due // MINUTE} minutes")
+            print(f"{len(reminders)} reminders, the next in {first[0] // MINUTE} minutes")
         for now in (10, 25, 60):
-            for entry in reminders.poll(now * MINUTE):
-                print(f"{now} minutes: {NAMES[entry.task]}")
+            for _, task in reminders.poll(now * MINUTE):
+                print(f"{now} minutes: {NAMES[task]}")
 
 
 if __name__ == "__main__":

@@ -67,7 +67,7 @@ def queue_answers():
     assert queue.peek() == (7, 0) and queue.poll(6) == [] and queue.poll(7, 0) == []
     assert queue.poll(7, 1) == [(7, 0)]
     assert queue.remove(1) and not queue.remove(1) and not queue.remove(3)
-    assert [entry.task for entry in queue.poll(MOST, 1 << 80)] == [2] and queue.touched() > 0
+    assert queue.poll(MOST, 1 << 80) == [(7, 2)] and queue.touched() > 0
     with queue as same:
         assert same is queue and not queue.closed
     queue.close()

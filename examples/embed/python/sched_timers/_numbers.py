@@ -86,13 +86,13 @@ class Rows:
         self._struct, self._kinds = struct.Struct(form), kinds
         self.size = self._struct.size
 
-    def packed(self, rows: Iterable[Iterable[SupportsIndex]]) -> bytes:
+    def packed(self, rows: Iterable[Sequence[SupportsIndex]]) -> bytes:
         """The bytes of structures, one for each row of numbers.
 
         >>> Rows("@QI", [MOMENT, NUMBER]).packed([(1, 2)]).hex()
         '010000000000000002000000'
         """
-        numbers = [tuple(row) for row in rows]
+        numbers = list(rows)
         if bool in map(type, chain.from_iterable(numbers)):
             self._check(numbers)
         try:
@@ -102,14 +102,14 @@ class Rows:
             raise
 
     def first(self, packed: ctypes.Structure) -> tuple[Any, ...]:
-        """The numbers of a structure."""
+        """The numbers of one structure."""
         return self._struct.unpack(packed)
 
-    def unpacked(self, packed: bytes) -> Iterator[tuple[Any, ...]]:
-        """The numbers of each structure of these bytes."""
+    def unpacked(self, packed: bytes) -> Iterator[Any]:
+        """The tuple of numbers of each structure of these bytes."""
         return self._struct.iter_unpack(packed)
 
-    def _check(self, rows: list[tuple[SupportsIndex, ...]]) -> None:
+    def _check(self, rows: list[Sequence[SupportsIndex]]) -> None:
         """Raises what is wrong with the first number that is not as it has to be."""
         for row in rows:
             if len(row) != len(self._kinds):

@@ -4,12 +4,13 @@
 ...     queue.insert([(5000, 0), (3000, 2)])
 ...     queue.poll(4000)
 ...     0 in queue, 2 in queue, len(queue)
-[Entry(due=3000, task=2)]
+[(3000, 2)]
 (True, False, 1)
 
-Moments are nanoseconds from 0 to 2**64 - 1, tasks are numbers below the count that the queue was
-made for. A number that does not fit is a ValueError, and what is no number, such as a bool, a
-TypeError; the queue is then as it was.
+An entry is a pair of a moment and a task, plain since there may be many. Moments are nanoseconds
+from 0 to 2**64 - 1, tasks are numbers below the count that the queue was made for. A number that
+does not fit is a ValueError, and what is no number, such as a bool, a TypeError; the queue is then
+as it was.
 
 >>> with DelayQueue(3) as queue:
 ...     queue.insert([(5000, -1)])
@@ -24,7 +25,7 @@ from __future__ import annotations
 
 import ctypes
 from collections.abc import Iterable
-from typing import NamedTuple, cast
+from typing import cast
 
 from sched_timers import _delay_queue_calls as calls
 from sched_timers._delay_queue_calls import Status
@@ -32,15 +33,8 @@ from sched_timers._library import Slotted
 from sched_timers._numbers import NUMBER, whole
 from sched_timers.errors import ClosedError, SchedError, by_status
 
-__all__ = ["DelayQueue", "Entry", "EntryExistsError", "QueueClosedError", "QueueError",
+__all__ = ["DelayQueue", "EntryExistsError", "QueueClosedError", "QueueError",
            "QueueMemoryError", "Status", "UnknownTaskError"]
-
-
-class Entry(NamedTuple):
-    """When a task is due, and its number."""
-
-    due: int
-    task: int
 
 
 class QueueError(SchedError):
@@ -100,19 +94,19 @@ class DelayQueue(Slotted):
         rows = (calls.Entry * count).from_buffer_copy(packed)
         self._done(self._call("insert_many", rows, count, inserted), inserted.value)
 
-    def poll(self, now: int, room: int = 1024) -> list[Entry]:
+    def poll(self, now: int, room: int = 1024) -> list[tuple[int, int]]:
         """The entries that are due at `now`, the least first, at most `room`. They leave the
         queue."""
         count, polled = min(whole(room), len(self)), ctypes.c_size_t()
         rows = (calls.Entry * count)()
         self._tell("poll_many", now, rows, count, polled)
         taken = bytes(rows)[:polled.value * calls.ENTRIES.size]
-        return list(map(Entry._make, calls.ENTRIES.unpacked(taken)))
+        return list(calls.ENTRIES.unpacked(taken))
 
-    def peek(self) -> Entry | None:
+    def peek(self) -> tuple[int, int] | None:
         """The least entry, due or not, or None."""
         entry = calls.Entry()
-        return Entry(entry.due, entry.task) if self._finds("peek", entry) else None
+        return (entry.due, entry.task) if self._finds("peek", entry) else None
 
     def remove(self, task: int) -> bool:
         """Takes out the entry of a task, and says whether there was one."""
