@@ -300,7 +300,7 @@ def traces(program):
             made.append(self)
 
     with mock.patch.dict(globals(), Timers=Noted):
-        for test in (numbers, kinds, members, errors, runs, cancels, policies, stops):
+        for test in (numbers, kinds, errors, runs, cancels, policies, stops):
             test()
     for timers in made:
         answer = found(program, timers, "".join(timers.trace))

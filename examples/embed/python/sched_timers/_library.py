@@ -46,10 +46,11 @@ class Library:
         or a ValueError says so, and no call is made."""
         try:
             return self._calls[name](*words)
-        except ctypes.ArgumentError:
-            for kind, word in zip(self._types[name], words):
-                kind.from_param(word)   # raises the error that ctypes has put another one for
-            raise
+        except ctypes.ArgumentError as error:
+            fault = error
+        for kind, word in zip(self._types[name], words):
+            kind.from_param(word)   # raises the error for which ctypes has put its own
+        raise fault
 
 
 def _loaded(name: str) -> ctypes.PyDLL:

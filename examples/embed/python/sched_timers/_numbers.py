@@ -97,9 +97,10 @@ class Rows:
             self._check(numbers)
         try:
             return b"".join(starmap(self._struct.pack, numbers))
-        except struct.error:
-            self._check(numbers)
-            raise
+        except struct.error as error:
+            fault = error
+        self._check(numbers)   # raises the error for which `struct` has put its own
+        raise fault
 
     def first(self, packed: ctypes.Structure) -> tuple[Any, ...]:
         """The numbers of one structure."""
