@@ -86,7 +86,8 @@ def members():
         assert stranger not in timers
     assert timers.cancel(other) and other in timers and len(timers) == 2
     assert timers.poll(7).task == task and task in timers and timers.finish(7)
-    assert task not in timers and repr(timers) == "<Timers workers=2 alive=1 now=7>"
+    assert task not in timers and len(timers) == 1
+    assert repr(timers) == "<Timers workers=2 alive=1 now=7>"
     with timers as same:
         assert same is timers and not timers.closed
     assert timers.closed and repr(timers) == "<Timers closed>"
@@ -145,7 +146,10 @@ def copies():
     for error in [NotRunningError([Ending(0)]), RejectedError(TaskRef(3, 4)), WorkerCountError()]:
         copied = pickle.loads(pickle.dumps(error))
         assert type(copied) is type(error) and vars(copied) == vars(error)
+        assert copied.args == error.args
         assert str(copied) == str(error) == error.status.text
+    assert RejectedError(TaskRef(3, 4)).args == (TaskRef(3, 4),)
+    assert repr(NotRunningError()) == "NotRunningError('the worker has no run under way')"
 
 
 def runs():

@@ -137,8 +137,9 @@ def errors():
         assert set(module.ERRORS) == refusals
         for status, kind in module.ERRORS.items():
             assert str(kind()) == status.text and issubclass(kind, SchedError)
-    assert str(PlanError(Fault(FaultKind.BAD_NAME, 2, 3))) == (
-        "the text is no plan: fault 10 block 2 call 3")
+    error = PlanError(Fault(FaultKind.BAD_NAME, 2, 3))
+    assert str(error) == "the text is no plan: fault 10 block 2 call 3"
+    assert repr(error) == f"PlanError('{error}')"
     for error in [EntryExistsError(7), QueueMemoryError(), PlanError(Fault(FaultKind.TOML, 0, 0))]:
         copied = pickle.loads(pickle.dumps(error))
         assert type(copied) is type(error) and vars(copied) == vars(error)

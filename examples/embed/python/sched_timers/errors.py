@@ -46,6 +46,9 @@ class SchedError(Exception):
     def __str__(self) -> str:
         return self.status.text
 
+    def __repr__(self) -> str:
+        return f"{type(self).__name__}({str(self)!r})"
+
 
 class ClosedError(SchedError, ValueError):
     """A call on what is closed, as of a file that is closed."""
