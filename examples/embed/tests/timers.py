@@ -131,6 +131,11 @@ def errors():
         assert type(refused) is kind and isinstance(refused, TimersError)
         assert isinstance(refused, SchedError) and str(refused) == refused.status.text
         assert (timers.state(), timers.text()) == before, (call, words)
+
+
+def closed():
+    """What is closed refuses each call, and may be closed again."""
+    timers = Timers(2)
     timers.close()
     timers.close()
     for call, *words in [
@@ -313,6 +318,7 @@ def traces(program):
             assert found(program, timers, "".join(timers.trace[1:])).startswith("breaks ")
 
 
-for test in (numbers, kinds, members, errors, copies, runs, cancels, policies, stops, many, frees):
+for test in (numbers, kinds, members, errors, closed, copies, runs, cancels, policies, stops, many,
+             frees):
     test()
 end_with_traces(traces)
