@@ -1,5 +1,5 @@
 -- Lines and columns of a text, counted from 1.
-use Rattle.std.specs.Prelude.{◌≡◌, ◌≤◌, ℕ, ◌+◌, if◌then◌else◌, List, [], ◌∷◌, nat_eq, count_by, bit_and}
+use Rattle.std.specs.Prelude.{◌≤◌, ℕ, ◌+◌, Bool, not, if◌then◌else◌, List, [], ◌∷◌, nat_eq, count_by, bit_and}
 
 -- the byte that ends a line
 abbrev pub newline : ℕ
@@ -14,11 +14,15 @@ pub record IsLineOf (text : List ℕ) (line : ℕ) : Type 0 where
   pub least : 1 ≤ line
   pub most : line ≤ line_after text
 
+-- a byte of UTF-8 is the first one of its character
+abbrev pub begins_character : ℕ → Bool
+begins_character byte = not (nat_eq (bit_and byte 192) 128)
+
 -- the column behind a byte, where that byte has the column `column`: each character takes one, and so its first byte does
 abbrev pub column_behind : ℕ → ℕ → ℕ
 column_behind column byte =
     if nat_eq byte newline then 1 else
-    (if nat_eq (bit_and byte 192) 128 then column else column + 1)
+    (if begins_character byte then column + 1 else column)
 
 -- the column of what follows a text, where the text begins in the column `column`
 abbrev pub column_from : ℕ → List ℕ → ℕ

@@ -1,7 +1,7 @@
 //! Lines and columns, counted from 1.
 
 ghost use Rattle.std.specs.Prelude.{◌≡◌};
-ghost use Rattle.plan_lines.specs.Lines.{column_after, line_after};
+ghost use Rattle.plan_lines.specs.Lines.{begins_character, column_after, line_after};
 
 /// The line of what follows these bytes of a text, which begin it.
 pub fn line_after(before: &[u8]) -> usize
@@ -26,6 +26,8 @@ pub fn column_after(before: &[u8]) -> usize
 }
 
 /// Whether a byte of UTF-8 is the first one of its character.
-fn begins_character(byte: u8) -> bool {
+fn begins_character(byte: u8) -> bool
+    ensures { result ≡ begins_character byte }
+{
     byte & 0xC0 != 0x80
 }

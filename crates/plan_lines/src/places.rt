@@ -1,10 +1,9 @@
 //! Places of a plan, and their lines.
 
-ghost use Rattle.std.specs.Prelude.{◌×◌, ◌≤◌, IfSome};
+ghost use Rattle.std.specs.Prelude.{IfSome};
 ghost use Rattle.plan_lines.specs.Lines.{IsLineOf};
 
 use crate::lines::line_after;
-use crate::tokens::next_token;
 use crate::walk::Walk;
 
 /// The mark that may stand at the front of a text in UTF-8.
@@ -35,17 +34,13 @@ pub fn line_of(text: &[u8], place: Place) -> Option<usize>
 
 /// Where a table of the plan begins in a text, or a key of it.
 fn begin_of(text: &[u8], place: Place) -> Option<usize> {
-    let mut walk = Walk::new(place);
+    let mut walk = Walk::new(text, place);
     let mut from = first_token(text);
     for _token in 0..text.len() {
-        let Some(stretch) = next_token(text, from) else {
-            break;
-        };
-        walk.take(stretch.token, stretch.begin);
+        from = walk.take_next(from)?;
         if let Some(begin) = walk.found() {
             return Some(begin);
         }
-        from = stretch.end;
     }
     None
 }

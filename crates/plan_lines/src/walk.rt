@@ -2,7 +2,7 @@
 
 use crate::places::Place;
 use crate::tables::{BLOCK, CALL, Level, Path, Table};
-use crate::tokens::Token;
+use crate::tokens::{Token, next_token};
 
 /// What of an expression of the text was met.
 #[derive(Clone, Copy, PartialEq, Eq)]
@@ -20,6 +20,7 @@ enum Stage {
 /// A walk along the tokens of a text that looks for a place.
 #[derive(Drop)]
 pub struct Walk<'t, 'k> {
+    text: &'t [u8],
     place: Place<'k>,
     /// Where the place was met.
     found: Option<usize>,
@@ -42,9 +43,10 @@ pub struct Walk<'t, 'k> {
 }
 
 impl<'t, 'k> Walk<'t, 'k> {
-    /// A walk that has met no token.
-    pub fn new(place: Place<'k>) -> Walk<'t, 'k> {
+    /// A walk along a text that has met no token.
+    pub fn new(text: &'t [u8], place: Place<'k>) -> Walk<'t, 'k> {
         Walk {
+            text,
             place,
             found: None,
             is_lost: false,
@@ -65,8 +67,15 @@ impl<'t, 'k> Walk<'t, 'k> {
         self.found
     }
 
+    /// Meets the first token at a place of the text or behind it, and tells where it ends; none where there is none.
+    pub fn take_next(&mut self, from: usize) -> Option<usize> {
+        let stretch = next_token(self.text, from)?;
+        self.take(stretch.token, stretch.begin);
+        Some(stretch.end)
+    }
+
     /// Meets the next token, which begins at a place of the text.
-    pub fn take(&mut self, token: Token<'t>, begin: usize) {
+    fn take(&mut self, token: Token<'t>, begin: usize) {
         if self.is_lost {
             return;
         }

@@ -1,0 +1,97 @@
+//! The reason of a text.
+
+ghost use Rattle.std.specs.Prelude.{◌≡◌, ◌⊎◌, IfNone, IfOk, IfSome};
+ghost use Rattle.plan_lines.specs.Lines.{IsLineOf};
+ghost use Rattle.plan_read.specs.Plans.{PlanTree};
+ghost use Rattle.plan_read.specs.Reads.{out_of_memory};
+ghost use Rattle.plan_read.specs.Texts.{TextFails, TextWrites};
+
+use crate::reason::Reason;
+use crate::scene::{Detail, Scene, integer_at, table_in, tables_at};
+use crate::tops::{no_document, too_long, unplaced, want_of_memory};
+use crate::versions::Version;
+use plan_read::{HeapAllocator, PlanFault, PlanFaultKind, read_plan};
+use std::alloc::{AllocError, Global};
+use toml::Table;
+
+/// Why a text writes no plan; none where it writes one.
+///
+/// The fault is that of [`read_plan`]. A reason of the kind [`PlanFaultKind::Memory`] may come in place of any other answer, and says
+/// nothing of the text.
+pub fn reason_of<A: HeapAllocator>(alloc: A, text: &[u8]) -> Option<Reason>
+    ensures fine { IfNone result ((plan : PlanTree) × TextWrites text.now plan) }
+    ensures only { (plan : PlanTree) → TextWrites text.now plan → IfSome result (λ r. r.fault ≡ out_of_memory) }
+    ensures fault { IfSome result (λ r. TextFails text.now r.fault ⊎ (r.fault ≡ out_of_memory)) }
+    ensures line { IfSome result (λ r. IfSome r.line (IsLineOf text.now)) }
+{
+    match read_plan(alloc, text) {
+        Ok(_) => None,
+        Err(fault) => Some(reason_of_fault(alloc.heap(), text, fault)),
+    }
+}
+
+/// The reason of a text with this fault.
+fn reason_of_fault(heap: Global, text: &[u8], fault: PlanFault) -> Reason
+    ensures fault { (result.fault ≡ fault) ⊎ (result.fault ≡ out_of_memory) }
+    ensures line { IfSome result.line (IsLineOf text.now) }
+{
+    match try_reason(heap, text, fault) {
+        Ok(reason) => reason,
+        Err(_) => want_of_memory(),
+    }
+}
+
+/// The reason of a text with this fault. `Err` is want of memory.
+fn try_reason(heap: Global, text: &[u8], fault: PlanFault) -> Result<Reason, AllocError>
+    ensures fault { IfOk result (λ r. r.fault ≡ fault) }
+    ensures line { IfOk result (λ r. IfSome r.line (IsLineOf text.now)) }
+{
+    match fault.kind {
+        PlanFaultKind::Memory => return Ok(unplaced(fault)),
+        PlanFaultKind::TooLong => return Ok(too_long(text, fault)),
+        _ => {}
+    }
+    match toml::table_from_slice(heap, text) {
+        Ok(tree) => reason_in_tree(heap, text, &tree, fault),
+        Err(error) if error.is_memory() => Err(AllocError),
+        Err(error) => no_document(heap, text, fault, &error),
+    }
+}
+
+/// The reason of a text with this tree and this fault. `Err` is want of memory.
+fn reason_in_tree(
+    heap: Global,
+    text: &[u8],
+    tree: &Table,
+    fault: PlanFault,
+) -> Result<Reason, AllocError>
+    ensures fault { IfOk result (λ r. r.fault ≡ fault) }
+    ensures line { IfOk result (λ r. IfSome r.line (IsLineOf text.now)) }
+{
+    let scene = Scene {
+        heap,
+        text,
+        tree,
+        version: Version::of_number(integer_at(tree, "version")),
+        fault,
+    };
+    scene.reason(detail(&scene)?)
+}
+
+/// What is told of a fault. `Err` is want of memory.
+fn detail<'t>(scene: &Scene<'t>) -> Result<Detail<'t>, AllocError> {
+    let PlanFault { block, call, .. } = scene.fault;
+    if block == 0 {
+        return scene.top_detail();
+    }
+    let Some(header) = scene.block(block) else {
+        return Ok(scene.at_place());
+    };
+    if call == 0 {
+        return scene.header_detail(header);
+    }
+    match table_in(tables_at(header, "call"), call) {
+        Some(call) => scene.call_detail(header, call),
+        None => Ok(scene.at_place()),
+    }
+}

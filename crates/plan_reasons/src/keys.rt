@@ -1,0 +1,188 @@
+//! The keys of a plan's tables.
+
+use crate::versions::{POLICIES, Version};
+use std::fmt;
+use toml::Value;
+
+/// What the value of a key has to be.
+#[derive(Clone, Copy, Debug, PartialEq, Eq)]
+pub enum Shape {
+    Text,
+    Integer,
+    /// `true` or `false`.
+    Truth,
+    /// The word of a policy.
+    Policy,
+    /// An array of tables.
+    Tables,
+}
+
+impl Shape {
+    /// Whether a value is of this shape.
+    pub fn fits(self, value: &Value) -> bool {
+        match self {
+            Shape::Text => value.is_str(),
+            Shape::Integer => value.is_integer(),
+            Shape::Truth => value.is_bool(),
+            Shape::Policy => match value.as_str() {
+                Some(word) => POLICIES.contains(&word),
+                None => false,
+            },
+            Shape::Tables => match value.as_array() {
+                Some(array) => array.iter().all(|item| item.is_table()),
+                None => false,
+            },
+        }
+    }
+}
+
+impl fmt::Display for Shape {
+    fn fmt<W: fmt::Write>(&self, f: &mut fmt::Formatter<W>) -> fmt::Result {
+        f.write_str(match self {
+            Shape::Text => "a text",
+            Shape::Integer => "an integer",
+            Shape::Truth => "true or false",
+            Shape::Policy => "the word of a policy",
+            Shape::Tables => "an array of tables",
+        })
+    }
+}
+
+/// A key: its name, what its value is, and whether it has to be there.
+#[derive(Clone, Copy, Debug, PartialEq, Eq)]
+pub struct Key {
+    pub name: &'static str,
+    pub shape: Shape,
+    pub required: bool,
+}
+
+/// A key that has to be there.
+macro_rules! required {
+    ($name:literal, $shape:ident) => {
+        Key {
+            name: $name,
+            shape: Shape::$shape,
+            required: true,
+        }
+    };
+}
+
+/// A key that may be left out.
+macro_rules! optional {
+    ($name:literal, $shape:ident) => {
+        Key {
+            name: $name,
+            shape: Shape::$shape,
+            required: false,
+        }
+    };
+}
+
+const OP: Key = required!("op", Text);
+
+const AT: Key = optional!("at", Integer);
+
+const AT_UNIT: Key = optional!("at_unit", Text);
+
+const TIMES: Key = optional!("times", Integer);
+
+const EVERY: Key = optional!("every", Integer);
+
+const CALL: Key = optional!("call", Tables);
+
+const NAME: Key = required!("name", Text);
+
+const FIRST: Key = required!("first", Integer);
+
+const FIRST_UNIT: Key = optional!("first_unit", Text);
+
+const DELAY: Key = required!("delay", Integer);
+
+const DELAY_UNIT: Key = optional!("delay_unit", Text);
+
+const TOP: &[Key] = &[required!("version", Integer), optional!("block", Tables)];
+
+const HEADER_1: &[Key] = &[AT, optional!("unit", Text), TIMES, EVERY, CALL];
+
+const HEADER_2: &[Key] = &[
+    AT,
+    AT_UNIT,
+    TIMES,
+    EVERY,
+    optional!("every_unit", Text),
+    CALL,
+];
+
+const SCHEDULE_1: &[Key] = &[OP, AT, NAME, DELAY];
+
+const SCHEDULE_2: &[Key] = &[OP, AT, AT_UNIT, NAME, DELAY, DELAY_UNIT];
+
+const NAMED_1: &[Key] = &[OP, AT, NAME];
+
+const NAMED_2: &[Key] = &[OP, AT, AT_UNIT, NAME];
+
+const RATE_1: &[Key] = &[OP, AT, NAME, FIRST, required!("period", Integer)];
+
+const RATE_2: &[Key] = &[
+    OP,
+    AT,
+    AT_UNIT,
+    NAME,
+    FIRST,
+    FIRST_UNIT,
+    required!("period", Integer),
+    optional!("period_unit", Text),
+];
+
+const FIXED_1: &[Key] = &[OP, AT, NAME, FIRST, DELAY];
+
+const FIXED_2: &[Key] = &[OP, AT, AT_UNIT, NAME, FIRST, FIRST_UNIT, DELAY, DELAY_UNIT];
+
+const POLICY_1: &[Key] = &[
+    OP,
+    AT,
+    required!("which", Policy),
+    required!("value", Truth),
+];
+
+const POLICY_2: &[Key] = &[
+    OP,
+    AT,
+    AT_UNIT,
+    required!("which", Policy),
+    required!("value", Truth),
+];
+
+const PLAIN_1: &[Key] = &[OP, AT];
+
+const PLAIN_2: &[Key] = &[OP, AT, AT_UNIT];
+
+/// The keys of the top of a plan.
+pub fn top_keys() -> &'static [Key] {
+    TOP
+}
+
+/// The keys of a block.
+pub fn header_keys(version: Version) -> &'static [Key] {
+    match version {
+        Version::One => HEADER_1,
+        Version::Two => HEADER_2,
+    }
+}
+
+/// The keys of a call with the operation of this word; none where the word is that of no operation.
+pub fn call_keys(version: Version, word: &str) -> &'static [Key] {
+    let (one, two) = match word {
+        "schedule" => (SCHEDULE_1, SCHEDULE_2),
+        "execute" | "cancel" => (NAMED_1, NAMED_2),
+        "rate" => (RATE_1, RATE_2),
+        "fixed" => (FIXED_1, FIXED_2),
+        "policy" => (POLICY_1, POLICY_2),
+        "shutdown" | "shutdown_now" | "ask" => (PLAIN_1, PLAIN_2),
+        _ => return &[],
+    };
+    match version {
+        Version::One => one,
+        Version::Two => two,
+    }
+}

@@ -1,0 +1,158 @@
+//! The tree of a plan text, and what is told of a fault in it.
+
+ghost use Rattle.std.specs.Prelude.{◌≡◌, IfOk, IfSome};
+ghost use Rattle.plan_lines.specs.Lines.{IsLineOf};
+
+use crate::found::Found;
+use crate::reason::Reason;
+use crate::versions::{Version, unit_of_word};
+use crate::wanted::Wanted;
+use plan_lines::{Place, line_of};
+use plan_read::PlanFault;
+use sched_time::Unit;
+use std::alloc::{AllocError, Global};
+use toml::{Table, Value};
+
+/// A text with its tree, its version and its fault.
+#[derive(Clone, Copy)]
+pub struct Scene<'t> {
+    pub heap: Global,
+    pub text: &'t [u8],
+    pub tree: &'t Table,
+    pub version: Version,
+    pub fault: PlanFault,
+}
+
+/// What is told of a fault.
+#[derive(Drop)]
+pub struct Detail<'t> {
+    /// The key that the fault is at.
+    pub key: Option<&'t str>,
+    /// What stands there.
+    pub value: Option<&'t Value>,
+    pub wanted: Wanted,
+    /// The place whose line is told.
+    pub place: Place<'t>,
+}
+
+impl<'t> Scene<'t> {
+    /// The table of a block, numbered from 1.
+    pub fn block(&self, number: u32) -> Option<&'t Table> {
+        table_in(tables_at(self.tree, "block"), number)
+    }
+
+    /// What is told where the fault is at a key of a table, which is that of its place.
+    pub fn at_key(&self, table: &'t Table, key: &'t str, wanted: Wanted) -> Detail<'t> {
+        let value = table.get(key);
+        Detail {
+            key: Some(key),
+            value,
+            wanted,
+            place: place_of(self.fault, value.map(|_| key)),
+        }
+    }
+
+    /// What is told where no key is found.
+    pub fn at_place(&self) -> Detail<'t> {
+        Detail {
+            key: None,
+            value: None,
+            wanted: Wanted::Unsaid,
+            place: place_of(self.fault, None),
+        }
+    }
+
+    /// The reason of a detail. `Err` is want of memory.
+    pub fn reason(&self, detail: Detail<'t>) -> Result<Reason, AllocError>
+        ensures fault { IfOk result (λ r. r.fault ≡ self.now.fault) }
+        ensures line { IfOk result (λ r. IfSome r.line (IsLineOf self.now.text.now)) }
+    {
+        let Detail {
+            key,
+            value,
+            wanted,
+            place,
+        } = detail;
+        Ok(Reason {
+            fault: self.fault,
+            line: line_of(self.text, place),
+            column: None,
+            key: match key {
+                Some(key) => Some(String::from_str(self.heap, key)?),
+                None => None,
+            },
+            found: Found::of(self.heap, value)?,
+            wanted,
+        })
+    }
+
+    /// The unit of the time at a key of a table of a block with this header.
+    pub fn unit(&self, header: &Table, table: &Table, key: &str) -> Unit {
+        let word = match self.version {
+            Version::One => text_at(header, "unit"),
+            Version::Two => text_at(table, unit_key(key)),
+        };
+        word.and_then(unit_of_word).unwrap_or(Unit::Ns)
+    }
+
+    /// The nanoseconds of the time at a key of a table of a block with this header; 0 where there is none.
+    pub fn nanos(&self, header: &Table, table: &Table, key: &str) -> u128 {
+        let number = integer_at(table, key).unwrap_or(0).max(0) as u64;
+        u128::from(number) * u128::from(self.unit(header, table, key).nanos())
+    }
+}
+
+/// The place of a fault, or a key there.
+fn place_of(fault: PlanFault, key: Option<&str>) -> Place<'_> {
+    Place {
+        block: fault.block as usize,
+        call: fault.call as usize,
+        key,
+    }
+}
+
+/// The key of the unit of the time at a key.
+pub fn unit_key(key: &str) -> &'static str {
+    match key {
+        "every" => "every_unit",
+        "delay" => "delay_unit",
+        "first" => "first_unit",
+        "period" => "period_unit",
+        _ => "at_unit",
+    }
+}
+
+/// The array at a key, empty where there is none.
+pub fn tables_at<'t>(table: &'t Table, key: &str) -> &'t [Value] {
+    match table.get(key) {
+        Some(value) => match value.as_array() {
+            Some(array) => array.as_slice(),
+            None => &[],
+        },
+        None => &[],
+    }
+}
+
+/// The table of this number, counted from 1, in an array.
+pub fn table_in(tables: &[Value], number: u32) -> Option<&Table> {
+    match tables.get((number as usize).checked_sub(1)?) {
+        Some(value) => value.as_table(),
+        None => None,
+    }
+}
+
+/// The integer at a key, if there is one.
+pub fn integer_at(table: &Table, key: &str) -> Option<i64> {
+    match table.get(key) {
+        Some(value) => value.as_integer(),
+        None => None,
+    }
+}
+
+/// The text at a key, if there is one.
+pub fn text_at<'t>(table: &'t Table, key: &str) -> Option<&'t str> {
+    match table.get(key) {
+        Some(value) => value.as_str(),
+        None => None,
+    }
+}

@@ -1,0 +1,127 @@
+//! Faults that a table of any kind may have.
+
+use crate::keys::{Key, Shape};
+use crate::near::near;
+use crate::scene::{Detail, Scene, integer_at, text_at};
+use crate::versions::{POLICIES, is_unit, units};
+use crate::wanted::{Choice, Wanted};
+use sched_time::{LONGEST, span};
+use std::alloc::AllocError;
+use toml::Table;
+
+/// The keys of units, in the order in which they are looked at.
+const UNIT_KEYS: &[&str] = &[
+    "unit",
+    "at_unit",
+    "every_unit",
+    "delay_unit",
+    "first_unit",
+    "period_unit",
+];
+
+impl<'t> Scene<'t> {
+    /// That one of some words is wanted at a key. `Err` is want of memory.
+    pub fn no_word(
+        &self,
+        table: &'t Table,
+        key: &'t str,
+        words: &[&'static str],
+    ) -> Result<Detail<'t>, AllocError> {
+        let near = match text_at(table, key) {
+            Some(word) => near(self.heap, word, words)?,
+            None => Vec::new(self.heap),
+        };
+        let words = words.to_vec(self.heap)?;
+        Ok(self.at_key(table, key, Wanted::OneOf(Choice { near, words })))
+    }
+
+    /// That the first key of a table, by its letters, which is none of these does not belong there. `Err` is want of memory.
+    pub fn unknown_key(&self, table: &'t Table, keys: &[Key]) -> Result<Detail<'t>, AllocError> {
+        let mut words = Vec::with_capacity(self.heap, keys.len())?;
+        for key in keys {
+            words.push(key.name)?;
+        }
+        for (key, _) in table {
+            let key = key.as_str();
+            if !words.contains(&key) {
+                let near = near(self.heap, key, words.as_slice())?;
+                return Ok(self.at_key(table, key, Wanted::OneOf(Choice { near, words })));
+            }
+        }
+        Ok(self.at_place())
+    }
+
+    /// That the first of these keys that has to be there, and is not, is missing.
+    pub fn missing_key(&self, table: &'t Table, keys: &[Key]) -> Detail<'t> {
+        for key in keys {
+            if key.required && !table.contains_key(key.name) {
+                return self.at_key(table, key.name, Wanted::Shape(key.shape));
+            }
+        }
+        self.at_place()
+    }
+
+    /// That the value at the first of these keys is not of its shape. `Err` is want of memory.
+    pub fn wrong_type(&self, table: &'t Table, keys: &[Key]) -> Result<Detail<'t>, AllocError> {
+        for key in keys {
+            let Some(value) = table.get(key.name) else {
+                continue;
+            };
+            if !key.shape.fits(value) {
+                return match key.shape {
+                    Shape::Policy => self.no_word(table, key.name, POLICIES),
+                    shape => Ok(self.at_key(table, key.name, Wanted::Shape(shape))),
+                };
+            }
+        }
+        Ok(self.at_place())
+    }
+
+    /// That the text at the first key of a unit is none. `Err` is want of memory.
+    pub fn bad_unit(&self, table: &'t Table) -> Result<Detail<'t>, AllocError> {
+        for key in UNIT_KEYS {
+            if text_at(table, key).is_some_and(|word| !is_unit(self.version, word)) {
+                return self.no_word(table, key, units(self.version));
+            }
+        }
+        Ok(self.at_place())
+    }
+
+    /// That the number at the first of these keys is below 0, in a block with this header.
+    pub fn negative(&self, header: &Table, table: &'t Table, keys: &[&'t str]) -> Detail<'t> {
+        for key in keys {
+            if integer_at(table, key).is_some_and(|number| number < 0) {
+                return self.at_time(header, table, key);
+            }
+        }
+        self.at_place()
+    }
+
+    /// The first of these keys with a time above 2^62 nanoseconds, in a block with this header.
+    pub fn too_large(
+        &self,
+        header: &Table,
+        table: &'t Table,
+        keys: &[&'t str],
+    ) -> Option<Detail<'t>> {
+        for key in keys {
+            let number = integer_at(table, key).unwrap_or(0);
+            if span(number, self.unit(header, table, key)).is_err() {
+                return Some(self.at_time(header, table, key));
+            }
+        }
+        None
+    }
+
+    /// That a time in its range is wanted at a key, in a block with this header.
+    fn at_time(&self, header: &Table, table: &'t Table, key: &'t str) -> Detail<'t> {
+        let unit = self.unit(header, table, key);
+        let least = match key {
+            "at" | "every" => Some(0),
+            _ => None,
+        };
+        let most = LONGEST / unit.nanos();
+        let unit = Some(unit);
+        self.at_key(table, key, Wanted::Number { least, most, unit })
+    }
+}
