@@ -1,6 +1,6 @@
 //! Faults of a call.
 
-use crate::keys::call_keys;
+use crate::keys::{call_keys, is_operation};
 use crate::scene::{Detail, Scene, table_in, tables_at, text_at};
 use crate::versions::OPERATIONS;
 use crate::wanted::Wanted;
@@ -21,7 +21,7 @@ impl<'t> Scene<'t> {
         let word = text_at(call, "op").unwrap_or("");
         let keys = call_keys(self.version, word);
         match self.fault.kind {
-            PlanFaultKind::Missing | PlanFaultKind::WrongType if !OPERATIONS.contains(&word) => {
+            PlanFaultKind::Missing | PlanFaultKind::WrongType if !is_operation(word) => {
                 self.no_word(call, "op", OPERATIONS)
             }
             PlanFaultKind::Missing => Ok(self.missing_key(call, keys)),

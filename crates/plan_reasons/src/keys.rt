@@ -1,6 +1,12 @@
 //! The keys of a plan's tables.
 
-use crate::versions::{POLICIES, Version};
+ghost use Rattle.std.specs.Prelude.{◌≡◌, [], MatchOption, is_some};
+ghost use Rattle.toml.specs.View.{items_view, view};
+ghost use Rattle.plan_read.specs.Keys.{are_tables, call_keys, has_shape, header_keys, top_keys, verb_of_word};
+ghost use Rattle.plan_read.specs.declared.versions.Version.TheVariants.{One, Two};
+ghost use Rattle.plan_reasons.specs.own.Keys.{plan_keys, plan_shape, plan_version};
+
+use crate::versions::{Version, is_policy};
 use std::fmt;
 use toml::Value;
 
@@ -19,21 +25,30 @@ pub enum Shape {
 
 impl Shape {
     /// Whether a value is of this shape.
-    pub fn fits(self, value: &Value) -> bool {
+    pub fn fits(self, value: &Value) -> bool
+        ensures { result ≡ has_shape (plan_shape self) (view value.now) }
+    {
         match self {
             Shape::Text => value.is_str(),
             Shape::Integer => value.is_integer(),
             Shape::Truth => value.is_bool(),
             Shape::Policy => match value.as_str() {
-                Some(word) => POLICIES.contains(&word),
+                Some(word) => is_policy(word),
                 None => false,
             },
             Shape::Tables => match value.as_array() {
-                Some(array) => array.iter().all(|item| item.is_table()),
+                Some(array) => are_tables(array.as_slice()),
                 None => false,
             },
         }
     }
+}
+
+/// Whether each value is a table.
+fn are_tables(values: &[Value]) -> bool
+    ensures { result ≡ are_tables (items_view values.now) }
+{
+    values.iter().all(|value| value.is_table())
 }
 
 impl fmt::Display for Shape {
@@ -158,12 +173,16 @@ const PLAIN_1: &[Key] = &[OP, AT];
 const PLAIN_2: &[Key] = &[OP, AT, AT_UNIT];
 
 /// The keys of the top of a plan.
-pub fn top_keys() -> &'static [Key] {
+pub fn top_keys() -> &'static [Key]
+    ensures { plan_keys result.now ≡ top_keys }
+{
     TOP
 }
 
 /// The keys of a block.
-pub fn header_keys(version: Version) -> &'static [Key] {
+pub fn header_keys(version: Version) -> &'static [Key]
+    ensures { plan_keys result.now ≡ header_keys (plan_version version) }
+{
     match version {
         Version::One => HEADER_1,
         Version::Two => HEADER_2,
@@ -171,18 +190,48 @@ pub fn header_keys(version: Version) -> &'static [Key] {
 }
 
 /// The keys of a call with the operation of this word; none where the word is that of no operation.
-pub fn call_keys(version: Version, word: &str) -> &'static [Key] {
-    let (one, two) = match word {
-        "schedule" => (SCHEDULE_1, SCHEDULE_2),
-        "execute" | "cancel" => (NAMED_1, NAMED_2),
-        "rate" => (RATE_1, RATE_2),
-        "fixed" => (FIXED_1, FIXED_2),
-        "policy" => (POLICY_1, POLICY_2),
-        "shutdown" | "shutdown_now" | "ask" => (PLAIN_1, PLAIN_2),
-        _ => return &[],
-    };
+pub fn call_keys(version: Version, word: &str) -> &'static [Key]
+    ensures { MatchOption (verb_of_word word.now) (plan_keys result.now ≡ []) (λ verb. plan_keys result.now ≡ call_keys (plan_version version) verb) }
+{
     match version {
-        Version::One => one,
-        Version::Two => two,
+        Version::One => call_keys_1(word),
+        Version::Two => call_keys_2(word),
+    }
+}
+
+/// Whether a word names an operation.
+pub fn is_operation(word: &str) -> bool
+    ensures { result ≡ is_some (verb_of_word word.now) }
+{
+    !call_keys_1(word).is_empty()
+}
+
+/// The keys of a call of version 1 with the operation of this word.
+fn call_keys_1(word: &str) -> &'static [Key]
+    ensures { MatchOption (verb_of_word word.now) (plan_keys result.now ≡ []) (λ verb. plan_keys result.now ≡ call_keys One verb) }
+{
+    match word {
+        "schedule" => SCHEDULE_1,
+        "execute" | "cancel" => NAMED_1,
+        "rate" => RATE_1,
+        "fixed" => FIXED_1,
+        "policy" => POLICY_1,
+        "shutdown" | "shutdown_now" | "ask" => PLAIN_1,
+        _ => &[],
+    }
+}
+
+/// The keys of a call of version 2 with the operation of this word.
+fn call_keys_2(word: &str) -> &'static [Key]
+    ensures { MatchOption (verb_of_word word.now) (plan_keys result.now ≡ []) (λ verb. plan_keys result.now ≡ call_keys Two verb) }
+{
+    match word {
+        "schedule" => SCHEDULE_2,
+        "execute" | "cancel" => NAMED_2,
+        "rate" => RATE_2,
+        "fixed" => FIXED_2,
+        "policy" => POLICY_2,
+        "shutdown" | "shutdown_now" | "ask" => PLAIN_2,
+        _ => &[],
     }
 }

@@ -1,5 +1,8 @@
 //! Which words may be meant by another.
 
+ghost use Rattle.std.specs.Prelude.{◌≡◌, ◌≤◌, All, IfOk, IfSome};
+ghost use Rattle.plan_reasons.specs.own.Near.{IsNear, edits_between};
+
 use std::alloc::{AllocError, Global};
 use strsim::levenshtein;
 
@@ -11,7 +14,9 @@ const MOST_EDITS: usize = 2;
 
 /// Those of some words that may be meant by another one: to which the fewest edits lead, two at most, and of these the first three.
 /// `Err` is want of memory.
-pub fn near(heap: Global, word: &str, words: &[&str]) -> Result<Vec<String>, AllocError> {
+pub fn near(heap: Global, word: &str, words: &[&str]) -> Result<Vec<String>, AllocError>
+    ensures { IfOk result (λ those. All (IsNear word.now words.now) those.items) }
+{
     let mut least = MOST_EDITS;
     let mut those = Vec::new(heap);
     for other in words {
@@ -36,7 +41,10 @@ fn edits_up_to(
     most: usize,
     word: &str,
     other: &str,
-) -> Result<Option<usize>, AllocError> {
+) -> Result<Option<usize>, AllocError>
+    ensures edits { IfOk result (λ o. IfSome o (λ n. n ≡ edits_between word.now other.now)) }
+    ensures few { IfOk result (λ o. IfSome o (λ n. n ≤ most)) }
+{
     let (length, other_length) = (word.chars().count(), other.chars().count());
     let most = most.min(length.max(other_length) / 2);
     if length.abs_diff(other_length) > most {

@@ -32,12 +32,15 @@ fn fault(alloc: Global, text: &[u8]) -> Option<PlanFault> {
 /// `read_plan`.
 fn told(alloc: Global, text: &str) -> Result<String, Fail> {
     let text = text.as_bytes();
-    match (reason(alloc, text), fault(alloc, text)) {
-        (None, None) => Ok(String::from_str(alloc, "fine")?),
-        (Some(reason), Some(fault)) if reason.fault == fault => {
-            Ok(reason.in_file("p").to_string(alloc)?)
-        }
-        _ => Ok(String::from_str(alloc, "another fault")?),
+    let fault = fault(alloc, text);
+    let Some(reason) = reason(alloc, text) else {
+        let told = if fault.is_none() { "fine" } else { "another fault" };
+        return Ok(String::from_str(alloc, told)?);
+    };
+    if fault == Some(reason.fault) {
+        Ok(reason.in_file("p").to_string(alloc)?)
+    } else {
+        Ok(String::from_str(alloc, "another fault")?)
     }
 }
 

@@ -1,5 +1,10 @@
 //! The versions of a plan, and the words that texts of them have.
 
+ghost use Rattle.std.specs.Prelude.{◌≡◌, is_some};
+ghost use Rattle.plan_read.specs.Keys.{unit_of_word, which_of_word};
+ghost use Rattle.plan_read.specs.declared.versions.Version.TheVariants.{Two};
+ghost use Rattle.plan_reasons.specs.own.Keys.{plan_version};
+
 use sched_time::Unit;
 
 /// The version of a plan text.
@@ -54,13 +59,27 @@ pub fn units(version: Version) -> &'static [&'static str] {
     }
 }
 
+/// Whether a word names a policy.
+pub fn is_policy(word: &str) -> bool
+    ensures { result ≡ is_some (which_of_word word.now) }
+{
+    matches!(word, "continue" | "execute" | "remove")
+}
+
 /// Whether a word names a unit in a version.
-pub fn is_unit(version: Version, word: &str) -> bool {
-    units(version).contains(&word)
+pub fn is_unit(version: Version, word: &str) -> bool
+    ensures { result ≡ is_some (unit_of_word (plan_version version) word.now) }
+{
+    match version {
+        Version::One => matches!(word, "ns" | "us" | "ms" | "s"),
+        Version::Two => unit_of_word(word).is_some(),
+    }
 }
 
 /// The unit that a word names in some version, if it names one.
-pub fn unit_of_word(word: &str) -> Option<Unit> {
+pub fn unit_of_word(word: &str) -> Option<Unit>
+    ensures { result ≡ unit_of_word Two word.now }
+{
     match word {
         "ns" => Some(Unit::Ns),
         "us" => Some(Unit::Us),
@@ -74,7 +93,9 @@ pub fn unit_of_word(word: &str) -> Option<Unit> {
 }
 
 /// The word of a unit.
-pub fn word_of_unit(unit: Unit) -> &'static str {
+pub fn word_of_unit(unit: Unit) -> &'static str
+    ensures { unit_of_word Two result.now ≡ Some unit }
+{
     match unit {
         Unit::Ns => "ns",
         Unit::Us => "us",

@@ -1,0 +1,15 @@
+-- Which words may be meant by another.
+use Rattle.std.specs.Prelude.{◌≡◌, ℕ, ◌≤◌, List, length, nat_eq, Any, String, string_bytes}
+use Rattle.std.specs.Borrow.{Bor}
+use Rattle.std.specs.Str.{chars}
+use Rattle.std.specs.declared.alloc.Global.{Global}
+use Rattle.strsim.specs.Edits.{levenshtein_row}
+
+-- how many edits lead from a word to another: characters that are added, left out or changed
+abbrev pub edits_between : List ℕ → List ℕ → ℕ
+edits_between word other = levenshtein_row nat_eq (chars word) (chars other) (length (chars other))
+
+-- a text is one of some words, and at most two edits lead to it
+pub record IsNear (word : List ℕ) (words : List (Bor (List ℕ))) (text : String Global) : Type 0 where
+  pub among : Any (λ other. other.now ≡ string_bytes text) words
+  pub near : edits_between word (string_bytes text) ≤ 2
