@@ -1,1 +1,2 @@
 mod Nearness
+mod Numbered

@@ -1,5 +1,9 @@
 //! Faults of a block's header.
 
+ghost use Rattle.std.specs.Prelude.{IfOk};
+ghost use Rattle.toml.specs.View.{table_view};
+ghost use Rattle.plan_reasons.specs.own.Details.{IsIn};
+
 use crate::keys::header_keys;
 use crate::limits::{MOST_BLOCK_CALLS, MOST_CALLS};
 use crate::scene::{Detail, Scene, integer_at, tables_at};
@@ -34,7 +38,9 @@ impl Pace {
 
 impl<'t> Scene<'t> {
     /// What is told of a fault of a header. `Err` is want of memory.
-    pub fn header_detail(&self, header: &'t Table) -> Result<Detail<'t>, AllocError> {
+    pub fn header_detail(&self, header: &'t Table) -> Result<Detail<'t>, AllocError>
+        ensures { IfOk result (IsIn (table_view header.now)) }
+    {
         let keys = header_keys(self.version);
         match self.fault.kind {
             PlanFaultKind::UnknownKey => self.unknown_key(header, keys),
@@ -63,7 +69,9 @@ impl<'t> Scene<'t> {
     }
 
     /// That a `times` is out of its range.
-    fn bad_times(&self, header: &'t Table) -> Detail<'t> {
+    fn bad_times(&self, header: &'t Table) -> Detail<'t>
+        ensures { IsIn (table_view header.now) result }
+    {
         let wanted = Wanted::Number {
             least: Some(1),
             most: MOST_CALLS,
@@ -73,18 +81,24 @@ impl<'t> Scene<'t> {
     }
 
     /// That an `every` is missing.
-    fn missing_every(&self, header: &'t Table) -> Detail<'t> {
+    fn missing_every(&self, header: &'t Table) -> Detail<'t>
+        ensures { IsIn (table_view header.now) result }
+    {
         let times = integer_at(header, "times").unwrap_or(1);
         self.at_key(header, "every", Wanted::Every { times })
     }
 
     /// That a block begins before the last call before it.
-    fn too_early(&self, header: &'t Table) -> Detail<'t> {
+    fn too_early(&self, header: &'t Table) -> Detail<'t>
+        ensures { IsIn (table_view header.now) result }
+    {
         self.not_before(header, header, self.end_before())
     }
 
     /// That the `at` of a table, in a block with this header, is before a moment or an offset in nanoseconds.
-    pub fn not_before(&self, header: &Table, table: &'t Table, nanos: u128) -> Detail<'t> {
+    pub fn not_before(&self, header: &Table, table: &'t Table, nanos: u128) -> Detail<'t>
+        ensures { IsIn (table_view table.now) result }
+    {
         let unit = self.unit(header, table, "at");
         let least = nanos.div_ceil(u128::from(unit.nanos()));
         let least = u64::try_from(least).unwrap_or(u64::MAX);
@@ -108,7 +122,9 @@ impl<'t> Scene<'t> {
     }
 
     /// That there are too many calls: in the block, or in all.
-    fn too_many_calls(&self, header: &'t Table) -> Detail<'t> {
+    fn too_many_calls(&self, header: &'t Table) -> Detail<'t>
+        ensures { IsIn (table_view header.now) result }
+    {
         let count = tables_at(header, "call").len();
         if count > MOST_BLOCK_CALLS {
             let wanted = Wanted::AtMost(MOST_BLOCK_CALLS as u64);

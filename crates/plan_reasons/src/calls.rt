@@ -1,5 +1,9 @@
 //! Faults of a call.
 
+ghost use Rattle.std.specs.Prelude.{IfOk};
+ghost use Rattle.toml.specs.View.{table_view};
+ghost use Rattle.plan_reasons.specs.own.Details.{IsIn};
+
 use crate::keys::{call_keys, is_operation};
 use crate::scene::{Detail, Scene, table_in, tables_at, text_at};
 use crate::versions::OPERATIONS;
@@ -13,11 +17,9 @@ const TIMES: &[&str] = &["at", "first", "delay", "period"];
 
 impl<'t> Scene<'t> {
     /// What is told of a fault of a call, in a block with this header. `Err` is want of memory.
-    pub fn call_detail(
-        &self,
-        header: &'t Table,
-        call: &'t Table,
-    ) -> Result<Detail<'t>, AllocError> {
+    pub fn call_detail(&self, header: &'t Table, call: &'t Table) -> Result<Detail<'t>, AllocError>
+        ensures { IfOk result (IsIn (table_view call.now)) }
+    {
         let word = text_at(call, "op").unwrap_or("");
         let keys = call_keys(self.version, word);
         match self.fault.kind {
@@ -36,7 +38,9 @@ impl<'t> Scene<'t> {
     }
 
     /// That a time is too long, or that the call is made too late in the last iteration.
-    fn too_far(&self, header: &'t Table, call: &'t Table) -> Detail<'t> {
+    fn too_far(&self, header: &'t Table, call: &'t Table) -> Detail<'t>
+        ensures { IsIn (table_view call.now) result }
+    {
         match self.too_large(header, call, TIMES) {
             Some(detail) => detail,
             None => {
@@ -47,7 +51,9 @@ impl<'t> Scene<'t> {
     }
 
     /// That an offset is below that of the call before, or behind the next iteration.
-    fn unordered(&self, header: &'t Table, call: &'t Table) -> Detail<'t> {
+    fn unordered(&self, header: &'t Table, call: &'t Table) -> Detail<'t>
+        ensures { IsIn (table_view call.now) result }
+    {
         let before = self.offset_before(header);
         if self.nanos(header, call, "at") < before {
             return self.not_before(header, call, before);

@@ -1,10 +1,15 @@
 //! The reason of a text.
 
-ghost use Rattle.std.specs.Prelude.{◌≡◌, ◌⊎◌, IfNone, IfOk, IfSome};
+ghost use Rattle.std.specs.Prelude.{◌≡◌, ◌⊎◌, Some, IfNone, IfOk, IfSome};
+ghost use Rattle.toml.specs.Data.{Members};
+ghost use Rattle.toml.specs.Parse.{parse_document};
+ghost use Rattle.toml.specs.View.{table_view};
 ghost use Rattle.plan_lines.specs.Lines.{IsLineOf};
 ghost use Rattle.plan_read.specs.Plans.{PlanTree};
 ghost use Rattle.plan_read.specs.Reads.{out_of_memory};
 ghost use Rattle.plan_read.specs.Texts.{TextFails, TextWrites};
+ghost use Rattle.plan_reasons.specs.Standing.{IsAtKey};
+ghost use Rattle.plan_reasons.specs.own.Details.{IsInPlace};
 
 use crate::reason::Reason;
 use crate::scene::{Detail, Scene, integer_at, table_in, tables_at};
@@ -23,6 +28,7 @@ pub fn reason_of<A: HeapAllocator>(alloc: A, text: &[u8]) -> Option<Reason>
     ensures only { (plan : PlanTree) → TextWrites text.now plan → IfSome result (λ r. r.fault ≡ out_of_memory) }
     ensures fault { IfSome result (λ r. TextFails text.now r.fault ⊎ (r.fault ≡ out_of_memory)) }
     ensures line { IfSome result (λ r. IfSome r.line (IsLineOf text.now)) }
+    ensures key { IfSome result (λ r. (tree : Members) → parse_document text.now ≡ Some tree → IsAtKey tree r) }
 {
     match read_plan(alloc, text) {
         Ok(_) => None,
@@ -34,6 +40,7 @@ pub fn reason_of<A: HeapAllocator>(alloc: A, text: &[u8]) -> Option<Reason>
 fn reason_of_fault(heap: Global, text: &[u8], fault: PlanFault) -> Reason
     ensures fault { (result.fault ≡ fault) ⊎ (result.fault ≡ out_of_memory) }
     ensures line { IfSome result.line (IsLineOf text.now) }
+    ensures key { (tree : Members) → parse_document text.now ≡ Some tree → IsAtKey tree result }
 {
     match try_reason(heap, text, fault) {
         Ok(reason) => reason,
@@ -45,6 +52,7 @@ fn reason_of_fault(heap: Global, text: &[u8], fault: PlanFault) -> Reason
 fn try_reason(heap: Global, text: &[u8], fault: PlanFault) -> Result<Reason, AllocError>
     ensures fault { IfOk result (λ r. r.fault ≡ fault) }
     ensures line { IfOk result (λ r. IfSome r.line (IsLineOf text.now)) }
+    ensures key { IfOk result (λ r. (tree : Members) → parse_document text.now ≡ Some tree → IsAtKey tree r) }
 {
     match fault.kind {
         PlanFaultKind::Memory => return Ok(unplaced(fault)),
@@ -67,6 +75,7 @@ fn reason_in_tree(
 ) -> Result<Reason, AllocError>
     ensures fault { IfOk result (λ r. r.fault ≡ fault) }
     ensures line { IfOk result (λ r. IfSome r.line (IsLineOf text.now)) }
+    ensures key { IfOk result (IsAtKey (table_view tree.now)) }
 {
     let scene = Scene {
         heap,
@@ -79,7 +88,9 @@ fn reason_in_tree(
 }
 
 /// What is told of a fault. `Err` is want of memory.
-fn detail<'t>(scene: &Scene<'t>) -> Result<Detail<'t>, AllocError> {
+fn detail<'t>(scene: &Scene<'t>) -> Result<Detail<'t>, AllocError>
+    ensures { IfOk result (IsInPlace (table_view scene.now.tree.now) scene.now.fault.block scene.now.fault.call) }
+{
     let PlanFault { block, call, .. } = scene.fault;
     if block == 0 {
         return scene.top_detail();

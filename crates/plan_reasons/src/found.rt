@@ -1,5 +1,8 @@
 //! What stands where a fault is.
 
+ghost use Rattle.std.specs.Prelude.{IfOk, option_map};
+ghost use Rattle.toml.specs.View.{view};
+
 use crate::spelled::Quoted;
 use std::alloc::{AllocError, Global};
 use std::fmt;
@@ -24,8 +27,12 @@ pub enum Found {
 }
 
 impl Found {
+    ghost use Rattle.plan_reasons.specs.Standing.{IsFound};
+
     /// What a value is. `Err` is want of memory.
-    pub fn of(heap: Global, value: Option<&Value>) -> Result<Found, AllocError> {
+    pub fn of(heap: Global, value: Option<&Value>) -> Result<Found, AllocError>
+        ensures { IfOk result (λ f. IsFound f (option_map (λ v. view v.now) value.entry)) }
+    {
         let Some(value) = value else {
             return Ok(Found::Nothing);
         };

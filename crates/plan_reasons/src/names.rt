@@ -1,5 +1,9 @@
 //! Faults of names.
 
+ghost use Rattle.std.specs.Prelude.{IfOk};
+ghost use Rattle.toml.specs.View.{table_view};
+ghost use Rattle.plan_reasons.specs.own.Details.{IsIn};
+
 use crate::blocks::times_of;
 use crate::near::near;
 use crate::scene::{Detail, Scene, tables_at, text_at};
@@ -29,7 +33,9 @@ impl Submission<'_> {
 
 impl<'t> Scene<'t> {
     /// What is told of a fault of a call's name. `Err` is want of memory.
-    pub fn name_detail(&self, call: &'t Table) -> Result<Detail<'t>, AllocError> {
+    pub fn name_detail(&self, call: &'t Table) -> Result<Detail<'t>, AllocError>
+        ensures { IfOk result (IsIn (table_view call.now)) }
+    {
         let Some(name) = text_at(call, "name") else {
             return Ok(self.at_place());
         };

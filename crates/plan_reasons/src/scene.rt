@@ -1,7 +1,11 @@
 //! The tree of a plan text, and what is told of a fault in it.
 
-ghost use Rattle.std.specs.Prelude.{◌≡◌, IfOk, IfSome};
+ghost use Rattle.std.specs.Prelude.{◌≡◌, None, IfOk, IfSome, option_map};
+ghost use Rattle.toml.specs.Data.{Members, get_member};
+ghost use Rattle.toml.specs.View.{items_view, table_view, view};
 ghost use Rattle.plan_lines.specs.Lines.{IsLineOf};
+ghost use Rattle.plan_reasons.specs.Standing.{block_table, items_at_key, numbered_table};
+ghost use Rattle.plan_reasons.specs.own.Details.{IsIn, IsInPlace};
 
 use crate::found::Found;
 use crate::reason::Reason;
@@ -36,24 +40,32 @@ pub struct Detail<'t> {
 }
 
 impl<'t> Scene<'t> {
+    ghost use Rattle.plan_reasons.specs.Standing.{IsAtKey};
+
     /// The table of a block, numbered from 1.
-    pub fn block(&self, number: u32) -> Option<&'t Table> {
+    pub fn block(&self, number: u32) -> Option<&'t Table>
+        ensures { option_map (λ t. table_view t.now) result ≡ block_table (table_view self.now.tree.now) number }
+    {
         table_in(tables_at(self.tree, "block"), number)
     }
 
     /// What is told where the fault is at a key of a table, which is that of its place.
-    pub fn at_key(&self, table: &'t Table, key: &'t str, wanted: Wanted) -> Detail<'t> {
-        let value = table.get(key);
+    pub fn at_key(&self, table: &'t Table, key: &'t str, wanted: Wanted) -> Detail<'t>
+        ensures { IsIn (table_view table.now) result }
+    {
+        let value = value_at(table, key);
         Detail {
             key: Some(key),
             value,
             wanted,
-            place: place_of(self.fault, value.map(|_| key)),
+            place: place_of(self.fault, if value.is_some() { Some(key) } else { None }),
         }
     }
 
     /// What is told where no key is found.
-    pub fn at_place(&self) -> Detail<'t> {
+    pub fn at_place(&self) -> Detail<'t>
+        ensures { result.key ≡ None }
+    {
         Detail {
             key: None,
             value: None,
@@ -66,6 +78,7 @@ impl<'t> Scene<'t> {
     pub fn reason(&self, detail: Detail<'t>) -> Result<Reason, AllocError>
         ensures fault { IfOk result (λ r. r.fault ≡ self.now.fault) }
         ensures line { IfOk result (λ r. IfSome r.line (IsLineOf self.now.text.now)) }
+        ensures key { (tree : Members) → IsInPlace tree self.now.fault.block self.now.fault.call detail.entry → IfOk result (IsAtKey tree) }
     {
         let Detail {
             key,
@@ -122,9 +135,18 @@ pub fn unit_key(key: &str) -> &'static str {
     }
 }
 
+/// The value at a key, if there is one.
+pub fn value_at<'t>(table: &'t Table, key: &str) -> Option<&'t Value>
+    ensures { option_map (λ v. view v.now) result ≡ get_member key.now (table_view table.now) }
+{
+    table.get(key)
+}
+
 /// The array at a key, empty where there is none.
-pub fn tables_at<'t>(table: &'t Table, key: &str) -> &'t [Value] {
-    match table.get(key) {
+pub fn tables_at<'t>(table: &'t Table, key: &str) -> &'t [Value]
+    ensures { items_view result.now ≡ items_at_key key.now (table_view table.now) }
+{
+    match value_at(table, key) {
         Some(value) => match value.as_array() {
             Some(array) => array.as_slice(),
             None => &[],
@@ -134,16 +156,19 @@ pub fn tables_at<'t>(table: &'t Table, key: &str) -> &'t [Value] {
 }
 
 /// The table of this number, counted from 1, in an array.
-pub fn table_in(tables: &[Value], number: u32) -> Option<&Table> {
-    match tables.get((number as usize).checked_sub(1)?) {
-        Some(value) => value.as_table(),
-        None => None,
+pub fn table_in(tables: &[Value], number: u32) -> Option<&Table>
+    ensures { option_map (λ t. table_view t.now) result ≡ numbered_table number (items_view tables.now) }
+{
+    let number = number as usize;
+    if number == 0 || tables.len() < number {
+        return None;
     }
+    tables[number - 1].as_table()
 }
 
 /// The integer at a key, if there is one.
 pub fn integer_at(table: &Table, key: &str) -> Option<i64> {
-    match table.get(key) {
+    match value_at(table, key) {
         Some(value) => value.as_integer(),
         None => None,
     }
@@ -151,7 +176,7 @@ pub fn integer_at(table: &Table, key: &str) -> Option<i64> {
 
 /// The text at a key, if there is one.
 pub fn text_at<'t>(table: &'t Table, key: &str) -> Option<&'t str> {
-    match table.get(key) {
+    match value_at(table, key) {
         Some(value) => value.as_str(),
         None => None,
     }

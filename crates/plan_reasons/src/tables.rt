@@ -1,5 +1,9 @@
 //! Faults that a table of any kind may have.
 
+ghost use Rattle.std.specs.Prelude.{IfOk, IfSome};
+ghost use Rattle.toml.specs.View.{table_view};
+ghost use Rattle.plan_reasons.specs.own.Details.{IsIn};
+
 use crate::keys::{Key, Shape};
 use crate::near::near;
 use crate::scene::{Detail, Scene, integer_at, text_at};
@@ -26,7 +30,9 @@ impl<'t> Scene<'t> {
         table: &'t Table,
         key: &'t str,
         words: &[&'static str],
-    ) -> Result<Detail<'t>, AllocError> {
+    ) -> Result<Detail<'t>, AllocError>
+        ensures { IfOk result (IsIn (table_view table.now)) }
+    {
         let near = match text_at(table, key) {
             Some(word) => near(self.heap, word, words)?,
             None => Vec::new(self.heap),
@@ -36,7 +42,9 @@ impl<'t> Scene<'t> {
     }
 
     /// That the first key of a table, by its letters, which is none of these does not belong there. `Err` is want of memory.
-    pub fn unknown_key(&self, table: &'t Table, keys: &[Key]) -> Result<Detail<'t>, AllocError> {
+    pub fn unknown_key(&self, table: &'t Table, keys: &[Key]) -> Result<Detail<'t>, AllocError>
+        ensures { IfOk result (IsIn (table_view table.now)) }
+    {
         let mut words = Vec::with_capacity(self.heap, keys.len())?;
         for key in keys {
             words.push(key.name)?;
@@ -52,7 +60,9 @@ impl<'t> Scene<'t> {
     }
 
     /// That the first of these keys that has to be there, and is not, is missing.
-    pub fn missing_key(&self, table: &'t Table, keys: &[Key]) -> Detail<'t> {
+    pub fn missing_key(&self, table: &'t Table, keys: &[Key]) -> Detail<'t>
+        ensures { IsIn (table_view table.now) result }
+    {
         for key in keys {
             if key.required && !table.contains_key(key.name) {
                 return self.at_key(table, key.name, Wanted::Shape(key.shape));
@@ -62,7 +72,9 @@ impl<'t> Scene<'t> {
     }
 
     /// That the value at the first of these keys is not of its shape. `Err` is want of memory.
-    pub fn wrong_type(&self, table: &'t Table, keys: &[Key]) -> Result<Detail<'t>, AllocError> {
+    pub fn wrong_type(&self, table: &'t Table, keys: &[Key]) -> Result<Detail<'t>, AllocError>
+        ensures { IfOk result (IsIn (table_view table.now)) }
+    {
         for key in keys {
             let Some(value) = table.get(key.name) else {
                 continue;
@@ -78,7 +90,9 @@ impl<'t> Scene<'t> {
     }
 
     /// That the text at the first key of a unit is none. `Err` is want of memory.
-    pub fn bad_unit(&self, table: &'t Table) -> Result<Detail<'t>, AllocError> {
+    pub fn bad_unit(&self, table: &'t Table) -> Result<Detail<'t>, AllocError>
+        ensures { IfOk result (IsIn (table_view table.now)) }
+    {
         for key in UNIT_KEYS {
             if text_at(table, key).is_some_and(|word| !is_unit(self.version, word)) {
                 return self.no_word(table, key, units(self.version));
@@ -88,7 +102,9 @@ impl<'t> Scene<'t> {
     }
 
     /// That the number at the first of these keys is below 0, in a block with this header.
-    pub fn negative(&self, header: &Table, table: &'t Table, keys: &[&'t str]) -> Detail<'t> {
+    pub fn negative(&self, header: &Table, table: &'t Table, keys: &[&'t str]) -> Detail<'t>
+        ensures { IsIn (table_view table.now) result }
+    {
         for key in keys {
             if integer_at(table, key).is_some_and(|number| number < 0) {
                 return self.at_time(header, table, key);
@@ -103,7 +119,9 @@ impl<'t> Scene<'t> {
         header: &Table,
         table: &'t Table,
         keys: &[&'t str],
-    ) -> Option<Detail<'t>> {
+    ) -> Option<Detail<'t>>
+        ensures { IfSome result (IsIn (table_view table.now)) }
+    {
         for key in keys {
             let number = integer_at(table, key).unwrap_or(0);
             if span(number, self.unit(header, table, key)).is_err() {
@@ -114,7 +132,9 @@ impl<'t> Scene<'t> {
     }
 
     /// That a time in its range is wanted at a key, in a block with this header.
-    fn at_time(&self, header: &Table, table: &'t Table, key: &'t str) -> Detail<'t> {
+    fn at_time(&self, header: &Table, table: &'t Table, key: &'t str) -> Detail<'t>
+        ensures { IsIn (table_view table.now) result }
+    {
         let unit = self.unit(header, table, key);
         let least = match key {
             "at" | "every" => Some(0),

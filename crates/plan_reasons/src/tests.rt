@@ -34,7 +34,11 @@ fn told(alloc: Global, text: &str) -> Result<String, Fail> {
     let text = text.as_bytes();
     let fault = fault(alloc, text);
     let Some(reason) = reason(alloc, text) else {
-        let told = if fault.is_none() { "fine" } else { "another fault" };
+        let told = if fault.is_none() {
+            "fine"
+        } else {
+            "another fault"
+        };
         return Ok(String::from_str(alloc, told)?);
     };
     if fault == Some(reason.fault) {

@@ -1,7 +1,9 @@
 //! Faults of the text as a whole, and of the top of a plan.
 
 ghost use Rattle.std.specs.Prelude.{◌≡◌, None, IfOk, IfSome};
+ghost use Rattle.toml.specs.View.{table_view};
 ghost use Rattle.plan_lines.specs.Lines.{IsLineOf};
+ghost use Rattle.plan_reasons.specs.own.Details.{IsIn};
 ghost use Rattle.plan_read.specs.Reads.{out_of_memory};
 
 use crate::found::Found;
@@ -19,6 +21,7 @@ use std::alloc::{AllocError, Global};
 pub fn too_long(text: &[u8], fault: PlanFault) -> Reason
     ensures fault { result.fault ≡ fault }
     ensures line { result.line ≡ None }
+    ensures key { result.key ≡ None }
 {
     Reason {
         fault,
@@ -34,6 +37,7 @@ pub fn too_long(text: &[u8], fault: PlanFault) -> Reason
 pub fn want_of_memory() -> Reason
     ensures fault { result.fault ≡ out_of_memory }
     ensures line { result.line ≡ None }
+    ensures key { result.key ≡ None }
 {
     unplaced(PlanFault {
         kind: PlanFaultKind::Memory,
@@ -46,6 +50,7 @@ pub fn want_of_memory() -> Reason
 pub fn unplaced(fault: PlanFault) -> Reason
     ensures fault { result.fault ≡ fault }
     ensures line { result.line ≡ None }
+    ensures key { result.key ≡ None }
 {
     Reason {
         fault,
@@ -66,6 +71,7 @@ pub fn no_document(
 ) -> Result<Reason, AllocError>
     ensures fault { IfOk result (λ r. r.fault ≡ fault) }
     ensures line { IfOk result (λ r. IfSome r.line (IsLineOf text.now)) }
+    ensures key { IfOk result (λ r. r.key ≡ None) }
 {
     let begin = match error.span() {
         Some(range) => range.start,
@@ -87,7 +93,9 @@ pub fn no_document(
 
 impl<'t> Scene<'t> {
     /// What is told of a fault of the top. `Err` is want of memory.
-    pub fn top_detail(&self) -> Result<Detail<'t>, AllocError> {
+    pub fn top_detail(&self) -> Result<Detail<'t>, AllocError>
+        ensures { IfOk result (IsIn (table_view self.now.tree.now)) }
+    {
         match self.fault.kind {
             PlanFaultKind::Version => self.no_version(),
             PlanFaultKind::UnknownKey => self.unknown_key(self.tree, top_keys()),
@@ -98,14 +106,18 @@ impl<'t> Scene<'t> {
     }
 
     /// That the version is none. `Err` is want of memory.
-    fn no_version(&self) -> Result<Detail<'t>, AllocError> {
+    fn no_version(&self) -> Result<Detail<'t>, AllocError>
+        ensures { IfOk result (IsIn (table_view self.now.tree.now)) }
+    {
         let near = Vec::new(self.heap);
         let words = VERSIONS.to_vec(self.heap)?;
         Ok(self.at_key(self.tree, "version", Wanted::OneOf(Choice { near, words })))
     }
 
     /// That there are too many blocks.
-    fn too_many_blocks(&self) -> Detail<'t> {
+    fn too_many_blocks(&self) -> Detail<'t>
+        ensures { IsIn (table_view self.now.tree.now) result }
+    {
         let wanted = Wanted::AtMost(MOST_BLOCKS as u64);
         Detail {
             place: Place {

@@ -21,6 +21,7 @@ loop-other-preserved c =
     record {
       few = elim c.if-edits-least.branch [ then-edits-least w ↦ omega (arith, w.least-is, w.if-edits-least.true, old.few) | else-edits-least w ↦ omega (arith, w.least-is, old.few) ];
       near = elim c.if-len-lt-MOST_NEAR.branch [
-        then-len-lt-MOST_NEAR+in_ok-from_str+in_ok-push w ↦ rw (w.those-is, w.in_ok-push.ensures.items) (All-push P _ _ kept (is_near word words c.loop-other.other-index _ _ c.in-Some.edits c.loop-other-test.true w.in_ok-from_str.ensures.ok edits (omega (arith, few, old.few))))
-        | else-len-lt-MOST_NEAR w ↦ rw w.those-is kept ];
+        | then-len-lt-MOST_NEAR+in_ok-from_str+in_ok-push w ↦ rw (w.those-is, w.in_ok-push.ensures.items) (All-push P _ _ kept (is_near word words c.loop-other.other-index _ _ c.in-Some.edits c.loop-other-test.true w.in_ok-from_str.ensures.ok edits (omega (arith, few, old.few))))
+        | else-len-lt-MOST_NEAR w ↦ rw w.those-is kept
+      ];
     }
