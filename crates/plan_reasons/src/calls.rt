@@ -26,7 +26,7 @@ impl<'t> Scene<'t> {
             PlanFaultKind::Missing | PlanFaultKind::WrongType if !is_operation(word) => {
                 self.no_word(call, "op", OPERATIONS)
             }
-            PlanFaultKind::Missing => Ok(self.missing_key(call, keys)),
+            PlanFaultKind::Missing => self.missing_key(call, keys),
             PlanFaultKind::WrongType => self.wrong_type(call, keys),
             PlanFaultKind::UnknownKey => self.unknown_key(call, keys),
             PlanFaultKind::BadUnit => self.bad_unit(call),

@@ -59,16 +59,16 @@ impl<'t> Scene<'t> {
         Ok(self.at_place())
     }
 
-    /// That the first of these keys that has to be there, and is not, is missing.
-    pub fn missing_key(&self, table: &'t Table, keys: &[Key]) -> Detail<'t>
-        ensures { IsIn (table_view table.now) result }
+    /// That the first of these keys that has to be there, and is not, is missing. `Err` is want of memory.
+    pub fn missing_key(&self, table: &'t Table, keys: &[Key]) -> Result<Detail<'t>, AllocError>
+        ensures { IfOk result (IsIn (table_view table.now)) }
     {
         for key in keys {
             if key.required && !table.contains_key(key.name) {
-                return self.at_key(table, key.name, Wanted::Shape(key.shape));
+                return self.wanted(table, key);
             }
         }
-        self.at_place()
+        Ok(self.at_place())
     }
 
     /// That the value at the first of these keys is not of its shape. `Err` is want of memory.
@@ -80,13 +80,20 @@ impl<'t> Scene<'t> {
                 continue;
             };
             if !key.shape.fits(value) {
-                return match key.shape {
-                    Shape::Policy => self.no_word(table, key.name, POLICIES),
-                    shape => Ok(self.at_key(table, key.name, Wanted::Shape(shape))),
-                };
+                return self.wanted(table, key);
             }
         }
         Ok(self.at_place())
+    }
+
+    /// That a value of its shape is wanted at a key. `Err` is want of memory.
+    fn wanted(&self, table: &'t Table, key: &Key) -> Result<Detail<'t>, AllocError>
+        ensures { IfOk result (IsIn (table_view table.now)) }
+    {
+        match key.shape {
+            Shape::Policy => self.no_word(table, key.name, POLICIES),
+            shape => Ok(self.at_key(table, key.name, Wanted::Shape(shape))),
+        }
     }
 
     /// That the text at the first key of a unit is none. `Err` is want of memory.

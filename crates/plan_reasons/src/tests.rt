@@ -8,6 +8,7 @@ mod orders;
 mod shown;
 mod times;
 mod tops;
+mod words;
 
 use crate::{Reason, reason_of};
 use plan_read::{PlanFault, read_plan};
@@ -56,6 +57,21 @@ fn text_of_row(alloc: Global, front: &str, lines: &str) -> Result<String, Fail> 
         text.push('\n')?;
     }
     Ok(text)
+}
+
+#[test]
+fn the_lines_of_the_page(rt: HostRuntime) -> Result<(), Fail> {
+    let alloc = rt.alloc();
+    let text = b"version = 2\n\n[[block]]\n\n[[block.call]]\nop = \"sched\"\n";
+    let Some(reason) = reason_of(alloc, text) else {
+        return Err(Fail::from("a plan"));
+    };
+    let told = reason.in_file("plan.toml").to_string(alloc)?;
+    assert_eq!(rt;
+        told.as_str(),
+        "plan.toml:6: block 1, call 1, op = \"sched\": no such op; one of schedule, execute, rate, fixed, cancel, policy, shutdown, shutdown_now, ask"
+    );
+    Ok(())
 }
 
 /// Tells of each text of a table. A row of the table is what is to be told, then ` | `, and then the text's lines behind `front`,

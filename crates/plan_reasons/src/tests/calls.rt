@@ -51,7 +51,7 @@ fn missing_keys(rt: HostRuntime) -> Result<(), Fail> {
         "p:3: block 1, call 1, name: missing; a text | op = \"schedule\"\n\
          p:3: block 1, call 1, delay: missing; an integer | op = \"schedule\" / name = \"a\"\n\
          p:5: block 1, call 2, period: missing; an integer | op = \"ask\" / [[block.call]] / op = \"rate\" / name = \"a\" / first = 1\n\
-         p:3: block 1, call 1, which: missing; the word of a policy | op = \"policy\" / value = true\n\
+         p:3: block 1, call 1, which: missing; one of continue, execute, remove | op = \"policy\" / value = true\n\
          p:3: block 1, call 1, value: missing; true or false | op = \"policy\" / which = \"remove\"",
     )?;
     tell(
