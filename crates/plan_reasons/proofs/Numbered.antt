@@ -1,5 +1,5 @@
 -- The table of a number among the items of an array.
-use Rattle.std.proofs.Common.{◌≡◌, ◌≢◌, ◌<◌, ◌≤◌, ◌-◌, ℕ, zero, suc, List, length, Option, None, get_or, arith, ap, refl}
+use Rattle.std.proofs.Common.{◌≡◌, ◌≢◌, ◌<◌, ◌≤◌, ◌-◌, ℕ, zero, suc, List, length, None, get_or, arith, ap, refl}
 use Rattle.std.specs.Prelude.{option_and_then}
 use Rattle.toml.specs.Data.{as_table}
 use Rattle.toml.specs.View.{items_view, view}

@@ -25,7 +25,7 @@ pub enum Shape {
 
 impl Shape {
     /// Whether a value is of this shape.
-    pub fn fits(self, value: &Value) -> bool
+    pub(crate) fn fits(self, value: &Value) -> bool
         ensures { result ≡ has_shape (plan_shape self) (view value.now) }
     {
         match self {

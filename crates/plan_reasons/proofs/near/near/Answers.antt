@@ -1,4 +1,4 @@
-use Rattle.std.proofs.Common.{◌≡◌, ◌≤◌, ◌∷◌, [], ◌++◌, ℕ, Option, All, arith, subst, get_or}
+use Rattle.std.proofs.Common.{◌≡◌, ◌≤◌, [], ℕ, Option, All, arith, subst, get_or}
 use Rattle.std.proofs.lemmas.List.Elements.{All-push, All-nil}
 use Rattle.std.specs.Prelude.{IfSome}
 use Rattle.plan_reasons.specs.own.Near.{IsNear, edits_between}
