@@ -45,6 +45,8 @@
 #include <stddef.h>
 #include <stdint.h>
 
+#include "sched_version.h"
+
 #ifdef __cplusplus
 extern "C" {
 #endif

@@ -1,0 +1,65 @@
+"""The version, which stands in the file `VERSION`, and the other places that have to say it too."""
+
+from __future__ import annotations
+
+import re
+from pathlib import Path
+
+TOP = Path(__file__).resolve().parents[2]
+FILE = TOP / "VERSION"
+FORM = re.compile(r"(\d+)\.(\d+)\.(\d+)")
+
+# Each place: its file, what stands around the version there, and how the version is written.
+PLACES = [
+    ("include/sched_version.h", r'(?<=#define SCHED_VERSION ")[^"]*(?=")', "{0}.{1}.{2}"),
+    ("include/sched_version.h", r"(?<=#define SCHED_VERSION_MAJOR )\d+", "{0}"),
+    ("include/sched_version.h", r"(?<=#define SCHED_VERSION_MINOR )\d+", "{1}"),
+    ("include/sched_version.h", r"(?<=#define SCHED_VERSION_PATCH )\d+", "{2}"),
+    ("examples/embed/rust/Cargo.toml", r'(?<=name = "sched"\nversion = ")[^"]*', "{0}.{1}.{2}"),
+    ("examples/embed/rust/Cargo.lock", r'(?<=name = "sched"\nversion = ")[^"]*', "{0}.{1}.{2}"),
+]
+
+
+class VersionError(Exception):
+    """A place that says another version, or a text that is none."""
+
+
+def numbers(version: str) -> tuple[str, str, str]:
+    """The three numbers of a version."""
+    form = FORM.fullmatch(version)
+    if not form:
+        raise VersionError(f"no version: {version}")
+    return form[1], form[2], form[3]
+
+
+def differing() -> list[str]:
+    """The places that say another version than the file does."""
+    wanted = numbers(current())
+    return [f"{file}: {found}" for file, pattern, form in PLACES
+            for found in [re.findall(pattern, (TOP / file).read_text())] if found != [form.format(*wanted)]]
+
+
+def current() -> str:
+    """The version that the file says."""
+    return FILE.read_text().strip()
+
+
+def checked() -> str:
+    """The version, which each place says."""
+    places = differing()
+    if places:
+        raise VersionError("\n".join([f"{FILE.name} says {current()}, and other places do not:", *places]))
+    return current()
+
+
+def write(version: str) -> None:
+    """Writes a version to each place, or to none where a place is not found."""
+    words = numbers(version)
+    texts = {file: (TOP / file).read_text() for file, _, _ in PLACES}
+    for file, pattern, form in PLACES:
+        texts[file], count = re.subn(pattern, form.format(*words), texts[file])
+        if count != 1:
+            raise VersionError(f"{file} has {count} places for the version, and not one")
+    for file, text in texts.items():
+        (TOP / file).write_text(text)
+    FILE.write_text(f"{version}\n")
