@@ -47,8 +47,7 @@ _sched_among() {{
 
 _sched_files() {{
     mapfile -t COMPREPLY < <(compgen -f -- "$1")
-    compopt -o filenames 2> /dev/null
-    return 0
+    compopt -o filenames 2> /dev/null || true
 }}
 
 _sched() {{
@@ -82,12 +81,12 @@ _sched() {{
     else
         while (( place < COMP_CWORD )); do
             if _sched_among "${{COMP_WORDS[place]}}" $valued; then
-                [[ ${{COMP_WORDS[place + 1]}} != = ]] || (( place += 1 ))
-                (( place += 1 ))
+                [[ ${{COMP_WORDS[place + 1]}} != = ]] || place=$(( place + 1 ))
+                place=$(( place + 1 ))
             elif [[ ${{COMP_WORDS[place]}} != -* ]]; then
-                (( places -= 1 ))
+                places=$(( places - 1 ))
             fi
-            (( place += 1 ))
+            place=$(( place + 1 ))
         done
         (( places <= 0 )) || _sched_files "$word"
     fi

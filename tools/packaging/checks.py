@@ -1,0 +1,151 @@
+"""What is tried of the program and the libraries where they are installed. Each check raises an error where something is not as it
+has to be."""
+
+from __future__ import annotations
+
+import shutil
+from collections.abc import Iterator
+from dataclasses import dataclass, field
+from pathlib import Path
+from typing import Any
+
+from parts import HEADERS
+from tools import ToolError, compiler, output
+
+# For each level of the processor, one that qemu knows, which has no more.
+PROCESSORS = {1: "kvm64", 2: "Nehalem", 3: "Haswell"}
+EMULATOR = "qemu-x86_64"
+FIRST_EXAMPLE = "one-delay"
+HEADERS_TEST = """\
+#include <pthread.h>
+#ifdef __cplusplus
+#include <thread>
+#endif
+{includes}
+#if SCHED_VERSION_MAJOR != {major} || SCHED_VERSION_MINOR != {minor} || SCHED_VERSION_PATCH != {patch}
+#error another version
+#endif
+static struct sched_param of_the_c_library;
+static char of_one_length[sizeof(SCHED_VERSION) == sizeof("{version}") ? 1 : -1];
+int main(void) {{ (void)of_the_c_library; (void)of_one_length; return 0; }}
+"""
+
+
+@dataclass(frozen=True)
+class Installed:
+    """What is installed: which version, the program, the folders of pages and completions and of examples, the environment of each
+    command, more words for pkg-config, and the root in which its programs run, where that is another one."""
+    version: str
+    program: Path
+    share: Path
+    examples: Path
+    environment: dict[str, str]
+    config_words: list[str] = field(default_factory=list)
+    root: Path | None = None
+
+    def run(self, program: Path, *words: Any, given: bytes = b"") -> str:
+        """What a program writes. Files among the words are named as it sees them."""
+        command = ["chroot", self.root, self.seen(program)] if self.root else [program]
+        seen = [self.seen(word) if isinstance(word, Path) else word for word in words]
+        return output([*command, *seen], environment=self.environment, given=given)
+
+    def seen(self, file: Path) -> Path:
+        """A file's name inside the root."""
+        return Path("/") / file.relative_to(self.root) if self.root else file
+
+    def config(self, *words: str) -> list[str]:
+        """What pkg-config says of the library."""
+        return output(["pkg-config", *self.config_words, *words, "sched"], environment=self.environment).split()
+
+
+def expect(found: str, wanted: str) -> None:
+    """Two texts that have to be the same."""
+    if found != wanted:
+        raise ToolError(f"found:\n{found}\nwanted:\n{wanted}")
+
+
+def first_command(installed: Installed) -> None:
+    """The program runs the tour's example."""
+    example = installed.examples / FIRST_EXAMPLE
+    events = (example / "events.txt").read_bytes()
+    found = installed.run(installed.program, "run", example / "plan.toml", "--workers", "1", given=events)
+    expect(found, (example / "trace.txt").read_text())
+
+
+def has_emulator() -> bool:
+    """Whether another processor can be tried; tells where it can not."""
+    there = shutil.which(EMULATOR) is not None
+    if not there:
+        print(f"{EMULATOR} is not there: the level of the processor is not tried", flush=True)
+    return there
+
+
+def emulated(installed: Installed, level: int) -> None:
+    """The program runs the tour's example on a processor that has this level and no more."""
+    example = installed.examples / FIRST_EXAMPLE
+    command = [EMULATOR, "-cpu", PROCESSORS[level], installed.program, "run", example / "plan.toml", "--workers", "1"]
+    found = output(command, environment=installed.environment, given=(example / "events.txt").read_bytes())
+    expect(found, (example / "trace.txt").read_text())
+
+
+def pages(installed: Installed) -> None:
+    """Both pages are there for `man`, which finds nothing wrong with them; nor does mandoc, where it is there."""
+    for section, name in [("1", "sched"), ("5", "sched-plan")]:
+        page = next((installed.share / "man" / f"man{section}").glob(f"{name}.{section}*"))
+        text = output(["man", "-l", page], environment=installed.environment)
+        if f"{name.upper()}({section})" not in text or "NAME" not in text:
+            raise ToolError(f"{page} is no page of {name}: {text[:500]}")
+        script = 'man --warnings -E UTF-8 -l -Tutf8 -Z "$1" 2>&1 > /dev/null'
+        expect(output(["sh", "-c", script, "sh", page], environment=installed.environment), "")
+        if shutil.which("mandoc"):
+            expect(output(["mandoc", "-Tlint", "-Wwarning", page], environment=installed.environment), "")
+
+
+def completions(installed: Installed) -> None:
+    """Each shell that is there takes its completions, and bash and fish complete by them."""
+    share, example = installed.share, installed.examples / FIRST_EXAMPLE
+    words = [("sched ru", "run"), ("sched run --wor", "--workers"), ("sched draw --f", "--from"), ("sched help mig", "migrate")]
+    files = [(f"sched check {example}/pl", f"{example}/plan.toml"), (f"sched check {example}/plan.toml {example}/tr", f"{example}/trace.txt"),
+             (f"sched run {example}/plan.toml {example}/tr", ""), (f"sched run --workers {example}/pl", "")]
+    for line, wanted in words + files:
+        script = 'source "$1"; COMP_WORDS=($2); COMP_CWORD=$((${#COMP_WORDS[@]} - 1)); _sched; echo "${COMPREPLY[*]}"'
+        bash = share / "bash-completion" / "completions" / "sched"
+        expect(output(["bash", "-ec", script, "bash", bash, line], environment=installed.environment), f"{wanted}\n")
+    if shutil.which("zsh"):
+        output(["zsh", "-n", share / "zsh" / "site-functions" / "_sched"], environment=installed.environment)
+    for line, wanted in words if shutil.which("fish") else []:
+        script = "source $argv[1]; complete -C $argv[2]"
+        fish = share / "fish" / "vendor_completions.d" / "sched.fish"
+        found = output(["fish", "--no-config", "-c", script, fish, line], environment=installed.environment)
+        expect(" ".join(word.split("\t")[0] for word in found.splitlines()), wanted)
+
+
+def headers(installed: Installed, folder: Path) -> None:
+    """The headers compile as C and as C++ by either name, beside the C library's own sched.h, and say the version."""
+    major, minor, patch = installed.version.split(".")
+    includes = "\n".join(f'#include <sched/{name}>\n#include "{name}"' for name in HEADERS)
+    text = HEADERS_TEST.format(includes=includes, major=major, minor=minor, patch=patch, version=installed.version)
+    for language, compile_by, standard in [("c", compiler(), "c11"), ("c++", "c++", "c++11")]:
+        source = folder / f"headers.{language}"
+        source.write_text(text)
+        output([compile_by, "-x", language, f"-std={standard}", "-Wall", "-Wextra", "-Werror", "-pedantic", "-fsyntax-only",
+                *installed.config("--cflags"), source], environment=installed.environment)
+
+
+def c_programs(installed: Installed, folder: Path) -> Iterator[Path]:
+    """The example in C, built by pkg-config's words over the shared library, and over the archive."""
+    source = installed.examples / "embed" / "c" / "timeout_wheel.c"
+    expect(installed.config("--modversion")[0], installed.version)
+    archive = Path(installed.config("--variable=libdir")[0]) / "libsched.a"
+    for name, words in [("over_shared", installed.config("--cflags", "--libs")), ("over_archive", [*installed.config("--cflags"), archive])]:
+        program = folder / name
+        output([compiler(), "-std=c11", "-O2", source, *words, "-o", program], environment=installed.environment)
+        yield program
+
+
+def c_example(installed: Installed, folder: Path) -> None:
+    """The example in C runs over both libraries."""
+    wanted = (installed.examples / "embed" / "c" / "stdout").read_text()
+    for program in c_programs(installed, folder):
+        expect(installed.run(program), wanted)
+        program.unlink()

@@ -1,0 +1,174 @@
+"""What the packages are made of: the program, the libraries, their pages, and the examples; and where each of it is put."""
+
+from __future__ import annotations
+
+import os
+import shutil
+import tempfile
+from dataclasses import dataclass
+from pathlib import Path
+
+import library
+import licences
+import machine
+import manual
+from library import TOP
+from machine import Machine
+from tools import ToolError, output
+from tree import File, Link, Tree, copied
+
+PROGRAM = TOP / "crates" / "sched" / "out" / "sched"
+HEADERS = ("delay_queue.h", "sched.h", "sched_version.h", "timers.h")
+LIBRARY_CRATES = list(library.LIBRARIES)
+
+# The tracked files of the examples that a package has, as `git ls-files` names them.
+EXAMPLES = ("examples", ":!examples/embed/python", ":!examples/embed/rust", ":!examples/embed/tests", ":!examples/embed/archives",
+            ":!examples/embed/c/run*")
+
+
+@dataclass(frozen=True)
+class Parts:
+    """What was built, and of which version. `moment` is that of the last commit, which files carry, in seconds."""
+    version: str
+    moment: int
+    program: File
+    archive: File
+    shared: File
+    objects: dict[str, File]
+    pages: dict[str, bytes]
+    program_machine: Machine
+    library_machine: Machine
+
+    @property
+    def soname(self) -> str:
+        """The name under which programs look for the shared library: it changes where they have to be built anew."""
+        return soname(self.version)
+
+
+@dataclass(frozen=True)
+class Places:
+    """Where a package has its files. `headers` is a folder of its own: `sched.h` is a name of the C library too."""
+    front: str
+    libraries: str
+
+    def __truediv__(self, place: str) -> str:
+        return f"{self.front}{place}"
+
+    @property
+    def headers(self) -> str:
+        """The folder of the headers."""
+        return self / "include/sched"
+
+    @property
+    def documents(self) -> str:
+        """The folder that has what is to be read, but for the folder of each package in it."""
+        return self / "share/doc"
+
+
+def soname(version: str) -> str:
+    """The name of the shared library of a version."""
+    return f"libsched.so.{version.split('.')[0]}"
+
+
+def last_commit() -> int:
+    """The moment of the last commit, or the one that SOURCE_DATE_EPOCH names."""
+    return int(os.environ.get("SOURCE_DATE_EPOCH") or output(["git", "-C", TOP, "log", "-1", "--format=%ct"]))
+
+
+def program() -> Path:
+    """The built program, which needs the C library alone."""
+    if not PROGRAM.exists():
+        raise ToolError(f"{PROGRAM} is not there: `.ci/run` makes it, or `rt run -- --help` in {PROGRAM.parent.parent}")
+    needed = library.needed(PROGRAM)
+    if needed - {library.C_LIBRARY, "libm.so.6", "libpthread.so.0", "libdl.so.2"}:
+        raise ToolError(f"{PROGRAM.name} needs {sorted(needed)}")
+    return PROGRAM
+
+
+def built(version: str) -> Parts:
+    """Builds the libraries and the pages from what stands."""
+    with tempfile.TemporaryDirectory() as name:
+        folder = Path(name)
+        shutil.copy2(program(), folder / "sched")
+        output(["strip", folder / "sched"])
+        objects = library.whole_objects(folder)
+        archive, shared = folder / "libsched.a", folder / "libsched.so"
+        library.archive(list(objects.values()), archive)
+        library.shared(list(objects.values()), shared, soname(version))
+        return Parts(
+            version, last_commit(), copied(folder / "sched"), copied(archive), File(shared.read_bytes()),
+            {crate: copied(file) for crate, file in objects.items()},
+            {place: text.encode() for place, text in manual.files(PROGRAM, version).items()},
+            machine.measured(folder / "sched"), machine.measured(shared))
+
+
+def program_tree(parts: Parts, places: Places) -> Tree:
+    """The program, its pages and its completions."""
+    return {
+        places / "bin/sched": parts.program,
+        places / "share/man/man1/sched.1": File(parts.pages["man/man1/sched.1"]),
+        places / "share/man/man5/sched-plan.5": File(parts.pages["man/man5/sched-plan.5"]),
+        places / "share/bash-completion/completions/sched": File(parts.pages["completions/sched.bash"]),
+        places / "share/zsh/site-functions/_sched": File(parts.pages["completions/_sched"]),
+        places / "share/fish/vendor_completions.d/sched.fish": File(parts.pages["completions/sched.fish"]),
+    }
+
+
+def shared_tree(parts: Parts, places: Places) -> Tree:
+    """The shared library, under the name that programs look for."""
+    full = f"libsched.so.{parts.version}"
+    return {f"{places.libraries}/{full}": parts.shared, f"{places.libraries}/{parts.soname}": Link(full)}
+
+
+def development_tree(parts: Parts, places: Places, prefix: str) -> Tree:
+    """What C programs are built with: headers, the archive, the name of the shared library for linkers, and `sched.pc`."""
+    tree: Tree = {f"{places.headers}/{name}": copied(TOP / "include" / name) for name in HEADERS}
+    tree[f"{places.libraries}/libsched.a"] = parts.archive
+    tree[f"{places.libraries}/libsched.so"] = Link(parts.soname)
+    tree[f"{places.libraries}/pkgconfig/sched.pc"] = File(package_config(parts, places, prefix).encode())
+    return tree
+
+
+def package_config(parts: Parts, places: Places, prefix: str) -> str:
+    """What `pkg-config` says. `<sched/timers.h>` names a header; "timers.h" does too, by -iquote, which hides no header of the C
+    library, as -I would."""
+    libraries = places.libraries.removeprefix(places.front)
+    return f"""prefix={prefix}
+includedir=${{prefix}}/include
+libdir=${{prefix}}/{libraries}
+
+Name: sched
+Description: A scheduled executor, a delay queue, and an executor of plans, proved
+Version: {parts.version}
+Cflags: -I${{includedir}} -iquote${{includedir}}/sched
+Libs: -L${{libdir}} -lsched
+"""
+
+
+def example_tree(folder: str) -> Tree:
+    """The examples: plans with events and traces, and those in C."""
+    names = output(["git", "-C", TOP, "ls-files", *EXAMPLES]).split()
+    return {f"{folder}/{name}": copied(TOP / name) for name in names}
+
+
+def machines(parts: Parts) -> str:
+    """Which machines run the program and the libraries."""
+    return f"""Measured: the versions of the C library's symbols that each file takes, and each of its instructions.
+
+the program sched: {parts.program_machine}
+the library libsched: {parts.library_machine}
+"""
+
+
+def document_tree(parts: Parts, folder: str) -> Tree:
+    """What is to be read."""
+    return {
+        f"{folder}/README.md": copied(TOP / "README.md"),
+        f"{folder}/EMBEDDING.md": copied(TOP / "docs" / "EMBEDDING.md"),
+        f"{folder}/MACHINES": File(machines(parts).encode()),
+    }
+
+
+def notices(crates: list[str]) -> File:
+    """The licences of what some crates are made of."""
+    return File(licences.notices(crates).encode())

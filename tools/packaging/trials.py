@@ -1,0 +1,187 @@
+"""The packages, installed: each into an empty root, a fresh folder or a fresh virtual environment, without the toolchain, and tried."""
+
+from __future__ import annotations
+
+import os
+import re
+import shutil
+import sys
+import tempfile
+from collections.abc import Callable, Iterator
+from contextlib import contextmanager
+from dataclasses import replace
+from pathlib import Path
+
+import checks
+import crate
+import debian
+import tarball
+import wheel
+from checks import Installed, expect
+from library import C_LIBRARY
+from parts import Parts
+from tools import ToolError, output
+
+# The examples in Python that stand beside the package, and what each writes.
+PYTHON_EXAMPLES = {"heartbeat_pool.py": "heartbeat_pool.txt", "debounce.py": "debounce.txt"}
+# An example of the crate, and what it writes.
+RUST_EXAMPLE = ("retries", "stdout_retries")
+SYSTEM_FOLDERS = ("/usr/bin", "/bin", "/usr/sbin", "/sbin")
+LOADER = "/lib64/ld-linux-x86-64.so.2"
+
+
+class Trials:
+    """Counts what is tried, and tells what failed."""
+
+    def __init__(self) -> None:
+        self.passed = self.failed = 0
+
+    @contextmanager
+    def step(self, name: str) -> Iterator[None]:
+        """One thing that is tried: it passes where nothing is raised."""
+        try:
+            yield
+        except (ToolError, OSError) as error:
+            self.failed += 1
+            print(f"{name}: FAILED\n{str(error)[-3000:]}", flush=True)
+        else:
+            self.passed += 1
+            print(f"{name}: passed", flush=True)
+
+
+Trial = Callable[[Trials, Parts, dict[str, bytes], Path], None]
+
+
+def outside(home: Path, *more: Path) -> dict[str, str]:
+    """An environment that knows nothing of the toolchain."""
+    path = os.pathsep.join([*SYSTEM_FOLDERS, *map(str, more)])
+    if shutil.which("rt", path=path):
+        raise ToolError(f"the toolchain is in {path}")
+    return {"PATH": path, "HOME": str(home), "LANG": "C.UTF-8"}
+
+
+def try_program(trials: Trials, name: str, installed: Installed) -> None:
+    """The program, its pages and its completions."""
+    with trials.step(f"{name}: the program's first command"):
+        checks.first_command(installed)
+    with trials.step(f"{name}: pages"):
+        checks.pages(installed)
+    with trials.step(f"{name}: completions"):
+        checks.completions(installed)
+
+
+def try_libraries(trials: Trials, name: str, installed: Installed, folder: Path) -> None:
+    """The headers, and the example in C. Programs are built in a folder where they can be run."""
+    with trials.step(f"{name}: headers"):
+        checks.headers(installed, folder)
+    with trials.step(f"{name}: the example in C, over the shared library and over the archive"):
+        checks.c_example(installed, folder)
+
+
+def try_tarball(trials: Trials, parts: Parts, packages: dict[str, bytes], folder: Path) -> None:
+    """The archive, unpacked in a folder of its own."""
+    root = folder / tarball.name(parts)
+    environment = outside(folder) | {"PKG_CONFIG_PATH": str(root / "lib" / "pkgconfig"), "LD_LIBRARY_PATH": str(root / "lib")}
+    with trials.step("archive: unpacked, with its checksums"):
+        (folder / "archive").write_bytes(packages[f"{tarball.name(parts)}.tar.gz"])
+        output(["tar", "-xzf", folder / "archive", "-C", folder], environment=environment)
+        output(["sha256sum", "--check", "--strict", root / tarball.SUMS], environment=environment, folder=root)
+    examples = root / tarball.DOCUMENTS / "examples"
+    installed = Installed(parts.version, root / "bin" / "sched", root / "share", examples, environment)
+    try_program(trials, "archive", installed)
+    if checks.has_emulator():
+        with trials.step(f"archive: the program on a processor of level {parts.program_machine.level}"):
+            checks.emulated(installed, parts.program_machine.level)
+    try_libraries(trials, "archive", installed, folder)
+
+
+def with_c_library(root: Path) -> None:
+    """Gives an empty root the C library and what loads it, and nothing else."""
+    for file in (LOADER, f"/lib/x86_64-linux-gnu/{C_LIBRARY}"):
+        (root / file[1:]).parent.mkdir(parents=True, exist_ok=True)
+        shutil.copy(file, root / file[1:])
+
+
+def try_debian(trials: Trials, parts: Parts, packages: dict[str, bytes], folder: Path) -> None:
+    """The Debian packages, installed by dpkg into a root that has the C library alone."""
+    if not shutil.which("dpkg") or os.geteuid() != 0:
+        print("dpkg is not there, or may not install: its steps are left out", flush=True)
+        return
+    environment, root = outside(folder), folder / "root"
+    files = [folder / name for name in packages if name.endswith(".deb")]
+    for file in files:
+        file.write_bytes(packages[file.name])
+    names = [it.name for it in debian.packages(parts)]
+    with trials.step("Debian: installed"):
+        (root / "var" / "lib" / "dpkg").mkdir(parents=True)
+        (root / "var" / "lib" / "dpkg" / "status").touch()
+        # The root has no package of the C library, so what is missing is that alone.
+        output(["dpkg", f"--root={root}", "--force-depends", "--install", *files], environment=environment)
+        expect(output(["dpkg", f"--root={root}", "--verify", *names], environment=environment), "")
+    with_c_library(root)
+    environment["PKG_CONFIG_PATH"] = str(root / debian.PLACES.libraries / "pkgconfig")
+    documents = root / debian.PLACES.documents
+    installed = Installed(parts.version, root / "usr" / "bin" / "sched", root / "usr" / "share", documents / "sched" / "examples",
+                          environment, [f"--define-variable=prefix={root}/usr"], root)
+    try_program(trials, "Debian", installed)
+    work = root / "work"
+    work.mkdir()
+    try_libraries(trials, "Debian", replace(installed, examples=documents / "libsched-dev" / "examples"), work)
+    with trials.step("Debian: removed, with nothing left"):
+        output(["dpkg", f"--root={root}", "--purge", *names], environment=environment)
+        left = [str(path) for part in ("usr/bin", "usr/include", "usr/share") for path in (root / part).rglob("*")]
+        expect("\n".join(left), "")
+    if shutil.which("lintian"):
+        with trials.step("Debian: lintian finds no error"):
+            output(["lintian", "--fail-on", "error", *files], environment=environment | {"USER": "root"})
+
+
+def try_wheel(trials: Trials, parts: Parts, packages: dict[str, bytes], folder: Path) -> None:
+    """The wheel, in a fresh virtual environment, and away from the sources."""
+    environment = outside(folder)
+    name = next(name for name in packages if name.endswith(".whl"))
+    (folder / name).write_bytes(packages[name])
+    python = folder / "environment" / "bin" / "python"
+    with trials.step("wheel: installed"):
+        output([sys.executable, "-m", "venv", folder / "environment"], environment=environment)
+        output([python, "-m", "pip", "install", "--quiet", "--no-index", "--no-deps", folder / name], environment=environment)
+        shown = output([python, "-m", "pip", "show", wheel.PACKAGE], environment=environment)
+        expect("".join(re.findall(r"^Version: (.*)$", shown, re.MULTILINE)), parts.version)
+    for example, wanted in PYTHON_EXAMPLES.items():
+        with trials.step(f"wheel: {example}"):
+            shutil.copy(wheel.SOURCE / example, folder)
+            found = output([python, "-I", folder / example], environment=environment, folder=folder)
+            expect(found, (wheel.SOURCE / wanted).read_text())
+
+
+def try_crate(trials: Trials, parts: Parts, packages: dict[str, bytes], folder: Path) -> None:
+    """The crate, unpacked, with its tests and one of its examples."""
+    cargo = shutil.which("cargo")
+    if not cargo:
+        print("cargo is not there: its steps are left out", flush=True)
+        return
+    environment = outside(folder, Path(cargo).parent) | {"CARGO_TARGET_DIR": str(folder / "target")}
+    for name, standing in [("CARGO_HOME", ".cargo"), ("RUSTUP_HOME", ".rustup")]:
+        environment[name] = os.environ.get(name, str(Path.home() / standing))
+    root = folder / crate.name(parts)
+    with trials.step("crate: cargo test --offline"):
+        (folder / "crate").write_bytes(packages[f"{crate.name(parts)}.tar.gz"])
+        output(["tar", "-xzf", folder / "crate", "-C", folder], environment=environment)
+        tested = output(["cargo", "test", "--offline"], environment=environment, folder=root)
+        if not re.search(r"test result: ok\. [1-9]\d* passed", tested):
+            raise ToolError(f"no test ran:\n{tested}")
+    example, wanted = RUST_EXAMPLE
+    with trials.step(f"crate: its example {example}"):
+        found = output(["cargo", "run", "--quiet", "--offline", "--example", example], environment=environment, folder=root)
+        expect(found, (crate.SOURCE / wanted).read_text())
+
+
+def run(parts: Parts, packages: dict[str, bytes], wanted: dict[str, Trial]) -> int:
+    """Tries the packages of some kinds, each in a new folder, and says how many steps failed."""
+    trials = Trials()
+    for kind, trial in wanted.items():
+        with tempfile.TemporaryDirectory(prefix=f"sched-{kind}-") as folder:
+            Path(folder).chmod(0o755)
+            trial(trials, parts, packages, Path(folder))
+    print(f"{trials.passed} passed, {trials.failed} failed")
+    return trials.failed
