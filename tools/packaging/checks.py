@@ -13,7 +13,7 @@ from parts import HEADERS
 from tools import ToolError, compiler, output
 
 # For each level of the processor, one that qemu knows, which has no more.
-PROCESSORS = {1: "kvm64", 2: "Nehalem", 3: "Haswell"}
+PROCESSORS = {1: "kvm64,-sse3,-cx16", 2: "Nehalem", 3: "Haswell"}
 EMULATOR = "qemu-x86_64"
 FIRST_EXAMPLE = "one-delay"
 HEADERS_TEST = """\
@@ -137,7 +137,7 @@ def c_programs(installed: Installed, folder: Path) -> Iterator[Path]:
     source = installed.examples / "embed" / "c" / "timeout_wheel.c"
     expect(installed.config("--modversion")[0], installed.version)
     archive = Path(installed.config("--variable=libdir")[0]) / "libsched.a"
-    for name, words in [("over_shared", installed.config("--cflags", "--libs")), ("over_archive", [*installed.config("--cflags"), archive])]:
+    for name, words in [("over_shared", installed.config("--cflags", "--libs")), ("over_archive", [*installed.config("--cflags"), str(archive)])]:
         program = folder / name
         output([compiler(), "-std=c11", "-O2", source, *words, "-o", program], environment=installed.environment)
         yield program

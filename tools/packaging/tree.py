@@ -8,7 +8,7 @@ import io
 import tarfile
 from collections.abc import Iterator, Mapping
 from dataclasses import dataclass
-from pathlib import Path, PurePosixPath
+from pathlib import Path
 
 
 @dataclass(frozen=True)
@@ -32,24 +32,17 @@ def copied(file: Path) -> File:
     return File(file.read_bytes(), bool(file.stat().st_mode & 0o100))
 
 
-def folders(tree: Mapping[str, File | Link]) -> list[str]:
-    """All folders of the files, each behind the one that it stands in."""
-    return sorted({str(folder) for place in tree for folder in PurePosixPath(place).parents} - {"."})
-
-
 def compressed(content: bytes) -> bytes:
     """The bytes as gzip has them, with no name and no moment."""
     return gzip.compress(content, 9, mtime=0)
 
 
 def members(tree: Tree, moment: int, front: str) -> Iterator[tuple[tarfile.TarInfo, bytes]]:
-    """The members of an archive of all folders and files."""
-    for place in sorted([*folders(tree), *tree]):
+    """The members of an archive of all files. Folders are none: those that are there already stay as they are."""
+    for place, entry in sorted(tree.items()):
         member = tarfile.TarInfo(front + place)
-        member.mtime, member.mode, member.uname, member.gname = moment, 0o755, "root", "root"
-        match tree.get(place):
-            case None:
-                member.type, content = tarfile.DIRTYPE, b""
+        member.mtime, member.uname, member.gname = moment, "root", "root"
+        match entry:
             case Link(target):
                 member.type, member.linkname, member.mode, content = tarfile.SYMTYPE, target, 0o777, b""
             case File(content, is_program):

@@ -24,8 +24,20 @@ from tools import ToolError, output
 
 # The examples in Python that stand beside the package, and what each writes.
 PYTHON_EXAMPLES = {"heartbeat_pool.py": "heartbeat_pool.txt", "debounce.py": "debounce.txt"}
-# An example of the crate, and what it writes.
-RUST_EXAMPLE = ("retries", "stdout_retries")
+# The examples of the crate, and what each writes.
+RUST_EXAMPLES = {"retries": "stdout", "retries_with_backoff": "stdout_retries"}
+# A program of another crate that stands on this one, and what it writes.
+RUST_USER = """\
+fn main() -> Result<(), sched::QueueError> {
+    let mut queue = sched::DelayQueue::new(1)?;
+    queue.insert(5_000, 0)?;
+    for entry in queue.due(6_000) {
+        println!("task {} was due at {}", entry.task, entry.due);
+    }
+    Ok(())
+}
+"""
+RUST_USER_WRITES = "task 0 was due at 5000\n"
 SYSTEM_FOLDERS = ("/usr/bin", "/bin", "/usr/sbin", "/sbin")
 LOADER = "/lib64/ld-linux-x86-64.so.2"
 
@@ -154,8 +166,18 @@ def try_wheel(trials: Trials, parts: Parts, packages: dict[str, bytes], folder: 
             expect(found, (wheel.SOURCE / wanted).read_text())
 
 
+def crate_user(folder: Path, dependency: Path) -> Path:
+    """The folder of another crate that stands on this one."""
+    user = folder / "user"
+    (user / "src").mkdir(parents=True)
+    (user / "src" / "main.rs").write_text(RUST_USER)
+    words = ['[package]', 'name = "user"', 'version = "0.1.0"', 'edition = "2024"', '[dependencies]', f'sched = {{ path = "{dependency}" }}', '']
+    (user / "Cargo.toml").write_text("\n".join(words))
+    return user
+
+
 def try_crate(trials: Trials, parts: Parts, packages: dict[str, bytes], folder: Path) -> None:
-    """The crate, unpacked, with its tests and one of its examples."""
+    """The crate, unpacked: its tests, its examples, and a crate that stands on it."""
     cargo = shutil.which("cargo")
     if not cargo:
         print("cargo is not there: its steps are left out", flush=True)
@@ -170,10 +192,13 @@ def try_crate(trials: Trials, parts: Parts, packages: dict[str, bytes], folder: 
         tested = output(["cargo", "test", "--offline"], environment=environment, folder=root)
         if not re.search(r"test result: ok\. [1-9]\d* passed", tested):
             raise ToolError(f"no test ran:\n{tested}")
-    example, wanted = RUST_EXAMPLE
-    with trials.step(f"crate: its example {example}"):
-        found = output(["cargo", "run", "--quiet", "--offline", "--example", example], environment=environment, folder=root)
-        expect(found, (crate.SOURCE / wanted).read_text())
+    for example, wanted in RUST_EXAMPLES.items():
+        with trials.step(f"crate: its example {example}"):
+            found = output(["cargo", "run", "--quiet", "--offline", "--example", example], environment=environment, folder=root)
+            expect(found, (crate.SOURCE / wanted).read_text())
+    with trials.step("crate: another crate that stands on it"):
+        user = crate_user(folder, root)
+        expect(output(["cargo", "run", "--quiet", "--offline"], environment=environment, folder=user), RUST_USER_WRITES)
 
 
 def run(parts: Parts, packages: dict[str, bytes], wanted: dict[str, Trial]) -> int:
