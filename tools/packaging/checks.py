@@ -16,6 +16,8 @@ from tools import ToolError, compiler, output
 PROCESSORS = {1: "kvm64,-sse3,-cx16", 2: "Nehalem", 3: "Haswell"}
 EMULATOR = "qemu-x86_64"
 FIRST_EXAMPLE = "one-delay"
+# The examples in C, one for each library, and what each writes.
+C_EXAMPLES = {"c/timeout_wheel.c": "c/stdout", "c/heartbeat.c": "heartbeat.txt", "c/echo_timeouts.c": "c/echo_stdout"}
 HEADERS_TEST = """\
 #include <pthread.h>
 #ifdef __cplusplus
@@ -132,20 +134,20 @@ def headers(installed: Installed, folder: Path) -> None:
                 *installed.config("--cflags"), source], environment=installed.environment)
 
 
-def c_programs(installed: Installed, folder: Path) -> Iterator[Path]:
-    """The example in C, built by pkg-config's words over the shared library, and over the archive."""
-    source = installed.examples / "embed" / "c" / "timeout_wheel.c"
-    expect(installed.config("--modversion")[0], installed.version)
+def c_programs(installed: Installed, source: Path, folder: Path) -> Iterator[Path]:
+    """A program in C, built by pkg-config's words over the shared library, and over the archive."""
     archive = Path(installed.config("--variable=libdir")[0]) / "libsched.a"
-    for name, words in [("over_shared", installed.config("--cflags", "--libs")), ("over_archive", [*installed.config("--cflags"), str(archive)])]:
+    shared = installed.config("--cflags", "--libs")
+    for name, words in [("over_shared", shared), ("over_archive", [*installed.config("--cflags"), str(archive)])]:
         program = folder / name
         output([compiler(), "-std=c11", "-O2", source, *words, "-o", program], environment=installed.environment)
         yield program
 
 
-def c_example(installed: Installed, folder: Path) -> None:
-    """The example in C runs over both libraries."""
-    wanted = (installed.examples / "embed" / "c" / "stdout").read_text()
-    for program in c_programs(installed, folder):
-        expect(installed.run(program), wanted)
-        program.unlink()
+def c_examples(installed: Installed, folder: Path) -> None:
+    """The examples in C run over both libraries."""
+    expect(installed.config("--modversion")[0], installed.version)
+    for source, wanted in C_EXAMPLES.items():
+        for program in c_programs(installed, installed.examples / "embed" / source, folder):
+            expect(installed.run(program), (installed.examples / "embed" / wanted).read_text())
+            program.unlink()

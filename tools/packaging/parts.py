@@ -80,8 +80,8 @@ def program() -> Path:
     if not PROGRAM.exists():
         raise ToolError(f"{PROGRAM} is not there: `.ci/run` makes it, or `rt run -- --help` in {PROGRAM.parent.parent}")
     needed = library.needed(PROGRAM)
-    if needed - {library.C_LIBRARY, "libm.so.6", "libpthread.so.0", "libdl.so.2"}:
-        raise ToolError(f"{PROGRAM.name} needs {sorted(needed)}")
+    if needed != {library.C_LIBRARY}:
+        raise ToolError(f"{PROGRAM.name} needs {sorted(needed)}, and not {library.C_LIBRARY} alone")
     return PROGRAM
 
 

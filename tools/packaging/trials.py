@@ -83,11 +83,11 @@ def try_program(trials: Trials, name: str, installed: Installed) -> None:
 
 
 def try_libraries(trials: Trials, name: str, installed: Installed, folder: Path) -> None:
-    """The headers, and the example in C. Programs are built in a folder where they can be run."""
+    """The headers, and the examples in C. Programs are built in a folder where they can be run."""
     with trials.step(f"{name}: headers"):
         checks.headers(installed, folder)
-    with trials.step(f"{name}: the example in C, over the shared library and over the archive"):
-        checks.c_example(installed, folder)
+    with trials.step(f"{name}: the examples in C, over the shared library and over the archive"):
+        checks.c_examples(installed, folder)
 
 
 def try_tarball(trials: Trials, parts: Parts, packages: dict[str, bytes], folder: Path) -> None:
