@@ -107,8 +107,9 @@ def completions(installed: Installed) -> None:
     """Each shell that is there takes its completions, and bash and fish complete by them."""
     share, example = installed.share, installed.examples / FIRST_EXAMPLE
     words = [("sched ru", "run"), ("sched run --wor", "--workers"), ("sched draw --f", "--from"), ("sched help mig", "migrate")]
-    files = [(f"sched check {example}/pl", f"{example}/plan.toml"), (f"sched check {example}/plan.toml {example}/tr", f"{example}/trace.txt"),
-             (f"sched run {example}/plan.toml {example}/tr", ""), (f"sched run --workers {example}/pl", "")]
+    plan, trace = f"{example}/plan.toml", f"{example}/trace.txt"
+    files = [(f"sched check {example}/pl", plan), (f"sched check {plan} {example}/tr", trace),
+             (f"sched run {plan} {example}/tr", ""), (f"sched run --workers {example}/pl", "")]
     for line, wanted in words + files:
         script = 'source "$1"; COMP_WORDS=($2); COMP_CWORD=$((${#COMP_WORDS[@]} - 1)); _sched; echo "${COMPREPLY[*]}"'
         bash = share / "bash-completion" / "completions" / "sched"

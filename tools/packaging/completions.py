@@ -9,6 +9,65 @@ from help_text import HELP_COMMAND, Command, Option, Program
 NOTE = "# Completions of sched. Made from the program's help by tools/manual."
 
 
+# What bash reads, but for what the help says. It needs nothing of the package bash-completion.
+BASH = '''@NOTE@
+
+_sched_among() {
+    # Whether the first word is one of the others.
+    [[ " ${*:2} " == *" $1 "* ]]
+}
+
+_sched_files() {
+    mapfile -t COMPREPLY < <(compgen -f -- "$1")
+    compopt -o filenames 2> /dev/null || true
+}
+
+_sched() {
+    local word=${COMP_WORDS[COMP_CWORD]} before=${COMP_WORDS[COMP_CWORD - 1]}
+    local options valued files places place=2
+    COMPREPLY=()
+    if (( COMP_CWORD == 1 )); then
+        mapfile -t COMPREPLY < <(compgen -W '@WORDS@' -- "$word")
+        return
+    fi
+    # bash takes '--option=value' for three words.
+    if [[ $word == = ]]; then
+        word=
+    elif [[ $before == = ]]; then
+        before=${COMP_WORDS[COMP_CWORD - 2]}
+    fi
+    case ${COMP_WORDS[1]} in
+@CASES@
+    @HELP@)
+        (( COMP_CWORD > 2 )) || mapfile -t COMPREPLY < <(compgen -W '@NAMES@' -- "$word")
+        return
+        ;;
+    *)
+        return
+        ;;
+    esac
+    if _sched_among "$before" $valued; then
+        ! _sched_among "$before" $files || _sched_files "$word"
+    elif [[ $word == -* ]]; then
+        mapfile -t COMPREPLY < <(compgen -W "$options" -- "$word")
+    else
+        while (( place < COMP_CWORD )); do
+            if _sched_among "${COMP_WORDS[place]}" $valued; then
+                [[ ${COMP_WORDS[place + 1]} != = ]] || place=$(( place + 1 ))
+                place=$(( place + 1 ))
+            elif [[ ${COMP_WORDS[place]} != -* ]]; then
+                places=$(( places - 1 ))
+            fi
+            place=$(( place + 1 ))
+        done
+        (( places <= 0 )) || _sched_files "$word"
+    fi
+}
+
+complete -F _sched sched
+'''
+
+
 def names(program: Program) -> list[str]:
     """The names of the commands."""
     return [*(command.name for command in program.commands), HELP_COMMAND]
@@ -36,64 +95,16 @@ def bash_case(command: Command) -> str:
 
 
 def bash(program: Program) -> str:
-    """For bash. It needs nothing of the package bash-completion."""
-    cases = "\n".join(map(bash_case, program.commands))
-    return f'''{NOTE}
-
-_sched_among() {{
-    # Whether the first word is one of the others.
-    [[ " ${{*:2}} " == *" $1 "* ]]
-}}
-
-_sched_files() {{
-    mapfile -t COMPREPLY < <(compgen -f -- "$1")
-    compopt -o filenames 2> /dev/null || true
-}}
-
-_sched() {{
-    local word=${{COMP_WORDS[COMP_CWORD]}} before=${{COMP_WORDS[COMP_CWORD - 1]}}
-    local options valued files places place=2
-    COMPREPLY=()
-    if (( COMP_CWORD == 1 )); then
-        mapfile -t COMPREPLY < <(compgen -W '{" ".join([*names(program), *flags(program.itself.options)])}' -- "$word")
-        return
-    fi
-    # bash takes '--option=value' for three words.
-    if [[ $word == = ]]; then
-        word=
-    elif [[ $before == = ]]; then
-        before=${{COMP_WORDS[COMP_CWORD - 2]}}
-    fi
-    case ${{COMP_WORDS[1]}} in
-{cases}
-    {HELP_COMMAND})
-        (( COMP_CWORD > 2 )) || mapfile -t COMPREPLY < <(compgen -W '{" ".join(names(program))}' -- "$word")
-        return
-        ;;
-    *)
-        return
-        ;;
-    esac
-    if _sched_among "$before" $valued; then
-        ! _sched_among "$before" $files || _sched_files "$word"
-    elif [[ $word == -* ]]; then
-        mapfile -t COMPREPLY < <(compgen -W "$options" -- "$word")
-    else
-        while (( place < COMP_CWORD )); do
-            if _sched_among "${{COMP_WORDS[place]}}" $valued; then
-                [[ ${{COMP_WORDS[place + 1]}} != = ]] || place=$(( place + 1 ))
-                place=$(( place + 1 ))
-            elif [[ ${{COMP_WORDS[place]}} != -* ]]; then
-                places=$(( places - 1 ))
-            fi
-            place=$(( place + 1 ))
-        done
-        (( places <= 0 )) || _sched_files "$word"
-    fi
-}}
-
-complete -F _sched sched
-'''
+    """For bash."""
+    words = {
+        "@NOTE@": NOTE, "@HELP@": HELP_COMMAND, "@NAMES@": " ".join(names(program)),
+        "@WORDS@": " ".join([*names(program), *flags(program.itself.options)]),
+        "@CASES@": "\n".join(map(bash_case, program.commands)),
+    }
+    text = BASH
+    for stand_in, said in words.items():
+        text = text.replace(stand_in, said)
+    return text
 
 
 def zsh_said(text: str) -> str:

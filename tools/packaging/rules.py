@@ -41,4 +41,5 @@ def limits() -> list[tuple[str, str]]:
 
 def limits_of_plans() -> list[tuple[str, str]]:
     """The limits of what a plan says."""
-    return [(row["What"], row["Limit"]) for row in table("Limits") if any(crate in row["Definition"] + row["Code"] for crate in PLAN_CRATES)]
+    return [(row["What"], row["Limit"]) for row in table("Limits")
+            if any(crate in row["Definition"] + row["Code"] for crate in PLAN_CRATES)]

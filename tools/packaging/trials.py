@@ -171,7 +171,7 @@ def crate_user(folder: Path, dependency: Path) -> Path:
     user = folder / "user"
     (user / "src").mkdir(parents=True)
     (user / "src" / "main.rs").write_text(RUST_USER)
-    words = ['[package]', 'name = "user"', 'version = "0.1.0"', 'edition = "2024"', '[dependencies]', f'sched = {{ path = "{dependency}" }}', '']
+    words = ["[package]", 'name = "user"', 'edition = "2024"', "[dependencies]", f'sched = {{ path = "{dependency}" }}', ""]
     (user / "Cargo.toml").write_text("\n".join(words))
     return user
 
