@@ -5,7 +5,7 @@
 #include <stdio.h>
 #include <stdlib.h>
 
-static const char plan[] = "version = 1\n"
+static const char plan[] = "version = 2\n"
                            "[[block]]\n"
                            "[[block.call]]\n"
                            "op = \"rate\"\n"

@@ -8,7 +8,7 @@ from collections.abc import Iterator
 
 from sched_timers import Executor
 
-PLAN = b"""version = 1
+PLAN = b"""version = 2
 [[block]]
 [[block.call]]
 op = "rate"

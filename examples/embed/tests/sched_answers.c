@@ -5,11 +5,11 @@
 #include <stdlib.h>
 #include <string.h>
 
-static const char plan[] = "version = 1\n[[block]]\ncall = [{ op = \"rate\", name = \"a\", first = 5, period = 10 }]\n";
-static const char no_plan[] = "version = 1\n[[block]]\ncall = [{ op = \"rate\", name = \"\", first = 5, period = 10 }]\n";
+static const char plan[] = "version = 2\n[[block]]\ncall = [{ op = \"rate\", name = \"a\", first = 5, period = 10 }]\n";
+static const char no_plan[] = "version = 2\n[[block]]\ncall = [{ op = \"rate\", name = \"\", first = 5, period = 10 }]\n";
 /* Its fault stands in the third call of the second block. */
 static const char third_call_of_two[] =
-    "version = 1\n"
+    "version = 2\n"
     "[[block]]\ncall = [{ op = \"execute\", name = \"a\" }]\n"
     "[[block]]\ncall = [{ op = \"execute\", name = \"b\" }, { op = \"ask\" }, { op = \"execute\", name = \"\" }]\n";
 

@@ -18,7 +18,7 @@ from sched_timers.executor import (ExecutorClosedError, ExecutorError, Fault, Fa
                                    LimitError, LimitReachedError, Phase, PlanError, Run, TaskState,
                                    UnknownWorkerError, WorkerCountError)
 
-PLAN = b'version = 1\n[[block]]\ncall = [{ op = "rate", name = "a", first = 5, period = 10 }]\n'
+PLAN = b'version = 2\n[[block]]\ncall = [{ op = "rate", name = "a", first = 5, period = 10 }]\n'
 NO_NAME = PLAN.replace(b'"a"', b'""')
 MOST = (1 << 64) - 1
 

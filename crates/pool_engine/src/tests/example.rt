@@ -20,31 +20,34 @@ const PLAN: &str = "\
 # Two jobs that a pool of workers runs: a report every 10 seconds, and a cleanup that
 # begins 5 seconds after the one before it has ended. At 25 seconds the reports are
 # cancelled, and at 30 the service is shut down.
-version = 1
+version = 2
 
 [[block]]
-unit = \"s\"
 
 [[block.call]]
 op = \"rate\"
 name = \"report\"
 first = 0
 period = 10
+period_unit = \"s\"
 
 [[block.call]]
 op = \"fixed\"
 name = \"cleanup\"
 first = 0
 delay = 5
+delay_unit = \"s\"
 
 [[block.call]]
 op = \"cancel\"
 name = \"report\"
 at = 25
+at_unit = \"s\"
 
 [[block.call]]
 op = \"shutdown\"
 at = 30
+at_unit = \"s\"
 ";
 
 const CLOCKS: &str = "\

@@ -10,7 +10,7 @@ fn audit(rt: HostRuntime) -> Result<(), Fail> {
 
 const AUDIT_PLAN: &str = "\
 # One task that runs every 10 nanoseconds, 10 after it is submitted.
-version = 1
+version = 2
 
 [[block]]
 
@@ -18,7 +18,9 @@ version = 1
 op = \"rate\"
 name = \"beat\"
 first = 10
+first_unit = \"ns\"
 period = 10
+period_unit = \"ns\"
 ";
 
 const AUDIT_TRACE: &str = "\

@@ -1,7 +1,7 @@
 //! A heartbeat: a task at a fixed rate, every 10 nanoseconds, that runs five times over a clock of the program's own.
 use sched::{Event, Executor, ExecutorError};
 
-const PLAN: &str = "version = 1
+const PLAN: &str = "version = 2
 [[block]]
 [[block.call]]
 op = \"rate\"

@@ -5,7 +5,7 @@ use sched::{
 };
 
 const PLAN: &[u8] =
-    b"version = 1\n[[block]]\ncall = [{ op = \"rate\", name = \"a\", first = 5, period = 10 }]\n";
+    b"version = 2\n[[block]]\ncall = [{ op = \"rate\", name = \"a\", first = 5, period = 10 }]\n";
 
 fn entries<const N: usize>(pairs: [(u64, u32); N]) -> [Entry; N] {
     pairs.map(|(due, task)| Entry { due, task })
@@ -101,9 +101,9 @@ fn an_executor_answers_in_lines() {
     assert_eq!(lines, ["5 outside 0 yes"]);
 }
 
-/// The text of a plan of one block of version 1, with these keys, or of more where the keys go on to those.
+/// The text of a plan of one block, with these keys, or of more where the keys go on to those.
 fn blocks(keys: &str) -> String {
-    format!("version = 1\n[[block]]\n{keys}")
+    format!("version = 2\n[[block]]\n{keys}")
 }
 
 /// The executor of this text is refused by this fault.
@@ -126,7 +126,7 @@ fn a_text_is_refused_by_its_first_block() {
         ("x = 1", FaultKind::UnknownKey),
         ("times = 2", FaultKind::Missing),
         ("at = true", FaultKind::WrongType),
-        ("unit = 'year'", FaultKind::BadUnit),
+        ("at_unit = 'year'", FaultKind::BadUnit),
         ("times = 0", FaultKind::BadTimes),
         ("every = -1", FaultKind::Negative),
         ("at = 4611686018427387905", FaultKind::TooLarge),

@@ -13,8 +13,8 @@ fn timeout(rt: HostRuntime) -> Result<(), Fail> {
 # Timeouts: two requests may take 30 nanoseconds each. The first one is answered
 # in time, so its timeout is cancelled from outside, at 20. The second one is
 # not: its timeout runs at 40, and a cancel comes too late. The plan itself
-# takes back a third one that was not sent.
-version = 1
+# takes back a third one that was not sent. All times are nanoseconds.
+version = 2
 
 [[block]]
 
@@ -88,8 +88,8 @@ fn retention(rt: HostRuntime) -> Result<(), Fail> {
 # A service that cancels most of its timeouts: each request gets one, and nearly
 # each is answered in time. By default a cancelled timeout stays in the queue
 # until a start meets it at its due moment; with the remove policy it leaves at
-# once. The questions show how many stand in the queue.
-version = 1
+# once. The questions show how many stand in the queue. All times are nanoseconds.
+version = 2
 
 [[block]]
 
@@ -185,8 +185,9 @@ fn shutdown(rt: HostRuntime) -> Result<(), Fail> {
 # A graceful shutdown: a mail that is due at 30 is still sent, and the heartbeat
 # ends. At 20 the service is shut. The next run of the heartbeat waits and is
 # ended; its run that is under way ends with its finish. A task that is submitted
-# after the shutdown is rejected. Once the mail is sent, all is done.
-version = 1
+# after the shutdown is rejected. Once the mail is sent, all is done. All times are
+# nanoseconds.
+version = 2
 
 [[block]]
 
@@ -298,8 +299,9 @@ const STOP: &str = "\
 # already, since no worker was free, and a report that is due later are ended, and
 # a reminder that was cancelled leaves the queue. Nothing starts any more, and a
 # task that is submitted then is rejected. The heartbeat ends with its run, though
-# the policy says that periodic tasks go on after a shutdown.
-version = 1
+# the policy says that periodic tasks go on after a shutdown. All times are
+# nanoseconds.
+version = 2
 
 [[block]]
 

@@ -59,7 +59,7 @@ fn heartbeat(rt: HostRuntime) -> Result<(), Fail> {
 # A heartbeat: a task at a fixed rate, due at 10, 20, 30, .. nanoseconds.
 # The second beat is finished late, at 45. Those of 30 and 40 follow one after
 # the other, and from 50 on the beats are in time again.
-version = 1
+version = 2
 
 [[block]]
 
@@ -67,7 +67,9 @@ version = 1
 op = \"rate\"
 name = \"heartbeat\"
 first = 10
+first_unit = \"ns\"
 period = 10
+period_unit = \"ns\"
 ",
             workers: 1,
             limit: 1_000_000,
@@ -123,7 +125,7 @@ fn poll(rt: HostRuntime) -> Result<(), Fail> {
             plan: "\
 # A poll: a task that runs again 20 nanoseconds after each of its runs has
 # ended, however long the run took. Its third run fails, and no other follows.
-version = 1
+version = 2
 
 [[block]]
 
@@ -132,6 +134,7 @@ op = \"fixed\"
 name = \"poll\"
 first = 0
 delay = 20
+delay_unit = \"ns\"
 ",
             workers: 1,
             limit: 1_000_000,
