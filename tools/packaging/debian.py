@@ -58,7 +58,7 @@ def runs_on(machine: Machine) -> list[str]:
 def copyright_text(crates: list[str]) -> str:
     """The licences of a package."""
     text = made.notices(crates).content.decode()
-    return f"""Sources: the repository of sched. Copyright: its authors, {maintainer()}.
+    return f"""Sources: the repository of sched. It names no holder of the copyright. Its commits are by {maintainer()}.
 
 {text}"""
 

@@ -2,15 +2,17 @@
 
 from __future__ import annotations
 
+import re
 from pathlib import Path
 
 from library import TOP, kit
 from tools import ToolError
 
-# Where a crate names several licences, the first of these that it has is taken.
-CHOICES = ("LICENSE-MIT", "LICENSE", "LICENSE-UNICODE", "LICENSE-APACHE")
-OWN = """The repository of sched states no licence for its own files, and the toolchain states none for its own library, of which the heap
-archive liblibc_c.a is a part. Who holds the rights says what else may be done with them.
+# Where a crate has both of these, it leaves the choice, and the first one is taken. Each other file of a licence goes along.
+CHOICES = ("LICENSE-MIT", "LICENSE-APACHE")
+OWN = """Neither the repository of sched nor the toolchain, Rattle, names a licence for its own files. Of the toolchain's own files
+its library and the archive liblibc_c.a are built in. So nothing here says that this may be passed on, changed or sold: that is for
+those to say who hold the rights.
 """
 
 
@@ -24,10 +26,10 @@ def right_below(name: str, own: dict[str, list[str]], folder: Path) -> set[str]:
     """What a crate stands on, without what that stands on."""
     if name in own:
         return set(own[name])
-    built = folder / "rlibs" / f"{name}.rlib"
-    if not built.exists():
-        raise ToolError(f"{built} is not there")
-    return {path.name for path in (built / "below").glob("*")}
+    form = folder / "rlibs" / f"{name}.rlib" / "format"
+    if not form.exists():
+        raise ToolError(f"{form} is not there")
+    return set(re.findall(r"^dep (\w+)$", form.read_text(), re.MULTILINE))
 
 
 def below(crates: list[str], folder: Path) -> set[str]:
@@ -41,17 +43,24 @@ def below(crates: list[str], folder: Path) -> set[str]:
     return found - set(own)
 
 
-def chosen(crate: Path) -> Path | None:
-    """The licence of a crate that has a file of it."""
-    return next((crate / name for name in CHOICES if (crate / name).exists()), None)
+def chosen(crate: Path) -> list[Path]:
+    """The files of a crate's licences."""
+    taken, left = (crate / name for name in CHOICES)
+    return [file for file in sorted(crate.glob("LICENSE*")) if file != left or not taken.exists()]
+
+
+def headed(name: str, text: str) -> str:
+    """The text of a licence, below a line and the name of the crate that has it."""
+    stripped = text.strip("\n")
+    return f"{'-' * 72}\n{name}\n\n{stripped}\n"
 
 
 def notices(crates: list[str]) -> str:
     """The licences of the toolchain's crates on which some crates of the repository stand."""
     folder = kit()
     found = {name: chosen(folder / "rattle" / name) for name in sorted(below(crates, folder))}
-    texts = [f"{'-' * 72}\n{name}\n\n{file.read_text().strip()}\n" for name, file in found.items() if file]
+    texts = [headed(name, file.read_text()) for name, licences in found.items() for file in licences]
     if not texts:
         raise ToolError(f"no licence is found below {folder}")
-    names = ", ".join(name for name, file in found.items() if file)
-    return "\n".join([OWN, f"These parts of the toolchain come from others, each with the licence below it: {names}.\n", *texts])
+    names = ", ".join(name for name, licences in found.items() if licences)
+    return "\n".join([OWN, f"These parts of the toolchain come from others, and each has its licence below: {names}.\n", *texts])
