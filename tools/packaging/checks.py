@@ -3,13 +3,18 @@ has to be."""
 
 from __future__ import annotations
 
+import os
 import shutil
 from collections.abc import Iterator
 from dataclasses import dataclass, field
 from pathlib import Path
 from typing import Any
 
+import help_text
+from completions import places
+from help_text import Command, Program
 from parts import HEADERS
+from shells import Shell, completed
 from tools import ToolError, compiler, output
 
 # For each level of the processor, one that qemu knows, which has no more.
@@ -36,7 +41,8 @@ int main(void) {{ (void)of_the_c_library; (void)of_one_length; return 0; }}
 @dataclass(frozen=True)
 class Installed:
     """What is installed: which version, the program, the folders of pages and completions and of examples, the environment of each
-    command, more words for pkg-config, and the root in which its programs run, where that is another one."""
+    command, more words for pkg-config, the root in which its programs run, where that is another one, and the folder below which
+    shells find its files, as if it stood there."""
     version: str
     program: Path
     share: Path
@@ -44,6 +50,7 @@ class Installed:
     environment: dict[str, str]
     config_words: list[str] = field(default_factory=list)
     root: Path | None = None
+    prefix: str = "/usr/local"
 
     def run(self, program: Path, *words: Any, given: bytes = b"") -> str:
         """What a program writes. Files among the words are named as it sees them."""
@@ -103,24 +110,42 @@ def pages(installed: Installed) -> None:
             expect(output(["mandoc", "-Tlint", "-Wwarning", page], environment=installed.environment), "")
 
 
-def completions(installed: Installed) -> None:
-    """Each shell that is there takes its completions, and bash and fish complete by them."""
-    share, example = installed.share, installed.examples / FIRST_EXAMPLE
-    words = [("sched ru", "run"), ("sched run --wor", "--workers"), ("sched draw --f", "--from"), ("sched help mig", "migrate")]
-    plan, trace = f"{example}/plan.toml", f"{example}/trace.txt"
-    files = [(f"sched check {example}/pl", plan), (f"sched check {plan} {example}/tr", trace),
-             (f"sched run {plan} {example}/tr", ""), (f"sched run --workers {example}/pl", "")]
-    for line, wanted in words + files:
-        script = 'source "$1"; COMP_WORDS=($2); COMP_CWORD=$((${#COMP_WORDS[@]} - 1)); _sched; echo "${COMPREPLY[*]}"'
-        bash = share / "bash-completion" / "completions" / "sched"
-        expect(output(["bash", "-ec", script, "bash", bash, line], environment=installed.environment), f"{wanted}\n")
-    if shutil.which("zsh"):
-        output(["zsh", "-n", share / "zsh" / "site-functions" / "_sched"], environment=installed.environment)
-    for line, wanted in words if shutil.which("fish") else []:
-        script = "source $argv[1]; complete -C $argv[2]"
-        fish = share / "fish" / "vendor_completions.d" / "sched.fish"
-        found = output(["fish", "--no-config", "-c", script, fish, line], environment=installed.environment)
-        expect(" ".join(word.split("\t")[0] for word in found.splitlines()), wanted)
+def words_to_complete(program: Program, shell: str) -> Iterator[tuple[str, str]]:
+    """Lines that end within a word of the program's, and what is made of them. zsh takes a value to be joined by `=`."""
+    yield from [("sched ru", "sched run "), ("sched help mig", "sched help migrate ")]
+    for command in [program.itself, *program.commands]:
+        for option in command.options:
+            end = "=" if option.value and shell == "zsh" else " "
+            yield f"{command.words} --{option.name[:-1]}", f"{command.words} --{option.name}{end}"
+
+
+def files_to_complete(command: Command, folder: Path) -> Iterator[tuple[str, str]]:
+    """Lines that end within the name of a file, and what is made of them: where a file has a place, its whole name."""
+    part, whole = f"{folder}/pl", f"{folder}/plan.toml "
+    for option in command.options:
+        for joint in (" ", "=") if option.value else ():
+            line = f"{command.words} --{option.name}{joint}"
+            yield line + part, line + (whole if option.is_file else part)
+    for given in (whole, "- "):
+        line = f"{command.words} "
+        for _ in range(places(command)):
+            yield line + part, line + whole
+            line += given
+        yield line + part, line + part
+
+
+def completions(installed: Installed, shell: Shell) -> None:
+    """A shell completes the program's words, and files where they have a place."""
+    program = help_text.read(installed.program)
+    example = installed.examples / FIRST_EXAMPLE
+    files = [line for command in program.commands for line in files_to_complete(command, example)]
+    wanted = [*words_to_complete(program, shell.name), *files]
+    path = f"{installed.program.parent}{os.pathsep}{installed.environment['PATH']}"
+    lines = [line for line, _ in wanted]
+    found = completed(shell, lines, installed.share, installed.prefix, installed.environment | {"PATH": path})
+    wrong = [f"{line!r}: {made!r}, and not {whole!r}" for (line, whole), made in zip(wanted, found, strict=True) if made != whole]
+    if wrong:
+        raise ToolError("\n".join([f"{len(wrong)} of {len(wanted)} lines:", *wrong]))
 
 
 def headers(installed: Installed, folder: Path) -> None:

@@ -55,7 +55,7 @@ _sched() {
             if _sched_among "${COMP_WORDS[place]}" $valued; then
                 [[ ${COMP_WORDS[place + 1]} != = ]] || place=$(( place + 1 ))
                 place=$(( place + 1 ))
-            elif [[ ${COMP_WORDS[place]} != -* ]]; then
+            elif [[ ${COMP_WORDS[place]} != -?* ]]; then
                 places=$(( places - 1 ))
             fi
             place=$(( place + 1 ))
@@ -68,6 +68,29 @@ complete -F _sched sched
 '''
 
 
+# What fish reads in front of the lines that the help makes.
+FISH = """@NOTE@
+
+function __sched_has_place --argument-names command places --description 'Whether a further file has a place behind a command'
+    set -l words (commandline -opc)
+    test "$words[2]" = $command; or return 1
+    set -l is_value false
+    for word in $words[3..]
+        if $is_value
+            set is_value false
+        else if contains -- $word $argv[3..]
+            set is_value true
+        else if not string match -q -- '-?*' $word
+            set places (math $places - 1)
+        end
+    end
+    test $places -gt 0
+end
+
+complete -c sched -f
+"""
+
+
 def names(program: Program) -> list[str]:
     """The names of the commands."""
     return [*(command.name for command in program.commands), HELP_COMMAND]
@@ -78,6 +101,16 @@ def flags(options: list[Option]) -> list[str]:
     return [flag for option in options for flag in option.flags]
 
 
+def valued(command: Command) -> list[str]:
+    """The words that begin the options of a command that take a value."""
+    return flags([option for option in command.options if option.value])
+
+
+def places(command: Command) -> int:
+    """How many files stand on the command line of a command."""
+    return sum(argument.is_file for argument in command.arguments)
+
+
 def quoted(text: str) -> str:
     """A text as a word of a shell."""
     return "'" + text.replace("'", "'\\''") + "'"
@@ -86,11 +119,9 @@ def quoted(text: str) -> str:
 def bash_case(command: Command) -> str:
     """What bash is told of a command: its options, those that take a value, those whose value is a file, and how many files stand
     on its command line."""
-    valued = [flag for option in command.options if option.value for flag in option.flags]
-    files = [flag for option in command.options if option.is_file for flag in option.flags]
-    places = sum(argument.is_file for argument in command.arguments)
+    options, files = flags(command.options), flags([option for option in command.options if option.is_file])
     return f'''    {command.name})
-        options='{" ".join(flags(command.options))}' valued='{" ".join(valued)}' files='{" ".join(files)}' places={places}
+        options='{" ".join(options)}' valued='{" ".join(valued(command))}' files='{" ".join(files)}' places={places(command)}
         ;;'''
 
 
@@ -176,7 +207,6 @@ def fish_option(condition: str, option: Option) -> str:
 
 def fish_lines(program: Program) -> Iterator[str]:
     """The lines for fish."""
-    yield from [NOTE, "", "complete -c sched -f"]
     first = "__fish_use_subcommand"
     for option in program.itself.options:
         yield fish_option(first, option)
@@ -187,11 +217,12 @@ def fish_lines(program: Program) -> Iterator[str]:
         seen = f"__fish_seen_subcommand_from {command.name}"
         for option in command.options:
             yield fish_option(seen, option)
-        if any(argument.is_file for argument in command.arguments):
-            yield f"complete -c sched -n {quoted(seen)} -F"
+        if places(command):
+            condition = " ".join(["__sched_has_place", command.name, str(places(command)), *valued(command)])
+            yield f"complete -c sched -n {quoted(condition)} -F"
     yield f"complete -c sched -n '__fish_seen_subcommand_from {HELP_COMMAND}' -a {quoted(' '.join(names(program)))}"
 
 
 def fish(program: Program) -> str:
     """For fish."""
-    return "\n".join([*fish_lines(program), ""])
+    return FISH.replace("@NOTE@", NOTE) + "\n".join([*fish_lines(program), ""])

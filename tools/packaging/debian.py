@@ -19,7 +19,7 @@ from parts import LIBRARY_CRATES, Parts, Places
 from tools import output
 from tree import File, Tree, checksums, compressed, copied, files, written
 
-PLACES = Places("usr/", "usr/lib/x86_64-linux-gnu")
+PLACES = Places("usr/", "usr/lib/x86_64-linux-gnu", "vendor-completions")
 REVISION = "1"
 ARCHITECTURE = "amd64"
 # What refuses to be set up on a processor below level 2. There is none for the levels above.

@@ -41,8 +41,8 @@ class Option:
 
     @property
     def is_file(self) -> bool:
-        """Whether the value names a file, which its help says first."""
-        return self.value is not None and self.help.startswith("The file ")
+        """Whether the value names a file, which the value's name or its help says."""
+        return self.value == "FILE" or self.value is not None and self.help.startswith("The file ")
 
     @property
     def flags(self) -> list[str]:

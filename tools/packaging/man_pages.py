@@ -14,6 +14,11 @@ from help_text import Command, HelpError, Option, Program
 STATUSES = "Exit status:"
 PLAN_BEGINS = "The plan is a file of TOML"
 EXAMPLE_BEGINS = "Example, with the plan"
+# What is said of a shell whose own command hides the program.
+NOTES = [
+    "zsh has a command of its own with the name", r"\fBsched\fR.", r"There \fBcommand sched\fR calls the program, and",
+    r"\fBdisable sched\fR in the file \fI.zshrc\fR leaves it the name.",
+]
 
 
 @dataclass(frozen=True)
@@ -93,6 +98,7 @@ def program_page(program: Program, issue: Issue) -> str:
         ("COMMANDS", [line for command in program.commands for line in described(command)]),
         ("EXIT STATUS", [line for part in statuses for line in roff.rendered(part)]),
         ("LIMITS", list(limit_rows(rules.limits()))),
+        ("NOTES", NOTES),
         ("SEE ALSO", [r".BR sched\-plan (5)"]),
     ])
 

@@ -47,9 +47,11 @@ class Parts:
 
 @dataclass(frozen=True)
 class Places:
-    """Where a package has its files. `headers` is a folder of its own: `sched.h` is a name of the C library too."""
+    """Where a package has its files. `headers` is a folder of its own: `sched.h` is a name of the C library too. `zsh` is the folder of
+    completions in which zsh looks: another one below /usr/local than Debian's below /usr."""
     front: str
     libraries: str
+    zsh: str
 
     def __truediv__(self, place: str) -> str:
         return f"{self.front}{place}"
@@ -109,7 +111,7 @@ def program_tree(parts: Parts, places: Places) -> Tree:
         places / "share/man/man1/sched.1": File(parts.pages["man/man1/sched.1"]),
         places / "share/man/man5/sched-plan.5": File(parts.pages["man/man5/sched-plan.5"]),
         places / "share/bash-completion/completions/sched": File(parts.pages["completions/sched.bash"]),
-        places / "share/zsh/site-functions/_sched": File(parts.pages["completions/_sched"]),
+        places / f"share/zsh/{places.zsh}/_sched": File(parts.pages["completions/_sched"]),
         places / "share/fish/vendor_completions.d/sched.fish": File(parts.pages["completions/sched.fish"]),
     }
 

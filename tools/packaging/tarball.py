@@ -6,7 +6,7 @@ import parts as made
 from parts import LIBRARY_CRATES, Parts, Places
 from tree import File, Tree, checksums, files, tarred
 
-PLACES = Places("", "lib")
+PLACES = Places("", "lib", "site-functions")
 DOCUMENTS = f"{PLACES.documents}/sched"
 SUMS = f"{DOCUMENTS}/SHA256SUMS"
 

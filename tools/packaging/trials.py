@@ -15,6 +15,7 @@ from pathlib import Path
 import checks
 import crate
 import debian
+import shells
 import tarball
 import wheel
 from checks import Installed, expect
@@ -76,10 +77,13 @@ def try_program(trials: Trials, name: str, installed: Installed) -> None:
     """The program, its pages and its completions."""
     with trials.step(f"{name}: the program's first command"):
         checks.first_command(installed)
+    with trials.step(f"{name}: the version that the program tells"):
+        expect(installed.run(installed.program, "--version"), f"sched {installed.version}\n")
     with trials.step(f"{name}: pages"):
         checks.pages(installed)
-    with trials.step(f"{name}: completions"):
-        checks.completions(installed)
+    for shell in filter(None, map(shells.found, shells.STARTS)):
+        with trials.step(f"{name}: completions of {shell.name}"):
+            checks.completions(installed, shell)
 
 
 def try_libraries(trials: Trials, name: str, installed: Installed, folder: Path) -> None:
@@ -134,7 +138,7 @@ def try_debian(trials: Trials, parts: Parts, packages: dict[str, bytes], folder:
     environment["PKG_CONFIG_PATH"] = str(root / debian.PLACES.libraries / "pkgconfig")
     documents = root / debian.PLACES.documents
     installed = Installed(parts.version, root / "usr" / "bin" / "sched", root / "usr" / "share", documents / "sched" / "examples",
-                          environment, [f"--define-variable=prefix={root}/usr"], root)
+                          environment, [f"--define-variable=prefix={root}/usr"], root, "/usr")
     try_program(trials, "Debian", installed)
     work = root / "work"
     work.mkdir()
