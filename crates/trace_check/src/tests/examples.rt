@@ -9,7 +9,8 @@ fn audit(rt: HostRuntime) -> Result<(), Fail> {
 }
 
 const AUDIT_PLAN: &str = "\
-# One task that runs every 10 nanoseconds, 10 after it is submitted.
+# One task that runs every 10 nanoseconds, 10 after it is submitted. Line 4 of its
+# trace breaks: `sched lint plan.toml --trace trace.txt --workers 1` says why.
 version = 2
 
 [[block]]
