@@ -85,6 +85,7 @@ face_colour page face.Row = ink page
 face_colour page face.Tick = ink page
 face_colour page face.Run = codes "#000000"
 face_colour page face.Key = ink page
+face_colour page face.Count = ink page
 
 -- a mark
 abbrev pub glyph_colour : Page → Glyph → List ℕ

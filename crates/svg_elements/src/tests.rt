@@ -105,5 +105,6 @@ fn each_thing_has_its_word(rt: HostRuntime) -> Result<(), Fail> {
     assert_eq!(rt; Glyph::Shutdown.word(), "shutdown");
     assert_eq!(rt; Stroke::Axis.word(), "axis");
     assert_eq!(rt; Face::Key.word(), "key");
+    assert_eq!(rt; Face::Count.word(), "count");
     Ok(())
 }

@@ -119,6 +119,8 @@ pub enum Face {
     Run,
     /// A word of the legend: it begins there.
     Key,
+    /// How many marks stand at one place: its middle stands there.
+    Count,
 }
 
 impl Face {
@@ -131,6 +133,7 @@ impl Face {
             Face::Tick => "tick",
             Face::Run => "run",
             Face::Key => "key",
+            Face::Count => "count",
         }
     }
 }
