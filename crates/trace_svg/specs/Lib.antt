@@ -1,6 +1,10 @@
 pub mod Places
 pub mod Keys
 pub mod Runs
+pub mod Groups
+pub mod Piles
+pub mod Stacks
 pub mod Shown
 pub mod Faults
 pub mod Drawing
+pub mod Laws

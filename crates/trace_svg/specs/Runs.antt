@@ -73,6 +73,10 @@ named_bar_text window name bar = bar_shape window name bar ++ bar_label window n
 unfoldable pub bar_text : Window → List (List ℕ) → Bar → List ℕ
 bar_text window names bar = named_bar_text window (name_of names bar.task) bar
 
+-- the mark of a line, with a tooltip
+abbrev pub telling_mark : Window → List ℕ → Line → List ℕ
+telling_mark window tip line = mark_text (glyph_of line.message) (across window line.moment) (height_of (glyph_of line.message)) tip
+
 -- the mark of a line, and the line as its tooltip
 abbrev pub line_mark : Window → Line → List ℕ
-line_mark window line = mark_text (glyph_of line.message) (across window line.moment) (height_of (glyph_of line.message)) (line_text line)
+line_mark window line = telling_mark window (line_text line) line

@@ -4,7 +4,8 @@ use Rattle.svg_elements.specs.Elements.{opening_text, closing_text}
 use Rattle.trace_draw.specs.Pictures.{Shown}
 use Rattle.trace_svg.specs.Places.{wide, axis_top}
 use Rattle.trace_svg.specs.Keys.{legend_text, rows_text, lanes_text, axis_text}
-use Rattle.trace_svg.specs.Runs.{bar_text, line_mark}
+use Rattle.trace_svg.specs.Piles.{piles_of, pile_text}
+use Rattle.trace_svg.specs.Stacks.{stacks_of, stack_text}
 
 -- a picture, where these are the names of the tasks by their numbers
 unfoldable pub svg_text : Shown → List (List ℕ) → List ℕ
@@ -14,6 +15,6 @@ svg_text shown names =
     ++ (rows_text
     ++ (lanes_text shown.workers
     ++ (axis_text shown.window shown.workers shown.ticks
-    ++ (flat_map (bar_text shown.window names) shown.bars
-    ++ (flat_map (line_mark shown.window) shown.marks
+    ++ (flat_map (pile_text shown.window names) (piles_of shown.window shown.bars)
+    ++ (flat_map (stack_text shown.window) (stacks_of shown.window shown.marks)
     ++ closing_text))))))

@@ -34,7 +34,7 @@ const GLYPHS: [(Glyph, u16); 11] = [
 ];
 
 /// The kinds of marks that name the rows.
-const ROWS: [Glyph; 6] = [
+pub const ROWS: [Glyph; 6] = [
     Glyph::Submit,
     Glyph::Cancel,
     Glyph::End,

@@ -49,17 +49,24 @@
 mod axis;
 mod drawing;
 mod keys;
+mod laws;
 mod marks;
 mod picture;
+mod piles;
 mod places;
 mod report;
 mod runs;
 mod said;
+mod stacks;
 #[cfg(test)]
 mod tests;
 mod view;
 
 pub use drawing::draw;
+pub use laws::{
+    bars_are_counted, marks_are_counted, piles_do_not_overlap, piles_hold_bars,
+    piles_reach_over_bars, stacks_hold_marks, stacks_stand_apart,
+};
 pub use picture::picture_text;
 pub use report::{DrawError, Drawn};
 pub use view::View;

@@ -1,7 +1,7 @@
 //! The marks of lines.
 
-ghost use Rattle.std.specs.Prelude.{◌≡◌, ◌++◌, OnOk, flat_map, string_bytes};
-ghost use Rattle.trace_svg.specs.Runs.{line_mark};
+ghost use Rattle.std.specs.Prelude.{◌≡◌, ◌++◌, OnOk, string_bytes};
+ghost use Rattle.trace_svg.specs.Runs.{line_mark, telling_mark};
 
 use crate::places::{across, glyph_of, height_of};
 use crate::said::Said;
@@ -11,23 +11,8 @@ use std::fmt::Write;
 use svg_elements::Mark;
 use trace_draw::Window;
 
-/// Appends the marks of lines.
-pub fn put_marks<A: Allocator + Copy>(
-    alloc: A,
-    text: &mut String<A>,
-    window: Window,
-    lines: &[Line],
-) -> Result<(), AllocError>
-    ensures { OnOk result (string_bytes text.new ≡ string_bytes text.old ++ flat_map (line_mark window) lines.now) }
-{
-    for line in lines {
-        put_mark(alloc, text, window, *line)?;
-    }
-    Ok(())
-}
-
-/// Appends the mark of a line.
-fn put_mark<A: Allocator + Copy>(
+/// Appends the mark of a line, which tells the line.
+pub fn put_mark<A: Allocator + Copy>(
     alloc: A,
     text: &mut String<A>,
     window: Window,
@@ -37,12 +22,24 @@ fn put_mark<A: Allocator + Copy>(
 {
     let said = Said(line);
     let tip = format!(in alloc; "{said}")?;
+    put_telling_mark(text, window, line, &tip)
+}
+
+/// Appends the mark of a line, which tells this.
+pub fn put_telling_mark<A: Allocator>(
+    text: &mut String<A>,
+    window: Window,
+    line: Line,
+    tip: &str,
+) -> Result<(), AllocError>
+    ensures { OnOk result (string_bytes text.new ≡ string_bytes text.old ++ telling_mark window tip.now line) }
+{
     let glyph = glyph_of(line.message);
     let mark = Mark {
         glyph,
         x: across(window, line.moment),
         y: height_of(glyph),
-        tip: &tip,
+        tip,
     };
     write!(text, "{mark}")
 }

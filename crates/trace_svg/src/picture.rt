@@ -5,9 +5,9 @@ ghost use Rattle.trace_svg.specs.Shown.{svg_text};
 
 use crate::axis::put_axis;
 use crate::keys::{put_lanes, put_legend, put_rows};
-use crate::marks::put_marks;
+use crate::piles::put_bars;
 use crate::places::{WIDTH, axis_top};
-use crate::runs::put_bars;
+use crate::stacks::put_marks;
 use plan_read::Name;
 use std::alloc::{AllocError, Allocator};
 use std::fmt::Write;

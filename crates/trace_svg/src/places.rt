@@ -87,7 +87,8 @@ pub fn height_of(glyph: Glyph) -> u32
 
 /// Where the lane of a worker begins.
 pub fn lane_top(worker: u8) -> u32
-    ensures { result ≡ lane_top worker }
+    ensures top { result ≡ lane_top worker }
+    ensures within { result ≤ 7312 }
 {
     172 + 28 * u32::from(worker)
 }

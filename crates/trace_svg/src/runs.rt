@@ -1,6 +1,6 @@
 //! The bars of runs.
 
-ghost use Rattle.std.specs.Prelude.{◌≡◌, ◌++◌, IfOk, OnOk, flat_map, map, string_bytes};
+ghost use Rattle.std.specs.Prelude.{◌≡◌, ◌++◌, IfOk, OnOk, map, string_bytes};
 ghost use Rattle.trace_svg.specs.Runs.{bar_label, bar_shape, bar_text, bar_tip, fill_by, fill_of, finish_line, letters_in, name_of, named_bar_text, run_label, start_line};
 
 use crate::places::{across, bar_width, lane_top};
@@ -12,24 +12,8 @@ use std::fmt::Write;
 use svg_elements::{Face, Fill, Label, Rectangle};
 use trace_draw::{Bar, Finish, Window};
 
-/// Appends the bars of runs, where these are the names of the tasks.
-pub fn put_bars<A: Allocator + Copy>(
-    alloc: A,
-    text: &mut String<A>,
-    window: Window,
-    names: &[&Name],
-    bars: &[Bar],
-) -> Result<(), AllocError>
-    ensures { OnOk result (string_bytes text.new ≡ string_bytes text.old ++ flat_map (bar_text window (map (λ n. n.now) names.now)) bars.now) }
-{
-    for bar in bars {
-        put_bar(alloc, text, window, names, bar)?;
-    }
-    Ok(())
-}
-
 /// Appends the bar of a run, where these are the names of the tasks.
-fn put_bar<A: Allocator + Copy>(
+pub fn put_bar<A: Allocator + Copy>(
     alloc: A,
     text: &mut String<A>,
     window: Window,
@@ -42,7 +26,7 @@ fn put_bar<A: Allocator + Copy>(
 }
 
 /// The name of a task, and `?` where there is none.
-fn name_of<'a>(names: &[&'a Name], task: u32) -> &'a str
+pub fn name_of<'a>(names: &[&'a Name], task: u32) -> &'a str
     ensures { result.now ≡ name_of (map (λ n. n.now) names.now) task }
 {
     match names.get(task as usize) {
@@ -114,7 +98,7 @@ fn put_label<A: Allocator + Copy>(
 }
 
 /// How many letters fit into a bar of this width.
-fn letters_in(width: u32) -> usize
+pub fn letters_in(width: u32) -> usize
     ensures { result ≡ letters_in width }
 {
     (width.saturating_sub(8) / 7) as usize
@@ -128,7 +112,7 @@ fn run_label<A: Allocator>(alloc: A, name: &str, run: u64) -> Result<String<A>, 
 }
 
 /// The tooltip of a bar: the name of its task, and the trace's own lines of its run.
-fn bar_tip<A: Allocator>(alloc: A, name: &str, bar: &Bar) -> Result<String<A>, AllocError>
+pub fn bar_tip<A: Allocator>(alloc: A, name: &str, bar: &Bar) -> Result<String<A>, AllocError>
     ensures { IfOk result (λ text. string_bytes text ≡ bar_tip name.now bar.now) }
 {
     let start = Said(start_line(bar));
@@ -172,7 +156,7 @@ fn finish_line(bar: &Bar, finish: Finish) -> Line
 }
 
 /// What a run led to, as a colour.
-fn fill_of(finish: Option<Finish>) -> Fill
+pub fn fill_of(finish: Option<Finish>) -> Fill
     ensures { result ≡ fill_of finish }
 {
     match finish {

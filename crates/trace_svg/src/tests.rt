@@ -1,4 +1,8 @@
 //! Pictures of a small trace.
+
+mod piles;
+mod stacks;
+
 use crate::{DrawError, Drawn, View, draw, picture_text};
 use linked_list_allocator::LocalHeap;
 use plan_read::{Plan, read_plan};
@@ -34,9 +38,9 @@ const PARTS: [&str; 8] = [
     "<svg xmlns=\"http://www.w3.org/2000/svg\" width=\"1240\" height=\"260\" viewBox=\"0 0 1240 260\">\n",
     "<text class=\"row\" x=\"100\" y=\"215\">worker 1</text>\n",
     "<text class=\"tick\" x=\"534\" y=\"246\">4 ns</text>\n",
-    "<rect class=\"open\" x=\"110\" y=\"200\" width=\"1060\" height=\"22\"><title>bee\n0 start 1 task 1 run 0 due 0\n</title></rect>\n<text class=\"run\" x=\"114\" y=\"215\">bee #0</text>\n",
     "<rect class=\"done\" x=\"640\" y=\"172\" width=\"424\" height=\"22\"><title>a\n5 start 0 task 0 run 0 due 5\n9 finish 0 task 0 run 0 done 7\n</title></rect>\n<text class=\"run\" x=\"644\" y=\"187\">a #0</text>\n",
-    "<use class=\"submit\" href=\"#submit\" x=\"110\" y=\"62\"><title>0 submit 0 schedule due 5\n</title></use>\n",
+    "<rect class=\"open\" x=\"110\" y=\"200\" width=\"1060\" height=\"22\"><title>bee\n0 start 1 task 1 run 0 due 0\n</title></rect>\n<text class=\"run\" x=\"114\" y=\"215\">bee #0</text>\n",
+    "<use class=\"submit\" href=\"#submit\" x=\"110\" y=\"62\"><title>0 submit 0 schedule due 5\n</title></use>\n<use class=\"submit\" href=\"#submit\" x=\"110\" y=\"62\"><title>0 submit 0 schedule due 5\n0 submit 1 schedule due 0\n</title></use>\n<text class=\"count\" x=\"110\" y=\"56\">2</text>\n",
     "<use class=\"clock\" href=\"#clock\" x=\"1170\" y=\"134\"><title>10 clock\n</title></use>\n",
     "</svg>\n",
 ];
@@ -63,6 +67,13 @@ fn drawn(alloc: Global, workers: u8, trace: &str, view: View) -> Result<(String,
         Err(error) => format!(in alloc; "{error}")?,
     };
     Ok((answer, writer.into_inner()))
+}
+
+/// The picture of lines of a trace with two workers, where no task has a name.
+fn picture_of(alloc: Global, trace: &str) -> Result<String, Fail> {
+    let lines = lines_of(alloc, trace.as_bytes())?;
+    let shown = picture(alloc, &lines, 2, whole_window(&lines), 100)?;
+    Ok(picture_text(alloc, &shown, &[])?)
 }
 
 #[test]
