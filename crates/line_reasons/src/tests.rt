@@ -1,0 +1,2 @@
+//! Tests of reasons, each fault by itself and their order.
+mod lines;

@@ -1,0 +1,123 @@
+//! Faults of any line.
+
+use crate::{FileName, LineFault, NumberFault, Quoted, line_fault, number_fault};
+use std::process::Abort;
+use std::test::Fail;
+
+/// Tells of each line of a table. A row of the table is a line without its newline, then ` | `, and then what is to be told of it.
+fn tell(rt: &(impl AllocGlobal + Abort), table: &str) -> Result<(), Fail> {
+    let alloc = rt.alloc();
+    for row in table.lines() {
+        let (line, wanted) = row.split_once(" | ").ok_or("nothing to be told")?;
+        let mut text = String::from_str(alloc, line)?;
+        text.push('\n')?;
+        let told = line_fault(text.as_bytes()).to_string(alloc)?;
+        assert_eq!(rt; told.as_str(), wanted, "{row}");
+    }
+    Ok(())
+}
+
+#[test]
+fn spaces_and_ends(rt: HostRuntime) -> Result<(), Fail> {
+    tell(
+        &rt,
+        " | empty; a line has a word at least\n\
+         5\tclock | tab; one space stands between two words\n\
+         5  clock | two spaces; one space stands between two words\n\
+         5 clock  | space at the end; a line ends with a word\n\
+         5 clok | no such line",
+    )?;
+    tell(&rt, " 5 clock | space in front; a line begins with a word")?;
+    tell(&rt, "  | space in front; a line begins with a word")?;
+    tell(&rt, "  5 clock\t | tab; one space stands between two words")
+}
+
+#[test]
+fn numbers(rt: HostRuntime) -> Result<(), Fail> {
+    tell(
+        &rt,
+        "+5 clock | sign in \"+5\"; a number has none\n\
+         5 end -3 | sign in \"-3\"; a number has none\n\
+         05 clock | leading zero in \"05\"; a number has none\n\
+         5 start 00 idle | leading zero in \"00\"; a number has none\n\
+         5ns clock | unit in \"5ns\"; a number has none\n\
+         5 ms clock | unit in \"ms\"; a number has none\n\
+         18446744073709551616 clock | \"18446744073709551616\" is too large; a number is at most 18446744073709551615\n\
+         18446744073709551615 clok | no such line\n\
+         5x clock | no such line\n\
+         0 0x10 | no such line",
+    )
+}
+
+#[test]
+fn ends_of_lines(rt: HostRuntime) {
+    assert_eq!(rt; line_fault(b""), LineFault::Empty);
+    assert_eq!(rt; line_fault(b"\n"), LineFault::Empty);
+    assert_eq!(rt; line_fault(b"5 clock"), LineFault::NoNewline);
+    assert_eq!(rt; line_fault(b"05  clock"), LineFault::NoNewline);
+    assert_eq!(rt; line_fault(b"5 clock\r\n"), LineFault::CarriageReturn);
+    assert_eq!(rt; line_fault(b"5 clock\r"), LineFault::CarriageReturn);
+    assert_eq!(rt; line_fault(b"\r\n"), LineFault::CarriageReturn);
+}
+
+#[test]
+fn words_that_are_numbers(rt: HostRuntime) {
+    for (word, fault) in [
+        ("0", None),
+        ("255", None),
+        ("256", Some(NumberFault::TooLarge)),
+        ("99999999999999999999999", Some(NumberFault::TooLarge)),
+        ("-0", Some(NumberFault::Sign)),
+        ("+0x", Some(NumberFault::Sign)),
+        ("-", Some(NumberFault::NoNumber)),
+        ("007", Some(NumberFault::LeadingZero)),
+        ("0min", Some(NumberFault::Unit)),
+        ("5sec", Some(NumberFault::NoNumber)),
+        ("1e3", Some(NumberFault::NoNumber)),
+        ("", Some(NumberFault::NoNumber)),
+        ("ns", Some(NumberFault::NoNumber)),
+    ] {
+        assert_eq!(rt; number_fault(word.as_bytes(), 255), fault, "{word}");
+    }
+}
+
+#[test]
+fn bytes_in_quotes(rt: HostRuntime) -> Result<(), Fail> {
+    let alloc = rt.alloc();
+    let long = b"a234567890b234567890c234567890d234567890";
+    for (bytes, wanted) in [
+        (&b""[..], "\"\""),
+        (b"clock 5\r", "\"clock 5\\r\""),
+        (b"\0\t\x1B\x7F", "\"\\u0000\\t\\u001B\\u007F\""),
+        (b"a\xFFb\xE2\x82", "\"a\\xFFb\\xE2\\x82\""),
+        (b"\"\\\"", "\"\\\"\\\\\\\"\""),
+        (
+            b"\xC3\xA4 \xC2\xA0\xEF\xBB\xBF",
+            "\"\u{E4} \\u00A0\\uFEFF\"",
+        ),
+        (long, "\"a234567890b234567890c234567890d234567890\""),
+    ] {
+        assert_eq!(rt; Quoted(bytes).to_string(alloc)?.as_str(), wanted);
+    }
+    Ok(())
+}
+
+#[test]
+fn long_bytes_are_cut(rt: HostRuntime) -> Result<(), Fail> {
+    let alloc = rt.alloc();
+    let long = b"\xC3\xA4234567890b234567890c234567890d234567\xFF\xFF\xFF!";
+    assert_eq!(rt;
+        Quoted(long).to_string(alloc)?.as_str(),
+        "\"\u{E4}234567890b234567890c234567890d234567\\xFF\\xFF\\xFF\"..."
+    );
+    let long = b"a234567890b234567890c234567890d234567890\xFF";
+    assert_eq!(rt;
+        Quoted(long).to_string(alloc)?.as_str(),
+        "\"a234567890b234567890c234567890d234567890\"..."
+    );
+    assert_eq!(rt;
+        FileName("a\nb \"c\".txt").to_string(alloc)?.as_str(),
+        "a\\nb \"c\".txt"
+    );
+    Ok(())
+}
