@@ -10,12 +10,22 @@
 //! ```
 #![tactic(auto)]
 
+mod choice;
+mod event_fault;
+mod events;
+mod form;
 mod line;
+mod near;
 mod number;
 mod shown;
 #[cfg(test)]
 mod tests;
+mod words;
 
+pub use choice::Choice;
+pub use event_fault::EventFault;
+pub use events::{EventsReason, EventsReasonInFile, reason_of_events};
+pub use form::{EventNumber, Form};
 pub use line::{LineFault, line_fault};
 pub use number::{NumberFault, number_fault};
 pub use shown::{FileName, Quoted};

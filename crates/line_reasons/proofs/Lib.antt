@@ -1,0 +1,2 @@
+mod EventTexts
+mod FirstLines
