@@ -1,0 +1,91 @@
+//! Why a trace breaks: the line, what stands there and what could have stood there.
+//!
+//! # Usage
+//!
+//! ```rust
+//! let plan = read_plan(alloc, plan_text)?;
+//! let trace = b"0 submit 0 schedule due 5\n5 clock\n5 start 0 idle\n";
+//! match reason_of_trace(alloc, &plan, 1, trace)? {
+//!     None => println!(rt; "conforms")?,
+//!     Some(reason) => eprintln!(rt; "{}", reason.in_file("trace.txt"))?,
+//! }
+//! // trace.txt:3: "5 start 0 idle": breaks; "5 start 0 task 0 run 0 due 5" could stand here
+//! ```
+//!
+//! # Behaviour
+//!
+//! [`reason_of_trace`] answers `None` exactly where the text conforms, as [`check`](trace_check::check) finds it, and else a
+//! [`TraceReason`] with the line at which it breaks. Beside its number a reason has
+//!
+//! | Field | What |
+//! |---|---|
+//! | `found` | the line that stands there; none where the text ends before it |
+//! | `fault` | why that line cannot be read, as [`line_reasons`] tells it; none where it can |
+//! | `lines` | lines that could stand there, at most three |
+//! | `workers` | the numbers of workers with which the whole text conforms |
+//!
+//! A reason prints as one line, `PLACE, WHAT STANDS: WHAT IS WRONG; WHAT IS WANTED`:
+//!
+//! - `line 3, "5 start 0 idle": breaks; "5 start 0 task 0 run 0 due 5" could stand here`
+//! - `line 9, the text ends: breaks; "5 end 3" is wanted`
+//! - `line 2, "05 clock": leading zero in "05"; a number has none; "5 clock" could stand here`
+//! - `line 5, "25 start 1 idle": breaks; "25 error no worker" could stand here; conforms with --workers 2 to 64`
+//!
+//! A line that stands there is cut at 40 characters, and has escapes for characters that cannot be seen and for bytes that are no
+//! UTF-8. Lines that could stand there are whole.
+//!
+//! # Which lines are told
+//!
+//! Where the answer before has a line that is still to come, that line alone. Else what the executor answers behind the lines before,
+//! what is wanted most first:
+//!
+//! | What stands there is about | What is answered to |
+//! |---|---|
+//! | a call of the plan | the next call, where one is left |
+//! | `clock`, at M | the clock M; where it would go back also the clock of the moment so far |
+//! | `start W` | the start; where W runs a task, first its end with the value 0 |
+//! | `finish W` | the end with that value or that code, or with the value 0; where W runs no task, first its start |
+//! | `outside K` | the cancel of K |
+//! | `error ..` | an event that may get the error |
+//! | anything else | the next call, the clock M, and the start of worker 0 |
+//!
+//! Where a call of the plan comes before a clock, that call stands in its place. A line with a later moment than the trace so far
+//! wants a clock first, so that is told before what it is about. Where nothing is told by then, the last row is. What a line is about is
+//! told by its words, so that also a line which cannot be read is about something: `05  start 0` is about the start of worker 0.
+//! M is the greater one of the moment in front of the line and the moment of the trace so far.
+//!
+//! # Errors
+//!
+//! [`CheckError::Workers`](trace_check::CheckError::Workers) where the number of workers is not 1 to 64, and else
+//! [`CheckError::Memory`](trace_check::CheckError::Memory) where a growth was refused.
+//!
+//! # What is proved
+//!
+//! That there is no reason exactly where the text conforms, and that else it breaks at the line that is told; that what is told to
+//! stand there does stand there; that a fault is told exactly of a line that is none; that each line which is told could stand there:
+//! the lines before it with this one behind them break neither at it nor before it (`CouldStand`); that there are three at most; and
+//! that the numbers of workers are those with which the text conforms, in ascending order. Which lines are told, that any is, which
+//! fault it is, and the text of a reason are only tested, in `src/tests`.
+//!
+//! # Memory and cost
+//!
+//! A text that conforms is checked once. One that breaks is checked once more for each other number of workers, up to its break there,
+//! and its lines before the break are read twice more for each line that is told, once to find it and once to check it. Only the lines
+//! before the break are copied, once for each line that is told. A reason borrows the line that stands there from the text.
+#![tactic(auto)]
+
+mod asked;
+mod candidates;
+mod finding;
+mod numbers;
+mod places;
+mod reason;
+mod replay;
+mod scene;
+mod standing;
+#[cfg(test)]
+mod tests;
+mod told;
+
+pub use finding::reason_of_trace;
+pub use reason::{InFile, TraceReason};
