@@ -3,3 +3,7 @@ pub mod Appended
 pub mod Refused
 pub mod Groups
 pub mod Overlaps
+pub mod Rising
+pub mod PileLaws
+pub mod StackLaws
+pub mod Several

@@ -26,7 +26,8 @@ pub fn across(window: Window, moment: u64) -> u32
 
 /// Where a run ends.
 fn end_across(window: Window, finish: Option<Finish>) -> u32
-    ensures { result ≡ end_across window finish }
+    ensures place { result ≡ end_across window finish }
+    ensures within { result ≤ TIME_ENDS }
 {
     match finish {
         Some(finish) => across(window, finish.moment),
@@ -36,7 +37,8 @@ fn end_across(window: Window, finish: Option<Finish>) -> u32
 
 /// How wide the bar of a run is.
 pub fn bar_width(window: Window, bar: &Bar) -> u32
-    ensures { result ≡ bar_width window bar.now }
+    ensures width { result ≡ bar_width window bar.now }
+    ensures within { result ≤ TIME_ENDS }
 {
     let right = end_across(window, bar.finish);
     right.saturating_sub(across(window, bar.first)).max(3)
