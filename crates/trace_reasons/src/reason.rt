@@ -23,9 +23,9 @@ pub struct TraceReason<'t, A: Allocator> {
     pub workers: Vec<u8, A>,
 }
 
-impl<A: Allocator> TraceReason<'_, A> {
+impl<'t, A: Allocator> TraceReason<'t, A> {
     /// The reason with a file's name before it, as `trace.txt:3: "5 start 0 idle": ..`.
-    pub fn in_file<'r>(&'r self, file: &'r str) -> InFile<'r, A> {
+    pub fn in_file<'r>(&'r self, file: &'r str) -> InFile<'r, 't, A> {
         InFile { file, reason: self }
     }
 
@@ -71,12 +71,12 @@ fn is_end(line: &Line) -> bool {
 
 /// A reason with a file's name before it, as `trace.txt:3: "5 start 0 idle": ..`.
 #[derive(Clone, Copy)]
-pub struct InFile<'r, A: Allocator> {
+pub struct InFile<'r, 't, A: Allocator> {
     file: &'r str,
-    reason: &'r TraceReason<'r, A>,
+    reason: &'r TraceReason<'t, A>,
 }
 
-impl<A: Allocator> fmt::Display for InFile<'_, A> {
+impl<A: Allocator> fmt::Display for InFile<'_, '_, A> {
     fn fmt<W: fmt::Write>(&self, f: &mut fmt::Formatter<W>) -> fmt::Result {
         let line = self.reason.line;
         write!(f, "{}:{line}: ", FileName(self.file))?;
