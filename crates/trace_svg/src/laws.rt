@@ -21,7 +21,7 @@ pub fn piles_reach_over_bars()
     ensures { PilesReachOverBars }
 {}
 
-/// The stacks of a row, one behind the other, are its marks, in their order. None is empty, and all marks of one stand at its place.
+/// The stacks of a row, one behind the other, are its marks, in their order. None is empty, and all marks of one stand at one place.
 pub fn stacks_hold_marks()
     ensures { StacksHoldMarks }
 {}

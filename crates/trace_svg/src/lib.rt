@@ -24,26 +24,47 @@
 //! | a mark | a row for each of submissions and refusals; cancels; ends of tasks; policies, shutdowns and questions; clocks; idle workers and errors |
 //! | a bar | the lane of its worker, from its start to its finish, or to the end of the picture where it has none; 3 wide at least |
 //! | a label | in its bar, where that has 7 for each letter, and 8 more: the name of the task and the number of the run |
+//! | the number of marks | above the marks of a row that stand at one place, where there are several |
 //! | the axis | below the lanes: a line through them for each tick, and its moment |
 //!
 //! The tooltip of a mark is its line of the trace; that of a bar the name of its task and its one or two lines. A bar's colour tells
 //! what the run led to: done, failed, again, dropped, ended, or open where it has no finish.
 //!
+//! No run hides another. The bars of a lane, in their order, are *piles*: a bar that begins left of where the pile before it ends goes
+//! to that pile, and else it begins the next. A pile of one is the bar that it is. One of several is drawn as one bar, from where its
+//! first bar begins to where it reaches furthest to the right. Its label is their number, `2 runs`; its tooltip is that, and then
+//! the tooltips of its runs. It has the colour of failed runs where one of its runs failed, and else that of its last run.
+//!
+//! Nor does a mark hide another. The marks of a row that stand at one place, one behind the other, are a *stack*. A stack of one is
+//! the mark that it is. Of several each is drawn above the one before it; the top tells all their lines; and their number stands above.
+//!
 //! # Order and ties
 //!
-//! Bars stand above lines, and marks above bars. Of two bars or marks in one place the one that comes later in the trace stands above.
+//! Bars stand above lines, and marks above bars. Bars are drawn lane by lane, and marks row by row: in a lane and in a row as they
+//! come in the trace.
 //!
 //! # Errors
 //!
 //! [`DrawError`], in this order: `Workers`, `Window`, `Crowded`. At these and at `Memory` nothing is written, and at `Write` a front of
 //! the picture.
 //!
+//! # What is proved
+//!
+//! The text of a picture, byte by byte, and what was written of it. Of piles and stacks, over their definitions: the piles of a lane
+//! are its bars and the stacks of a row its marks, each once and in order ([`piles_hold_bars`], [`stacks_hold_marks`]), and together
+//! they have as many as the picture ([`bars_are_counted`], [`marks_are_counted`]); the piles of a lane do not overlap
+//! ([`piles_do_not_overlap`]), and all marks of a stack stand at its place ([`stacks_hold_marks`]). In the picture of a trace a pile
+//! reaches over each of its bars ([`piles_reach_over_bars`]), and no two stacks of a row stand at one place ([`stacks_stand_apart`]).
+//!
+//! That a picture is drawn where there is memory enough, and that all of it is given back, is only tested.
+//!
 //! # Memory and cost
 //!
 //! A check takes what [`check`](trace_check::check) takes; then come the lines of the trace, the picture and its text, some 200 bytes
-//! for each bar or mark. Each is gone over once.
+//! for each bar or mark. Bars are gone over once for each of the 256 workers that a line can name, and marks once for each row; those
+//! of one lane or row are copied meanwhile.
 //!
-//! The tests stand in `src/tests.rt`.
+//! The tests stand in `src/tests.rt` and under `src/tests`.
 #![tactic(auto)]
 
 mod axis;

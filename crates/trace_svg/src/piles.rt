@@ -101,13 +101,13 @@ fn pile_len(window: Window, lane: &[Bar]) -> usize
     ensures within { result ≤ length lane.now }
     ensures pile { groups_of (lies_on window) lane.now ≡ take result lane.now ∷ groups_of (lies_on window) (drop result lane.now) }
 {
-    let mut right = bar_right(window, &lane[0]);
+    let mut end = bar_right(window, &lane[0]);
     for index in 1..lane.len() {
         let bar = &lane[index];
-        if across(window, bar.first) >= right {
+        if across(window, bar.first) >= end {
             return index;
         }
-        right = right.max(bar_right(window, bar));
+        end = end.max(bar_right(window, bar));
     }
     lane.len()
 }

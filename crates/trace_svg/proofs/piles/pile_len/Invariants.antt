@@ -6,6 +6,6 @@ use Rattle.trace_svg.proofs.piles.pile_len.Given as goal
 -- the bars so far are of the first pile, and end there
 abbrev pub invariant-loop-index : goal.invariant-loop-index
 invariant-loop-index l = record {
-  right : l.right ≡ pile_right l.window (take l.index l.lane);
+  end : l.end ≡ pile_right l.window (take l.index l.lane);
   first : AreFirst (lies_on l.window) l.lane l.index;
 }
