@@ -17,6 +17,7 @@ import crate
 import debian
 import shells
 import tarball
+import versions
 import wheel
 from checks import Installed, expect
 from library import C_LIBRARY
@@ -78,7 +79,7 @@ def try_program(trials: Trials, name: str, installed: Installed) -> None:
     with trials.step(f"{name}: the program's first command"):
         checks.first_command(installed)
     with trials.step(f"{name}: the version that the program tells"):
-        expect(installed.run(installed.program, "--version"), f"sched {installed.version}\n")
+        expect(installed.run(installed.program, "--version"), f"sched {installed.version} ({versions.toolchain()})\n")
     with trials.step(f"{name}: pages"):
         checks.pages(installed)
     for shell in filter(None, map(shells.found, shells.STARTS)):

@@ -15,9 +15,17 @@ PLACES = [
     ("include/sched_version.h", r"(?<=#define SCHED_VERSION_MAJOR )\d+", "{0}"),
     ("include/sched_version.h", r"(?<=#define SCHED_VERSION_MINOR )\d+", "{1}"),
     ("include/sched_version.h", r"(?<=#define SCHED_VERSION_PATCH )\d+", "{2}"),
+    ("crates/sched/src/version.rt", r'(?<=pub const VERSION: &str = ")[^" ]*(?= )', "{0}.{1}.{2}"),
     ("examples/embed/rust/Cargo.toml", r'(?<=name = "sched"\nversion = ")[^"]*', "{0}.{1}.{2}"),
     ("examples/embed/rust/Cargo.lock", r'(?<=name = "sched"\nversion = ")[^"]*', "{0}.{1}.{2}"),
 ]
+
+
+# The two places that name the toolchain with which all is proved.
+TOOLCHAIN = {
+    "README.md": r"(?<=^Proved with `)[^`]*(?=`)",
+    "crates/sched/src/version.rt": r'(?<=pub const VERSION: &str = ")[^"]*(?=")',
+}
 
 
 class VersionError(Exception):
@@ -39,6 +47,14 @@ def differing() -> list[str]:
             for found in [re.findall(pattern, (TOP / file).read_text())] if found != [form.format(*wanted)]]
 
 
+def toolchain() -> str:
+    """The toolchain that README names, which the program's version has to name too."""
+    readme, program = (re.findall(pattern, (TOP / file).read_text(), re.MULTILINE) for file, pattern in TOOLCHAIN.items())
+    if len(readme) != 1 or [f"({readme[0]})"] != [found.partition(" ")[2] for found in program]:
+        raise VersionError(f"README.md names the toolchain {readme}, and the program's version is {program}")
+    return readme[0]
+
+
 def current() -> str:
     """The version that the file says."""
     return FILE.read_text().strip()
@@ -46,6 +62,7 @@ def current() -> str:
 
 def checked() -> str:
     """The version, which each place says."""
+    toolchain()
     places = differing()
     if places:
         raise VersionError("\n".join([f"{FILE.name} says {current()}, and other places do not:", *places]))

@@ -60,7 +60,7 @@ fn first_line(bytes: &[u8]) -> &[u8]
 
 impl<'t> EventsReason<'t> {
     /// The reason with a file's name before it, as `events.txt:3: "clock 05": leading zero; ..`.
-    pub fn in_file<'r>(&'r self, file: &'r str) -> EventsReasonInFile<'r, 't> {
+    pub fn in_file(self, file: &'t str) -> EventsReasonInFile<'t> {
         EventsReasonInFile { file, reason: self }
     }
 
@@ -81,14 +81,14 @@ impl fmt::Display for EventsReason<'_> {
 ///
 /// It prints as one line without its newline: `events.txt:3: "clock 05": leading zero; a moment has none, as in "clock 5"`.
 #[derive(Clone, Copy)]
-pub struct EventsReasonInFile<'r, 't> {
-    file: &'r str,
-    reason: &'r EventsReason<'t>,
+pub struct EventsReasonInFile<'t> {
+    file: &'t str,
+    reason: EventsReason<'t>,
 }
 
-impl fmt::Display for EventsReasonInFile<'_, '_> {
+impl fmt::Display for EventsReasonInFile<'_> {
     fn fmt<W: fmt::Write>(&self, f: &mut fmt::Formatter<W>) -> fmt::Result {
-        let EventsReason { number, fault, .. } = self.reason;
+        let EventsReason { number, fault, .. } = &self.reason;
         let line = Quoted(self.reason.body());
         write!(f, "{}:{number}: {line}: {fault}", FileName(self.file))
     }

@@ -46,6 +46,7 @@ drawn_as_told (Err (f.Run x.Full)) plan workers trace view line old mid new brea
 drawn_as_told (Err (f.Run x.Read)) plan workers trace view line old mid new breaks stays told = absurd told
 drawn_as_told (Err (f.Run x.Lost)) plan workers trace view line old mid new breaks stays told = absurd told
 drawn_as_told (Err f.Arguments) plan workers trace view line old mid new breaks stays told = absurd told
+drawn_as_told (Err f.LintOptions) plan workers trace view line old mid new breaks stays told = absurd told
 drawn_as_told (Err f.PlanFile) plan workers trace view line old mid new breaks stays told = absurd told
 drawn_as_told (Err f.PlanUnwritten) plan workers trace view line old mid new breaks stays told = absurd told
 drawn_as_told (Err f.TraceFile) plan workers trace view line old mid new breaks stays told = absurd told

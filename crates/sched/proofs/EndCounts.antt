@@ -1,9 +1,12 @@
 -- EndCounts: what is counted of an end that was not called.
-use Rattle.std.proofs.Common.{ℕ, Result, Ok, Err, refl}
+use Rattle.std.proofs.Common.{ℕ, Result, Ok, Err, ap, refl}
 use Rattle.std.specs.Prelude.{IsErrOf}
 use Rattle.sched_engine.proofs.Tries.{no_try}
 use Rattle.sched_engine.specs.declared.report.RunError.TheVariants as x
+use Rattle.sched.specs.Answers.{end_of}
 use Rattle.sched.specs.EndCounts.{CountsInput}
+use Rattle.sched.specs.declared.answer.Answer.{Answer}
+use Rattle.sched.specs.declared.answer.Answer.TheVariants as a
 use Rattle.sched.specs.declared.error.ProgramError.{ProgramError}
 use Rattle.sched.specs.declared.error.ProgramError.TheVariants as f
 
@@ -11,6 +14,7 @@ use Rattle.sched.specs.declared.error.ProgramError.TheVariants as f
 pub unread : (answer : Result ℕ ProgramError) (failed fruitless : ℕ) → (IsErrOf answer (f.Run x.Read) → ⊥) → CountsInput answer failed fruitless failed fruitless
 unread (Ok status) failed fruitless other = no_try failed fruitless
 unread (Err f.Arguments) failed fruitless other = no_try failed fruitless
+unread (Err f.LintOptions) failed fruitless other = no_try failed fruitless
 unread (Err f.PlanFile) failed fruitless other = no_try failed fruitless
 unread (Err f.PlanUnwritten) failed fruitless other = no_try failed fruitless
 unread (Err f.TraceFile) failed fruitless other = no_try failed fruitless
@@ -26,3 +30,14 @@ unread (Err (f.Run x.Read)) failed fruitless other = absurd (other refl)
 unread (Err (f.Run x.Write)) failed fruitless other = no_try failed fruitless
 unread (Err (f.Run x.Lost)) failed fruitless other = no_try failed fruitless
 unread (Err (f.Run x.Memory)) failed fruitless other = no_try failed fruitless
+
+-- the fault of an end
+abbrev fault_of : Result ℕ ProgramError → ProgramError
+fault_of (Ok status) = f.Run x.Read
+fault_of (Err fault) = fault
+
+-- the same of an answer that may be a refusal
+pub unread_answer : (answer : Result Answer ProgramError) (failed fruitless : ℕ) → (IsErrOf answer (f.Run x.Read) → ⊥) → CountsInput (end_of answer) failed fruitless failed fruitless
+unread_answer (Ok (a.Status status)) failed fruitless other = no_try failed fruitless
+unread_answer (Ok (a.Refused line)) failed fruitless other = no_try failed fruitless
+unread_answer (Err fault) failed fruitless other = unread (Err fault) failed fruitless (λ q. other (ap Err (ap fault_of q)))

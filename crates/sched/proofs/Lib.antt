@@ -4,4 +4,5 @@ pub mod Orders
 pub mod EndCounts
 pub mod Drawings
 pub mod Readings
+pub mod Lints
 pub mod Lived

@@ -21,14 +21,17 @@ use Rattle.sched_engine.specs.declared.report.Report.{Report}
 use Rattle.sched_engine.specs.declared.report.RunError.{RunError}
 use Rattle.sched_engine.specs.declared.report.RunError.TheVariants as x
 use Rattle.sched.specs.declared.error.ProgramError.{ProgramError}
-use Rattle.sched.specs.declared.error.ProgramError.TheVariants.{PlanFile, TraceFile, TraceTooLong, Run}
-use Rattle.sched.specs.declared.arguments.Asked.TheVariants.{Alone}
+use Rattle.sched.specs.declared.error.ProgramError.TheVariants.{LintOptions, PlanFile, TraceFile, TraceTooLong, Run}
+use Rattle.sched.specs.declared.answer.Answer.{Answer}
+use Rattle.sched.specs.declared.answer.Answer.TheVariants as answer
+use Rattle.sched.specs.declared.arguments.Asked.TheVariants.{Alone, Lint}
+use Rattle.sched.specs.declared.arguments.LintArguments.{LintArguments}
 use Rattle.sched.specs.declared.arguments.AskedAlone.{AskedAlone}
 use Rattle.sched.specs.declared.arguments.AskedAlone.TheVariants as a
 use Rattle.sched.specs.declared.arguments.RunArguments.{RunArguments}
 use Rattle.sched.specs.Arguments.{Asks}
 use Rattle.sched.specs.Serving.{EndsAlone, ReadsTrace}
-use Rattle.sched.specs.Answers.{ListedAsAsked, MigratedAsAsked, PooledAsAsked, RanAsAsked, TellsEnd, ToldTasksAsAsked}
+use Rattle.sched.specs.Answers.{end_of, in_status, ListedAsAsked, MigratedAsAsked, PooledAsAsked, RanAsAsked, TellsEnd, ToldTasksAsAsked}
 use Rattle.sched.specs.Commands.{IsEndOf, NamesTrace}
 use Rattle.sched.specs.Drawings.{IsDrawnAsAsked}
 use Rattle.sched.specs.Errors.{IsToldAs, status_of}
@@ -386,7 +389,22 @@ names_trace arguments (a.Migrate asked) asks reads = absurd reads
 names_trace arguments (a.Live asked) asks reads = absurd reads
 
 -- what one thread is asked ends as the arguments that ask for it may end
-pub end_alone : (arguments : List (List ℕ)) (asked : AskedAlone) (result : Result ℕ ProgramError) → Asks arguments (Alone asked) → EndsAlone asked result → IsEndOf arguments result
+pub end_alone : (arguments : List (List ℕ)) (asked : AskedAlone) (result : Result ℕ ProgramError) → Asks arguments (Alone asked) → EndsAlone asked result
+    → IsEndOf arguments (end_of (in_status result))
 end_alone arguments asked (Ok s) asks (inl none) = inl none
-end_alone arguments asked (Ok s) asks (inr breaks) = inr (breaks.0, names_trace arguments asked asks breaks.1)
-end_alone arguments asked (Err e) asks h = h
+end_alone arguments asked (Ok s) asks (inr breaks) = inr (breaks.0, inl (names_trace arguments asked asks breaks.1))
+end_alone arguments asked (Err e) asks h = inl h
+
+-- a run by a pool ends so
+pub end_pool : (arguments : List (List ℕ)) (result : Result ℕ ProgramError) → MatchResult result (λ s. s ≡ 0) (λ e. status_of e ≡ 1) → IsEndOf arguments (end_of (in_status result))
+end_pool arguments (Ok s) h = inl h
+end_pool arguments (Err e) h = inl h
+
+-- a lint ends as the arguments that ask for it may end
+pub end_lint : (arguments : List (List ℕ)) (asked : LintArguments) (answer : Result Answer ProgramError) → Asks arguments (Lint asked)
+    → MatchResult (end_of answer) (λ s. (s ≡ 0) ⊎ (s ≡ 1)) (λ e. (status_of e ≡ 1) ⊎ (e ≡ LintOptions)) → IsEndOf arguments (end_of answer)
+end_lint arguments asked (Ok (answer.Status s)) asks (inl none) = inl none
+end_lint arguments asked (Ok (answer.Status s)) asks (inr one) = inr (one, inr (asks.0, asks.1))
+end_lint arguments asked (Ok (answer.Refused line)) asks h = inr (refl, inr (asks.0, asks.1))
+end_lint arguments asked (Err e) asks (inl one) = inl one
+end_lint arguments asked (Err e) asks (inr options) = inr (options, (asks.0, asks.1))

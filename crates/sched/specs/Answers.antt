@@ -1,10 +1,13 @@
--- Answers: how the end of a run, of a listing, of a list of tasks or of a migration is told, and what of it stands on standard error.
+-- Answers: how the end of a run, of a listing, of a list of tasks, of a migration or of a lint is told, and what of it stands on standard
+-- error.
 -- All of it is this project's rule.
-use Rattle.std.specs.Prelude.{◌≡◌, ℕ, Bool, List, Option, Result, Ok, Err, take}
+use Rattle.std.specs.Prelude.{◌≡◌, ℕ, Bool, List, Option, Result, Ok, Err, take, string_bytes}
 use Rattle.std.specs.Io.KnownBytes.{Appends, Keeps}
 use Rattle.plan_read.specs.Migrating.{Migrates}
 use Rattle.sched.specs.Errors.{IsToldAs, status_of}
 use Rattle.sched.specs.Lines.{error_line}
+use Rattle.sched.specs.declared.answer.Answer.{Answer}
+use Rattle.sched.specs.declared.answer.Answer.TheVariants.{Status, Refused}
 use Rattle.sched.specs.declared.arguments.RunArguments.{RunArguments}
 use Rattle.sched.specs.declared.error.ProgramError.{ProgramError}
 use Rattle.sched.specs.declared.error.ProgramError.TheVariants.{Run}
@@ -53,14 +56,33 @@ MigratedAsAsked (Ok status) text old new = (printed : List ℕ) × Migrates text
 MigratedAsAsked (Err (Run x.Write)) text old new = (printed : List ℕ) × Migrates text printed × (n : ℕ) × Appends old new (take n printed)
 MigratedAsAsked (Err fault) text old new = ⊥
 
--- what is told of an answer on standard error: nothing of a status, and the line of an error, or a front of it where the last try to write
--- was bad
-abbrev pub IsTold : Result ℕ ProgramError → Option (List ℕ) → Option (List ℕ) → ℕ → ℕ → ℕ → ℕ → Type 0
-IsTold (Ok status) old new failed fruitless failed' fruitless' = Keeps old new × NoneFailed 0 failed fruitless failed' fruitless'
-IsTold (Err error) old new failed fruitless failed' fruitless' =
-    (whole : Bool) × WritesText whole old new (error_line error) × CountsTries whole failed fruitless failed' fruitless'
+-- an end with an exit status, or with an error, as an answer
+abbrev pub in_status : Result ℕ ProgramError → Result Answer ProgramError
+in_status (Ok status) = Ok (Status status)
+in_status (Err fault) = Err fault
+
+-- an answer as an end with an exit status, or with an error: a refusal has the status 1
+abbrev pub end_of : Result Answer ProgramError → Result ℕ ProgramError
+end_of (Ok (Status status)) = Ok status
+end_of (Ok (Refused line)) = Ok 1
+end_of (Err fault) = Err fault
+
+-- this line was told on standard error, or a front of it where the last try to write was bad
+abbrev pub IsLineTold : List ℕ → Option (List ℕ) → Option (List ℕ) → ℕ → ℕ → ℕ → ℕ → Type 0
+IsLineTold line old new failed fruitless failed' fruitless' =
+    (whole : Bool) × WritesText whole old new line × CountsTries whole failed fruitless failed' fruitless'
+
+-- what is told of an answer on standard error: nothing of a status, the line of a refusal, and that of an error
+abbrev pub IsTold : Result Answer ProgramError → Option (List ℕ) → Option (List ℕ) → ℕ → ℕ → ℕ → ℕ → Type 0
+IsTold (Ok (Status status)) old new failed fruitless failed' fruitless' = Keeps old new × NoneFailed 0 failed fruitless failed' fruitless'
+IsTold (Ok (Refused line)) old new failed fruitless failed' fruitless' = IsLineTold (string_bytes line) old new failed fruitless failed' fruitless'
+IsTold (Err error) old new failed fruitless failed' fruitless' = IsLineTold (error_line error) old new failed fruitless failed' fruitless'
+
+-- the exit status that goes with an end
+abbrev pub status_told : Result ℕ ProgramError → ℕ
+status_told (Ok status) = status
+status_told (Err fault) = status_of fault
 
 -- the exit status that goes with an answer
-abbrev pub exit_status_of : Result ℕ ProgramError → ℕ
-exit_status_of (Ok status) = status
-exit_status_of (Err fault) = status_of fault
+abbrev pub exit_status_of : Result Answer ProgramError → ℕ
+exit_status_of answer = status_told (end_of answer)

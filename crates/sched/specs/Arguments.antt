@@ -10,8 +10,9 @@ use Rattle.sched.specs.declared.arguments.PlanArguments.{PlanArguments}
 use Rattle.sched.specs.declared.arguments.CheckArguments.{CheckArguments}
 use Rattle.sched.specs.declared.arguments.DrawArguments.{DrawArguments}
 use Rattle.sched.specs.declared.arguments.LiveArguments.{LiveArguments}
+use Rattle.sched.specs.declared.arguments.LintArguments.{LintArguments}
 use Rattle.sched.specs.declared.arguments.Asked.{Asked}
-use Rattle.sched.specs.declared.arguments.Asked.TheVariants.{Pool, Alone}
+use Rattle.sched.specs.declared.arguments.Asked.TheVariants.{Pool, Lint, Alone}
 use Rattle.sched.specs.declared.arguments.AskedAlone.{AskedAlone}
 use Rattle.sched.specs.declared.arguments.AskedAlone.TheVariants.{Run, Code, Tasks, Check, Migrate, Draw, Live}
 
@@ -63,9 +64,16 @@ pub record AsksForLive (rows : List Row) (asked : LiveArguments) : Type 0 where
   pub workers : IsNumberOf 8 (one_of (codes "workers") rows) asked.workers
   pub plan : option_map (λ name. name.now) asked.plan ≡ first_of (codes "plan") rows
 
+-- the names and the number, where there are such, are the values of `lint`'s arguments
+pub record AsksForLint (rows : List Row) (asked : LintArguments) : Type 0 where
+  pub plan : asked.path.now ≡ unwrap_or (first_of (codes "plan") rows) []
+  pub events : option_map (λ name. name.now) asked.events ≡ first_of (codes "events") rows
+  pub trace : option_map (λ name. name.now) asked.trace ≡ first_of (codes "trace") rows
+  pub workers : IsMaybeNumberOf 8 (one_of (codes "workers") rows) asked.workers
+
 -- what is asked of one thread, by the command that is named, with what a command line holds for its arguments: a listing by `code`,
 -- the tasks by `tasks`, a check by `check`, a migration by `migrate`, a picture by `draw`, a live run by `live`, and a run of a plan by
--- any other one but `pool`, which is `run`
+-- any other one but `pool` and `lint`, which is `run`
 abbrev pub AsksAlone : Option (Text × List Row) → AskedAlone → Type 0
 AsksAlone named (Code c) = (rows : List Row) × (named ≡ Some (codes "code", rows)) × AsksForPlan rows c
 AsksAlone named (Tasks t) = (rows : List Row) × (named ≡ Some (codes "tasks", rows)) × AsksForPlan rows t
@@ -73,11 +81,13 @@ AsksAlone named (Check c) = (rows : List Row) × (named ≡ Some (codes "check",
 AsksAlone named (Migrate m) = (rows : List Row) × (named ≡ Some (codes "migrate", rows)) × AsksForPlan rows m
 AsksAlone named (Draw d) = (rows : List Row) × (named ≡ Some (codes "draw", rows)) × AsksForDraw rows d
 AsksAlone named (Live l) = (rows : List Row) × (named ≡ Some (codes "live", rows)) × AsksForLive rows l
-AsksAlone named (Run r) = (name : Text) × (rows : List Row) × (named ≡ Some (name, rows)) × (name ≢ codes "code") × (name ≢ codes "tasks") × (name ≢ codes "check") × (name ≢ codes "pool") × (name ≢ codes "migrate") × (name ≢ codes "draw") × (name ≢ codes "live") × AsksForRun rows r
+AsksAlone named (Run r) = (name : Text) × (rows : List Row) × (named ≡ Some (name, rows)) × (name ≢ codes "code") × (name ≢ codes "tasks") × (name ≢ codes "check") × (name ≢ codes "pool") × (name ≢ codes "migrate") × (name ≢ codes "draw") × (name ≢ codes "live") × (name ≢ codes "lint") × AsksForRun rows r
 
--- what is asked for, by the command that is named: a run by a pool by `pool`, and of one thread what it is asked
+-- what is asked for, by the command that is named: a run by a pool by `pool`, why something is refused by `lint`, and of one thread
+-- what it is asked
 abbrev pub AsksIn : Option (Text × List Row) → Asked → Type 0
 AsksIn named (Pool p) = (rows : List Row) × (named ≡ Some (codes "pool", rows)) × AsksForRun rows p
+AsksIn named (Lint l) = (rows : List Row) × (named ≡ Some (codes "lint", rows)) × AsksForLint rows l
 AsksIn named (Alone asked) = AsksAlone named asked
 
 -- what the arguments of a command line ask for

@@ -1,6 +1,7 @@
 -- Commands: the command lines that the program takes: `sched run PLAN --workers N [--limit N]`, `sched pool` with the same
 -- arguments, `sched code PLAN`, `sched tasks PLAN`, `sched check PLAN TRACE --workers N`, `sched migrate PLAN`,
--- `sched draw PLAN TRACE --workers N [--from T] [--to T] [--marks M]` and `sched live --workers N [--plan FILE]`.
+-- `sched draw PLAN TRACE --workers N [--from T] [--to T] [--marks M]`, `sched live --workers N [--plan FILE]` and
+-- `sched lint PLAN [--events FILE | --trace FILE --workers N]`.
 -- All of it is this project's rule, in the words that clap has for arguments and commands. The texts of help are no part of it.
 use Rattle.std.specs.Prelude.{◌≡◌, ◌≢◌, ◌⊎◌, ℕ, List, [], ◌∷◌, Some, Ok, Err, Result, MatchResult, true, false, pos, codes}
 use Rattle.clap.specs.Words.{App, Row, Rule, Text, IsAmong, fault_of, new_rule, subcommand_of}
@@ -10,7 +11,7 @@ use Rattle.clap.specs.declared.builder.value_parser.ValueParser.TheVariants.{Sig
 use Rattle.clap.specs.declared.error.kind.ErrorKind.{ErrorKind}
 use Rattle.clap.specs.declared.error.kind.ErrorKind.TheVariants as k
 use Rattle.sched.specs.declared.error.ProgramError.{ProgramError}
-use Rattle.sched.specs.declared.error.ProgramError.TheVariants.{Run}
+use Rattle.sched.specs.declared.error.ProgramError.TheVariants.{LintOptions, Run}
 use Rattle.executor_core.specs.Counts.{most_workers}
 use Rattle.sched_engine.specs.declared.report.RunError.TheVariants as x
 use Rattle.sched.specs.Errors.{status_of}
@@ -50,6 +51,18 @@ plan_file_rule = record (new_rule (codes "plan")) {
   value_names = 1;
   action = Some Set;
 }
+
+-- --events FILE: a text, which may be left out
+abbrev pub events_file_rule : Rule
+events_file_rule = record (new_rule (codes "events")) { long = Some (codes "events"); value_names = 1; action = Some Set }
+
+-- --trace FILE: a text, which may be left out
+abbrev pub trace_file_rule : Rule
+trace_file_rule = record (new_rule (codes "trace")) { long = Some (codes "trace"); value_names = 1; action = Some Set }
+
+-- --workers N of a trace: 1 to 64, which may be left out
+abbrev pub workers_of_trace_rule : Rule
+workers_of_trace_rule = record workers_rule { required = false }
 
 -- a moment: a text of a number of 64 bits, which may be left out
 abbrev pub moment_rule : Text → Rule
@@ -134,16 +147,23 @@ live_app = record {
   subs = [];
 }
 
--- the program, of which a command has to be named, beside clap's own `help`
+-- `lint` with its four arguments
+abbrev pub lint_app : App
+lint_app = record {
+  top = record (new_shape (codes "lint")) { rules = plan_rule ∷ events_file_rule ∷ trace_file_rule ∷ workers_of_trace_rule ∷ [] };
+  subs = [];
+}
+
+-- the program, which has a version, and of which a command has to be named, beside clap's own `help`
 abbrev pub sched_app : App
 sched_app = record {
-  top = record (new_shape (codes "sched")) { is_leaf = false; subcommand_required = true };
-  subs = run_app.top ∷ pool_app.top ∷ code_app.top ∷ tasks_app.top ∷ check_app.top ∷ migrate_app.top ∷ draw_app.top ∷ live_app.top ∷ [];
+  top = record (new_shape (codes "sched")) { has_version = true; is_leaf = false; subcommand_required = true };
+  subs = run_app.top ∷ pool_app.top ∷ code_app.top ∷ tasks_app.top ∷ check_app.top ∷ migrate_app.top ∷ draw_app.top ∷ live_app.top ∷ lint_app.top ∷ [];
 }
 
 -- ---- what the program answers to the arguments of a command line
 
--- help, or the version, which the program does not have
+-- help, or the version
 abbrev pub IsHelp : ErrorKind → Type 0
 IsHelp kind = (kind ≡ k.DisplayHelp) ⊎ (kind ≡ k.DisplayVersion)
 
@@ -166,9 +186,15 @@ NamesCommand name arguments = (rows : List Row) × (subcommand_of sched_app argu
 abbrev pub NamesTrace : List (List ℕ) → Type 0
 NamesTrace arguments = NamesCommand (codes "check") arguments ⊎ NamesCommand (codes "draw") arguments
 
--- what was asked for ends with 0, with 1 where a check or a drawing found that a trace breaks, or with an error whose exit status is 1
+-- they name `lint`
+abbrev pub NamesLint : List (List ℕ) → Type 0
+NamesLint arguments = NamesCommand (codes "lint") arguments
+
+-- what was asked for ends with 0, with 1 where a check or a drawing found that a trace breaks, or a lint that something is wrong, or with an
+-- error, whose exit status is 1 but for options of a lint that do not go together
 abbrev pub IsEndOf : List (List ℕ) → Result ℕ ProgramError → Type 0
-IsEndOf arguments result = MatchResult result (λ s. (s ≡ 0) ⊎ ((s ≡ 1) × NamesTrace arguments)) (λ e. status_of e ≡ 1)
+IsEndOf arguments result =
+    MatchResult result (λ s. (s ≡ 0) ⊎ ((s ≡ 1) × (NamesTrace arguments ⊎ NamesLint arguments))) (λ e. (status_of e ≡ 1) ⊎ ((e ≡ LintOptions) × NamesLint arguments))
 
 -- arguments that it takes end so
 abbrev pub IsTaken : List (List ℕ) → Result ℕ ProgramError → Type 0

@@ -15,6 +15,7 @@ use Rattle.trace_svg.specs.declared.report.DrawError.TheVariants as d
 -- the exit status that goes with an error: 2 for the command line, else 1
 abbrev pub status_of : ProgramError → ℕ
 status_of f.Arguments = 2
+status_of f.LintOptions = 2
 status_of f.PlanFile = 1
 status_of f.PlanUnwritten = 1
 status_of f.TraceFile = 1

@@ -38,3 +38,7 @@ IsReadOf remaining failed fruitless most (Ok reader) (Some text) = IfSome (remai
 IsReadOf remaining failed fruitless most (Ok reader) None = IsAtFault remaining failed fruitless most reader
 IsReadOf remaining failed fruitless most (Err error) (Some text) = ⊥
 IsReadOf remaining failed fruitless most (Err error) None = error_kind error ≢ OutOfMemory
+
+-- what was read of a file that the system opened, or did not, of so many bytes at most: a fact for each list of bytes, and for nothing
+abbrev pub Reads : Type 0 → Type 1
+Reads P = ℕ → Result P Error → Option (List ℕ) → Type 0

@@ -12,5 +12,7 @@ pub mod Answers
 pub mod Findings
 pub mod Drawings
 pub mod Live
+pub mod Openings
 pub mod Order
+pub mod Linting
 pub mod Serving

@@ -7,18 +7,17 @@ use Rattle.std.specs.declared.io.Error.{Error}
 use Rattle.clap.specs.Words.{Text}
 use Rattle.sched.specs.Arguments.{Asks}
 use Rattle.sched.specs.Errors.{status_of}
-use Rattle.sched.specs.Fronts.{most_of_plan, most_of_trace}
+use Rattle.sched.specs.Answers.{in_status}
+use Rattle.sched.specs.Fronts.{Reads, most_of_plan, most_of_trace}
+use Rattle.sched.specs.Linting.{AnswersLint}
 use Rattle.sched.specs.Live.{AnswersLive, Writes}
 use Rattle.sched.specs.Order.{AnswersCheck, AnswersCode, AnswersDraw, AnswersMigrate, AnswersPool, AnswersRun, AnswersTasks}
 use Rattle.sched.specs.declared.arguments.Asked.{Asked}
-use Rattle.sched.specs.declared.arguments.Asked.TheVariants.{Pool, Alone}
+use Rattle.sched.specs.declared.answer.Answer.{Answer}
+use Rattle.sched.specs.declared.arguments.Asked.TheVariants.{Pool, Lint, Alone}
 use Rattle.sched.specs.declared.arguments.AskedAlone.{AskedAlone}
 use Rattle.sched.specs.declared.arguments.AskedAlone.TheVariants.{Run, Code, Tasks, Check, Migrate, Draw, Live}
 use Rattle.sched.specs.declared.error.ProgramError.{ProgramError}
-
--- what was read of a file that the system opened, or did not, of so many bytes at most: a fact for each list of bytes, and for nothing
-abbrev pub Reads : Type 0 → Type 1
-Reads P = ℕ → Result P Error → Option (List ℕ) → Type 0
 
 -- what is asked of one thread is done over what is read, of so many bytes at most, of the files that it names, as they are opened by
 -- their names, and what is written to a file that it names, as it is created. A listing, a list of tasks, a check, a migration and a
@@ -42,14 +41,18 @@ AnswersAlone {P} {F} answer IsRead Opens IsWritten Creates (Draw asked) input le
     × Keeps input left
 AnswersAlone {P} {F} answer IsRead Opens IsWritten Creates (Live asked) input left old new = AnswersLive answer asked IsWritten Creates input left old new
 
--- what is asked for is done: a run by a pool over the plan's file, as it is opened by its name, or what is asked of one thread
-abbrev pub AnswersAsked : {P F : Type 0} → Result ℕ ProgramError → Reads P → (Bor Text → Result P Error → Type 0) → Writes F → (Bor Text → Result F Error → Type 0) → Asked → Option (List ℕ) → Option (List ℕ) → Option (List ℕ) → Option (List ℕ) → Type 0
+-- what is asked for is done: a run by a pool over the plan's file, as it is opened by its name, a lint, or what is asked of one thread
+abbrev pub AnswersAsked : {P F : Type 0} → Result Answer ProgramError → Reads P → (Bor Text → Result P Error → Type 0) → Writes F → (Bor Text → Result F Error → Type 0) → Asked → Option (List ℕ) → Option (List ℕ) → Option (List ℕ) → Option (List ℕ) → Type 0
 AnswersAsked {P} {F} answer IsRead Opens IsWritten Creates (Pool asked) input left old new =
-    (plan : Result P Error) × Opens asked.path plan × AnswersPool answer (IsRead most_of_plan plan) asked input left old new
-AnswersAsked {P} {F} answer IsRead Opens IsWritten Creates (Alone asked) input left old new = AnswersAlone answer IsRead Opens IsWritten Creates asked input left old new
+    (ended : Result ℕ ProgramError) × (answer ≡ in_status ended)
+    × (plan : Result P Error) × Opens asked.path plan × AnswersPool ended (IsRead most_of_plan plan) asked input left old new
+AnswersAsked {P} {F} answer IsRead Opens IsWritten Creates (Lint asked) input left old new =
+    AnswersLint answer IsRead Opens asked old new × Keeps input left
+AnswersAsked {P} {F} answer IsRead Opens IsWritten Creates (Alone asked) input left old new =
+    (ended : Result ℕ ProgramError) × (answer ≡ in_status ended) × AnswersAlone ended IsRead Opens IsWritten Creates asked input left old new
 
 -- what the arguments of a command line ask for is done
-pub record Serves {P F : Type 0} (arguments : List Text) (answer : Result ℕ ProgramError) (IsRead : Reads P) (Opens : Bor Text → Result P Error → Type 0)
+pub record Serves {P F : Type 0} (arguments : List Text) (answer : Result Answer ProgramError) (IsRead : Reads P) (Opens : Bor Text → Result P Error → Type 0)
     (IsWritten : Writes F) (Creates : Bor Text → Result F Error → Type 0) (input left old new : Option (List ℕ)) : Type 0 where
   pub asked : Asked
   pub asks : Asks arguments asked

@@ -3,7 +3,7 @@
 ghost use Rattle.std.specs.Prelude.{◌≡◌, map, string_bytes, IfOk};
 ghost use Rattle.clap.specs.Words.{FailsBy, fault_of, found_of, rows_of};
 ghost use Rattle.sched.specs.Commands.{sched_app};
-ghost use Rattle.sched.specs.Arguments.{Asks, AsksForCheck, AsksForDraw, AsksForLive, AsksForPlan, AsksForRun, AsksForView};
+ghost use Rattle.sched.specs.Arguments.{Asks, AsksForCheck, AsksForDraw, AsksForLint, AsksForLive, AsksForPlan, AsksForRun, AsksForView};
 
 use crate::command::command;
 use clap::{ArgMatches, Error};
@@ -15,6 +15,8 @@ use trace_svg::View;
 pub enum Asked<'a> {
     /// A run of a plan by a pool over the clocks on standard input.
     Pool(RunArguments<'a>),
+    /// Why a plan is refused, or what goes with it.
+    Lint(LintArguments<'a>),
     /// What one thread does, which waits for no other.
     Alone(AskedAlone<'a>),
 }
@@ -85,6 +87,19 @@ pub struct LiveArguments<'a> {
     pub plan: Option<&'a str>,
 }
 
+/// What `sched lint` is asked for.
+#[derive(Clone, Copy, Debug)]
+pub struct LintArguments<'a> {
+    /// The name of the plan's file.
+    pub path: &'a str,
+    /// The name of the events' file, where one is given.
+    pub events: Option<&'a str>,
+    /// The name of the trace's file, where one is given.
+    pub trace: Option<&'a str>,
+    /// How many workers there are, where that is given: 1 to 64.
+    pub workers: Option<u8>,
+}
+
 impl<'a> Asked<'a> {
     /// What the arguments of a command line ask for, the program's name first. `Err` is help, a
     /// fault of the command line, or want of memory.
@@ -119,6 +134,9 @@ impl<'a> Asked<'a> {
         if let Some(live) = matches.subcommand_matches("live") {
             let live = LiveArguments::of_matches(live);
             return Ok(Asked::Alone(AskedAlone::Live(live)));
+        }
+        if let Some(lint) = matches.subcommand_matches("lint") {
+            return Ok(Asked::Lint(LintArguments::of_matches(lint)));
         }
         match matches.subcommand() {
             Some((_, run)) => {
@@ -188,6 +206,20 @@ impl<'a> LiveArguments<'a> {
         LiveArguments {
             workers: live.get_one::<u8>("workers").unwrap_or(0),
             plan: live.get_str("plan"),
+        }
+    }
+}
+
+impl<'a> LintArguments<'a> {
+    /// What was found for the arguments of `lint`, as [`RunArguments`] has it.
+    fn of_matches(lint: &ArgMatches<'a>) -> LintArguments<'a>
+        ensures { AsksForLint (rows_of (found_of lint.now)) result }
+    {
+        LintArguments {
+            path: lint.get_str("plan").unwrap_or(""),
+            events: lint.get_str("events"),
+            trace: lint.get_str("trace"),
+            workers: lint.get_one::<u8>("workers"),
         }
     }
 }

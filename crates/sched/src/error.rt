@@ -17,6 +17,8 @@ use trace_svg::DrawError;
 pub enum ProgramError {
     /// An argument of the command line is not UTF-8.
     Arguments,
+    /// Of `--events`, `--trace` and `--workers` some are given that do not go together.
+    LintOptions,
     /// The plan file can't be read.
     PlanFile,
     /// The file of the plan that was asked for can't be created or written.
@@ -39,7 +41,7 @@ impl ProgramError {
         ensures { result ≡ status_of self }
     {
         match self {
-            ProgramError::Arguments => 2,
+            ProgramError::Arguments | ProgramError::LintOptions => 2,
             ProgramError::PlanFile
             | ProgramError::PlanUnwritten
             | ProgramError::TraceFile

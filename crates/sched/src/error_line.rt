@@ -6,6 +6,7 @@ ghost use Rattle.arrayvec.specs.ArrayString.{array_string_len};
 ghost use Rattle.sched.specs.Answers.{IsTold, exit_status_of};
 ghost use Rattle.sched.specs.Lines.{error_line, kind_name, plan_fault_text, reason_text, run_error_text};
 
+use crate::answer::Answer;
 use crate::error::ProgramError;
 use arrayvec::ArrayString;
 use itoa::Buffer;
@@ -21,14 +22,18 @@ const LONGEST_LINE: usize = LONGEST_REASON + 8;
 /// Why the program gives up, in words.
 type Reason = ArrayString<LONGEST_REASON>;
 
-/// Tells an answer: the exit status that it is or that goes with its error, and an error's line by `faults`. Where these are at fault,
-/// the status alone tells the error. No memory is taken.
-pub fn tell<W: Sink>(faults: &mut W, answer: Result<u8, ProgramError>) -> u8
+/// Tells an answer: the exit status that it is or that goes with it, and the line of a refusal or of an error by `faults`. Where these are
+/// at fault, the status alone tells it. No memory is taken.
+pub fn tell<W: Sink>(faults: &mut W, answer: Result<Answer, ProgramError>) -> u8
     ensures told { IsTold answer (W.contents faults.old) (W.contents faults.new) (W.failed faults.old) (W.fruitless faults.old) (W.failed faults.new) (W.fruitless faults.new) }
     ensures status { result ≡ exit_status_of answer }
 {
     match answer {
-        Ok(status) => status,
+        Ok(Answer::Status(status)) => status,
+        Ok(Answer::Refused(line)) => {
+            let _ = write_text(faults, line.as_bytes());
+            1
+        }
         Err(error) => {
             let _ = write_text(faults, line_of(error).as_str().as_bytes());
             error.status()
@@ -53,6 +58,9 @@ fn reason_of(error: ProgramError) -> Reason
 {
     match error {
         ProgramError::Arguments => in_words("command line not UTF-8"),
+        ProgramError::LintOptions => {
+            in_words("--events stands alone, and --trace and --workers stand together")
+        }
         ProgramError::PlanFile => in_words("plan file not read"),
         ProgramError::PlanUnwritten => in_words("plan file not written"),
         ProgramError::TraceFile => in_words("trace file not read"),

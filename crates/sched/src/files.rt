@@ -100,7 +100,7 @@ pub fn whole_trace<A: Allocator, P: Source>(
 
 /// The first bytes of a file, at most `most`, which has lost just these. `Err` is `fault` where it is at fault, though it gave bytes
 /// before, or want of memory: it has lost some of them.
-fn front_of<A: Allocator, P: Source>(
+pub fn front_of<A: Allocator, P: Source>(
     alloc: A,
     file: &mut P,
     most: usize,

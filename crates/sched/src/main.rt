@@ -12,14 +12,17 @@
 //! sched migrate PLAN
 //! sched draw PLAN TRACE --workers N [--from T] [--to T] [--marks M]
 //! sched live --workers N [--plan FILE]
+//! sched lint PLAN [--events FILE | --trace FILE --workers N]
 //! ```
 //!
 //! PLAN is the file of the plan, and TRACE that of a trace. There are 1 to 64 workers, and a run takes at most 1 to
 //! 4,294,967,295 events, 1,000,000 where the limit is left out. Events come on standard input, and the trace goes to
-//! standard output. FILE is written: it gets the plan of the calls of a live run. `sched run --help` has the forms of plans,
+//! standard output. The FILE of `live` is written: it gets the plan of the calls. A file that is read may be `-`, standard input: one of a
+//! command's at most, and none of `run` and `pool`, whose events come there. `sched --version` tells the version and the toolchain.
+//! `sched run --help` has the forms of plans,
 //! events and traces, `sched code --help` that of a listing, `sched tasks --help` that of the tasks, `sched check --help` what a
-//! check finds, `sched migrate --help` which plans are migrated, `sched draw --help` what a picture shows, and
-//! `sched live --help` the forms of calls.
+//! check finds, `sched migrate --help` which plans are migrated, `sched draw --help` what a picture shows,
+//! `sched live --help` the forms of calls, and `sched lint --help` what is told of a plan that is refused.
 //!
 //! # Behaviour
 //!
@@ -33,8 +36,10 @@
 //! ([`migrate`](plan_read::migrate)). `draw` reads what `check` does, and writes the picture of the trace ([`draw`](trace_svg::draw))
 //! or, where it is none of the plan, `breaks N`. `live` answers lines of events and of calls on standard input as they come
 //! ([`live_engine::run`]), and writes the plan of the calls to FILE once they end
-//! ([`plan_text`](call_journal::plan_text)). No clock of the machine is read. All but `pool` waits for no other thread, and returns
-//! (`answer_alone`).
+//! ([`plan_text`](call_journal::plan_text)). `lint` reads the plan, and then the events or the trace, and writes `fine`, or tells what is
+//! wrong in one line on standard error ([`reason_of`](plan_reasons::reason_of), [`reason_of_events`](line_reasons::reason_of_events),
+//! [`reason_of_trace`](trace_reasons::reason_of_trace)). No clock of the machine is read. All but `pool` and `lint` is done by
+//! `answer_alone`; all but `pool` waits for no other thread, and returns.
 //!
 //! # Order and ties
 //!
@@ -46,7 +51,8 @@
 //!
 //! The first fault ends the program: one of the command line, with status 2, then one of the plan file, of the plan, of
 //! the trace file, and of the run, the picture or the writing, each with status 1 and told by one line on standard error. What was
-//! answered before is written. A trace that breaks is status 1 too, with nothing on standard error. Where standard error
+//! answered before is written. A trace that breaks is status 1 too, with nothing on standard error. What `lint` finds wrong is status 1
+//! and a line on standard error, which begins with the file's name. Where standard error
 //! is closed, the status alone tells the fault. Of a live run the first fault is told, and else that of the plan that it leaves,
 //! `TooMany` for more than 65,536 calls and `TooLong` for a text that no plan may have, and else that of FILE, which is written
 //! after a fault of the run too, and not touched at a fault of the plan. A file is told as not read where it can't be opened, where a
@@ -58,14 +64,16 @@
 //! grow with the number of events, nor with the calls that a repeated block makes, but for the tables of its tasks and for room
 //! for a line for each call that one clock reaches. A live run takes what [`live_engine::run`] takes, and where FILE is named the
 //! calls, the tree of their plan and its text. A check takes the text of the trace, and what a core takes; a drawing its lines and
-//! the text of the picture too.
+//! the text of the picture too. A lint takes what a check takes, and checks a trace that breaks again for each line that could stand, and
+//! for each number of workers.
 //!
 //! # Tests
 //!
-//! `tests/` has a file for the command line, its help, the files, the lines of errors, whole programs and pictures, in the world
+//! `tests/` has a file for the command line, its help, the files, the lines of errors, whole programs, pictures and lints, in the world
 //! of `world.rt`. `tools/sizes` runs the built program at the greatest sizes.
 #![tactic(auto)]
 
+mod answer;
 mod arguments;
 mod command;
 mod drawing;
@@ -73,12 +81,17 @@ mod error;
 mod error_line;
 mod files;
 mod finding;
+mod help;
 mod laws;
+mod lint;
+mod lint_files;
 mod live;
+mod opening;
 mod program;
 mod serving;
 #[cfg(test)]
 mod tests;
+mod version;
 mod work;
 
 use sched_engine::Writing;

@@ -3,17 +3,20 @@
 ghost use Rattle.std.specs.Prelude.{◌≡◌, ℕ, ◌≤◌, ◌⊎◌, Result, map, string_bytes, IfErr, IfOk};
 ghost use Rattle.std.specs.Process.{exit_status};
 ghost use Rattle.clap.specs.Words.{kind_of};
-ghost use Rattle.sched.specs.Answers.{IsTold, exit_status_of};
+ghost use Rattle.sched.specs.Answers.{IsTold, end_of, exit_status_of};
 ghost use Rattle.sched.specs.Commands.{IsRefusal, IsShown, IsTaken};
 ghost use Rattle.sched.specs.Errors.{IsOrMemory};
 ghost use Rattle.sched.specs.declared.error.ProgramError.TheVariants.{Arguments};
 
+use crate::answer::{Answer, in_status};
 use crate::error::ProgramError;
 use crate::error_line::tell;
+use crate::opening::open_source;
 use crate::serving::serve;
 use clap::Error;
 use clap::error::ErrorKind;
 use sched_engine::{Reading, RunError, Sink, Writing};
+use std::cell::Cell;
 use std::process::ExitCode;
 use std::rt::{Env, Files};
 use std::sync::Wait;
@@ -28,17 +31,17 @@ where
     T: Threads + Wait + Sync,
     F: Sink,
     ensures status { exit_status result ≤ 2 }
-    ensures told { (answer : Result ℕ ProgramError) × (exit_status result ≡ exit_status_of answer) × IsTold answer (F.contents faults.old) (F.contents faults.new) (F.failed faults.old) (F.fruitless faults.old) (F.failed faults.new) (F.fruitless faults.new) }
+    ensures told { (answer : Result Answer ProgramError) × (exit_status result ≡ exit_status_of answer) × IsTold answer (F.contents faults.old) (F.contents faults.new) (F.failed faults.old) (F.fruitless faults.old) (F.failed faults.new) (F.fruitless faults.new) }
 {
     ExitCode::from(tell(faults, answer(rt, threads)))
 }
 
-/// Does what the command line says. `Ok` is the exit status, 0, 1 or 2.
+/// Does what the command line says. `Ok` is the exit status, 0, 1 or 2, or a refusal.
 fn answer<R: Env + Files + Input + Print + Eprint + AllocGlobal, T: Threads + Wait + Sync>(
     rt: &R,
     threads: &T,
-) -> Result<u8, ProgramError>
-    ensures status { IfOk result (λ s. s ≤ 2) }
+) -> Result<Answer, ProgramError>
+    ensures status { IfOk (end_of result) (λ s. s ≤ 2) }
 {
     let arguments = arguments(rt)?;
     answer_arguments(rt, threads, &arguments)
@@ -58,29 +61,38 @@ fn arguments<R: Env + AllocGlobal>(rt: &R) -> Result<Vec<String>, ProgramError>
 /// Does what the arguments of a command line say, the program's name first, with the files of the system, standard input
 /// for the events and the calls, and standard output. No buffer stands between a run and the two, since the run reads and writes large
 /// pieces itself. `Ok` is the exit status: 0 where what they ask for was done or help was printed, 1 where a trace breaks,
-/// 2 where the program does not take them.
+/// 2 where the program does not take them; or a refusal.
 fn answer_arguments<R: Files + Input + Print + Eprint + AllocGlobal, T: Threads + Wait + Sync>(
     rt: &R,
     threads: &T,
     arguments: &[String],
-) -> Result<u8, ProgramError>
-    ensures status { IfOk result (λ s. s ≤ 2) }
-    ensures refused { IsRefusal (map string_bytes arguments.now) result }
-    ensures taken { IsTaken (map string_bytes arguments.now) result }
+) -> Result<Answer, ProgramError>
+    ensures status { IfOk (end_of result) (λ s. s ≤ 2) }
+    ensures refused { IsRefusal (map string_bytes arguments.now) (end_of result) }
+    ensures taken { IsTaken (map string_bytes arguments.now) (end_of result) }
 {
+    let is_left = Cell::new(!reads_events(arguments));
     let mut reader = Reading::new(rt.reader());
     let mut writer = Writing::new(io::writer(rt));
     match serve(
         threads,
         rt.alloc(),
         arguments,
-        |path| fs::open(rt, path).map(Reading::new),
+        |path| open_source(rt, path, &is_left),
         |path| fs::create(rt, path).map(Writing::new),
         &mut reader,
         &mut writer,
     ) {
         Ok(answer) => answer,
-        Err(error) => show(rt, &error),
+        Err(error) => in_status(show(rt, &error)),
+    }
+}
+
+/// Whether the command that is named reads events from standard input, where no file can be read then.
+fn reads_events(arguments: &[String]) -> bool {
+    match arguments.get(1) {
+        Some(command) => matches!(command.as_str(), "run" | "pool"),
+        None => false,
     }
 }
 

@@ -2,6 +2,7 @@
 
 ghost use Rattle.std.specs.Prelude.{map, string_bytes, IfErr, IfOk};
 ghost use Rattle.clap.specs.Words.{FailsBy, fault_of};
+ghost use Rattle.sched.specs.Answers.{end_of};
 ghost use Rattle.sched.specs.Commands.{IsEndOf, sched_app};
 ghost use Rattle.sched.specs.EndCounts.{CountsInput, CountsOutput};
 ghost use Rattle.sched.specs.Fronts.{IsReadOf};
@@ -10,9 +11,11 @@ ghost use Rattle.sched.specs.Serving.{AnswersAlone, EndsAlone, Serves};
 ghost use Rattle.sched_engine.specs.Ends.{NoneFailed};
 ghost use Rattle.sched_engine.specs.Running.{IsUntouched};
 
+use crate::answer::{Answer, in_status};
 use crate::arguments::{Asked, AskedAlone};
 use crate::drawing::draw_files;
 use crate::error::ProgramError;
+use crate::lint::lint_files;
 use crate::live::live_lines;
 use crate::work::{check_files, list_file, migrate_file, pool_file, run_file, tasks_file};
 use clap::Error;
@@ -24,7 +27,7 @@ use std::thread::Threads;
 
 /// Does what the arguments of a command line ask for, the program's name first: it opens the files that they name, or creates the one
 /// that is to be written, reads events from the reader and writes to the writer. A pool's threads are those of `rt`. `Ok` is how that
-/// ended: with an exit status, 0 or, where a trace breaks, 1, or with an error. `Err` is help, a fault of the command line or want of memory, which is to be shown: nothing was read or written.
+/// ended: with an exit status, 0 or, where a trace breaks, 1, with a refusal, or with an error. `Err` is help, a fault of the command line or want of memory, which is to be shown: nothing was read or written.
 pub fn serve<
     R: Threads + Wait + Sync,
     P: Source + Drop,
@@ -41,25 +44,26 @@ pub fn serve<
     create_file: C,
     reader: &mut S,
     writer: &mut W,
-) -> Result<Result<u8, ProgramError>, Error>
+) -> Result<Result<Answer, ProgramError>, Error>
     requires opens { O.IsAlwaysCallable open_file }
     requires creates { C.IsAlwaysCallable create_file }
     ensures serves { IfOk result (λ answer. Serves (map string_bytes arguments.now) answer (IsReadOf P.remaining P.failed P.fruitless) (O.post open_file) (IsWrittenTo F.contents F.failed F.fruitless) (C.post create_file) (S.remaining reader.old) (S.remaining reader.new) (W.contents writer.old) (W.contents writer.new)) }
-    ensures read { IfOk result (λ answer. CountsInput answer (S.failed reader.old) (S.fruitless reader.old) (S.failed reader.new) (S.fruitless reader.new)) }
-    ensures write { IfOk result (λ answer. CountsOutput answer (W.failed writer.old) (W.fruitless writer.old) (W.failed writer.new) (W.fruitless writer.new)) }
+    ensures read { IfOk result (λ answer. CountsInput (end_of answer) (S.failed reader.old) (S.fruitless reader.old) (S.failed reader.new) (S.fruitless reader.new)) }
+    ensures write { IfOk result (λ answer. CountsOutput (end_of answer) (W.failed writer.old) (W.fruitless writer.old) (W.failed writer.new) (W.fruitless writer.new)) }
     ensures fails { FailsBy (fault_of sched_app (map string_bytes arguments.now)) result }
     ensures untouched { IfErr result (λ _. IsUntouched (S.remaining reader.old) (S.remaining reader.new) (W.contents writer.old) (W.contents writer.new)) }
     ensures uncalled { IfErr result (λ _. NoneFailed 0 (S.failed reader.old) (S.fruitless reader.old) (S.failed reader.new) (S.fruitless reader.new) × NoneFailed 0 (W.failed writer.old) (W.fruitless writer.old) (W.failed writer.new) (W.fruitless writer.new)) }
-    ensures status { IfOk result (IsEndOf (map string_bytes arguments.now)) }
+    ensures status { IfOk result (λ answer. IsEndOf (map string_bytes arguments.now) (end_of answer)) }
 {
     match Asked::parse(alloc, arguments)? {
         Asked::Pool(pool) => {
             let plan = open_file(pool.path);
-            Ok(pool_file(rt, alloc, &pool, plan, reader, writer))
+            Ok(in_status(pool_file(rt, alloc, &pool, plan, reader, writer)))
         }
+        Asked::Lint(lint) => Ok(lint_files(alloc, &lint, open_file, writer)),
         Asked::Alone(asked) => {
             let answer = answer_alone(alloc, &asked, open_file, create_file, reader, writer);
-            Ok(answer)
+            Ok(in_status(answer))
         }
     }
 }

@@ -2,6 +2,7 @@ mod command_line;
 mod error_lines;
 mod files;
 mod help;
+mod lints;
 mod live_lines;
 mod memory;
 mod pictures;

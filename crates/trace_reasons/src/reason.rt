@@ -25,7 +25,7 @@ pub struct TraceReason<'t, A: Allocator> {
 
 impl<'t, A: Allocator> TraceReason<'t, A> {
     /// The reason with a file's name before it, as `trace.txt:3: "5 start 0 idle": ..`.
-    pub fn in_file<'r>(&'r self, file: &'r str) -> InFile<'r, 't, A> {
+    pub fn in_file(self, file: &'t str) -> InFile<'t, A> {
         InFile { file, reason: self }
     }
 
@@ -70,13 +70,13 @@ fn is_end(line: &Line) -> bool {
 }
 
 /// A reason with a file's name before it, as `trace.txt:3: "5 start 0 idle": ..`.
-#[derive(Clone, Copy)]
-pub struct InFile<'r, 't, A: Allocator> {
-    file: &'r str,
-    reason: &'r TraceReason<'t, A>,
+#[derive(Drop)]
+pub struct InFile<'t, A: Allocator> {
+    file: &'t str,
+    reason: TraceReason<'t, A>,
 }
 
-impl<A: Allocator> fmt::Display for InFile<'_, '_, A> {
+impl<A: Allocator> fmt::Display for InFile<'_, A> {
     fn fmt<W: fmt::Write>(&self, f: &mut fmt::Formatter<W>) -> fmt::Result {
         let line = self.reason.line;
         write!(f, "{}:{line}: ", FileName(self.file))?;

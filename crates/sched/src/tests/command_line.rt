@@ -1,7 +1,8 @@
 //! What the command line takes.
 
 use crate::arguments::{
-    Asked, AskedAlone, CheckArguments, DrawArguments, LiveArguments, PlanArguments, RunArguments,
+    Asked, AskedAlone, CheckArguments, DrawArguments, LintArguments, LiveArguments, PlanArguments,
+    RunArguments,
 };
 use std::alloc::Global;
 use std::process::Abort;
@@ -14,6 +15,16 @@ fn in_words(alloc: Global, arguments: &[String]) -> Result<String, Fail> {
         Ok(Asked::Pool(asked)) => {
             Ok(format!(in alloc; "pool {} {} {}", asked.path, asked.workers, asked.limit)?)
         }
+        Ok(
+            Asked::Lint(
+                LintArguments {
+                    path,
+                    events,
+                    trace,
+                    workers,
+                },
+            ),
+        ) => { Ok(format!(in alloc; "lint {path} {events:?} {trace:?} {workers:?}")?) }
         Ok(Asked::Alone(asked)) => of_one_thread(alloc, asked),
         Err(error) => Ok(format!(in alloc; "status {}", error.exit_code())?),
     }
@@ -127,6 +138,17 @@ fn takes_a_number_and_maybe_a_name_for_a_live_run(rt: HostRuntime) -> Result<(),
     tells_each(&rt, LIVE_RUNS)
 }
 
+/// Lints: the name of the plan's file, those of the events' and of the trace's, and how many workers there are.
+const LINTS: &str = "lint p None None None | sched lint p
+lint p Some(\"e\") None None | sched lint p --events e
+lint p None Some(\"t\") Some(64) | sched lint p --trace t --workers 64
+lint -p Some(\"e\") Some(\"-\") Some(1) | sched lint --workers=1 --trace=- --events e -- -p";
+
+#[test]
+fn takes_a_name_and_maybe_others_for_a_lint(rt: HostRuntime) -> Result<(), Fail> {
+    tells_each(&rt, LINTS)
+}
+
 /// Command lines that the program ends at.
 const REFUSED: &str = "status 2 | sched check p --workers 1
 status 2 | sched check p t
@@ -175,7 +197,17 @@ status 2 | sched live --workers 65
 status 2 | sched live --workers 1 p
 status 2 | sched live --workers 1 --plan
 status 2 | sched live --workers 1 --plan p --plan q
-status 2 | sched live --workers 1 --limit 3";
+status 2 | sched live --workers 1 --limit 3
+status 2 | sched lint
+status 2 | sched lint p q
+status 2 | sched lint p --events
+status 2 | sched lint p --trace t --workers 0
+status 2 | sched lint p --trace t --workers 65
+status 2 | sched lint p --events e --events e
+status 2 | sched lint p --limit 3
+status 0 | sched --version
+status 0 | sched -V
+status 2 | sched run --version";
 
 #[test]
 fn refuses_what_is_missing_too_much_or_out_of_range(rt: HostRuntime) -> Result<(), Fail> {
@@ -228,6 +260,15 @@ view: View { from: None, to: Some(3), marks: 4 } }))",
                 plan: Some("p"),
             })),
             "Alone(Live(LiveArguments { workers: 2, plan: Some(\"p\") }))",
+        ),
+        (
+            Asked::Lint(LintArguments {
+                path: "p",
+                events: None,
+                trace: Some("t"),
+                workers: Some(2),
+            }),
+            "Lint(LintArguments { path: \"p\", events: None, trace: Some(\"t\"), workers: Some(2) })",
         ),
         (
             Asked::Alone(AskedAlone::Migrate(PlanArguments { path: "p" })),

@@ -1,5 +1,6 @@
 //! The lines on standard error, and the exit statuses.
 
+use crate::answer::Answer;
 use crate::error::ProgramError;
 use crate::error_line::tell;
 use plan_read::{PlanFault, PlanFaultKind};
@@ -13,7 +14,7 @@ use trace_svg::DrawError;
 /// Checks that an answer is told by just this line on a standard error with a script, and this status, and how often that was called.
 fn is_told_by(
     rt: &(impl AllocGlobal + Abort),
-    answer: Result<u8, ProgramError>,
+    answer: Result<Answer, ProgramError>,
     script: Script,
     status: u8,
     line: &str,
@@ -148,12 +149,33 @@ fn tells_faults_of_the_plan_file_and_of_the_arguments(rt: HostRuntime) {
         2,
         "sched: command line not UTF-8\n",
     );
+    is_told(
+        &rt,
+        ProgramError::LintOptions,
+        2,
+        "sched: --events stands alone, and --trace and --workers stand together\n",
+    );
+}
+
+#[test]
+fn tells_a_refusal_by_its_line_and_status_1(rt: HostRuntime) -> Result<(), Fail> {
+    let line = "plan.toml: too long; at most 1048576 bytes\n";
+    let refused = Answer::Refused(String::from_str(rt.alloc(), line)?);
+    is_told_by(&rt, Ok(refused), Script::smooth(128), 1, line, 1);
+    Ok(())
 }
 
 #[test]
 fn tells_a_status_by_no_line(rt: HostRuntime) {
     for status in [0, 1, 2] {
-        is_told_by(&rt, Ok(status), Script::smooth(128), status, "", 0);
+        is_told_by(
+            &rt,
+            Ok(Answer::Status(status)),
+            Script::smooth(128),
+            status,
+            "",
+            0,
+        );
     }
 }
 
@@ -215,6 +237,7 @@ fn tells_an_error_by_its_status_where_standard_error_is_at_fault(rt: HostRuntime
 #[test]
 fn shows_errors_to_programmers(rt: HostRuntime) -> Result<(), Fail> {
     for (error, text) in [
+        (ProgramError::LintOptions, "LintOptions"),
         (ProgramError::TraceTooLong, "TraceTooLong"),
         (ProgramError::PlanUnwritten, "PlanUnwritten"),
         (ProgramError::EndsFirst, "EndsFirst"),

@@ -48,10 +48,74 @@ fn help_names_the_command_and_the_statuses(rt: HostRuntime) {
             "  migrate  Prints a plan of version 1, the older form, as one of version 2 to standard output",
             "  draw     Prints a picture of a trace of a plan, as SVG, to standard output",
             "  live     Answers events and calls on standard input as they come",
-            "'sched run --help' tells what a plan, an event and a trace look like.\n",
+            "  lint     Says why a plan is refused, or the events or the trace that go with it",
+            "  -V, --version  Print version\n",
+            "'sched run --help' tells what a plan, an event and a trace look like",
+            "'sched lint' why one is refused.",
             "  0  done\n",
             "  1  a fault, told by a line on standard error, or a trace that breaks\n",
             "  2  a fault of the command line\n",
+        ],
+    );
+}
+
+#[test]
+fn version_names_the_toolchain(rt: HostRuntime) {
+    shows(
+        &rt,
+        &[b"sched", b"--version"],
+        0,
+        &["sched 0.1.0 (rattle-kit-13f logic "],
+    );
+}
+
+/// What each help that speaks of a plan's fault says of its kinds.
+const KINDS: [&str; 18] = [
+    "KIND is\n",
+    "  TooLong   ",
+    "  Toml   ",
+    "  Version   ",
+    "  UnknownKey   ",
+    "  Missing   ",
+    "  WrongType   ",
+    "  BadUnit   ",
+    "  BadTimes   ",
+    "  Negative   ",
+    "  BadName   ",
+    "  DuplicateName  ",
+    "  UnknownName   ",
+    "  Ambiguous   ",
+    "  OutOfOrder   ",
+    "  TooLarge   ",
+    "  TooMany   ",
+    "'sched lint PLAN' says why, with the line of the text.",
+];
+
+#[test]
+fn each_help_names_the_kinds_of_faults_of_a_plan(rt: HostRuntime) {
+    let commands: [&[u8]; 7] = [
+        b"run", b"pool", b"code", b"tasks", b"check", b"migrate", b"draw",
+    ];
+    for command in commands {
+        shows(&rt, &[b"sched", command, b"--help"], 0, &KINDS);
+    }
+}
+
+#[test]
+fn help_of_lint_names_what_is_told(rt: HostRuntime) {
+    shows(
+        &rt,
+        &[b"sched", b"lint", b"--help"],
+        0,
+        &[
+            "Usage: sched lint [OPTIONS] <PLAN>\n",
+            "      --events <FILE>  The file of events that is looked at too\n",
+            "      --trace <FILE>   The file of a trace that is looked at too, with --workers\n",
+            "      --workers <N>    How many workers the trace has, 1 to 64\n",
+            "  plan.toml:12: block 2, call 1, op = \"sched\": no such op; one of",
+            "  0  nothing is wrong: 'fine' was printed\n",
+            "  1  something is wrong",
+            "  2  a fault of the command line",
         ],
     );
 }

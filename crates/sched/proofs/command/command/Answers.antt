@@ -4,9 +4,9 @@ use Rattle.clap.specs.Words.{App, app_of, new_app, with_subcommand}
 use Rattle.sched.proofs.command.command.Goals as goal
 use Rattle.sched.proofs.command.command.Goals.{After-subcommand_required}
 
--- the program before its commands: one has to be named
+-- the program before its commands: it has a version, and one of them has to be named
 own : App
-own = record (new_app (codes "sched")) { top = record (new_app (codes "sched")).top { subcommand_required = true } }
+own = record (new_app (codes "sched")) { top = record (new_app (codes "sched")).top { has_version = true; subcommand_required = true } }
 
 own_of : (c : After-subcommand_required) → app_of c.subcommand_required.result ≡ own
 unfolding own
@@ -40,6 +40,9 @@ returns c =
     let live = c.in_ok-live_command.ensures.app in
     let live_plain = ap (λ (a : App). a.top.is_plain) live in
     let live_local = not-true _ (and_parts _ _ (and_parts _ _ (and_parts _ _ live_plain).1).1).0 in
+    let lint = c.in_ok-lint_command.ensures.app in
+    let lint_plain = ap (λ (a : App). a.top.is_plain) lint in
+    let lint_local = not-true _ (and_parts _ _ (and_parts _ _ (and_parts _ _ lint_plain).1).1).0 in
     let one = c.in_ok-subcommand.ensures.shape run_local ∙ ap₂ with_subcommand bare (ap (λ (a : App). a.top) run) in
     let two = c.in_ok-subcommand-2.ensures.shape pool_local ∙ ap₂ with_subcommand one (ap (λ (a : App). a.top) pool) in
     let three = c.in_ok-subcommand-3.ensures.shape code_local ∙ ap₂ with_subcommand two (ap (λ (a : App). a.top) code) in
@@ -47,4 +50,5 @@ returns c =
     let five = c.in_ok-subcommand-5.ensures.shape check_local ∙ ap₂ with_subcommand four (ap (λ (a : App). a.top) check) in
     let six = c.in_ok-subcommand-6.ensures.shape migrate_local ∙ ap₂ with_subcommand five (ap (λ (a : App). a.top) migrate) in
     let seven = c.in_ok-subcommand-7.ensures.shape draw_local ∙ ap₂ with_subcommand six (ap (λ (a : App). a.top) draw) in
-    record { app = c.in_ok-subcommand-8.ensures.shape live_local ∙ ap₂ with_subcommand seven (ap (λ (a : App). a.top) live) }
+    let eight = c.in_ok-subcommand-8.ensures.shape live_local ∙ ap₂ with_subcommand seven (ap (λ (a : App). a.top) live) in
+    record { app = c.in_ok-subcommand-9.ensures.shape lint_local ∙ ap₂ with_subcommand eight (ap (λ (a : App). a.top) lint) }

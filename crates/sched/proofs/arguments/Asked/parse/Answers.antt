@@ -47,6 +47,9 @@ returns-in-Some-subcommand_matches-5-clause-fails c = no_fault _ _ c.in_ok-comma
 pub returns-in-Some-subcommand_matches-6-clause-fails : goal.returns-in-Some-subcommand_matches-6-clause-fails
 returns-in-Some-subcommand_matches-6-clause-fails c = no_fault _ _ c.in_ok-command.ensures.app c.in_ok-matches.ensures.kinds
 
+pub returns-in-Some-subcommand_matches-7-clause-fails : goal.returns-in-Some-subcommand_matches-7-clause-fails
+returns-in-Some-subcommand_matches-7-clause-fails c = no_fault _ _ c.in_ok-command.ensures.app c.in_ok-matches.ensures.kinds
+
 pub returns-clause-fails : goal.returns-clause-fails
 returns-clause-fails c = no_fault _ _ c.in_ok-command.ensures.app c.in_ok-matches.ensures.kinds
 
@@ -127,6 +130,13 @@ returns-in-Some-subcommand_matches-6-clause-asked c = (
   c.of_matches-live.ensures,
 )
 
+pub returns-in-Some-subcommand_matches-7-clause-asked : goal.returns-in-Some-subcommand_matches-7-clause-asked
+returns-in-Some-subcommand_matches-7-clause-asked c = (
+  _,
+  named _ _ _ _ _ c.in_ok-command.ensures.app c.in_ok-matches.ensures.matches (c.in-Some-subcommand_matches-7.ensures.found.0 refl) c.in-Some-subcommand_matches-7.ensures.rows,
+  c.of_matches-in-Some-subcommand_matches-7.ensures,
+)
+
 pub returns-clause-asked : goal.returns-clause-asked
 returns-clause-asked c =
     let name = c.in-Some-subcommand.ensures.name in (
@@ -140,6 +150,7 @@ returns-clause-asked c =
       λ q. none_found _ c.in_default-subcommand_matches-4.is (c.subcommand_matches-5.ensures.found.1 (sym name ∙ ap Some q)),
       λ q. none_found _ c.in_default-subcommand_matches-5.is (c.subcommand_matches-6.ensures.found.1 (sym name ∙ ap Some q)),
       λ q. none_found _ c.in_default-subcommand_matches-6.is (c.subcommand_matches-7.ensures.found.1 (sym name ∙ ap Some q)),
+      λ q. none_found _ c.in_default-subcommand_matches-7.is (c.subcommand_matches-8.ensures.found.1 (sym name ∙ ap Some q)),
       c.of_matches-run.ensures,
     )
 

@@ -1,0 +1,14 @@
+-- Openings: files that are read, and standard input by the name `-`. All of it is this project's rule.
+use Rattle.std.specs.Prelude.{⊤}
+use Rattle.sched.specs.declared.opening.Opened.{Opened}
+use Rattle.sched.specs.declared.opening.Opened.TheVariants.{File, Input}
+
+-- what holds of an opened file, or of standard input
+abbrev pub of_opened : {F I X : Type 0} → (F → X) → (I → X) → Opened F I → X
+of_opened of_file of_input (File file) = of_file file
+of_opened of_file of_input (Input input) = of_input input
+
+-- standard input was opened
+abbrev pub IsInput : {F I : Type 0} → Opened F I → Type 0
+IsInput (File file) = ⊥
+IsInput (Input input) = ⊤
