@@ -65,8 +65,8 @@ fn tries(asked: Asked, now: u64) -> [Option<Happening>; 3] {
     let later = clock.filter(|_| moment > now);
     match asked.happening {
         Some(Happening::Clock(moment)) => {
-            let clock = Happening::Clock(moment.max(now));
-            [asked.happening, Some(clock), None]
+            let reached = Happening::Clock(moment.max(now));
+            [later, asked.happening, Some(reached)]
         }
         Some(Happening::Call) => [asked.happening, later, None],
         Some(_) => [later, asked.happening, None],

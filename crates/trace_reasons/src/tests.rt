@@ -1,4 +1,5 @@
 //! Tests of reasons, each kind of broken line.
+mod conforming;
 mod ends;
 mod events;
 mod memory;
