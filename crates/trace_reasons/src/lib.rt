@@ -36,23 +36,26 @@
 //!
 //! # Which lines are told
 //!
-//! Where the answer before has a line that is still to come, that line alone. Else what the executor answers behind the lines before,
-//! what is wanted most first:
+//! Where the answer before has a line that is still to come, that line alone. Else what the executor answers behind the lines
+//! before, what is wanted most first:
 //!
 //! | What stands there is about | What is answered to |
 //! |---|---|
 //! | a call of the plan | the next call, where one is left |
-//! | `clock`, at M | the clock M; where it would go back also the clock of the moment so far |
+//! | `clock` | the clock of the moment in front; where it would go back, also the clock M |
 //! | `start W` | the start; where W runs a task, first its end with the value 0 |
 //! | `finish W` | the end with that value or that code, or with the value 0; where W runs no task, first its start |
 //! | `outside K` | the cancel of K |
 //! | `error ..` | an event that may get the error |
 //! | anything else | the next call, the clock M, and the start of worker 0 |
 //!
-//! Where a call of the plan comes before a clock, that call stands in its place. A line with a later moment than the trace so far
-//! wants a clock first, so that is told before what it is about. Where nothing is told by then, the last row is. What a line is about is
-//! told by its words, so that also a line which cannot be read is about something: `05  start 0` is about the start of worker 0.
-//! M is the greater one of the moment in front of the line and the moment of the trace so far.
+//! M is the greater one of the moment in front of the line and the moment of the trace so far. Where the one in front is later,
+//! the clock M is told too: before what the line is about, or behind a call. Where a call of the plan comes before a clock, that
+//! call stands in its place. Where nothing is told by then, the last row is.
+//!
+//! What a line is about is told by its words, so that also a line which cannot be read is about something: `05  start 0` is about
+//! the start of worker 0. No line is told where the lines before the break leave no room for one in the greatest length of a
+//! text.
 //!
 //! # Errors
 //!
@@ -61,17 +64,18 @@
 //!
 //! # What is proved
 //!
-//! That there is no reason exactly where the text conforms, and that else it breaks at the line that is told; that what is told to
-//! stand there does stand there; that a fault is told exactly of a line that is none; that each line which is told could stand there:
-//! the lines before it with this one behind them break neither at it nor before it (`CouldStand`); that there are three at most; and
-//! that the numbers of workers are those with which the text conforms, in ascending order. Which lines are told, that any is, which
-//! fault it is, and the text of a reason are only tested, in `src/tests`.
+//! That there is no reason exactly where the text conforms, and that else it breaks at the line that is told; that what is told
+//! to stand there does stand there; that a fault is told exactly of a line that is none; that each line which is told could stand
+//! there: the lines before it with this one behind them break neither at it nor before it (`CouldStand`); that there are three at
+//! most; and that the numbers of workers are those with which the text conforms, in ascending order. Which lines are told, that
+//! any is, which fault it is, and the text of a reason are only tested, in `src/tests`.
 //!
 //! # Memory and cost
 //!
-//! A text that conforms is checked once. One that breaks is checked once more for each other number of workers, up to its break there,
-//! and its lines before the break are read twice more for each line that is told, once to find it and once to check it. Only the lines
-//! before the break are copied, once for each line that is told. A reason borrows the line that stands there from the text.
+//! A text that conforms is checked once. One that breaks is checked once more for each other number of workers, up to its break
+//! there. Its lines before the break are read once to see which line is still to come, and twice for each line that is told, to
+//! find it and to check it; for that they are copied. A reason borrows the line that stands there from the text, and owns the
+//! rest.
 #![tactic(auto)]
 
 mod asked;

@@ -56,7 +56,8 @@ impl<A: Allocator> Replay<A> {
         self.answer.get(self.met).copied()
     }
 
-    /// The first line that is answered to a happening, or to the call of the plan that comes before it; none where neither may come.
+    /// The first line that is answered to a happening, or to the call of the plan that comes before it; none where neither may
+    /// come.
     /// `Err` is a refused growth.
     pub fn answer_to(mut self, happening: Happening) -> Result<Option<Line>, AllocError> {
         match self.happen(happening)? {

@@ -42,8 +42,8 @@ fn text_of_row(alloc: Global, front: &str, lines: &str) -> Result<String, Fail> 
     Ok(text)
 }
 
-/// Tells of each text of a table, with this many workers. A row of the table is what is to be told, then ` | `, and then the text's
-/// lines behind `front`, with ` / ` between them.
+/// Tells of each text of a table, with this many workers. A row of the table is what is to be told, then ` | `, and then the
+/// text's lines behind `front`, with ` / ` between them.
 fn tell_with(
     rt: &(impl AllocGlobal + Abort),
     plan: &str,

@@ -8,8 +8,8 @@ use std::process::Abort;
 use std::test::Fail;
 use trace_check::CheckError;
 
-/// Finds the reason of a text where the growth of this number is refused, and tells whether it was. Then want of memory is answered,
-/// and else the reason.
+/// Finds the reason of a text where the growth of this number is refused, and tells whether it was. Then want of memory is
+/// answered, and else the reason.
 fn is_refused_at(rt: &(impl AllocGlobal + Abort), number: u64) -> Result<bool, Fail> {
     let alloc = rt.alloc();
     let plan = read_plan(alloc, ONE_DELAY.as_bytes())?;
