@@ -16,7 +16,7 @@ fn fault(alloc: Global, text: &[u8]) -> Result<EventFault<'_>, Fail> {
 /// A text of so many bytes, which begins as a clock does.
 fn text_of_length(alloc: Global, length: usize) -> Result<String, Fail> {
     let mut text = String::from_str(alloc, "clock ")?;
-    while text.len() < length {
+    for _byte in text.len()..length {
         text.push('0')?;
     }
     Ok(text)
