@@ -1,13 +1,72 @@
-//! Why a line cannot be read, in words.
+//! Why a line cannot be read, in words: a line of events, and any line.
 //!
 //! # Usage
 //!
 //! ```rust
+//! match reason_of_events(alloc, b"start 0\nclock 05\n") {
+//!     None => println!(rt; "fine")?,
+//!     Some(reason) => eprintln!(rt; "{}", reason.in_file("events.txt"))?,
+//! }
+//! // events.txt:2: "clock 05": leading zero; a moment has none, as in "clock 5"
+//!
 //! line_fault(b"5  clock\n");    // LineFault::TwoSpaces
 //! line_fault(b"05 clock\n");    // LineFault::Number(b"05", NumberFault::LeadingZero)
 //! number_fault(b"5ms", 255);    // Some(NumberFault::Unit)
 //! Quoted(b"5 clock\r");         // prints "5 clock\r" in quotes, with the escape
 //! ```
+//!
+//! # Behaviour
+//!
+//! [`reason_of_events`] answers `None` exactly where a text is the text of events, each a line, and else an [`EventsReason`]: the
+//! first line that is no event's, its number, counted from 1, and its fault. The empty text is that of no events.
+//!
+//! A reason prints as one line, `line N, LINE: WHAT IS WRONG; WHAT IS WANTED`, or with a file's name as `FILE:N: LINE: ..`. The line
+//! stands there in quotes without its newline, cut at 40 characters, with escapes for control characters, for others that cannot be
+//! seen, and for bytes that are no UTF-8.
+//!
+//! Of the faults of a line the first in this table is told. Words are looked at from the left.
+//!
+//! | Fault | What is wrong; what is wanted |
+//! |---|---|
+//! | `Line(Empty)` | `empty; one of clock, start, finish, cancel` |
+//! | `TooLong` | `too long; at most 63 bytes with its newline` |
+//! | `Line(CarriageReturn)` | `carriage return; a line ends with a newline alone` |
+//! | `Line(NoNewline)` | `no newline; each line ends with one` |
+//! | `Line(Tab)` | `tab; one space stands between two words` |
+//! | `Line(SpaceInFront)` | `space in front; a line begins with a word` |
+//! | `Line(SpaceAtEnd)` | `space at the end; a line ends with a word` |
+//! | `Line(TwoSpaces)` | `two spaces; one space stands between two words` |
+//! | `NoWord` | `"clok" is no event; clock may be meant; one of ..`; `"done" is no ending; one of ok, fail` |
+//! | `Number`, `Sign` | `sign; a moment has none, as in "clock 5"` |
+//! | `Number`, `LeadingZero` | `leading zero; a moment has none, as in "clock 5"` |
+//! | `Number`, `Unit` | `unit; a worker has none, as in "start 0"`; of `5ms`, and of `5 ms` |
+//! | `Number`, `TooLarge` | `too large; a worker is at most 255` |
+//! | `Number`, `NoNumber` | `no number; a moment is wanted, as in "clock 5"` |
+//! | `Missing` | `too short; finish W ok V or finish W fail C` |
+//! | `Surplus` | `more behind its end; clock T` |
+//!
+//! A word may be meant where two edits at most lead to it, and no more than half the characters of the longer of the two: of several
+//! the one with the fewest edits is told, and of those the first.
+//!
+//! [`line_fault`] tells what is wrong with any line, as far as it shows without its forms: the faults of `Line` in the order of the
+//! table, and else the first word that would be a number but for a sign, a leading zero, a unit or its size, as
+//! `leading zero in "05"; a number has none`. Where none of these is so, it answers [`LineFault::NoSuchLine`].
+//!
+//! # Errors
+//!
+//! There are none. Where there is no memory to count edits, no word is told as one that may be meant, or another one is.
+//!
+//! # What is proved
+//!
+//! That there is no reason exactly where the text is that of events (`AreEvents`), and that the line of a reason is the first line
+//! of its text that is no event's, with its number: the lines before it are those of events, and no event's line stands in front
+//! of what follows them (`IsFirstOther`). Which fault is told, also by [`line_fault`] and [`number_fault`], which word may be
+//! meant, and the text of a reason are only tested, in `src/tests`.
+//!
+//! # Memory and cost
+//!
+//! A text is read once, up to its first line that is no event's, and that line once more. Memory is taken only to count edits, a few
+//! words for each word that may be meant, and given back. A reason borrows from the text.
 #![tactic(auto)]
 
 mod choice;
