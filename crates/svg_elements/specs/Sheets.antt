@@ -52,7 +52,7 @@ white_rules =
     ∷ rule (codes "text") (inside (ink White) ∷ [])
     ∷ rule (class (face_word face.Row)) ((codes "text-anchor", codes "end") ∷ [])
     ∷ rule (class (face_word face.Tick)) ((codes "text-anchor", codes "middle") ∷ (codes "font-size", codes "10px") ∷ [])
-    ∷ rule (class (face_word face.Count)) ((codes "text-anchor", codes "middle") ∷ (codes "font-size", codes "9px") ∷ (codes "pointer-events", codes "none") ∷ [])
+    ∷ rule (class (face_word face.Count)) ((codes "font-size", codes "9px") ∷ (codes "pointer-events", codes "none") ∷ [])
     ∷ rule (class (face_word face.Run)) (inside (face_colour White face.Run) ∷ (codes "pointer-events", codes "none") ∷ [])
     ∷ rule (codes "line") (edge (faint White) ∷ [])
     ∷ rule (class (stroke_word stroke.Axis)) (edge (stroke_colour White stroke.Axis) ∷ [])

@@ -10,7 +10,7 @@ svg { background: #ffffff; font: 11px ui-monospace, Menlo, Consolas, monospace; 
 text { fill: #222222; }
 .row { text-anchor: end; }
 .tick { text-anchor: middle; font-size: 10px; }
-.count { text-anchor: middle; font-size: 9px; pointer-events: none; }
+.count { font-size: 9px; pointer-events: none; }
 .run { fill: #000000; pointer-events: none; }
 line { stroke: #dddddd; }
 .axis { stroke: #222222; }

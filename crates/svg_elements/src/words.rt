@@ -119,7 +119,7 @@ pub enum Face {
     Run,
     /// A word of the legend: it begins there.
     Key,
-    /// How many marks stand at one place: its middle stands there.
+    /// How many marks stand at one place: it begins there.
     Count,
 }
 
