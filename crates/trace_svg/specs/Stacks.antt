@@ -1,5 +1,5 @@
 -- The marks of a row that stand at one place: stacks. All of it is this project's rule. A text is grouped to the right.
-use Rattle.std.specs.Prelude.{ℕ, ◌-◌, ◌==◌, Bool, List, [], ◌∷◌, ◌++◌, length, take, drop, filter, flat_map}
+use Rattle.std.specs.Prelude.{ℕ, ◌+◌, ◌-◌, ◌==◌, Bool, List, [], ◌∷◌, ◌++◌, length, take, drop, filter, flat_map}
 use Rattle.std.specs.Fmt.{decimal}
 use Rattle.executor_core.specs.declared.types.Line.{Line}
 use Rattle.svg_elements.specs.declared.words.Face.TheVariants as face
@@ -43,9 +43,9 @@ stacks_of window marks = flat_map (λ row. stacks_in window row marks) rows
 
 -- ---- how a stack is drawn
 
--- how many marks a stack has, above it
+-- how many marks a stack has, at its upper right
 abbrev pub stack_label : Window → List Line → List ℕ
-stack_label window stack = label_text face.Count (stack_across window stack) (stack_height stack - 6) (decimal (length stack))
+stack_label window stack = label_text face.Count (stack_across window stack + 6) (stack_height stack - 3) (decimal (length stack))
 
 -- several marks, each above the one before it: the last one, which is the top, tells all their lines
 abbrev pub several_text : Window → List Line → List ℕ

@@ -24,7 +24,7 @@
 //! | a mark | a row for each of submissions and refusals; cancels; ends of tasks; policies, shutdowns and questions; clocks; idle workers and errors |
 //! | a bar | the lane of its worker, from its start to its finish, or to the end of the picture where it has none; 3 wide at least |
 //! | a label | in its bar, where that has 7 for each letter, and 8 more: the name of the task and the number of the run |
-//! | the number of marks | above the marks of a row that stand at one place, where there are several |
+//! | the number of marks | at the upper right of the marks of a row that stand at one place, where there are several |
 //! | the axis | below the lanes: a line through them for each tick, and its moment |
 //!
 //! The tooltip of a mark is its line of the trace; that of a bar the name of its task and its one or two lines. A bar's colour tells
@@ -36,7 +36,8 @@
 //! the tooltips of its runs. It has the colour of failed runs where one of its runs failed, and else that of its last run.
 //!
 //! Nor does a mark hide another. The marks of a row that stand at one place, one behind the other, are a *stack*. A stack of one is
-//! the mark that it is. Of several each is drawn above the one before it; the top tells all their lines; and their number stands above.
+//! the mark that it is. Of several each is drawn above the one before it; the top tells all their lines; and their number stands
+//! beside it.
 //!
 //! # Order and ties
 //!

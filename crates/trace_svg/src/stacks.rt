@@ -174,7 +174,7 @@ fn stack_tip<A: Allocator + Copy>(alloc: A, stack: &[Line]) -> Result<String<A>,
     Ok(tip)
 }
 
-/// Appends how many marks a stack has, above it.
+/// Appends how many marks a stack has, at its upper right.
 fn put_number<A: Allocator + Copy>(
     alloc: A,
     text: &mut String<A>,
@@ -187,8 +187,8 @@ fn put_number<A: Allocator + Copy>(
     let number = format!(in alloc; "{count}")?;
     let label = Label {
         face: Face::Count,
-        x: stack_across(window, stack),
-        y: stack_height(stack).saturating_sub(6),
+        x: stack_across(window, stack) + 6,
+        y: stack_height(stack).saturating_sub(3),
         text: &number,
     };
     write!(text, "{label}")
@@ -196,7 +196,8 @@ fn put_number<A: Allocator + Copy>(
 
 /// Where a stack stands, from the left.
 fn stack_across(window: Window, stack: &[Line]) -> u32
-    ensures { result ≡ stack_across window stack.now }
+    ensures place { result ≡ stack_across window stack.now }
+    ensures within { result ≤ 1170 }
 {
     match stack.first() {
         Some(line) => across(window, line.moment),

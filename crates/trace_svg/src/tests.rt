@@ -40,7 +40,7 @@ const PARTS: [&str; 8] = [
     "<text class=\"tick\" x=\"534\" y=\"246\">4 ns</text>\n",
     "<rect class=\"done\" x=\"640\" y=\"172\" width=\"424\" height=\"22\"><title>a\n5 start 0 task 0 run 0 due 5\n9 finish 0 task 0 run 0 done 7\n</title></rect>\n<text class=\"run\" x=\"644\" y=\"187\">a #0</text>\n",
     "<rect class=\"open\" x=\"110\" y=\"200\" width=\"1060\" height=\"22\"><title>bee\n0 start 1 task 1 run 0 due 0\n</title></rect>\n<text class=\"run\" x=\"114\" y=\"215\">bee #0</text>\n",
-    "<use class=\"submit\" href=\"#submit\" x=\"110\" y=\"62\"><title>0 submit 0 schedule due 5\n</title></use>\n<use class=\"submit\" href=\"#submit\" x=\"110\" y=\"62\"><title>0 submit 0 schedule due 5\n0 submit 1 schedule due 0\n</title></use>\n<text class=\"count\" x=\"110\" y=\"56\">2</text>\n",
+    "<use class=\"submit\" href=\"#submit\" x=\"110\" y=\"62\"><title>0 submit 0 schedule due 5\n</title></use>\n<use class=\"submit\" href=\"#submit\" x=\"110\" y=\"62\"><title>0 submit 0 schedule due 5\n0 submit 1 schedule due 0\n</title></use>\n<text class=\"count\" x=\"116\" y=\"59\">2</text>\n",
     "<use class=\"clock\" href=\"#clock\" x=\"1170\" y=\"134\"><title>10 clock\n</title></use>\n",
     "</svg>\n",
 ];

@@ -23,7 +23,7 @@ const FEW_DRAWN: &str = "\
 <use class=\"refuse\" href=\"#refuse\" x=\"120\" y=\"62\"><title>100 submit 0 schedule due 5
 105 refuse 1 rejected
 </title></use>
-<text class=\"count\" x=\"120\" y=\"56\">2</text>
+<text class=\"count\" x=\"126\" y=\"59\">2</text>
 <use class=\"ask\" href=\"#ask\" x=\"120\" y=\"116\"><title>101 ask queue 1 running 0 shutdown no terminated no
 </title></use>
 <use class=\"policy\" href=\"#policy\" x=\"120\" y=\"116\"><title>108 policy remove true
@@ -32,7 +32,7 @@ const FEW_DRAWN: &str = "\
 108 policy remove true
 109 shutdown
 </title></use>
-<text class=\"count\" x=\"120\" y=\"110\">3</text>
+<text class=\"count\" x=\"126\" y=\"113\">3</text>
 <use class=\"clock\" href=\"#clock\" x=\"110\" y=\"134\"><title>0 clock
 </title></use>
 <use class=\"clock\" href=\"#clock\" x=\"120\" y=\"134\"><title>109 clock
@@ -76,7 +76,7 @@ const MANY_DRAWN: &str = "\
 2 start 1 idle
 2 start 1 idle
 </title></use>
-<text class=\"count\" x=\"110\" y=\"146\">12</text>
+<text class=\"count\" x=\"116\" y=\"149\">12</text>
 </svg>
 ";
 
