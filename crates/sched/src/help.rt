@@ -282,11 +282,13 @@ nanoseconds, and where one of the two is left out from the least or to the
 greatest moment of the trace. There is
   a bar   for each run, in the lane of its worker, from its start to its finish,
           or to the end of the picture where it has none; its colour tells what
-          the run led to
-  a mark  for each other line of the trace, above the lanes
+          the run led to. Runs that lie over one another are one bar, labelled
+          '2 runs': failed where one of them failed, and else as the last one
+  a mark  for each other line of the trace, above the lanes. Where several of a
+          row stand at one place, their number stands beside them
 and each has a tooltip: of a mark its line, of a bar the name of its task and
-the lines of its run. Bars are shown that have a part of the time, and marks
-within it.
+the lines of its run, and of several those of all. Bars are shown that have a
+part of the time, and marks within it.
 A trace that is none of the plan is not drawn. As 'sched check' does, 'draw'
 prints
   breaks N  lines 1 to N - 1 may begin a trace of the plan, and with line N they
