@@ -107,8 +107,9 @@ def serve(asked: argparse.Namespace) -> int:
     start = None if asked.start_at is None else start_at(asked.start_at)
     signals = wakes_by_signals()
     program, plan = program_named(asked.sched), os.path.abspath(asked.plan)
-    if os.path.realpath(asked.trace) in (os.path.realpath(plan), os.path.realpath(asked.jobs)):
-        raise Fault(f"trace: {asked.trace!r} is the plan or the jobs")
+    for written in (asked.trace, asked.trace + PART):
+        if os.path.realpath(written) in (os.path.realpath(plan), os.path.realpath(asked.jobs)):
+            raise Fault(f"trace: {written!r} is the plan or the jobs")
     names, calls = read_plan(program, plan)
     jobs = read_jobs(asked.jobs, set(names))
     keep_outputs_from((plan, asked.jobs, asked.trace, asked.trace + PART), jobs)

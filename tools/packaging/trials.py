@@ -151,6 +151,8 @@ def try_debian(trials: Trials, parts: Parts, packages: dict[str, bytes], folder:
     if shutil.which("lintian"):
         with trials.step("Debian: lintian finds no error"):
             output(["lintian", "--fail-on", "error", *files], environment=environment | {"USER": "root"})
+    else:
+        print("left out, no lintian")
 
 
 def try_wheel(trials: Trials, parts: Parts, packages: dict[str, bytes], folder: Path) -> None:

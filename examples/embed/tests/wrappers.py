@@ -138,7 +138,7 @@ def errors():
         for status, kind in module.ERRORS.items():
             assert str(kind()) == status.text and issubclass(kind, SchedError)
     error = PlanError(Fault(FaultKind.BAD_NAME, 2, 3))
-    assert str(error) == "the text is no plan: fault 10 block 2 call 3"
+    assert str(error) == "the text is no plan: BAD_NAME block 2 call 3"
     assert repr(error) == f"PlanError('{error}')"
     for error in [EntryExistsError(7), QueueMemoryError(), PlanError(Fault(FaultKind.TOML, 0, 0))]:
         copied = pickle.loads(pickle.dumps(error))

@@ -93,6 +93,9 @@ def bad_words(program: str) -> Checks:
     """Faults of the command line, and files that are not there."""
     for name, (words, status, text) in BAD_WORDS.items():
         yield name, refused(Session(program, PLAN, JOBS, *words), status, text)
+    session = Session(program, PLAN, JOBS, "--workers", "1", "--trace", "t")
+    (session.folder / "t.part").symlink_to("jobs.toml")
+    yield "the jobs as the part of the trace", refused(session, 1, "'t.part' is the plan or the jobs\n")
     session = Session(program, PLAN, JOBS, "--workers", "1")
     yield "no plan", refused(without(session, session.plan), 1, "sched: plan file not read\n")
     yield "it is the plan's fault", session.told.endswith("\nrunner: plan: 'sched tasks' ended with status 1\n")

@@ -69,7 +69,7 @@ class PlanError(ExecutorError, ValueError):
 
     def __str__(self) -> str:
         kind, block, call = self.fault
-        return f"{self.status.text}: fault {kind:d} block {block} call {call}"
+        return f"{self.status.text}: {kind.name} block {block} call {call}"
 
 
 class WorkerCountError(ExecutorError, ValueError):
