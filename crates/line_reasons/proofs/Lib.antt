@@ -1,2 +1,4 @@
 mod EventTexts
 mod FirstLines
+mod NumberFaults
+mod LineFaults

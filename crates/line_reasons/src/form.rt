@@ -1,5 +1,8 @@
 //! The forms of events' lines, and the numbers in them.
 
+ghost use Rattle.std.specs.Prelude.{ℕ, ◌≤◌, ◌↔◌};
+ghost use Rattle.line_reasons.specs.Numbers.{FitsNumber};
+
 use std::fmt;
 
 /// The forms of which an event's line has one, as far as its words tell.
@@ -57,7 +60,9 @@ impl EventNumber {
     }
 
     /// The greatest number that fits.
-    pub fn most(self) -> u64 {
+    pub fn most(self) -> u64
+        ensures { (n : ℕ) → (n ≤ result) ↔ FitsNumber self n }
+    {
         match self {
             EventNumber::Moment | EventNumber::Value => u64::MAX,
             EventNumber::Starter | EventNumber::Finisher => 255,

@@ -17,12 +17,12 @@
 //!
 //! # Behaviour
 //!
-//! [`reason_of_events`] answers `None` exactly where a text is the text of events, each a line, and else an [`EventsReason`]: the
-//! first line that is no event's, its number, counted from 1, and its fault. The empty text is that of no events.
+//! [`reason_of_events`] answers `None` exactly where a text is the text of events, each a line, and else an [`EventsReason`]:
+//! the first line that is no event's, its number, counted from 1, and its fault. The empty text is that of no events.
 //!
-//! A reason prints as one line, `line N, LINE: WHAT IS WRONG; WHAT IS WANTED`, or with a file's name as `FILE:N: LINE: ..`. The line
-//! stands there in quotes without its newline, cut at 40 characters, with escapes for control characters, for others that cannot be
-//! seen, and for bytes that are no UTF-8.
+//! A reason prints as one line, `line N, LINE: WHAT IS WRONG; WHAT IS WANTED`, or with a file's name as `FILE:N: LINE: ..`. The
+//! line stands there in quotes without its newline, cut at 40 characters, with escapes for control characters, for others that
+//! cannot be seen, and for bytes that are no UTF-8.
 //!
 //! Of the faults of a line the first in this table is told. Words are looked at from the left.
 //!
@@ -45,28 +45,37 @@
 //! | `Missing` | `too short; finish W ok V or finish W fail C` |
 //! | `Surplus` | `more behind its end; clock T` |
 //!
-//! A word may be meant where two edits at most lead to it, and no more than half the characters of the longer of the two: of several
+//! A word may be meant where it is the one that stands there but for the case of its ASCII letters, as `clock` by `CLOCK`. Else
+//! one may be meant where two edits at most lead to it, and no more than half the characters of the longer of the two: of several
 //! the one with the fewest edits is told, and of those the first.
 //!
-//! [`line_fault`] tells what is wrong with any line, as far as it shows without its forms: the faults of `Line` in the order of the
-//! table, and else the first word that would be a number but for a sign, a leading zero, a unit or its size, as
+//! [`line_fault`] tells what is wrong with any line, as far as it shows without its forms: the faults of `Line` in the order of
+//! the table, and else the first word that would be a number but for a sign, a leading zero, a unit or its size, as
 //! `leading zero in "05"; a number has none`. Where none of these is so, it answers [`LineFault::NoSuchLine`].
 //!
 //! # Errors
 //!
-//! There are none. Where there is no memory to count edits, no word is told as one that may be meant, or another one is.
+//! There are none. Where there is no memory to count edits, no word is told as one to which they lead, or another one is.
 //!
 //! # What is proved
 //!
-//! That there is no reason exactly where the text is that of events (`AreEvents`), and that the line of a reason is the first line
-//! of its text that is no event's, with its number: the lines before it are those of events, and no event's line stands in front
-//! of what follows them (`IsFirstOther`). Which fault is told, also by [`line_fault`] and [`number_fault`], which word may be
-//! meant, and the text of a reason are only tested, in `src/tests`.
+//! That there is no reason exactly where the text is that of events (`AreEvents`), and that the line of a reason is the first
+//! line of its text that is no event's, with its number: the lines before it are those of events, and no event's line stands in
+//! front of what follows them (`IsFirstOther`).
+//!
+//! [`number_fault`] answers `None` exactly where its word is the decimal text of a number of at most `most` (`IsNumber`), and
+//! else the one fault that is so of the word (`IsNumberFault`). [`EventNumber::most`] is the greatest number that fits in its
+//! place in an event's line (`FitsNumber`).
+//!
+//! [`line_fault`] answers the first fault of the line's form, in the order of the table, and where none is so the first word
+//! that would be a number, with its fault, and else `NoSuchLine` (`IsLineFault`).
+//!
+//! Which fault an [`EventFault`] tells, which word may be meant, and the text of a reason are only tested, in `src/tests`.
 //!
 //! # Memory and cost
 //!
-//! A text is read once, up to its first line that is no event's, and that line once more. Memory is taken only to count edits, a few
-//! words for each word that may be meant, and given back. A reason borrows from the text.
+//! A text is read once, up to its first line that is no event's, and that line some times more. Memory is taken only to count
+//! edits, a few words for each word that may be meant, and given back. A reason borrows from the text.
 #![tactic(auto)]
 
 mod choice;

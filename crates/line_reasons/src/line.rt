@@ -1,7 +1,12 @@
 //! What is wrong with a line, whatever forms of lines there are.
 
+ghost use Rattle.std.specs.Prelude.{◌<◌, IsTrue, MatchOption, length};
+ghost use Rattle.line_reasons.specs.declared.number.NumberFault.{NumberFault};
+ghost use Rattle.line_reasons.specs.Lines.{IsFirstFault, form_faults, space_faults, IsLineFault, IsWordsFault, words_of, IsWordFault};
+
 use crate::number::{NumberFault, is_unit, number_fault};
 use crate::shown::Quoted;
+use memchr::memmem;
 use std::fmt;
 
 /// Why a line cannot be read, as far as it shows whatever forms of lines there are.
@@ -56,71 +61,79 @@ fn write_number<W: fmt::Write>(
     }
 }
 
-/// Why a line cannot be read, given with its newline, of what shows whatever forms of lines there are: the first of these that is so.
+/// Why a line cannot be read, given with its newline, of what shows whatever forms of lines there are: the first of these that
+/// is so.
 ///
 /// A word is told of as a number where it is one but for a sign, a leading zero, a unit or its size, and the first such word is.
-pub fn line_fault(line: &[u8]) -> LineFault<'_> {
+pub fn line_fault(line: &[u8]) -> LineFault<'_>
+    ensures { IsLineFault line.now result }
+{
     match form_fault(line) {
         Some(fault) => fault,
         None => words_fault(line),
     }
 }
 
-/// What is wrong with a line whatever its words are, if something is.
-pub fn form_fault(line: &[u8]) -> Option<LineFault<'_>> {
-    let Some(body) = line.strip_suffix(b"\n") else {
-        return Some(unended_fault(line));
-    };
-    if body.is_empty() {
+/// What is wrong with a line whatever its words are: the first fault of its form that is so. `None` exactly where none is.
+pub fn form_fault(line: &[u8]) -> Option<LineFault<'_>>
+    ensures { IsFirstFault form_faults line.now result }
+{
+    if line.is_empty() || line == b"\n".as_slice() {
         return Some(LineFault::Empty);
     }
-    if body.contains(&b'\r') {
+    if line.contains(&b'\r') {
         return Some(LineFault::CarriageReturn);
     }
-    spaces_fault(body)
-}
-
-/// What is wrong with a line that has no newline at its end.
-fn unended_fault(line: &[u8]) -> LineFault<'_> {
-    if line.is_empty() {
-        LineFault::Empty
-    } else if line.contains(&b'\r') {
-        LineFault::CarriageReturn
-    } else {
-        LineFault::NoNewline
+    if !line.ends_with(b"\n") {
+        return Some(LineFault::NoNewline);
     }
+    spaces_fault(line)
 }
 
-/// What is wrong with what stands between the words of a line, given without its newline.
-fn spaces_fault(body: &[u8]) -> Option<LineFault<'_>> {
-    if body.contains(&b'\t') {
+/// What is wrong with what stands between the words of a line: the first fault that is so. `None` exactly where none is.
+fn spaces_fault(line: &[u8]) -> Option<LineFault<'_>>
+    ensures { IsFirstFault space_faults line.now result }
+{
+    if line.contains(&b'\t') {
         return Some(LineFault::Tab);
     }
-    if body.first() == Some(&b' ') {
+    if line.starts_with(b" ") {
         return Some(LineFault::SpaceInFront);
     }
-    if body.last() == Some(&b' ') {
+    if line.ends_with(b" \n") {
         return Some(LineFault::SpaceAtEnd);
     }
-    if body.windows(2).any(|pair| pair == b"  ".as_slice()) {
+    if memmem::find(line, b"  ").is_some() {
         return Some(LineFault::TwoSpaces);
     }
     None
 }
 
-/// What is wrong with the words of a line.
-fn words_fault(line: &[u8]) -> LineFault<'_> {
-    let body = line.strip_suffix(b"\n").unwrap_or(line);
+/// What is wrong with the words of a line, given with its newline.
+fn words_fault(line: &[u8]) -> LineFault<'_>
+    requires { 0 < length line.now }
+    ensures { IsWordsFault (words_of line.now) result }
+{
+    let words = &line[..line.len() - 1];
     let mut is_behind_number = false;
-    for word in body.split(|byte| *byte == b' ') {
-        if is_behind_number && is_unit(word) {
-            return LineFault::Number(word, NumberFault::Unit);
+    for word in words.split(|byte| *byte == b' ') {
+        if let Some(fault) = word_fault(word, is_behind_number) {
+            return LineFault::Number(word, fault);
         }
-        match number_fault(word, u64::MAX) {
-            None => is_behind_number = true,
-            Some(NumberFault::NoNumber) => is_behind_number = false,
-            Some(fault) => return LineFault::Number(word, fault),
-        }
+        is_behind_number = number_fault(word, u64::MAX).is_none();
     }
     LineFault::NoSuchLine
+}
+
+/// Why a word is no number, where it would be one. Behind a number a unit would be.
+fn word_fault(word: &[u8], is_behind_number: bool) -> Option<NumberFault>
+    ensures { MatchOption result ((why : NumberFault) → ¬ (IsWordFault (IsTrue is_behind_number) word.now why)) (IsWordFault (IsTrue is_behind_number) word.now) }
+{
+    if is_behind_number && is_unit(word) {
+        return Some(NumberFault::Unit);
+    }
+    match number_fault(word, u64::MAX) {
+        Some(NumberFault::NoNumber) => None,
+        fault => fault,
+    }
 }

@@ -1,6 +1,10 @@
 //! Words that would be numbers.
 
-ghost use Rattle.std.specs.Prelude.{◌≤◌, length};
+ghost use Rattle.std.specs.Prelude.{◌≡◌, ◌^◌, ◌≤◌, ◌↔◌, None, Some, IsTrue, MatchOption, Contains, length, take, drop};
+ghost use Rattle.std.specs.Str.Parse.{AllDigits, IsNumeral, digits_value};
+ghost use Rattle.trace_text.specs.Reading.{EndsNumber};
+ghost use Rattle.line_reasons.specs.declared.number.NumberFault.{NumberFault};
+ghost use Rattle.line_reasons.specs.Numbers.{IsNumber, IsNumberFault, IsBeforeDigit, units};
 
 use std::fmt;
 
@@ -34,12 +38,17 @@ impl fmt::Display for NumberFault {
     }
 }
 
-/// Why a word is no decimal number of at most `most`; `None` where it is one.
-pub fn number_fault(word: &[u8], most: u64) -> Option<NumberFault> {
-    match word {
-        [b'+' | b'-', digit, ..] if digit.is_ascii_digit() => return Some(NumberFault::Sign),
-        [b'0', digit, ..] if digit.is_ascii_digit() => return Some(NumberFault::LeadingZero),
-        _ => {}
+/// Why a word is no decimal number of at most `most`; `None` exactly where it is one.
+pub fn number_fault(word: &[u8], most: u64) -> Option<NumberFault>
+    ensures fault { MatchOption result (IsNumber most word.now) (IsNumberFault most word.now) }
+    ensures none { IsNumber most word.now → result ≡ None }
+    ensures some { (why : NumberFault) → IsNumberFault most word.now why → result ≡ Some why }
+{
+    if is_before_digit(word, b'+') || is_before_digit(word, b'-') {
+        return Some(NumberFault::Sign);
+    }
+    if is_before_digit(word, b'0') {
+        return Some(NumberFault::LeadingZero);
     }
     let (digits, behind) = word.split_at(count_digits(word));
     if digits.is_empty() {
@@ -51,30 +60,45 @@ pub fn number_fault(word: &[u8], most: u64) -> Option<NumberFault> {
     if !behind.is_empty() {
         return Some(NumberFault::NoNumber);
     }
-    match value_of(digits) {
+    match value_of(word) {
         Some(value) if value <= most => None,
         _ => Some(NumberFault::TooLarge),
     }
 }
 
+/// Whether a word begins with this byte and a digit behind it.
+fn is_before_digit(word: &[u8], byte: u8) -> bool
+    ensures { IsTrue result ↔ IsBeforeDigit byte word.now }
+{
+    word.len() > 1 && word[0] == byte && word[1].is_ascii_digit()
+}
+
 /// How many digits stand at the front of a word.
 fn count_digits(word: &[u8]) -> usize
-    ensures { result ≤ length word.now }
+    ensures within { result ≤ length word.now }
+    ensures digits { AllDigits 10 (take result word.now) }
+    ensures ends { EndsNumber (drop result word.now) }
 {
-    for (index, byte) in word.iter().enumerate() {
-        if !byte.is_ascii_digit() {
+    for index in 0..word.len() {
+        if !word[index].is_ascii_digit() {
             return index;
         }
     }
     word.len()
 }
 
-/// The value of some digits, where it is below 2^64.
-fn value_of(digits: &[u8]) -> Option<u64> {
-    std::str::from_utf8(digits).ok()?.parse::<u64>().ok()
+/// The value of a word that is digits alone, where it is below 2^64.
+fn value_of(word: &[u8]) -> Option<u64>
+    requires { IsNumeral 10 word.now }
+    ensures { MatchOption result (2 ^ 64 ≤ digits_value 10 word.now) (λ value. value ≡ digits_value 10 word.now) }
+{
+    let text = std::str::from_utf8(word).ok()?;
+    text.parse::<u64>().ok()
 }
 
 /// Whether a word is a unit of time.
-pub fn is_unit(word: &[u8]) -> bool {
-    UNITS.iter().any(|unit| *unit == word)
+pub fn is_unit(word: &[u8]) -> bool
+    ensures { IsTrue result ↔ Contains units word.now }
+{
+    UNITS.contains(&word)
 }

@@ -25,8 +25,8 @@ fn told(alloc: Global, text: &[u8]) -> Result<String, Fail> {
     }
 }
 
-/// Tells of each line of a table, which stands by itself in its text. A row of the table is a line without its newline, then ` | `,
-/// and then the fault that is to be told.
+/// Tells of each line of a table, which stands by itself in its text. A row of the table is a line without its newline, then
+/// ` | `, and then the fault that is to be told.
 fn tell(rt: &(impl AllocGlobal + Abort), table: &str) -> Result<(), Fail> {
     let alloc = rt.alloc();
     for row in table.lines() {

@@ -4,7 +4,8 @@ use crate::{FileName, LineFault, NumberFault, Quoted, line_fault, number_fault};
 use std::process::Abort;
 use std::test::Fail;
 
-/// Tells of each line of a table. A row of the table is a line without its newline, then ` | `, and then what is to be told of it.
+/// Tells of each line of a table. A row of the table is a line without its newline, then ` | `, and then what is to be told of
+/// it.
 fn tell(rt: &(impl AllocGlobal + Abort), table: &str) -> Result<(), Fail> {
     let alloc = rt.alloc();
     for row in table.lines() {

@@ -9,7 +9,7 @@ fn words_of_no_event(rt: HostRuntime) -> Result<(), Fail> {
         &rt,
         "tick 5 | \"tick\" is no event; one of clock, start, finish, cancel\n\
          5 clock | \"5\" is no event; one of clock, start, finish, cancel\n\
-         CLOCK 5 | \"CLOCK\" is no event; one of clock, start, finish, cancel\n\
+         CLICKS 5 | \"CLICKS\" is no event; one of clock, start, finish, cancel\n\
          shutdown | \"shutdown\" is no event; one of clock, start, finish, cancel",
     )
 }
@@ -25,6 +25,17 @@ fn near_words_of_events(rt: HostRuntime) -> Result<(), Fail> {
          finishing 0 ok 7 | \"finishing\" is no event; one of clock, start, finish, cancel\n\
          cancle 05 | \"cancle\" is no event; cancel may be meant; one of clock, start, finish, cancel\n\
          cl\u{F6}ck: 5 | \"cl\u{F6}ck:\" is no event; clock may be meant; one of clock, start, finish, cancel",
+    )
+}
+
+#[test]
+fn words_in_other_letters(rt: HostRuntime) -> Result<(), Fail> {
+    tell(
+        &rt,
+        "CLOCK 5 | \"CLOCK\" is no event; clock may be meant; one of clock, start, finish, cancel\n\
+         Start 0 | \"Start\" is no event; start may be meant; one of clock, start, finish, cancel\n\
+         fINISH 0 OK 7 | \"fINISH\" is no event; finish may be meant; one of clock, start, finish, cancel\n\
+         finish 0 OK 7 | \"OK\" is no ending; ok may be meant; one of ok, fail",
     )
 }
 
