@@ -1,2 +1,3 @@
 pub mod Newlines
 pub mod Conforming
+pub mod Differing

@@ -9,7 +9,8 @@ use sched_time::Ending;
 use std::alloc::{AllocError, Allocator};
 
 impl<A: Allocator + Copy, B: Allocator> Scene<'_, '_, A, B> {
-    /// Lines that may be wanted in place of the one that stands there, what is wanted most first. `Err` is a refused growth.
+    /// Lines that may be wanted in place of the one that stands there, what is wanted most first. One may come twice. `Err` is a
+    /// refused growth.
     pub fn candidates(&self, found: Option<&[u8]>) -> Result<Vec<Line, A>, AllocError> {
         let replay = self.replay()?;
         let mut lines = Vec::new(self.alloc);
@@ -52,9 +53,9 @@ impl<A: Allocator + Copy, B: Allocator> Scene<'_, '_, A, B> {
         if let Some(other) = in_place_of(happening, &line)
             && let Some(line) = self.replay()?.answer_to(other)?
         {
-            add_new(lines, line)?;
+            lines.push(line)?;
         }
-        add_new(lines, line)
+        Ok(lines.push(line)?)
     }
 }
 
@@ -64,9 +65,10 @@ fn tries(asked: Asked, now: u64) -> [Option<Happening>; 3] {
     let clock = Some(Happening::Clock(moment));
     let later = clock.filter(|_| moment > now);
     match asked.happening {
-        Some(Happening::Clock(moment)) => {
-            let reached = Happening::Clock(moment.max(now));
-            [later, asked.happening, Some(reached)]
+        Some(Happening::Clock(shown)) => {
+            let ahead = later.filter(|_| moment != shown);
+            let unmoved = (shown < now).then_some(Happening::Clock(now));
+            [ahead, asked.happening, unmoved]
         }
         Some(Happening::Call) => [asked.happening, later, None],
         Some(_) => [later, asked.happening, None],
@@ -86,12 +88,4 @@ fn in_place_of(happening: Happening, line: &Line) -> Option<Happening> {
         }
         _ => None,
     }
-}
-
-/// Adds a line, unless it is among them. `Err` is a refused growth.
-fn add_new<A: Allocator>(lines: &mut Vec<Line, A>, line: Line) -> Result<(), AllocError> {
-    if lines.contains(&line) {
-        return Ok(());
-    }
-    Ok(lines.push(line)?)
 }

@@ -1,6 +1,6 @@
 //! The reason of a text.
 
-ghost use Rattle.std.specs.Prelude.{◌≡◌, ◌≤◌, ◌↔◌, All, IfNone, IfOk, IfSome, IsErrOf, length, option_map};
+ghost use Rattle.std.specs.Prelude.{◌≡◌, ◌≤◌, ◌≢◌, ◌↔◌, All, AllPairs, IfNone, IfOk, IfSome, IsErrOf, length, option_map};
 ghost use Rattle.plan_compile.specs.PlanCalls.{calls_of_plan};
 ghost use Rattle.executor_core.specs.Counts.{IsWorkerCount};
 ghost use Rattle.trace_check.specs.Findings.{Breaks, Conforms};
@@ -34,6 +34,7 @@ pub fn reason_of_trace<'t, A: Allocator + Copy, B: Allocator>(
     ensures fault { IfOk result (λ o. IfSome o (λ r. IsFaultAt r.fault (option_map (λ found. found.now) r.found))) }
     ensures lines { IfOk result (λ o. IfSome o (λ r. All (CouldStand (calls_of_plan plan.now) workers text.now r.line) r.lines.items)) }
     ensures few { IfOk result (λ o. IfSome o (λ r. length r.lines.items ≤ 3)) }
+    ensures differ { IfOk result (λ o. IfSome o (λ r. AllPairs (λ line other. line ≢ other) r.lines.items)) }
     ensures others { IfOk result (λ o. IfSome o (λ r. AreConforming (calls_of_plan plan.now) text.now r.workers.items)) }
 {
     match check(alloc, plan, workers, text)? {
@@ -64,6 +65,7 @@ impl<'t, A: Allocator + Copy, B: Allocator> Scene<'_, 't, A, B> {
         ensures fault { IfOk result (λ r. IsFaultAt r.fault (option_map (λ found. found.now) r.found)) }
         ensures lines { IfOk result (λ r. All (CouldStand (calls_of_plan self.now.plan.now) self.now.workers self.now.text.now self.now.line) r.lines.items) }
         ensures few { IfOk result (λ r. length r.lines.items ≤ 3) }
+        ensures differ { IfOk result (λ r. AllPairs (λ line other. line ≢ other) r.lines.items) }
         ensures others { IfOk result (λ r. AreConforming (calls_of_plan self.now.plan.now) self.now.text.now r.workers.items) }
     {
         let found = line_at(self.text, self.line);

@@ -67,15 +67,15 @@
 //! That there is no reason exactly where the text conforms, and that else it breaks at the line that is told; that what is told
 //! to stand there does stand there; that a fault is told exactly of a line that is none; that each line which is told could stand
 //! there: the lines before it with this one behind them break neither at it nor before it (`CouldStand`); that there are three at
-//! most; and that the numbers of workers are those with which the text conforms, in ascending order. Which lines are told, that
-//! any is, which fault it is, and the text of a reason are only tested, in `src/tests`.
+//! most, no two of them equal; and that the numbers of workers are those with which the text conforms, in ascending order. Which
+//! lines are told, that any is, which fault it is, and the text of a reason are only tested, in `src/tests`.
 //!
 //! # Memory and cost
 //!
 //! A text that conforms is checked once. One that breaks is checked once more for each other number of workers, up to its break
-//! there. Its lines before the break are read once to see which line is still to come, and twice for each line that is told, to
-//! find it and to check it; for that they are copied. A reason borrows the line that stands there from the text, and owns the
-//! rest.
+//! there. Its lines before the break are read at most six times to find lines that may be wanted, at most four, and once more with
+//! each of these, until three are told, to see whether it could stand; for that they are copied. A reason borrows the line that
+//! stands there from the text, and owns the rest.
 #![tactic(auto)]
 
 mod asked;

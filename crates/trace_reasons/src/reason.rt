@@ -8,7 +8,8 @@ use std::fmt;
 
 /// Why a text is no whole trace of a plan: the line at which it breaks, what stands there, and what could have.
 ///
-/// It prints as one line without its newline: `line 3, "5 start 0 idle": breaks; "5 start 0 task 0 run 0 due 5" could stand here`.
+/// It prints as one line without its newline:
+/// `line 3, "5 start 0 idle": breaks; "5 start 0 task 0 run 0 due 5" could stand here`.
 #[derive(Debug, Drop)]
 pub struct TraceReason<'t, A: Allocator> {
     /// The number of the line at which the text breaks, counted from 1.

@@ -1,6 +1,6 @@
 //! Which lines could stand where a text breaks.
 
-ghost use Rattle.std.specs.Prelude.{◌≤◌, All, IfOk, IsTrue, length};
+ghost use Rattle.std.specs.Prelude.{◌≤◌, ◌≢◌, All, AllPairs, IfOk, IsFalse, IsTrue, length};
 ghost use Rattle.plan_compile.specs.PlanCalls.{calls_of_plan};
 ghost use Rattle.trace_reasons.specs.Standing.{CouldStand};
 
@@ -15,14 +15,15 @@ use trace_text::write_line;
 const MOST_LINES: usize = 3;
 
 impl<A: Allocator + Copy, B: Allocator> Scene<'_, '_, A, B> {
-    /// Those of some lines that could stand where the text breaks, the first three. `Err` is a refused growth.
+    /// Those of some lines that could stand where the text breaks, each once, the first three. `Err` is a refused growth.
     pub fn standing(&self, lines: &[Line]) -> Result<Vec<Line, A>, AllocError>
         ensures stand { IfOk result (λ those. All (CouldStand (calls_of_plan self.now.plan.now) self.now.workers self.now.text.now self.now.line) those.items) }
         ensures few { IfOk result (λ those. length those.items ≤ 3) }
+        ensures differ { IfOk result (λ those. AllPairs (λ line other. line ≢ other) those.items) }
     {
         let mut those = Vec::new(self.alloc);
         for line in lines {
-            if those.len() < MOST_LINES && self.could_stand(line)? {
+            if those.len() < MOST_LINES && !is_among(line, &those) && self.could_stand(line)? {
                 those.push(*line)?;
             }
         }
@@ -45,4 +46,11 @@ impl<A: Allocator + Copy, B: Allocator> Scene<'_, '_, A, B> {
             Err(_) => Err(AllocError),
         }
     }
+}
+
+/// Whether an item is one of some.
+fn is_among<T: Eq>(item: &T, items: &[T]) -> bool
+    ensures { IsFalse result → All (λ other. other ≢ item.now) items.now }
+{
+    items.contains(item)
 }
