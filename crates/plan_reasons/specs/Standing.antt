@@ -1,7 +1,9 @@
 -- What stands at a key of a table of a plan, and what is told of it.
-use Rattle.std.specs.Prelude.{◌≡◌, ℕ, zero, suc, if◌then◌else◌, List, length, nat_eq, Option, None, Some, option_and_then, unwrap_or, IfSome, codes, string_bytes}
+use Rattle.std.specs.Prelude.{◌≡◌, ℕ, zero, suc, if◌then◌else◌, List, length, take, nat_eq, Option, None, Some, option_and_then, unwrap_or, IfSome, codes, string_bytes}
 use Rattle.toml.specs.Data.{Data, string, integer, float, boolean, datetime, array, table, Items, no_items, Members, get_item, get_member, as_array, as_table}
 use Rattle.toml.specs.View.{items_of}
+use Rattle.plan_lines.specs.Lines.{line_after, column_after}
+use Rattle.plan_read.specs.declared.faults.PlanFaultKind.TheVariants.{Toml}
 use Rattle.plan_reasons.specs.declared.found.Found.{Found}
 use Rattle.plan_reasons.specs.declared.found.Found.TheVariants as found
 use Rattle.plan_reasons.specs.declared.reason.Reason.{Reason}
@@ -37,7 +39,14 @@ IsFound (found.Truth truth) value = value ≡ Some (boolean truth)
 IsFound (found.Datetime date) value = value ≡ Some (datetime date)
 IsFound (found.Array count) value = (items : List Data) × (length items ≡ count) × (value ≡ Some (array (items_of items)))
 IsFound found.Table value = (ms : Members) × (value ≡ Some (table ms))
-IsFound (found.Bytes count) value = ⊥
+
+-- a line and a column are those of what stands behind a front of the text
+abbrev pub IsBehind : List ℕ → Option ℕ → ℕ → Type 0
+IsBehind text line column = (n : ℕ) × (line ≡ Some (line_after (take n text))) × (column ≡ column_after (take n text))
+
+-- a column is told of a text that is no document alone, and with its line: both are those of one place of the text
+abbrev pub IsPlacedIn : List ℕ → Reason → Type 0
+IsPlacedIn text reason = IfSome reason.column (λ column. (reason.fault.kind ≡ Toml) × IsBehind text reason.line column)
 
 -- what is told of a key is what stands there in the table of the fault's place
 abbrev pub IsAtKey : Members → Reason → Type 0

@@ -8,7 +8,7 @@ ghost use Rattle.plan_lines.specs.Lines.{IsLineOf};
 ghost use Rattle.plan_read.specs.Plans.{PlanTree};
 ghost use Rattle.plan_read.specs.Reads.{out_of_memory};
 ghost use Rattle.plan_read.specs.Texts.{TextFails, TextWrites};
-ghost use Rattle.plan_reasons.specs.Standing.{IsAtKey};
+ghost use Rattle.plan_reasons.specs.Standing.{IsAtKey, IsPlacedIn};
 ghost use Rattle.plan_reasons.specs.own.Details.{IsInPlace};
 
 use crate::reason::Reason;
@@ -28,6 +28,7 @@ pub fn reason_of<A: HeapAllocator>(alloc: A, text: &[u8]) -> Option<Reason>
     ensures only { (plan : PlanTree) → TextWrites text.now plan → IfSome result (λ r. r.fault ≡ out_of_memory) }
     ensures fault { IfSome result (λ r. TextFails text.now r.fault ⊎ (r.fault ≡ out_of_memory)) }
     ensures line { IfSome result (λ r. IfSome r.line (IsLineOf text.now)) }
+    ensures column { IfSome result (IsPlacedIn text.now) }
     ensures key { IfSome result (λ r. (tree : Members) → parse_document text.now ≡ Some tree → IsAtKey tree r) }
 {
     match read_plan(alloc, text) {
@@ -40,6 +41,7 @@ pub fn reason_of<A: HeapAllocator>(alloc: A, text: &[u8]) -> Option<Reason>
 fn reason_of_fault(heap: Global, text: &[u8], fault: PlanFault) -> Reason
     ensures fault { (result.fault ≡ fault) ⊎ (result.fault ≡ out_of_memory) }
     ensures line { IfSome result.line (IsLineOf text.now) }
+    ensures column { IsPlacedIn text.now result }
     ensures key { (tree : Members) → parse_document text.now ≡ Some tree → IsAtKey tree result }
 {
     match try_reason(heap, text, fault) {
@@ -52,17 +54,18 @@ fn reason_of_fault(heap: Global, text: &[u8], fault: PlanFault) -> Reason
 fn try_reason(heap: Global, text: &[u8], fault: PlanFault) -> Result<Reason, AllocError>
     ensures fault { IfOk result (λ r. r.fault ≡ fault) }
     ensures line { IfOk result (λ r. IfSome r.line (IsLineOf text.now)) }
+    ensures column { IfOk result (IsPlacedIn text.now) }
     ensures key { IfOk result (λ r. (tree : Members) → parse_document text.now ≡ Some tree → IsAtKey tree r) }
 {
     match fault.kind {
-        PlanFaultKind::Memory => return Ok(unplaced(fault)),
-        PlanFaultKind::TooLong => return Ok(too_long(text, fault)),
-        _ => {}
-    }
-    match toml::table_from_slice(heap, text) {
-        Ok(tree) => reason_in_tree(heap, text, &tree, fault),
-        Err(error) if error.is_memory() => Err(AllocError),
-        Err(error) => no_document(heap, text, fault, &error),
+        PlanFaultKind::Memory => Ok(unplaced(fault)),
+        PlanFaultKind::TooLong => Ok(too_long(fault)),
+        PlanFaultKind::Toml => no_document(heap, text, fault),
+        // The text is a document here: no tree is made of it only for want of memory.
+        _ => match toml::table_from_slice(heap, text) {
+            Ok(tree) => reason_in_tree(heap, text, &tree, fault),
+            Err(_) => Err(AllocError),
+        },
     }
 }
 
@@ -75,6 +78,7 @@ fn reason_in_tree(
 ) -> Result<Reason, AllocError>
     ensures fault { IfOk result (λ r. r.fault ≡ fault) }
     ensures line { IfOk result (λ r. IfSome r.line (IsLineOf text.now)) }
+    ensures column { IfOk result (IsPlacedIn text.now) }
     ensures key { IfOk result (IsAtKey (table_view tree.now)) }
 {
     let scene = Scene {

@@ -9,10 +9,10 @@ use std::fmt;
 use toml::Value;
 use toml::value::Datetime;
 
-/// What stands at a key, or of the text as a whole.
+/// What stands at a key.
 #[derive(Debug, Drop)]
 pub enum Found {
-    /// Nothing: the key is missing.
+    /// Nothing: the key is missing, or there is none to tell.
     Nothing,
     Text(String),
     Integer(i64),
@@ -22,8 +22,6 @@ pub enum Found {
     /// An array of so many elements.
     Array(usize),
     Table,
-    /// A text of so many bytes.
-    Bytes(usize),
 }
 
 impl Found {
@@ -59,7 +57,6 @@ impl fmt::Display for Found {
             Found::Datetime(datetime) => write!(f, "{datetime}"),
             Found::Array(count) => write!(f, "an array of {count}"),
             Found::Table => f.write_str("a table"),
-            Found::Bytes(count) => write!(f, "{count} bytes"),
         }
     }
 }

@@ -1,7 +1,7 @@
 //! Which words may be meant by another.
 
-ghost use Rattle.std.specs.Prelude.{◌≡◌, ◌≤◌, All, IfOk, IfSome};
-ghost use Rattle.plan_reasons.specs.own.Near.{IsNear, edits_between};
+ghost use Rattle.std.specs.Prelude.{◌≡◌, ◌≤◌, [], All, Any, IfOk, IfSome, string_bytes};
+ghost use Rattle.plan_reasons.specs.own.Near.{IsNear, IsSameBut, edits_between};
 
 use std::alloc::{AllocError, Global};
 use strsim::levenshtein;
@@ -12,9 +12,38 @@ const MOST_NEAR: usize = 3;
 /// How many edits at most lead from a word to the one that may be meant.
 const MOST_EDITS: usize = 2;
 
-/// Those of some words that may be meant by another one: to which the fewest edits lead, two at most, and of these the first three.
-/// `Err` is want of memory.
+/// Those of some words that may be meant by another one: the first three that are the same but for the case of ASCII letters. Where
+/// none is, those to which the fewest edits lead, two at most, and of these the first three. `Err` is want of memory.
 pub fn near(heap: Global, word: &str, words: &[&str]) -> Result<Vec<String>, AllocError>
+    ensures near { IfOk result (λ those. All (IsNear word.now words.now) those.items) }
+    ensures alone { IfOk result (λ those. Any (λ other. IsSameBut word.now other.now) words.now → All (λ t. IsSameBut word.now (string_bytes t)) those.items) }
+{
+    let those = in_other_case(heap, word, words)?;
+    if those.is_empty() {
+        in_few_edits(heap, word, words)
+    } else {
+        Ok(those)
+    }
+}
+
+/// The first three of some words that are the same as another one but for the case of ASCII letters. `Err` is want of memory.
+fn in_other_case(heap: Global, word: &str, words: &[&str]) -> Result<Vec<String>, AllocError>
+    ensures near { IfOk result (λ those. All (IsNear word.now words.now) those.items) }
+    ensures same { IfOk result (λ those. All (λ t. IsSameBut word.now (string_bytes t)) those.items) }
+    ensures none { IfOk result (λ those. those.items ≡ [] → Any (λ other. IsSameBut word.now other.now) words.now → ⊥) }
+{
+    let mut those = Vec::new(heap);
+    for other in words {
+        if those.len() < MOST_NEAR && word.eq_ignore_ascii_case(other) {
+            those.push(String::from_str(heap, other)?)?;
+        }
+    }
+    Ok(those)
+}
+
+/// Those of some words to which the fewest edits lead from another one, two at most, and of these the first three. `Err` is want of
+/// memory.
+fn in_few_edits(heap: Global, word: &str, words: &[&str]) -> Result<Vec<String>, AllocError>
     ensures { IfOk result (λ those. All (IsNear word.now words.now) those.items) }
 {
     let mut least = MOST_EDITS;

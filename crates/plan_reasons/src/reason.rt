@@ -64,7 +64,7 @@ impl Reason {
             PlanFaultKind::BadUnit => "no such unit",
             PlanFaultKind::BadTimes => "out of range",
             PlanFaultKind::Negative => "negative",
-            PlanFaultKind::BadName => "no name",
+            PlanFaultKind::BadName => "not a name",
             PlanFaultKind::DuplicateName => "given before",
             PlanFaultKind::UnknownName => "no such name",
             PlanFaultKind::Ambiguous => "ambiguous",

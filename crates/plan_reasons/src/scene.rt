@@ -78,6 +78,7 @@ impl<'t> Scene<'t> {
     pub fn reason(&self, detail: Detail<'t>) -> Result<Reason, AllocError>
         ensures fault { IfOk result (λ r. r.fault ≡ self.now.fault) }
         ensures line { IfOk result (λ r. IfSome r.line (IsLineOf self.now.text.now)) }
+        ensures column { IfOk result (λ r. r.column ≡ None) }
         ensures key { (tree : Members) → IsInPlace tree self.now.fault.block self.now.fault.call detail.entry → IfOk result (IsAtKey tree) }
     {
         let Detail {

@@ -5,8 +5,8 @@ use std::fmt;
 /// How many characters of a text are shown.
 const MOST_SHOWN: usize = 40;
 
-/// A text in quotes, as TOML spells it: with escapes for quotes, backslashes and control characters. One of more than 40
-/// characters is cut there, and three dots stand behind the quotes.
+/// A text in quotes, as TOML spells it: with escapes for quotes, backslashes and characters that cannot be seen. One of more than
+/// 40 characters is cut there, and three dots stand behind the quotes.
 #[derive(Clone, Copy)]
 pub struct Quoted<'a>(pub &'a str);
 
@@ -29,8 +29,8 @@ impl fmt::Display for Quoted<'_> {
     }
 }
 
-/// A text as it stands, with escapes for control characters. One of more than 40 characters is cut there, and three dots stand
-/// behind it.
+/// A text as it stands, with escapes for characters that cannot be seen. One of more than 40 characters is cut there, and three
+/// dots stand behind it.
 #[derive(Clone, Copy)]
 pub struct Plain<'a>(pub &'a str);
 
@@ -47,7 +47,7 @@ impl fmt::Display for Plain<'_> {
     }
 }
 
-/// A whole text as it stands, with escapes for control characters.
+/// A whole text as it stands, as the name of a file, with escapes for characters that cannot be seen.
 #[derive(Clone, Copy)]
 pub struct Whole<'a>(pub &'a str);
 
@@ -85,16 +85,29 @@ fn is_cut(text: &str) -> bool {
     text.chars().nth(MOST_SHOWN).is_some()
 }
 
-/// Writes a character, and a control character as an escape of TOML.
+/// Writes a character, and one that cannot be seen as an escape of TOML.
 fn write_escaped<W: fmt::Write>(f: &mut fmt::Formatter<W>, character: char) -> fmt::Result {
     match character {
         '\n' => f.write_str("\\n"),
         '\r' => f.write_str("\\r"),
         '\t' => f.write_str("\\t"),
-        _ if character.is_control() => {
+        _ if is_unseen(character) => {
             let code = u32::from(character);
             write!(f, "\\u{code:04X}")
         }
         _ => f.write_char(character),
+    }
+}
+
+/// Whether a character cannot be seen, or cannot be told from a space.
+fn is_unseen(character: char) -> bool {
+    match character {
+        ' ' => false,
+        '\u{AD}'
+        | '\u{200B}'..='\u{200F}'
+        | '\u{202A}'..='\u{202E}'
+        | '\u{2060}'..='\u{206F}'
+        | '\u{FEFF}' => true,
+        _ => character.is_control() || character.is_whitespace(),
     }
 }

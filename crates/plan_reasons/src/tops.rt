@@ -3,6 +3,7 @@
 ghost use Rattle.std.specs.Prelude.{◌≡◌, None, IfOk, IfSome};
 ghost use Rattle.toml.specs.View.{table_view};
 ghost use Rattle.plan_lines.specs.Lines.{IsLineOf};
+ghost use Rattle.plan_reasons.specs.Standing.{IsBehind};
 ghost use Rattle.plan_reasons.specs.own.Details.{IsIn};
 ghost use Rattle.plan_read.specs.Reads.{out_of_memory};
 
@@ -18,9 +19,10 @@ use plan_read::{LONGEST_TEXT, PlanFault, PlanFaultKind};
 use std::alloc::{AllocError, Global};
 
 /// The reason where a text is too long.
-pub fn too_long(text: &[u8], fault: PlanFault) -> Reason
+pub fn too_long(fault: PlanFault) -> Reason
     ensures fault { result.fault ≡ fault }
     ensures line { result.line ≡ None }
+    ensures column { result.column ≡ None }
     ensures key { result.key ≡ None }
 {
     Reason {
@@ -28,7 +30,7 @@ pub fn too_long(text: &[u8], fault: PlanFault) -> Reason
         line: None,
         column: None,
         key: None,
-        found: Found::Bytes(text.len()),
+        found: Found::Nothing,
         wanted: Wanted::Bytes(LONGEST_TEXT),
     }
 }
@@ -37,6 +39,7 @@ pub fn too_long(text: &[u8], fault: PlanFault) -> Reason
 pub fn want_of_memory() -> Reason
     ensures fault { result.fault ≡ out_of_memory }
     ensures line { result.line ≡ None }
+    ensures column { result.column ≡ None }
     ensures key { result.key ≡ None }
 {
     unplaced(PlanFault {
@@ -50,6 +53,7 @@ pub fn want_of_memory() -> Reason
 pub fn unplaced(fault: PlanFault) -> Reason
     ensures fault { result.fault ≡ fault }
     ensures line { result.line ≡ None }
+    ensures column { result.column ≡ None }
     ensures key { result.key ≡ None }
 {
     Reason {
@@ -63,7 +67,21 @@ pub fn unplaced(fault: PlanFault) -> Reason
 }
 
 /// The reason where a text is no TOML document, as `toml` tells it. `Err` is want of memory.
-pub fn no_document(
+pub fn no_document(heap: Global, text: &[u8], fault: PlanFault) -> Result<Reason, AllocError>
+    ensures fault { IfOk result (λ r. r.fault ≡ fault) }
+    ensures line { IfOk result (λ r. IfSome r.line (IsLineOf text.now)) }
+    ensures column { IfOk result (λ r. IfSome r.column (IsBehind text.now r.line)) }
+    ensures key { IfOk result (λ r. r.key ≡ None) }
+{
+    match toml::table_from_slice(heap, text) {
+        Ok(_) => Ok(unplaced(fault)),
+        Err(error) if error.is_memory() => Err(AllocError),
+        Err(error) => fault_of_toml(heap, text, fault, &error),
+    }
+}
+
+/// The reason where `toml` tells this error of a text. `Err` is want of memory.
+fn fault_of_toml(
     heap: Global,
     text: &[u8],
     fault: PlanFault,
@@ -71,6 +89,7 @@ pub fn no_document(
 ) -> Result<Reason, AllocError>
     ensures fault { IfOk result (λ r. r.fault ≡ fault) }
     ensures line { IfOk result (λ r. IfSome r.line (IsLineOf text.now)) }
+    ensures column { IfOk result (λ r. IfSome r.column (IsBehind text.now r.line)) }
     ensures key { IfOk result (λ r. r.key ≡ None) }
 {
     let begin = match error.span() {

@@ -1,6 +1,7 @@
 -- Which words may be meant by another.
-use Rattle.std.specs.Prelude.{◌≡◌, ℕ, ◌≤◌, List, length, nat_eq, Any, String, string_bytes}
+use Rattle.std.specs.Prelude.{◌≡◌, ◌⊎◌, ℕ, ◌≤◌, List, length, map, nat_eq, Any, String, string_bytes}
 use Rattle.std.specs.Borrow.{Bor}
+use Rattle.std.specs.Char.{to_ascii_lowercase}
 use Rattle.std.specs.Str.{chars}
 use Rattle.std.specs.declared.alloc.Global.{Global}
 use Rattle.strsim.specs.Edits.{levenshtein_row}
@@ -9,7 +10,11 @@ use Rattle.strsim.specs.Edits.{levenshtein_row}
 abbrev pub edits_between : List ℕ → List ℕ → ℕ
 edits_between word other = levenshtein_row nat_eq (chars word) (chars other) (length (chars other))
 
--- a text is one of some words, and at most two edits lead to it
+-- a word is the same as another but for the case of ASCII letters
+abbrev pub IsSameBut : List ℕ → List ℕ → Type 0
+IsSameBut word other = map to_ascii_lowercase word ≡ map to_ascii_lowercase other
+
+-- a text is one of some words, and at most two edits lead to it, or it is the same but for the case of ASCII letters
 pub record IsNear (word : List ℕ) (words : List (Bor (List ℕ))) (text : String Global) : Type 0 where
   pub among : Any (λ other. other.now ≡ string_bytes text) words
-  pub near : edits_between word (string_bytes text) ≤ 2
+  pub near : (edits_between word (string_bytes text) ≤ 2) ⊎ IsSameBut word (string_bytes text)

@@ -14,7 +14,9 @@ fn operations(rt: HostRuntime) -> Result<(), Fail> {
          p:4: block 1, call 1, op = \"sched\": no such op; one of schedule, execute, rate, fixed, cancel, policy, shutdown, shutdown_now, ask | op = \"sched\"\n\
          p:5: block 1, call 1, op = \"cancle\": no such op; cancel may be meant; one of schedule, execute, rate, fixed, cancel, policy, shutdown, shutdown_now, ask | at = 1 / op = \"cancle\"\n\
          p:4: block 1, call 1, op = 5: of the wrong type; one of schedule, execute, rate, fixed, cancel, policy, shutdown, shutdown_now, ask | op = 5\n\
-         p:4: block 1, call 1, op = \"Ask\": no such op; ask may be meant; one of schedule, execute, rate, fixed, cancel, policy, shutdown, shutdown_now, ask | op = \"Ask\"",
+         p:4: block 1, call 1, op = \"Ask\": no such op; ask may be meant; one of schedule, execute, rate, fixed, cancel, policy, shutdown, shutdown_now, ask | op = \"Ask\"\n\
+         p:4: block 1, call 1, op = \"RATE\": no such op; rate may be meant; one of schedule, execute, rate, fixed, cancel, policy, shutdown, shutdown_now, ask | op = \"RATE\"\n\
+         p:4: block 1, call 1, op = \"SHUTDOWN\": no such op; shutdown may be meant; one of schedule, execute, rate, fixed, cancel, policy, shutdown, shutdown_now, ask | op = \"SHUTDOWN\"",
     )
 }
 
@@ -83,6 +85,6 @@ fn bad_units(rt: HostRuntime) -> Result<(), Fail> {
         CALL,
         "p:5: block 1, call 1, at_unit = \"day\": no such unit; one of ns, us, ms, s, min, h, d | op = \"ask\" / at_unit = \"day\"\n\
          p:7: block 1, call 1, delay_unit = \"m\": no such unit; ms may be meant; one of ns, us, ms, s, min, h, d | op = \"schedule\" / name = \"a\" / delay = 1 / delay_unit = \"m\"\n\
-         p:4: block 1, call 1, first_unit = \"S\": no such unit; one of ns, us, ms, s, min, h, d | first_unit = \"S\" / op = \"rate\" / name = \"a\" / first = 1 / period = 1 / period_unit = \"x\"",
+         p:4: block 1, call 1, first_unit = \"S\": no such unit; s may be meant; one of ns, us, ms, s, min, h, d | first_unit = \"S\" / op = \"rate\" / name = \"a\" / first = 1 / period = 1 / period_unit = \"x\"",
     )
 }

@@ -70,18 +70,8 @@ fn too_long_texts(rt: HostRuntime) -> Result<(), Fail> {
     let alloc = rt.alloc();
     for (count, wanted) in [
         (1_048_576, "p: version: missing; one of 1, 2"),
-        (
-            1_048_577,
-            "p: 1048577 bytes: too long; at most 1048576 bytes",
-        ),
-        (
-            1_050_000,
-            "p: 1050000 bytes: too long; at most 1048576 bytes",
-        ),
-        (
-            2_000_000,
-            "p: 2000000 bytes: too long; at most 1048576 bytes",
-        ),
+        (1_048_577, "p: too long; at most 1048576 bytes"),
+        (2_000_000, "p: too long; at most 1048576 bytes"),
     ] {
         let text = blanks(alloc, count)?;
         assert_eq!(rt; told(alloc, text.as_str())?.as_str(), wanted);

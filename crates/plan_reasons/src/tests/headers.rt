@@ -11,7 +11,8 @@ fn unknown_keys(rt: HostRuntime) -> Result<(), Fail> {
         "p:3: block 1, tims = 2: no such key; times may be meant; one of at, at_unit, times, every, every_unit, call | tims = 2\n\
          p:3: block 1, unit = \"s\": no such key; one of at, at_unit, times, every, every_unit, call | unit = \"s\"\n\
          p:4: block 2, calls = an array of 0: no such key; call may be meant; one of at, at_unit, times, every, every_unit, call | [[block]] / calls = []\n\
-         p:3: block 1, x = a table: no such key; one of at, at_unit, times, every, every_unit, call | x.y = 2",
+         p:3: block 1, x = a table: no such key; one of at, at_unit, times, every, every_unit, call | x.y = 2\n\
+         p:3: block 1, At = 1: no such key; at may be meant; one of at, at_unit, times, every, every_unit, call | At = 1",
     )?;
     tell(
         &rt,
@@ -47,7 +48,9 @@ fn bad_units(rt: HostRuntime) -> Result<(), Fail> {
         &rt,
         "version = 1\n[[block]]\n",
         "p:3: block 1, unit = \"min\": no such unit; one of ns, us, ms, s | unit = \"min\"\n\
-         p:3: block 1, unit = \"msec\": no such unit; ms may be meant; one of ns, us, ms, s | unit = \"msec\"",
+         p:3: block 1, unit = \"msec\": no such unit; ms may be meant; one of ns, us, ms, s | unit = \"msec\"\n\
+         p:3: block 1, unit = \"S\": no such unit; s may be meant; one of ns, us, ms, s | unit = \"S\"\n\
+         p:3: block 1, unit = \"MS\": no such unit; ms may be meant; one of ns, us, ms, s | unit = \"MS\"",
     )
 }
 

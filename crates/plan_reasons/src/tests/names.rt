@@ -14,10 +14,10 @@ fn bad_names(rt: HostRuntime) -> Result<(), Fail> {
     tell(
         &rt,
         CALLS,
-        "p:6: block 1, call 3, name = \"\": no name; 1 to 32 ASCII letters, digits, - and _ | { op = \"cancel\", name = \"\" } ]\n\
-         p:6: block 1, call 3, name = \"a b\": no name; 1 to 32 ASCII letters, digits, - and _ | { op = \"execute\", name = \"a b\" } ]\n\
-         p:7: block 1, call 3, name = \"a2345678901234567890123456789012x\": no name; 1 to 32 ASCII letters, digits, - and _ | { op = \"execute\", / name = \"a2345678901234567890123456789012x\" } ]\n\
-         p:6: block 1, call 3, name = \"\u{E4}\": no name; 1 to 32 ASCII letters, digits, - and _ | { op = \"execute\", name = \"\u{E4}\" } ]",
+        "p:6: block 1, call 3, name = \"\": not a name; 1 to 32 ASCII letters, digits, - and _ | { op = \"cancel\", name = \"\" } ]\n\
+         p:6: block 1, call 3, name = \"a b\": not a name; 1 to 32 ASCII letters, digits, - and _ | { op = \"execute\", name = \"a b\" } ]\n\
+         p:7: block 1, call 3, name = \"a2345678901234567890123456789012x\": not a name; 1 to 32 ASCII letters, digits, - and _ | { op = \"execute\", / name = \"a2345678901234567890123456789012x\" } ]\n\
+         p:6: block 1, call 3, name = \"\u{E4}\": not a name; 1 to 32 ASCII letters, digits, - and _ | { op = \"execute\", name = \"\u{E4}\" } ]",
     )
 }
 
@@ -39,6 +39,8 @@ fn unknown_names(rt: HostRuntime) -> Result<(), Fail> {
         &rt,
         CALLS,
         "p:6: block 1, call 3, name = \"bakup\": no such name; backup may be meant; that of a submission before it | { op = \"cancel\", name = \"bakup\" } ]\n\
+         p:6: block 1, call 3, name = \"B2\": no such name; b2 may be meant; that of a submission before it | { op = \"cancel\", name = \"B2\" } ]\n\
+         p:7: block 1, call 4, name = \"A\": no such name; a may be meant; that of a submission before it | { op = \"execute\", name = \"a\" }, / { op = \"cancel\", name = \"A\" } ]\n\
          p:6: block 1, call 3, name = \"x\": no such name; that of a submission before it | { op = \"cancel\", name = \"x\" } ]\n\
          p:6: block 1, call 3, name = \"b1\": no such name; b2 may be meant; that of a submission before it | { op = \"cancel\", name = \"b1\" } ]\n\
          p:6: block 1, call 3, name = \"late\": no such name; that of a submission before it, and block 1, call 4 in line 7 stands behind it | { op = \"cancel\", name = \"late\" }, / { op = \"execute\", name = \"late\" } ]\n\

@@ -6,14 +6,15 @@ use std::test::Fail;
 const CALL: &str = "version = 2\n[[block]]\n[[block.call]]\n";
 
 #[test]
-fn control_characters_are_escaped(rt: HostRuntime) -> Result<(), Fail> {
+fn characters_that_cannot_be_seen_are_escaped(rt: HostRuntime) -> Result<(), Fail> {
     tell(
         &rt,
         "version = 2\n[[block]]\ncall = [{ op = \"cancel\", name = ",
-        "p:3: block 1, call 1, name = \"a\\nb\": no name; 1 to 32 ASCII letters, digits, - and _ | \"a\\nb\" }]\n\
-         p:3: block 1, call 1, name = \"\\r\\t\\u001B\\u0000\": no name; 1 to 32 ASCII letters, digits, - and _ | \"\\r\\t\\u001b\\u0000\" }]\n\
-         p:3: block 1, call 1, name = \"\\u007F\\u0085\": no name; 1 to 32 ASCII letters, digits, - and _ | \"\\u007f\\u0085\" }]\n\
-         p:3: block 1, call 1, name = \"\\\"\\\\ '\": no name; 1 to 32 ASCII letters, digits, - and _ | \"\\\"\\\\ '\" }]",
+        "p:3: block 1, call 1, name = \"a\\nb\": not a name; 1 to 32 ASCII letters, digits, - and _ | \"a\\nb\" }]\n\
+         p:3: block 1, call 1, name = \"\\r\\t\\u001B\\u0000\": not a name; 1 to 32 ASCII letters, digits, - and _ | \"\\r\\t\\u001b\\u0000\" }]\n\
+         p:3: block 1, call 1, name = \"\\u007F\\u0085\": not a name; 1 to 32 ASCII letters, digits, - and _ | \"\\u007f\\u0085\" }]\n\
+         p:3: block 1, call 1, name = \"a\\u200B\\u00A0\\uFEFF b\": not a name; 1 to 32 ASCII letters, digits, - and _ | \"a\u{200B}\u{A0}\u{FEFF} b\" }]\n\
+         p:3: block 1, call 1, name = \"\\\"\\\\ '\": not a name; 1 to 32 ASCII letters, digits, - and _ | \"\\\"\\\\ '\" }]",
     )?;
     tell(
         &rt,
@@ -60,11 +61,11 @@ fn names_of_files_are_escaped(rt: HostRuntime) -> Result<(), Fail> {
         return Err(Fail::from("a plan"));
     };
     let told = reason
-        .in_file("a\nlong/folder/of/plans/and/a/long/name/of/a/plan.toml")
+        .in_file("a\nlong/folder/of/plans/and/a/long/name/of/\u{202E}a plan.toml")
         .to_string(alloc)?;
     assert_eq!(rt;
         told.as_str(),
-        "a\\nlong/folder/of/plans/and/a/long/name/of/a/plan.toml:1: version = 3: no such version; one of 1, 2"
+        "a\\nlong/folder/of/plans/and/a/long/name/of/\\u202Ea plan.toml:1: version = 3: no such version; one of 1, 2"
     );
     assert_eq!(rt;
         reason.to_string(alloc)?.as_str(),

@@ -3,9 +3,9 @@ use Rattle.std.proofs.lemmas.List.Elements.{All-push, All-nil}
 use Rattle.std.specs.Prelude.{IfSome}
 use Rattle.plan_reasons.specs.own.Near.{IsNear, edits_between}
 use Rattle.plan_reasons.proofs.Nearness.{is_near}
-use Rattle.plan_reasons.proofs.near.near.Goals as goal
-use Rattle.plan_reasons.proofs.near.near.Goals.{then-edits-least, else-edits-least}
-use Rattle.plan_reasons.proofs.near.near.Goals.{then-len-lt-MOST_NEAR+in_ok-from_str+in_ok-push, else-len-lt-MOST_NEAR}
+use Rattle.plan_reasons.proofs.near.in_few_edits.Goals as goal
+use Rattle.plan_reasons.proofs.near.in_few_edits.Goals.{then-edits-least, else-edits-least}
+use Rattle.plan_reasons.proofs.near.in_few_edits.Goals.{then-len-lt-MOST_NEAR+in_ok-from_str+in_ok-push, else-len-lt-MOST_NEAR}
 
 pub loop-other-preserved : goal.loop-other-preserved
 loop-other-preserved c =

@@ -1,0 +1,13 @@
+//! A law on the limits, in a function that does nothing.
+
+ghost use Rattle.std.specs.Prelude.{◌≡◌};
+ghost use Rattle.plan_read.specs.Plans.{most_block_calls, most_blocks, most_calls};
+
+use crate::limits::{MOST_BLOCK_CALLS, MOST_BLOCKS, MOST_CALLS};
+
+/// The limits that reasons tell are those by which plans are read.
+pub fn limits_agree()
+    ensures blocks { MOST_BLOCKS ≡ most_blocks }
+    ensures block_calls { MOST_BLOCK_CALLS ≡ most_block_calls }
+    ensures calls { MOST_CALLS ≡ most_calls }
+{}
