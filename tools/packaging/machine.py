@@ -25,6 +25,13 @@ LEVEL_2 = re.compile(
 BEYOND = re.compile(r"aes.*|pclmul.*|sha(?:1|256).*|rdrand|rdseed|x(?:begin|end|abort)|ad[co]x")
 VECTOR = re.compile(r"%[xyz]mm")
 
+TOP = Path(__file__).resolve().parents[2]
+# What the documents have to say of the program's machines and of the libraries'.
+STATED = {
+    "README.md": "for Linux on x86-64-v{level} with glibc {program}, or {libraries} without the program",
+    "docs/EMBEDDING.md": "The program needs glibc {program} and the libraries {libraries}, both a processor of level {level} of x86-64",
+}
+
 
 @dataclass(frozen=True)
 class Machine:
@@ -71,3 +78,13 @@ def measured(file: Path) -> Machine:
     instructions = set(instructions_of(file))
     level = max(level_of(*instruction) for instruction in instructions)
     return Machine(glibc_of(file), level, frozenset(name for name, _ in instructions if BEYOND.fullmatch(name)))
+
+
+def unstated(program: Machine, libraries: Machine) -> list[str]:
+    """What the documents do not say, and have to."""
+    levels = {program.level, libraries.level}
+    if len(levels) != 1:
+        return [f"the program is of level {program.level}, and the libraries of level {libraries.level}"]
+    words = {"level": program.level, "program": program.glibc_text, "libraries": libraries.glibc_text}
+    wanted = {file: text.format(**words) for file, text in STATED.items()}
+    return [f"{file} does not say: {text}" for file, text in wanted.items() if text not in (TOP / file).read_text()]

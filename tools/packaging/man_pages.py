@@ -14,6 +14,7 @@ from help_text import Command, HelpError, Option, Program
 STATUSES = "Exit status:"
 PLAN_BEGINS = "The plan is a file of TOML"
 EXAMPLE_BEGINS = "Example, with the plan"
+KINDS_BEGIN = "KIND is"
 # What is said of a shell whose own command hides the program.
 NOTES = [
     "zsh has a command of its own with the name", r"\fBsched\fR.", r"There \fBcommand sched\fR calls the program, and",
@@ -73,13 +74,21 @@ def words_of(command: Command) -> Iterator[tuple[str, list[str]]]:
 
 
 def described(command: Command) -> Iterator[str]:
-    """The part of sched(1) on one command. What sched-plan(5) says is left to it."""
+    """The part of sched(1) on one command. What sched-plan(5) says is left to it, and the kinds of faults to their own section."""
     yield from [f'.SS "{command.words}"', *roff.lines(roff.escaped(command.about)), *roff.entries(words_of(command))]
     for part in parts(command.text):
         if begins(part, PLAN_BEGINS):
             yield from [".PP", "The plan is described in", r".BR sched\-plan (5)."]
-        else:
+        elif not begins(part, KINDS_BEGIN):
             yield from roff.rendered(part, is_first=False)
+
+
+def kinds(program: Program) -> list[Block]:
+    """The kinds of a plan's faults, which each help that has them tells alike."""
+    told = [part for command in program.commands for part in parts(command.text) if begins(part, KINDS_BEGIN)]
+    if not told or any(part != told[0] for part in told):
+        raise HelpError("the help of the commands does not tell the kinds of faults alike")
+    return told[0]
 
 
 def program_page(program: Program, issue: Issue) -> str:
@@ -96,6 +105,7 @@ def program_page(program: Program, issue: Issue) -> str:
         ("DESCRIPTION", [*roff.lines(roff.escaped(itself.about)), *said]),
         ("OPTIONS", list(roff.entries(words_of(itself)))),
         ("COMMANDS", [line for command in program.commands for line in described(command)]),
+        ("FAULTS OF A PLAN", list(roff.rendered(kinds(program)))),
         ("EXIT STATUS", [line for part in statuses for line in roff.rendered(part)]),
         ("LIMITS", list(limit_rows(rules.limits()))),
         ("NOTES", NOTES),

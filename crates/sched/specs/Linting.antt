@@ -118,9 +118,9 @@ TellsFine (Ok (Status status)) old new = (status ≡ 0) × Appends old new fine_
 TellsFine (Err (Run x.Write)) old new = (n : ℕ) × Appends old new (take n fine_text)
 TellsFine answer old new = ⊥
 
--- what `sched lint` answers: where nothing is wrong it writes that, and where something is it answers a line and writes nothing. Options that
--- do not go together, and no others, are told as that. A number of workers out of range, and want of memory, may come in place of each
--- answer, with nothing written
+-- what `sched lint` answers: where nothing is wrong it writes that, and where something is it answers a line and writes nothing.
+-- Options that do not go together, and no others, are told as that. A number of workers out of range, and want of memory, may come in
+-- place of each answer, with nothing written
 abbrev pub AnswersLint : {P : Type 0} → Result Answer ProgramError → Reads P → (Bor Text → Result P Error → Type 0) → LintArguments → Option (List ℕ) → Option (List ℕ) → Type 0
 AnswersLint (Ok (Refused line)) IsRead Opens asked old new = IsSome (asked_beside asked) × IsWrong IsRead Opens asked × Keeps old new
 AnswersLint (Err LintOptions) IsRead Opens asked old new = (IsSome (asked_beside asked) → ⊥) × Keeps old new

@@ -1,5 +1,5 @@
 -- Openings: files that are read, and standard input by the name `-`. All of it is this project's rule.
-use Rattle.std.specs.Prelude.{⊤}
+use Rattle.std.specs.Prelude.{◌≡◌, ℕ, ◌⊎◌, ⊤, List, ◌∷◌, codes}
 use Rattle.sched.specs.declared.opening.Opened.{Opened}
 use Rattle.sched.specs.declared.opening.Opened.TheVariants.{File, Input}
 
@@ -12,3 +12,8 @@ of_opened of_file of_input (Input input) = of_input input
 abbrev pub IsInput : {F I : Type 0} → Opened F I → Type 0
 IsInput (File file) = ⊥
 IsInput (Input input) = ⊤
+
+-- the word behind the program's name is that of a command whose events come on standard input
+abbrev pub NamesEvents : List (List ℕ) → Type 0
+NamesEvents (program ∷ command ∷ rest) = (command ≡ codes "run") ⊎ (command ≡ codes "pool")
+NamesEvents arguments = ⊥

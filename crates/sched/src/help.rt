@@ -17,7 +17,7 @@ KIND is
   BadUnit        a unit is none
   BadTimes       'times' is not 1 to 65,536
   Negative       'at' or 'every' is below 0
-  BadName        a name is none
+  BadName        a name is not 1 to 32 ASCII letters, digits, '-' and '_'
   DuplicateName  a submission before it has the name
   UnknownName    no submission before a cancel has the name
   Ambiguous      a cancel names a task of another block that is made repeatedly
@@ -33,8 +33,9 @@ of memory'. 'sched lint PLAN' says why, with the line of the text."
 /// What the help says below the commands: the exit statuses.
 pub const STATUSES: &str = "\
 'sched run --help' tells what a plan, an event and a trace look like, and
-'sched lint' why one is refused. The name '-' of a file that is read is standard
-input, where a command has no events there.
+'sched lint' why one is refused. A file that is read may be named '-', which is
+standard input: one of a command's at most, and none of 'run' and 'pool', whose
+events come there.
 
 Exit status:
   0  done
@@ -105,7 +106,7 @@ An event is a line on standard input, of at most 63 bytes with its newline:
   cancel K         task K is cancelled: no other run of it starts, and a run
                    under way is dropped when it ends
 Numbers have no leading zero: T and V are below 2^64, W below 256, and C and K
-below 2^32.
+below 2^32. 'sched lint PLAN --events FILE' says why a line is no event.
 
 The trace goes to standard output: a line for each call and each event, with
 the time in front, and behind that of a call one for each task that it ends.
@@ -238,6 +239,7 @@ What is found is printed on a line to standard output:
             N they may not, or the trace ends before line N, which has to come
 The end of a trace may be missing, but for the lines of the tasks that its last
 call ends. Calls of the plan may stand with no clock behind them.
+'sched lint PLAN --trace TRACE --workers N' says what could stand in line N.
 
 Exit status:
   0  the trace conforms
@@ -261,7 +263,7 @@ makes the same calls: where a block has a unit, that is left out and stands
 beside each time of the block and of its calls instead. Comments and the layout
 are lost. A plan of version 2 is refused as 'Version', and one whose printed
 text would have more than 1,048,576 bytes as 'TooLong', both with block 0 and
-call 0.
+call 0; they are plans, and 'sched lint' finds nothing wrong with them.
 
 Exit status:
   0  the plan was printed
@@ -283,9 +285,10 @@ greatest moment of the trace. There is
   a bar   for each run, in the lane of its worker, from its start to its finish,
           or to the end of the picture where it has none; its colour tells what
           the run led to. Runs that lie over one another are one bar, labelled
-          '2 runs': failed where one of them failed, and else as the last one
+          '2 runs' where that fits, and else with their number at its upper
+          right: failed where one of them failed, and else as the last one
   a mark  for each other line of the trace, above the lanes. Where several of a
-          row stand at one place, their number stands beside them
+          row stand at one place, their number stands at their upper right
 and each has a tooltip: of a mark its line, of a bar the name of its task and
 the lines of its run, and of several those of all. Bars are shown that have a
 part of the time, and marks within it.
@@ -293,6 +296,7 @@ A trace that is none of the plan is not drawn. As 'sched check' does, 'draw'
 prints
   breaks N  lines 1 to N - 1 may begin a trace of the plan, and with line N they
             may not, or the trace ends before line N, which has to come
+and 'sched lint PLAN --trace TRACE --workers N' says what could stand there.
 
 Exit status:
   0  the picture was printed
@@ -379,10 +383,11 @@ there and what is wanted:
   events.txt:3: \"clock 05\": leading zero; ..
   trace.txt:4: \"5 start 0 idle\": breaks; \"5 start 0 task 0 run 0 due 5\" ..
 The plan is looked at first, and only the first thing that is wrong is told.
-Events are looked at by their spelling alone. Of a trace that breaks the lines
-are told that could stand there, and with which other numbers of workers the
-trace conforms.
-A file has at most 67,108,864 bytes, and a plan 1,048,576.
+Events are looked at by their spelling alone. Of a trace that breaks up to three
+lines are told that could stand there, and with which other numbers of workers
+the trace conforms.
+A file has at most 67,108,864 bytes, and a plan 1,048,576. One of the files may
+be named '-', which is standard input.
 
 Exit status:
   0  nothing is wrong: 'fine' was printed

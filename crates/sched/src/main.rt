@@ -1,5 +1,7 @@
-//! Runs a plan of scheduled tasks over lines of events or by a pool of threads, prints its code and its tasks, checks and draws
-//! traces of it, and migrates it to the next version of plans; and answers calls that come beside the events, with no plan.
+//! Runs a plan of scheduled tasks, over lines of events or by a pool of threads.
+//!
+//! It prints the plan's code and its tasks too, checks and draws traces of it, migrates it to the next version of plans, and says why
+//! a plan, a line of events or a trace is refused. With no plan, it answers calls that come beside the events.
 //!
 //! # Usage
 //!
@@ -17,12 +19,13 @@
 //!
 //! PLAN is the file of the plan, and TRACE that of a trace. There are 1 to 64 workers, and a run takes at most 1 to
 //! 4,294,967,295 events, 1,000,000 where the limit is left out. Events come on standard input, and the trace goes to
-//! standard output. The FILE of `live` is written: it gets the plan of the calls. A file that is read may be `-`, standard input: one of a
-//! command's at most, and none of `run` and `pool`, whose events come there. `sched --version` tells the version and the toolchain.
-//! `sched run --help` has the forms of plans,
-//! events and traces, `sched code --help` that of a listing, `sched tasks --help` that of the tasks, `sched check --help` what a
-//! check finds, `sched migrate --help` which plans are migrated, `sched draw --help` what a picture shows,
-//! `sched live --help` the forms of calls, and `sched lint --help` what is told of a plan that is refused.
+//! standard output. The FILE of `live` is written: it gets the plan of the calls. A file that is read may be named `-`, which is
+//! standard input: one of a command's at most, and none of `run` and `pool`, whose events come there.
+//!
+//! `sched --version` tells the version and the toolchain. `sched run --help` has the forms of plans, events and traces, `sched code
+//! --help` that of a listing, `sched tasks --help` that of the tasks, `sched check --help` what a check finds, `sched migrate --help`
+//! which plans are migrated, `sched draw --help` what a picture shows, `sched live --help` the forms of calls, and `sched lint --help`
+//! what is told of a plan that is refused.
 //!
 //! # Behaviour
 //!

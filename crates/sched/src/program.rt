@@ -1,11 +1,12 @@
 //! The program: its work over the command line, the files, standard input and standard output of the system.
 
-ghost use Rattle.std.specs.Prelude.{◌≡◌, ℕ, ◌≤◌, ◌⊎◌, Result, map, string_bytes, IfErr, IfOk};
+ghost use Rattle.std.specs.Prelude.{◌≡◌, ℕ, ◌≤◌, ◌↔◌, ◌⊎◌, IsTrue, Result, map, string_bytes, IfErr, IfOk};
 ghost use Rattle.std.specs.Process.{exit_status};
 ghost use Rattle.clap.specs.Words.{kind_of};
 ghost use Rattle.sched.specs.Answers.{IsTold, end_of, exit_status_of};
 ghost use Rattle.sched.specs.Commands.{IsRefusal, IsShown, IsTaken};
 ghost use Rattle.sched.specs.Errors.{IsOrMemory};
+ghost use Rattle.sched.specs.Openings.{NamesEvents};
 ghost use Rattle.sched.specs.declared.error.ProgramError.TheVariants.{Arguments};
 
 use crate::answer::{Answer, in_status};
@@ -89,10 +90,12 @@ fn answer_arguments<R: Files + Input + Print + Eprint + AllocGlobal, T: Threads 
 }
 
 /// Whether the command that is named reads events from standard input, where no file can be read then.
-fn reads_events(arguments: &[String]) -> bool {
-    match arguments.get(1) {
-        Some(command) => matches!(command.as_str(), "run" | "pool"),
-        None => false,
+fn reads_events(arguments: &[String]) -> bool
+    ensures { IsTrue result ↔ NamesEvents (map string_bytes arguments.now) }
+{
+    match arguments {
+        [_, command, ..] => matches!(command.as_str(), "run" | "pool"),
+        _ => false,
     }
 }
 

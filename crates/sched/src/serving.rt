@@ -25,9 +25,12 @@ use std::io;
 use std::sync::Wait;
 use std::thread::Threads;
 
-/// Does what the arguments of a command line ask for, the program's name first: it opens the files that they name, or creates the one
-/// that is to be written, reads events from the reader and writes to the writer. A pool's threads are those of `rt`. `Ok` is how that
-/// ended: with an exit status, 0 or, where a trace breaks, 1, with a refusal, or with an error. `Err` is help, a fault of the command line or want of memory, which is to be shown: nothing was read or written.
+/// Does what the arguments of a command line ask for, the program's name first.
+///
+/// It opens the files that they name, or creates the one that is to be written, reads events from the reader and writes to the
+/// writer. A pool's threads are those of `rt`. `Ok` is how that ended: with an exit status, 0 or, where a trace breaks, 1, with a
+/// refusal, or with an error. `Err` is help, a fault of the command line or want of memory, which is to be shown: nothing was read or
+/// written.
 pub fn serve<
     R: Threads + Wait + Sync,
     P: Source + Drop,

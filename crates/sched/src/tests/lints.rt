@@ -172,14 +172,23 @@ fn standard_input_is_read_once(rt: HostRuntime) {
         "",
         "sched: trace file not read\n",
     );
-    let run: [&[u8]; 5] = [b"sched", b"run", b"-", b"--workers", b"1"];
+    let events: [&[u8]; 5] = [b"sched", b"lint", b"-", b"--events", b"-"];
     ends_given(
         &rt,
-        given(&run, "clock 5\n"),
+        given(&events, super::ONE_DELAY),
         1,
         "",
-        "sched: plan file not read\n",
+        "-: standard input is not left for it\n",
     );
+    for command in [b"run".as_slice(), b"pool"] {
+        ends_given(
+            &rt,
+            given(&[b"sched", command, b"-", b"--workers", b"1"], "clock 5\n"),
+            1,
+            "",
+            "sched: plan file not read\n",
+        );
+    }
 }
 
 #[test]

@@ -435,6 +435,58 @@ impl Timers {
         })
     }
 
+    /// Whether a task is alive: it stands in the queue, or has a run under way.
+    ///
+    /// # Examples
+    ///
+    /// ```
+    /// let mut timers = sched::Timers::new(1)?;
+    /// let task = timers.schedule(3, 5, 70)?;
+    /// assert!(timers.contains(task));
+    /// timers.poll(8, 0)?;
+    /// assert!(timers.contains(task));
+    /// timers.finish(9, 0, 1)?;
+    /// assert!(!timers.contains(task));
+    /// # Ok::<(), sched::TimersError>(())
+    /// ```
+    #[must_use]
+    pub fn contains(&self, task: TaskRef) -> bool {
+        self.task(task)
+            .is_some_and(|task| task.phase != Phase::Gone)
+    }
+
+    /// How many tasks are alive: they stand in the queue, or have a run under way.
+    ///
+    /// # Examples
+    ///
+    /// ```
+    /// let mut timers = sched::Timers::new(1)?;
+    /// timers.schedule(3, 5, 70)?;
+    /// timers.execute(4, 71)?;
+    /// assert_eq!(timers.len(), 2);
+    /// # Ok::<(), sched::TimersError>(())
+    /// ```
+    #[must_use]
+    pub fn len(&self) -> usize {
+        self.state().alive
+    }
+
+    /// Whether no task is alive.
+    ///
+    /// # Examples
+    ///
+    /// ```
+    /// let mut timers = sched::Timers::new(1)?;
+    /// assert!(timers.is_empty());
+    /// timers.execute(4, 71)?;
+    /// assert!(!timers.is_empty());
+    /// # Ok::<(), sched::TimersError>(())
+    /// ```
+    #[must_use]
+    pub fn is_empty(&self) -> bool {
+        self.len() == 0
+    }
+
     /// How far the timers are.
     ///
     /// # Examples
