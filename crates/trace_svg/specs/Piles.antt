@@ -88,10 +88,14 @@ pile_tip names pile = runs_label (length pile) ++ (codes "\n" ++ flat_map (run_t
 abbrev pub pile_shape : Window → List (List ℕ) → List Bar → List ℕ
 pile_shape window names pile = rectangle_text (pile_fill pile) (pile_left window pile) (pile_top pile) (pile_width window pile) 22 (pile_tip names pile)
 
--- its label, and none where that does not fit
+-- how many runs it has, at its upper right
+abbrev pub pile_number : Window → List Bar → List ℕ
+pile_number window pile = label_text face.Count (pile_right window pile + 2) (pile_top pile) (decimal (length pile))
+
+-- its label, and its number alone where that does not fit
 abbrev pub pile_label : Window → List Bar → List ℕ
 pile_label window pile =
-    if nat_le (length (runs_label (length pile))) (letters_in (pile_width window pile)) then label_text face.Run (pile_left window pile + 4) (pile_top pile + 15) (runs_label (length pile)) else []
+    if nat_le (length (runs_label (length pile))) (letters_in (pile_width window pile)) then label_text face.Run (pile_left window pile + 4) (pile_top pile + 15) (runs_label (length pile)) else pile_number window pile
 
 -- a pile: a bar alone is drawn as the bar that it is
 unfoldable pub pile_text : Window → List (List ℕ) → List Bar → List ℕ

@@ -24,6 +24,7 @@
 //! | a mark | a row for each of submissions and refusals; cancels; ends of tasks; policies, shutdowns and questions; clocks; idle workers and errors |
 //! | a bar | the lane of its worker, from its start to its finish, or to the end of the picture where it has none; 3 wide at least |
 //! | a label | in its bar, where that has 7 for each letter, and 8 more: the name of the task and the number of the run |
+//! | the number of runs | in the bar of a pile, as its label; where that does not fit, at its upper right, above its lane |
 //! | the number of marks | at the upper right of the marks of a row that stand at one place, where there are several |
 //! | the axis | below the lanes: a line through them for each tick, and its moment |
 //!
@@ -32,12 +33,13 @@
 //!
 //! No run hides another. The bars of a lane, in their order, are *piles*: a bar that begins left of where the pile before it ends goes
 //! to that pile, and else it begins the next. A pile of one is the bar that it is. One of several is drawn as one bar, from where its
-//! first bar begins to where it reaches furthest to the right. Its label is their number, `2 runs`; its tooltip is that, and then
-//! the tooltips of its runs. It has the colour of failed runs where one of its runs failed, and else that of its last run.
+//! first bar begins to where it reaches furthest to the right. Its label is their number, `2 runs`; where that does not fit, the
+//! number alone stands at its upper right, above its lane, where no bar hides it. Its tooltip is the label, and then the tooltips
+//! of its runs. It has the colour of failed runs where one of its runs failed, and else that of its last run.
 //!
-//! Nor does a mark hide another. The marks of a row that stand at one place, one behind the other, are a *stack*. A stack of one is
-//! the mark that it is. Of several each is drawn above the one before it; the top tells all their lines; and their number stands
-//! beside it.
+//! Nor does a mark hide the line of another. The marks of a row that stand at one place, one behind the other, are a *stack*. A
+//! stack of one is the mark that it is. Of several each is drawn above the one before it; the top tells all their lines; and their
+//! number stands at its upper right. Marks of a row that stand a few pixels apart lie over one another in part, and so do numbers.
 //!
 //! # Order and ties
 //!

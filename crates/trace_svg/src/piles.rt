@@ -3,7 +3,7 @@
 ghost use Rattle.std.specs.Prelude.{◌≡◌, ◌≤◌, ◌<◌, ◌∷◌, ◌++◌, length, take, drop, IfOk, OnOk, flat_map, map, string_bytes};
 ghost use Rattle.std.specs.List.{list_any, range_with_len};
 ghost use Rattle.trace_svg.specs.Groups.{groups_of};
-ghost use Rattle.trace_svg.specs.Piles.{bar_right, bars_in, failed, lies_on, pile_fill, pile_label, pile_left, pile_right, pile_shape, pile_text, pile_tip, pile_top, pile_width, piles_in, piles_of, run_tip, runs_label};
+ghost use Rattle.trace_svg.specs.Piles.{bar_right, bars_in, failed, lies_on, pile_fill, pile_label, pile_left, pile_number, pile_right, pile_shape, pile_text, pile_tip, pile_top, pile_width, piles_in, piles_of, run_tip, runs_label};
 
 use crate::places::{across, bar_width, lane_top};
 use crate::runs::{bar_tip, fill_of, letters_in, name_of, put_bar};
@@ -114,7 +114,8 @@ fn pile_len(window: Window, lane: &[Bar]) -> usize
 
 /// Where a bar ends.
 fn bar_right(window: Window, bar: &Bar) -> u32
-    ensures { result ≡ bar_right window bar.now }
+    ensures right { result ≡ bar_right window bar.now }
+    ensures within { result ≤ 2340 }
 {
     across(window, bar.first) + bar_width(window, bar)
 }
@@ -136,7 +137,7 @@ fn put_pile<A: Allocator + Copy>(
     }
 }
 
-/// Appends a pile of several runs as one bar, and its label where that fits.
+/// Appends a pile of several runs as one bar, and its label.
 fn put_several<A: Allocator + Copy>(
     alloc: A,
     text: &mut String<A>,
@@ -176,7 +177,7 @@ fn put_shape<A: Allocator + Copy>(
     write!(text, "{shape}")
 }
 
-/// Appends the label of a pile, where it fits.
+/// Appends the label of a pile where it fits, and else its number alone.
 fn put_label<A: Allocator + Copy>(
     alloc: A,
     text: &mut String<A>,
@@ -187,7 +188,7 @@ fn put_label<A: Allocator + Copy>(
 {
     let label = runs_label(alloc, pile.len())?;
     if label.len() > letters_in(pile_width(window, pile)) {
-        return Ok(());
+        return put_number(alloc, text, window, pile);
     }
     let shown = Label {
         face: Face::Run,
@@ -196,6 +197,26 @@ fn put_label<A: Allocator + Copy>(
         text: &label,
     };
     write!(text, "{shown}")
+}
+
+/// Appends how many runs a pile has, at its upper right.
+fn put_number<A: Allocator + Copy>(
+    alloc: A,
+    text: &mut String<A>,
+    window: Window,
+    pile: &[Bar],
+) -> Result<(), AllocError>
+    ensures { OnOk result (string_bytes text.new ≡ string_bytes text.old ++ pile_number window pile.now) }
+{
+    let count = pile.len();
+    let number = format!(in alloc; "{count}")?;
+    let label = Label {
+        face: Face::Count,
+        x: pile_right(window, pile) + 2,
+        y: pile_top(pile),
+        text: &number,
+    };
+    write!(text, "{label}")
 }
 
 /// Where a pile begins.
@@ -211,7 +232,8 @@ fn pile_left(window: Window, pile: &[Bar]) -> u32
 
 /// Where a pile ends.
 fn pile_right(window: Window, pile: &[Bar]) -> u32
-    ensures { result ≡ pile_right window pile.now }
+    ensures right { result ≡ pile_right window pile.now }
+    ensures within { result ≤ 2340 }
 {
     let mut right = 0;
     for bar in pile {

@@ -3,7 +3,7 @@ use super::picture_of;
 use std::process::Abort;
 use std::test::Fail;
 
-/// Two runs that lie over one another, a third that begins where these end, and one with room for its label.
+/// Two runs in one pile without room for its label, a third that begins where these end, and one with room for its label.
 const TWO: &str = "\
 0 start 0 task 0 run 0 due 0
 9 finish 0 task 0 run 0 failed 1
@@ -26,6 +26,7 @@ const TWO_DRAWN: &str = "\
 10 start 0 task 1 run 0 due 9
 19 finish 0 task 1 run 0 done 2
 </title></rect>
+<text class=\"count\" x=\"116\" y=\"172\">2</text>
 <rect class=\"done\" x=\"114\" y=\"172\" width=\"3\" height=\"22\"><title>?
 40 start 0 task 2 run 0 due 9
 49 finish 0 task 2 run 0 done 2
@@ -62,7 +63,7 @@ const THREE_DRAWN: &str = "\
 <text class=\"run\" x=\"114\" y=\"215\">3 runs</text>
 ";
 
-/// Two runs of each of two workers, in turn.
+/// Two runs of each of two workers, in turn, in piles without room for their labels.
 const LANES: &str = "\
 0 start 0 task 0 run 0 due 0
 0 start 1 task 1 run 0 due 0
@@ -85,6 +86,7 @@ const LANES_DRAWN: &str = "\
 5 start 0 task 2 run 0 due 0
 7 finish 0 task 2 run 0 dropped
 </title></rect>
+<text class=\"count\" x=\"115\" y=\"172\">2</text>
 <rect class=\"again\" x=\"110\" y=\"200\" width=\"3\" height=\"22\"><title>2 runs
 ?
 0 start 1 task 1 run 0 due 0
@@ -93,6 +95,7 @@ const LANES_DRAWN: &str = "\
 5 start 1 task 3 run 0 due 0
 7 finish 1 task 3 run 0 again due 30
 </title></rect>
+<text class=\"count\" x=\"115\" y=\"200\">2</text>
 ";
 
 #[test]
