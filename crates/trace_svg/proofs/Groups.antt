@@ -13,6 +13,11 @@ pub chosen : {A : Type 0} (P : A → Type 0) (b : Bool) (x y : A) → (b ≡ tru
 chosen P true x y one other = one refl
 chosen P false x y one other = other refl
 
+-- what follows from both answers of a test follows
+pub decided : {A : Type 0} (b : Bool) → (b ≡ true → A) → (b ≡ false → A) → A
+decided true one other = one refl
+decided false one other = other refl
+
 -- ---- joined they are the list
 
 joined_from : {X : Type 0} (joins : List X → X → Bool) (group xs : List X) → flat_map (λ g. g) (groups_from joins group xs) ≡ group ++ xs
@@ -112,12 +117,50 @@ pub some : {X : Type 0} (joins : List X → X → Bool) (xs : List X) → AllByR
 some joins [] = tt
 some joins (x ∷ later) = some_from joins (x ∷ []) later (omega arith)
 
+-- ---- what holds of each item of a group and those before it
+
+-- R holds of each of some items behind a front of them, and of all before it
+abbrev InTurn : {X : Type 0} → (List X → X → Type 0) → List X → List X → Type 0
+InTurn R front [] = Unit {0}
+InTurn R front (x ∷ later) = R front x × InTurn R (front ++ x ∷ []) later
+
+one_in_turn : {X : Type 0} (R : List X → X → Type 0) (front xs : List X) (x : X) → InTurn R front xs → R (front ++ xs) x → InTurn R front (xs ++ x ∷ [])
+one_in_turn R front [] x each here = (subst (λ g. R g x) (append-nil front) here, tt)
+one_in_turn R front (y ∷ ys) x each here = (each.0, one_in_turn R (front ++ y ∷ []) ys x each.1 (subst (λ g. R g x) (sym (append_assoc front (y ∷ []) ys)) here))
+
+-- R holds of each item of a group but the first, and of all before it
+abbrev pub EachInTurn : {X : Type 0} → (List X → X → Type 0) → List X → Type 0
+EachInTurn R [] = Unit {0}
+EachInTurn R (first ∷ later) = InTurn R (first ∷ []) later
+
+pub each_in_turn_grows : {X : Type 0} (R : List X → X → Type 0) (group : List X) (x : X) → EachInTurn R group → R group x → EachInTurn R (group ++ x ∷ [])
+each_in_turn_grows R [] x each here = tt
+each_in_turn_grows R (first ∷ later) x each here = one_in_turn R (first ∷ []) later x each here
+
+-- an item joins a group
+abbrev pub Joins : {X : Type 0} → (List X → X → Bool) → List X → X → Type 0
+Joins joins group x = joins group x ≡ true
+
+pub each_joins : {X : Type 0} (joins : List X → X → Bool) (xs : List X) → AllByRecursion (EachInTurn (Joins joins)) (groups_of joins xs)
+each_joins joins [] = tt
+each_joins joins (x ∷ later) = each_from joins (EachInTurn (Joins joins)) (each_in_turn_grows (Joins joins)) (λ g x here is. tt) (x ∷ []) later tt
+
 -- ---- by index
 
 pub all_at : {X : Type 0} (P : X → Type 0) (xs : List X) (i : ℕ) (x : X) → AllByRecursion P xs → slice_get xs i ≡ Some x → P x
 all_at P [] i x all is = absurd (none-some x is)
 all_at P (y ∷ ys) zero x all is = subst P (same_Some y x is) all.0
 all_at P (y ∷ ys) (suc i) x all is = all_at P ys i x all.1 is
+
+behind_at : {X : Type 0} (R : List X → X → Type 0) (front xs : List X) (k : ℕ) (x : X) → InTurn R front xs → slice_get xs k ≡ Some x → R (front ++ take k xs) x
+behind_at R front [] k x each is = absurd (none-some x is)
+behind_at R front (y ∷ ys) zero x each is = subst (λ z. R (front ++ []) z) (same_Some y x is) (subst (λ g. R g y) (sym (append-nil front)) each.0)
+behind_at R front (y ∷ ys) (suc k) x each is = subst (λ g. R g x) (append_assoc front (y ∷ []) (take k ys)) (behind_at R (front ++ y ∷ []) ys k x each.1 is)
+
+pub in_turn_at : {X : Type 0} (R : List X → X → Type 0) (group : List X) (k : ℕ) (x : X) → EachInTurn R group → 0 < k → slice_get group k ≡ Some x → R (take k group) x
+in_turn_at R [] k x each later is = absurd (none-some x is)
+in_turn_at R (first ∷ more) zero x each later is = absurd (omega arith)
+in_turn_at R (first ∷ more) (suc k) x each later is = behind_at R (first ∷ []) more k x each is
 
 -- R holds of each item and each later one
 abbrev pub Pairs : {X : Type 0} → (X → X → Type 0) → List X → Type 0

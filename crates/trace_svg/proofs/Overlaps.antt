@@ -1,11 +1,11 @@
 -- Groups of what lies over one another, and of what stands at one place.
-use Rattle.std.proofs.Common.{◌≡◌, ℕ, zero, suc, ◌+◌, ◌-◌, ◌<◌, ◌≤◌, ◌==◌, Bool, true, false, cond, List, [], ◌∷◌, ◌++◌, length, take, get_or, refl, sym, ap, subst, ◌∙◌, arith}
-use Rattle.std.specs.Prelude.{nat_lt, max, fold}
+use Rattle.std.proofs.Common.{◌≡◌, ℕ, zero, suc, ◌+◌, ◌-◌, ◌<◌, ◌≤◌, ◌==◌, Bool, true, false, cond, List, [], ◌∷◌, ◌++◌, Some, length, take, get_or, refl, sym, ap, subst, ◌∙◌, arith}
+use Rattle.std.specs.Prelude.{nat_lt, max, fold, slice_get}
 use Rattle.std.specs.List.{AllByRecursion}
 use Rattle.std.proofs.lemmas.Bool.{eqb-true}
 use Rattle.std.proofs.lemmas.Bool.Decides.{nat_tests}
 use Rattle.trace_svg.specs.Groups.{groups_from, groups_of, of_first}
-use Rattle.trace_svg.proofs.Groups.{chosen, each_from, Pairs, Rises}
+use Rattle.trace_svg.proofs.Groups.{EachInTurn, Pairs, Rises, all_at, chosen, decided, each_from, each_in_turn_grows}
 
 -- how far items reach
 abbrev pub reach : {X : Type 0} → (X → ℕ) → List X → ℕ
@@ -24,6 +24,9 @@ is_less a b c less is = grind (arith, nat_tests)
 
 pub is_not_less : (a b c : ℕ) → b ≤ a → b ≡ c → nat_lt a c ≡ false
 is_not_less a b c low is = grind (arith, nat_tests)
+
+pub less : (a b : ℕ) → nat_lt a b ≡ true → a < b
+less a b is = grind (arith, nat_tests)
 
 not_less : (a b : ℕ) → nat_lt a b ≡ false → b ≤ a
 not_less a b is = grind (arith, nat_tests)
@@ -122,6 +125,53 @@ over_from l r n group (x ∷ later) some low each up =
 pub over : {X : Type 0} (l r : X → ℕ) (xs : List X) → Rises l 0 xs → AllByRecursion (λ g. AllByRecursion (ReachesOver l r g) g) (groups_of (begins_before l r) xs)
 over l r [] up = tt
 over l r (x ∷ later) up = over_from l r (l x) (x ∷ []) later (omega arith) (omega arith) (omega arith, tt) up.1
+
+-- ---- an item of a group lies over one before it
+
+-- one of some items ends behind a number
+record EndsBehind {X : Type 0} (r : X → ℕ) (n : ℕ) (xs : List X) : Type 0 where
+  pub index : ℕ
+  pub other : X
+  pub at : slice_get xs index ≡ Some other
+  pub behind : n < r other
+
+ends_behind : {X : Type 0} (r : X → ℕ) (n far : ℕ) (xs : List X) → far ≤ n → n < fold (λ n x. max n (r x)) far xs → EndsBehind r n xs
+ends_behind r n far [] low reaches = absurd (omega arith)
+ends_behind r n far (x ∷ xs) low reaches =
+    decided (nat_lt n (r x))
+    (λ is. record { index = 0; other = x; at = refl; behind = less n (r x) is })
+    (λ is.
+    let later = ends_behind r n (max far (r x)) xs (omega (arith, low, not_less n (r x) is)) reaches in
+    record { index = suc later.index; other = later.other; at = later.at; behind = later.behind })
+
+-- an item begins no earlier than one of some items, and before that ends
+pub record LiesOverOne {X : Type 0} (l r : X → ℕ) (xs : List X) (x : X) : Type 0 where
+  pub index : ℕ
+  pub other : X
+  pub at : slice_get xs index ≡ Some other
+  pub from : l other ≤ l x
+  pub before : l x < r other
+
+lies_over_one : {X : Type 0} (l r : X → ℕ) (n : ℕ) (xs : List X) (x : X) → AllByRecursion (λ y. l y ≤ n) xs → n ≤ l x → l x < reach r xs → LiesOverOne l r xs x
+lies_over_one l r n xs x low up reaches =
+    let one = ends_behind r (l x) 0 xs (omega arith) reaches in
+    record { index = one.index; other = one.other; at = one.at; from = omega (arith, up, all_at (λ y. l y ≤ n) xs one.index one.other low one.at); before = one.behind }
+
+lie_over_from : {X : Type 0} (l r : X → ℕ) (n : ℕ) (group xs : List X) → AllByRecursion (λ x. l x ≤ n) group → EachInTurn (LiesOverOne l r) group → Rises l n xs
+    → AllByRecursion (EachInTurn (LiesOverOne l r)) (groups_from (begins_before l r) group xs)
+lie_over_from l r n group [] low here up = (here, tt)
+lie_over_from l r n group (x ∷ later) low here up =
+    chosen (λ gs. AllByRecursion (EachInTurn (LiesOverOne l r)) gs) (begins_before l r group x) (groups_from (begins_before l r) (group ++ x ∷ []) later) (group ∷ groups_from (begins_before l r) (x ∷ []) later)
+    (λ is. lie_over_from l r (l x) (group ++ x ∷ []) later
+    (all_more (λ y. l y ≤ l x) group x (all_weaker (λ y. l y ≤ n) (λ y. l y ≤ l x) (λ y below. omega (arith, below, up.0)) group low) (omega arith))
+    (each_in_turn_grows (LiesOverOne l r) group x here (lies_over_one l r n group x low up.0 (less (l x) (reach r group) is)))
+    up.1)
+    (λ _. (here, lie_over_from l r (l x) (x ∷ []) later (omega arith, tt) tt up.1))
+
+-- each item but the first does, where the items rise
+pub lie_over : {X : Type 0} (l r : X → ℕ) (xs : List X) → Rises l 0 xs → AllByRecursion (EachInTurn (LiesOverOne l r)) (groups_of (begins_before l r) xs)
+lie_over l r [] up = tt
+lie_over l r (x ∷ later) up = lie_over_from l r (l x) (x ∷ []) later (omega arith, tt) tt up.1
 
 -- ---- groups of what stands at one place
 

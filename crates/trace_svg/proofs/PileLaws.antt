@@ -1,5 +1,5 @@
 -- The laws of piles.
-use Rattle.std.proofs.Common.{◌≡◌, ℕ, zero, suc, ◌+◌, ◌<◌, ◌≤◌, ◌==◌, List, length, ap, ◌∙◌, refl, arith}
+use Rattle.std.proofs.Common.{◌≡◌, ℕ, zero, suc, ◌+◌, ◌<◌, ◌≤◌, ◌==◌, List, length, take, ap, ◌∙◌, refl, arith}
 use Rattle.std.specs.Prelude.{flat_map}
 use Rattle.std.specs.List.{AllByRecursion, range_with_len, sum_by}
 use Rattle.std.proofs.lemmas.Bool.{eqb-true, eqb-false}
@@ -8,9 +8,9 @@ use Rattle.trace_draw.specs.declared.window.Window.{Window}
 use Rattle.trace_draw.specs.Pictures.{bars_within}
 use Rattle.trace_svg.specs.Places.{across}
 use Rattle.trace_svg.specs.Piles.{bar_right, bars_in, lies_on, pile_left, pile_right, piles_in, piles_of}
-use Rattle.trace_svg.specs.Laws.{BarsAreCounted, PilesDoNotOverlap, PilesHoldBars, PilesReachOverBars}
-use Rattle.trace_svg.proofs.Groups.{all_at, chosen, counted, counted_in, hits, joined, pair_at, some}
-use Rattle.trace_svg.proofs.Overlaps.{ReachesOver, all_weaker, apart, over}
+use Rattle.trace_svg.specs.Laws.{BarsAreCounted, BarsLieOnPiles, BarsOfPilesOverlap, PilesDoNotOverlap, PilesHoldBars, PilesReachOverBars}
+use Rattle.trace_svg.proofs.Groups.{EachInTurn, Joins, all_at, chosen, counted, counted_in, each_joins, hits, in_turn_at, joined, pair_at, some}
+use Rattle.trace_svg.proofs.Overlaps.{LiesOverOne, ReachesOver, all_weaker, apart, less, lie_over, over}
 use Rattle.trace_svg.proofs.Rising.{lefts_rise}
 
 pub piles_hold_bars : PilesHoldBars
@@ -48,6 +48,12 @@ bars_are_counted window bars each = counted_lanes window bars 256 each
 
 -- ---- where piles stand
 
+pub bars_lie_on_piles : BarsLieOnPiles
+bars_lie_on_piles window worker bars i k pile bar later is at =
+    let lies = Joins (lies_on window) in
+    let each = all_at (EachInTurn lies) (piles_in window worker bars) i pile (each_joins (lies_on window) (bars_in worker bars)) is in
+    less (across window bar.first) (pile_right window (take k pile)) (in_turn_at lies pile k bar each later at)
+
 wide : (window : Window) (bar : Bar) → across window bar.first ≤ bar_right window bar
 wide window bar = omega arith
 
@@ -64,3 +70,11 @@ piles_reach_over_bars calls workers lines window worker i k pile bar trace is at
     let reaches = all_at (λ g. AllByRecursion (ReachesOver left (bar_right window) g) g) (piles_in window worker bars) i pile each is in
     let here = all_at (ReachesOver left (bar_right window) pile) pile k bar reaches at in
     record { left = here.0; right = here.1 }
+
+pub bars_of_piles_overlap : BarsOfPilesOverlap
+bars_of_piles_overlap calls workers lines window worker i k pile bar trace later is at =
+    let bars = bars_within window lines in
+    let lies = LiesOverOne (λ (bar : Bar). across window bar.first) (bar_right window) in
+    let piles = lie_over (λ (bar : Bar). across window bar.first) (bar_right window) (bars_in worker bars) (lefts_rise calls workers lines window worker trace) in
+    let here = in_turn_at lies pile k bar (all_at (EachInTurn lies) (piles_in window worker bars) i pile piles is) later at in
+    record { index = here.index; other = here.other; at = here.at; from = here.from; before = here.before }

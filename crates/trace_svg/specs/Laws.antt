@@ -1,5 +1,5 @@
 -- What holds of piles and of stacks. All of it is this project's rule.
-use Rattle.std.specs.Prelude.{◌≡◌, ℕ, ◌<◌, ◌≤◌, List, Some, slice_get, length, flat_map}
+use Rattle.std.specs.Prelude.{◌≡◌, ℕ, ◌<◌, ◌≤◌, List, Some, slice_get, length, take, flat_map}
 use Rattle.std.specs.List.{AllByRecursion, sum_by}
 use Rattle.queue_code.specs.Calls.{Planned}
 use Rattle.executor_core.specs.declared.types.Line.{Line}
@@ -26,6 +26,11 @@ PilesHoldBars = (window : Window) (worker : ℕ) (bars : List Bar) → ArePiles 
 abbrev pub BarsAreCounted : Type 0
 BarsAreCounted = (window : Window) (bars : List Bar) → AllByRecursion (λ bar. bar.worker < 256) bars → sum_by length (piles_of window bars) ≡ length bars
 
+-- each bar of a pile but the first begins before those before it in the pile end
+abbrev pub BarsLieOnPiles : Type 0
+BarsLieOnPiles = (window : Window) (worker : ℕ) (bars : List Bar) (i k : ℕ) (pile : List Bar) (bar : Bar) → 0 < k
+    → slice_get (piles_in window worker bars) i ≡ Some pile → slice_get pile k ≡ Some bar → across window bar.first < pile_right window (take k pile)
+
 -- of two piles of a lane the one that stands first ends no further right than where the other begins
 abbrev pub PilesDoNotOverlap : Type 0
 PilesDoNotOverlap = (window : Window) (worker : ℕ) (bars : List Bar) (i j : ℕ) (one other : List Bar) → i < j
@@ -40,6 +45,19 @@ pub record ReachesOver (window : Window) (pile : List Bar) (bar : Bar) : Type 0 
 abbrev pub PilesReachOverBars : Type 0
 PilesReachOverBars = (calls : List Planned) (workers : ℕ) (lines : List Line) (window : Window) (worker i k : ℕ) (pile : List Bar) (bar : Bar) → IsTraceOf calls workers lines
     → slice_get (piles_in window worker (picture_of lines workers window).bars) i ≡ Some pile → slice_get pile k ≡ Some bar → ReachesOver window pile bar
+
+-- a bar lies over one of some others: it begins no further left than that one, and left of where that one ends
+pub record LiesOverOne (window : Window) (others : List Bar) (bar : Bar) : Type 0 where
+  pub index : ℕ
+  pub other : Bar
+  pub at : slice_get others index ≡ Some other
+  pub from : across window other.first ≤ across window bar.first
+  pub before : across window bar.first < bar_right window other
+
+-- each bar of a pile of a picture of a trace but the first lies over one of those before it in the pile
+abbrev pub BarsOfPilesOverlap : Type 0
+BarsOfPilesOverlap = (calls : List Planned) (workers : ℕ) (lines : List Line) (window : Window) (worker i k : ℕ) (pile : List Bar) (bar : Bar) → IsTraceOf calls workers lines → 0 < k
+    → slice_get (piles_in window worker (picture_of lines workers window).bars) i ≡ Some pile → slice_get pile k ≡ Some bar → LiesOverOne window (take k pile) bar
 
 -- ---- stacks
 

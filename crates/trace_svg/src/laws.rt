@@ -1,5 +1,5 @@
 //! Laws of piles and of stacks. The functions do nothing: what they ensure is the law.
-ghost use Rattle.trace_svg.specs.Laws.{BarsAreCounted, MarksAreCounted, PilesDoNotOverlap, PilesHoldBars, PilesReachOverBars, StacksHoldMarks, StacksStandApart};
+ghost use Rattle.trace_svg.specs.Laws.{BarsAreCounted, BarsLieOnPiles, BarsOfPilesOverlap, MarksAreCounted, PilesDoNotOverlap, PilesHoldBars, PilesReachOverBars, StacksHoldMarks, StacksStandApart};
 
 /// The piles of a lane, one behind the other, are its bars, in their order. None is empty.
 pub fn piles_hold_bars()
@@ -11,6 +11,11 @@ pub fn bars_are_counted()
     ensures { BarsAreCounted }
 {}
 
+/// Each bar of a pile but the first begins left of where those before it in the pile end.
+pub fn bars_lie_on_piles()
+    ensures { BarsLieOnPiles }
+{}
+
 /// Of two piles of a lane the one that stands first ends no further right than where the other begins.
 pub fn piles_do_not_overlap()
     ensures { PilesDoNotOverlap }
@@ -19,6 +24,11 @@ pub fn piles_do_not_overlap()
 /// Each pile of a picture of a trace reaches over each of its bars.
 pub fn piles_reach_over_bars()
     ensures { PilesReachOverBars }
+{}
+
+/// The bars of a pile of a picture of a trace lie over one another: each but the first over one of those before it.
+pub fn bars_of_piles_overlap()
+    ensures { BarsOfPilesOverlap }
 {}
 
 /// The stacks of a row, one behind the other, are its marks, in their order. None is empty, and all marks of one stand at one place.

@@ -55,9 +55,11 @@
 //!
 //! The text of a picture, byte by byte, and what was written of it. Of piles and stacks, over their definitions: the piles of a lane
 //! are its bars and the stacks of a row its marks, each once and in order ([`piles_hold_bars`], [`stacks_hold_marks`]), and together
-//! they have as many as the picture ([`bars_are_counted`], [`marks_are_counted`]); the piles of a lane do not overlap
-//! ([`piles_do_not_overlap`]), and all marks of a stack stand at its place ([`stacks_hold_marks`]). In the picture of a trace a pile
-//! reaches over each of its bars ([`piles_reach_over_bars`]), and no two stacks of a row stand at one place ([`stacks_stand_apart`]).
+//! they have as many as the picture ([`bars_are_counted`], [`marks_are_counted`]); each bar of a pile but the first begins left of
+//! where those before it end ([`bars_lie_on_piles`]), while the piles of a lane do not overlap ([`piles_do_not_overlap`]); and all
+//! marks of a stack stand at its place ([`stacks_hold_marks`]). In the picture of a trace a pile reaches over each of its bars
+//! ([`piles_reach_over_bars`]), each of them but the first lies over one before it ([`bars_of_piles_overlap`]), and no two stacks of
+//! a row stand at one place ([`stacks_stand_apart`]).
 //!
 //! That a picture is drawn where there is memory enough, and that all of it is given back, is only tested.
 //!
@@ -88,8 +90,9 @@ mod view;
 
 pub use drawing::draw;
 pub use laws::{
-    bars_are_counted, marks_are_counted, piles_do_not_overlap, piles_hold_bars,
-    piles_reach_over_bars, stacks_hold_marks, stacks_stand_apart,
+    bars_are_counted, bars_lie_on_piles, bars_of_piles_overlap, marks_are_counted,
+    piles_do_not_overlap, piles_hold_bars, piles_reach_over_bars, stacks_hold_marks,
+    stacks_stand_apart,
 };
 pub use picture::picture_text;
 pub use report::{DrawError, Drawn};
