@@ -31,15 +31,16 @@
 //! The tooltip of a mark is its line of the trace; that of a bar the name of its task and its one or two lines. A bar's colour tells
 //! what the run led to: done, failed, again, dropped, ended, or open where it has no finish.
 //!
-//! No run hides another. The bars of a lane, in their order, are *piles*: a bar that begins left of where the pile before it ends goes
-//! to that pile, and else it begins the next. A pile of one is the bar that it is. One of several is drawn as one bar, from where its
-//! first bar begins to where it reaches furthest to the right. Its label is their number, `2 runs`; where that does not fit, the
-//! number alone stands at its upper right, above its lane, where no bar hides it. Its tooltip is the label, and then the tooltips
-//! of its runs. It has the colour of failed runs where one of its runs failed, and else that of its last run.
+//! No run hides another. The bars of a lane, in their order, are *piles*: a bar that begins left of where the pile before it ends
+//! goes to that pile, and else it begins the next. A pile of one is the bar that it is. One of several is drawn as one bar, from
+//! where its first bar begins to where it reaches furthest to the right. Its label is their number, `2 runs`; where that does not
+//! fit, the number alone stands at its upper right, above its lane, where no bar hides it. Its tooltip is the label, and then the
+//! tooltips of its runs. It has the colour of failed runs where one of its runs failed, and else that of its last run.
 //!
 //! Nor does a mark hide the line of another. The marks of a row that stand at one place, one behind the other, are a *stack*. A
-//! stack of one is the mark that it is. Of several each is drawn above the one before it; the top tells all their lines; and their
-//! number stands at its upper right. Marks of a row that stand a few pixels apart lie over one another in part, and so do numbers.
+//! stack of one is the mark that it is. Of several each is drawn above the one before it; the top tells all their lines; and
+//! their number stands at its upper right. Marks of a row that stand a few pixels apart lie over one another in part, and so do
+//! numbers.
 //!
 //! # Order and ties
 //!
@@ -53,13 +54,13 @@
 //!
 //! # What is proved
 //!
-//! The text of a picture, byte by byte, and what was written of it. Of piles and stacks, over their definitions: the piles of a lane
-//! are its bars and the stacks of a row its marks, each once and in order ([`piles_hold_bars`], [`stacks_hold_marks`]), and together
-//! they have as many as the picture ([`bars_are_counted`], [`marks_are_counted`]); each bar of a pile but the first begins left of
-//! where those before it end ([`bars_lie_on_piles`]), while the piles of a lane do not overlap ([`piles_do_not_overlap`]); and all
-//! marks of a stack stand at its place ([`stacks_hold_marks`]). In the picture of a trace a pile reaches over each of its bars
-//! ([`piles_reach_over_bars`]), each of them but the first lies over one before it ([`bars_of_piles_overlap`]), and no two stacks of
-//! a row stand at one place ([`stacks_stand_apart`]).
+//! The text of a picture, byte by byte, and what was written of it. Of piles and stacks, over their definitions: the piles of a
+//! lane are its bars and the stacks of a row its marks, each once and in order ([`piles_hold_bars`], [`stacks_hold_marks`]), and
+//! together they have as many as the picture ([`bars_are_counted`], [`marks_are_counted`]); each bar of a pile but the first
+//! begins left of where those before it end ([`bars_lie_on_piles`]), while the piles of a lane do not overlap
+//! ([`piles_do_not_overlap`]); and all marks of a stack stand at its place ([`stacks_hold_marks`]). In the picture of a trace a
+//! pile reaches over each of its bars ([`piles_reach_over_bars`]), each of them but the first lies over one before it
+//! ([`bars_of_piles_overlap`]), and no two stacks of a row stand at one place ([`stacks_stand_apart`]).
 //!
 //! That a picture is drawn where there is memory enough, and that all of it is given back, is only tested.
 //!
