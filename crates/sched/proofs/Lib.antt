@@ -5,4 +5,5 @@ pub mod EndCounts
 pub mod Drawings
 pub mod Readings
 pub mod Lints
+pub mod OneLines
 pub mod Lived

@@ -1,11 +1,12 @@
 -- Answers: how the end of a run, of a listing, of a list of tasks, of a migration or of a lint is told, and what of it stands on standard
 -- error.
 -- All of it is this project's rule.
-use Rattle.std.specs.Prelude.{◌≡◌, ℕ, Bool, List, Option, Result, Ok, Err, take, string_bytes}
+use Rattle.std.specs.Prelude.{◌≡◌, ℕ, Bool, List, Option, Result, Ok, Err, take}
 use Rattle.std.specs.Io.KnownBytes.{Appends, Keeps}
 use Rattle.plan_read.specs.Migrating.{Migrates}
 use Rattle.sched.specs.Errors.{IsToldAs, status_of}
 use Rattle.sched.specs.Lines.{error_line}
+use Rattle.sched.specs.Refusals.{IsOneLine}
 use Rattle.sched.specs.declared.answer.Answer.{Answer}
 use Rattle.sched.specs.declared.answer.Answer.TheVariants.{Status, Refused}
 use Rattle.sched.specs.declared.arguments.RunArguments.{RunArguments}
@@ -64,7 +65,7 @@ in_status (Err fault) = Err fault
 -- an answer as an end with an exit status, or with an error: a refusal has the status 1
 abbrev pub end_of : Result Answer ProgramError → Result ℕ ProgramError
 end_of (Ok (Status status)) = Ok status
-end_of (Ok (Refused line)) = Ok 1
+end_of (Ok (Refused refusal)) = Ok 1
 end_of (Err fault) = Err fault
 
 -- this line was told on standard error, or a front of it where the last try to write was bad
@@ -72,10 +73,10 @@ abbrev pub IsLineTold : List ℕ → Option (List ℕ) → Option (List ℕ) →
 IsLineTold line old new failed fruitless failed' fruitless' =
     (whole : Bool) × WritesText whole old new line × CountsTries whole failed fruitless failed' fruitless'
 
--- what is told of an answer on standard error: nothing of a status, the line of a refusal, and that of an error
+-- what is told of an answer on standard error: nothing of a status, the line of a refusal, which is one line, and that of an error
 abbrev pub IsTold : Result Answer ProgramError → Option (List ℕ) → Option (List ℕ) → ℕ → ℕ → ℕ → ℕ → Type 0
 IsTold (Ok (Status status)) old new failed fruitless failed' fruitless' = Keeps old new × NoneFailed 0 failed fruitless failed' fruitless'
-IsTold (Ok (Refused line)) old new failed fruitless failed' fruitless' = IsLineTold (string_bytes line) old new failed fruitless failed' fruitless'
+IsTold (Ok (Refused refusal)) old new failed fruitless failed' fruitless' = IsOneLine refusal.line.items × IsLineTold refusal.line.items old new failed fruitless failed' fruitless'
 IsTold (Err error) old new failed fruitless failed' fruitless' = IsLineTold (error_line error) old new failed fruitless failed' fruitless'
 
 -- the exit status that goes with an end

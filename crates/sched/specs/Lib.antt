@@ -5,6 +5,7 @@ pub use Rattle.call_journal.specs.Plans
 pub mod Errors
 pub mod EndCounts
 pub mod Lines
+pub mod Refusals
 pub mod Commands
 pub mod Arguments
 pub mod Fronts

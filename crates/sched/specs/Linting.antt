@@ -122,7 +122,7 @@ TellsFine answer old new = ⊥
 -- Options that do not go together, and no others, are told as that. A number of workers out of range, and want of memory, may come in
 -- place of each answer, with nothing written
 abbrev pub AnswersLint : {P : Type 0} → Result Answer ProgramError → Reads P → (Bor Text → Result P Error → Type 0) → LintArguments → Option (List ℕ) → Option (List ℕ) → Type 0
-AnswersLint (Ok (Refused line)) IsRead Opens asked old new = IsSome (asked_beside asked) × IsWrong IsRead Opens asked × Keeps old new
+AnswersLint (Ok (Refused refusal)) IsRead Opens asked old new = IsSome (asked_beside asked) × IsWrong IsRead Opens asked × Keeps old new
 AnswersLint (Err LintOptions) IsRead Opens asked old new = (IsSome (asked_beside asked) → ⊥) × Keeps old new
 AnswersLint (Err (Run x.Workers)) IsRead Opens asked old new = IsUncounted (asked_beside asked) × Keeps old new
 AnswersLint (Err (Run x.Memory)) IsRead Opens asked old new = Keeps old new

@@ -4,14 +4,15 @@ ghost use Rattle.std.specs.Prelude.{◌≡◌};
 ghost use Rattle.sched.specs.Answers.{in_status};
 
 use crate::error::ProgramError;
+use crate::refusal::Refusal;
 
 /// How what a command line asks for ended, where it did not end by an error.
 #[derive(Debug, Drop)]
 pub enum Answer {
     /// With this exit status: 0, or 1 where a trace breaks, or 2 where the command line is not taken.
     Status(u8),
-    /// With exit status 1: a file is refused, and this line for standard error, with its newline, says why.
-    Refused(String),
+    /// With exit status 1: a file is refused, and this line for standard error says why.
+    Refused(Refusal),
 }
 
 /// An end with an exit status, or with an error, as an answer.

@@ -30,8 +30,8 @@ pub fn tell<W: Sink>(faults: &mut W, answer: Result<Answer, ProgramError>) -> u8
 {
     match answer {
         Ok(Answer::Status(status)) => status,
-        Ok(Answer::Refused(line)) => {
-            let _ = write_text(faults, line.as_bytes());
+        Ok(Answer::Refused(refusal)) => {
+            let _ = write_text(faults, refusal.line());
             1
         }
         Err(error) => {

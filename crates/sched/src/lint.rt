@@ -17,6 +17,7 @@ use crate::arguments::LintArguments;
 use crate::error::ProgramError;
 use crate::files::{MOST_OF_PLAN, MOST_OF_TRACE};
 use crate::lint_files::read_file;
+use crate::refusal::Refusal;
 use line_reasons::{FileName, reason_of_events};
 use plan_read::{Plan, PlanFaultKind, read_plan};
 use plan_reasons::reason_of;
@@ -65,7 +66,7 @@ pub fn lint_files<P: Source + Drop, O: Fn(&str) -> io::Result<P> + Drop, W: Sink
     ensures status { MatchResult (end_of result) (λ s. (s ≡ 0) ⊎ (s ≡ 1)) (λ e. (status_of e ≡ 1) ⊎ (e ≡ LintOptions)) }
 {
     match find_wrong(heap, asked, open_file)? {
-        Some(line) => Ok(Answer::Refused(line)),
+        Some(refusal) => Ok(Answer::Refused(refusal)),
         None => tell_fine(writer),
     }
 }
@@ -87,7 +88,7 @@ fn find_wrong<P: Source + Drop, O: Fn(&str) -> io::Result<P> + Drop>(
     heap: Global,
     asked: &LintArguments<'_>,
     open_file: O,
-) -> Result<Option<String>, ProgramError>
+) -> Result<Option<Refusal>, ProgramError>
     requires { O.IsAlwaysCallable open_file }
     ensures finds { IfOk result (Finds (IsReadOf P.remaining P.failed P.fruitless) (O.post open_file) asked.now) }
     ensures fault { IfErr result (λ e. (e ≡ Run Memory) ⊎ ((e ≡ LintOptions) × (IsSome (asked_beside asked.now) → ⊥)) ⊎ ((e ≡ Run Workers) × IsUncounted (asked_beside asked.now))) }
@@ -111,14 +112,13 @@ fn find_wrong<P: Source + Drop, O: Fn(&str) -> io::Result<P> + Drop>(
 }
 
 /// The line that says why the text of a plan's file is none. `Err` is want of memory.
-fn plan_refusal(heap: Global, name: &str, text: &[u8]) -> Result<String, ProgramError>
+fn plan_refusal(heap: Global, name: &str, text: &[u8]) -> Result<Refusal, ProgramError>
     ensures fails { IfOk result (λ line. (fault : PlanFault) × TextFails text.now fault) }
     ensures fault { IfErr result (λ e. e ≡ Run Memory) }
 {
     match reason_of(heap, text) {
         Some(reason) if reason.fault.kind != PlanFaultKind::Memory => {
-            let reason = reason.in_file(name);
-            Ok(format!(in heap; "{reason}\n")?)
+            Ok(Refusal::of(heap, &reason.in_file(name))?)
         }
         _ => Err(ProgramError::Run(RunError::Memory)),
     }
@@ -129,7 +129,7 @@ fn events_wrong<P: Source + Drop>(
     heap: Global,
     name: &str,
     opened: io::Result<P>,
-) -> Result<Option<String>, ProgramError>
+) -> Result<Option<Refusal>, ProgramError>
     ensures finds { IfOk result (λ told. MatchOption told (EventsRight (IsReadOf P.remaining P.failed P.fruitless most_of_trace opened)) (λ line. EventsWrong (IsReadOf P.remaining P.failed P.fruitless most_of_trace opened))) }
     ensures fault { IfErr result (λ e. e ≡ Run Memory) }
 {
@@ -141,10 +141,7 @@ fn events_wrong<P: Source + Drop>(
         return Ok(Some(too_long(heap, name)?));
     }
     match reason_of_events(heap, &text) {
-        Some(reason) => {
-            let reason = reason.in_file(name);
-            Ok(Some(format!(in heap; "{reason}\n")?))
-        }
+        Some(reason) => { Ok(Some(Refusal::of(heap, &reason.in_file(name))?)) }
         None => Ok(None),
     }
 }
@@ -157,7 +154,7 @@ fn trace_wrong<P: Source + Drop>(
     name: &str,
     workers: u8,
     opened: io::Result<P>,
-) -> Result<Option<String>, ProgramError>
+) -> Result<Option<Refusal>, ProgramError>
     ensures finds { IfOk result (λ told. MatchOption told (TraceRight (IsReadOf P.remaining P.failed P.fruitless most_of_trace opened) plan.now workers) (λ line. TraceWrong (IsReadOf P.remaining P.failed P.fruitless most_of_trace opened) plan.now workers)) }
     ensures fault { IfErr result (λ e. (e ≡ Run Memory) ⊎ ((e ≡ Run Workers) × ¬ IsWorkerCount workers)) }
 {
@@ -169,10 +166,7 @@ fn trace_wrong<P: Source + Drop>(
         return Ok(Some(too_long(heap, name)?));
     }
     match reason_of_trace(heap, plan, workers, &text) {
-        Ok(Some(reason)) => {
-            let reason = reason.in_file(name);
-            Ok(Some(format!(in heap; "{reason}\n")?))
-        }
+        Ok(Some(reason)) => { Ok(Some(Refusal::of(heap, &reason.in_file(name))?)) }
         Ok(None) => Ok(None),
         Err(CheckError::Workers) => Err(ProgramError::Run(RunError::Workers)),
         Err(CheckError::Memory) => Err(ProgramError::Run(RunError::Memory)),
@@ -180,7 +174,8 @@ fn trace_wrong<P: Source + Drop>(
 }
 
 /// The line that says that a file is longer than it may be.
-fn too_long(heap: Global, name: &str) -> Result<String, AllocError> {
+fn too_long(heap: Global, name: &str) -> Result<Refusal, AllocError> {
     let name = FileName(name);
-    format!(in heap; "{name}: too long; at most {MOST_BYTES} bytes\n")
+    let told = format!(in heap; "{name}: too long; at most {MOST_BYTES} bytes")?;
+    Refusal::new(heap, told.as_str())
 }

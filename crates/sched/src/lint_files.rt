@@ -7,6 +7,7 @@ ghost use Rattle.sched_engine.specs.declared.report.RunError.TheVariants.{Memory
 
 use crate::error::ProgramError;
 use crate::files::front_of;
+use crate::refusal::Refusal;
 use line_reasons::FileName;
 use sched_engine::{RunError, Source};
 use std::alloc::{AllocError, Global};
@@ -43,7 +44,7 @@ pub fn read_file<P: Source + Drop>(
     name: &str,
     opened: io::Result<P>,
     most: usize,
-) -> Result<Result<Vec<u8>, String>, ProgramError>
+) -> Result<Result<Vec<u8>, Refusal>, ProgramError>
     ensures text { IfOk result (λ r. MatchResult r (λ text. IsReadOf P.remaining P.failed P.fruitless most opened (Some text.items)) (λ line. IsReadOf P.remaining P.failed P.fruitless most opened None)) }
     ensures few { IfOk result (λ r. IfOk r (λ text. length text.items ≤ most)) }
     ensures fault { IfErr result (λ e. e ≡ Run Memory) }
@@ -63,7 +64,7 @@ fn read_opened<P: Source + Drop>(
     name: &str,
     file: P,
     most: usize,
-) -> Result<Result<Vec<u8>, String>, ProgramError>
+) -> Result<Result<Vec<u8>, Refusal>, ProgramError>
     ensures text { IfOk result (λ r. MatchResult r (λ text. IsReadOf P.remaining P.failed P.fruitless most (Ok file) (Some text.items)) (λ line. IsReadOf P.remaining P.failed P.fruitless most (Ok file) None)) }
     ensures few { IfOk result (λ r. IfOk r (λ text. length text.items ≤ most)) }
     ensures fault { IfErr result (λ e. e ≡ Run Memory) }
@@ -77,10 +78,11 @@ fn read_opened<P: Source + Drop>(
 }
 
 /// The line that says why a file was not read.
-fn unread(heap: Global, name: &str, fault: Option<io::Error>) -> Result<String, AllocError> {
+fn unread(heap: Global, name: &str, fault: Option<io::Error>) -> Result<Refusal, AllocError> {
     let name = FileName(name);
-    match fault {
-        Some(fault) => format!(in heap; "{name}: {fault}\n"),
-        None => format!(in heap; "{name}: not read\n"),
-    }
+    let told = match fault {
+        Some(fault) => format!(in heap; "{name}: {fault}")?,
+        None => format!(in heap; "{name}: not read")?,
+    };
+    Refusal::new(heap, told.as_str())
 }

@@ -91,6 +91,7 @@ mod lint_files;
 mod live;
 mod opening;
 mod program;
+mod refusal;
 mod serving;
 #[cfg(test)]
 mod tests;

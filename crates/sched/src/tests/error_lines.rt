@@ -3,6 +3,7 @@
 use crate::answer::Answer;
 use crate::error::ProgramError;
 use crate::error_line::tell;
+use crate::refusal::Refusal;
 use plan_read::{PlanFault, PlanFaultKind};
 use sched_engine::{RunError, Writing};
 use scripted_ends::{Script, Taking, Trouble};
@@ -158,10 +159,19 @@ fn tells_faults_of_the_plan_file_and_of_the_arguments(rt: HostRuntime) {
 }
 
 #[test]
-fn tells_a_refusal_by_its_line_and_status_1(rt: HostRuntime) -> Result<(), Fail> {
-    let line = "plan.toml: too long; at most 1048576 bytes\n";
-    let refused = Answer::Refused(String::from_str(rt.alloc(), line)?);
-    is_told_by(&rt, Ok(refused), Script::smooth(128), 1, line, 1);
+fn tells_a_refusal_by_one_line_and_status_1(rt: HostRuntime) -> Result<(), Fail> {
+    let long = "plan.toml: too long; at most 1048576 bytes";
+    let long_line = "plan.toml: too long; at most 1048576 bytes\n";
+    let cases = [
+        (long, long_line),
+        (long_line, long_line),
+        ("plan.toml: one\ntwo", "plan.toml: one\n"),
+        ("", "\n"),
+    ];
+    for (told, line) in cases {
+        let refused = Answer::Refused(Refusal::new(rt.alloc(), told)?);
+        is_told_by(&rt, Ok(refused), Script::smooth(128), 1, line, 1);
+    }
     Ok(())
 }
 
