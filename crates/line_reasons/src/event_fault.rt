@@ -1,12 +1,15 @@
 //! Why a line is no event's.
 
+ghost use Rattle.std.specs.Prelude.{IfSome};
+ghost use Rattle.near_words.specs.Near.{IsNear};
+
 use crate::choice::Choice;
 use crate::form::{EventNumber, Form};
 use crate::line::{LineFault, form_fault};
-use crate::near::near;
 use crate::number::{NumberFault, is_unit, number_fault};
 use crate::shown::Quoted;
 use crate::words::split_word;
+use near_words::near;
 use std::alloc::Allocator;
 use std::fmt;
 use trace_text::MOST_EVENT_BYTES;
@@ -171,6 +174,20 @@ fn no_word<A: Allocator + Copy>(alloc: A, word: &[u8], choice: Choice) -> EventF
     EventFault::NoWord {
         word,
         choice,
-        near: near(alloc, word, choice.words()),
+        near: meant(alloc, word, choice.words()),
+    }
+}
+
+/// That of some words that may be meant by another one, of several the first. None too where there is no memory, or where the
+/// other one is no UTF-8.
+fn meant<A: Allocator + Copy>(alloc: A, word: &[u8], words: &[&'static str]) -> Option<&'static str>
+    ensures { IfSome result (λ other. IsNear word.now words.now other.now) }
+{
+    let Ok(word) = std::str::from_utf8(word) else {
+        return None;
+    };
+    match near(alloc, word, words) {
+        Ok(those) => those.first().copied(),
+        Err(_) => None,
     }
 }

@@ -4,8 +4,9 @@ ghost use Rattle.std.specs.Prelude.{◌≡◌, None, IfNone, IfSome};
 ghost use Rattle.line_reasons.specs.Events.{AreEvents, IsFirstLine, IsFirstOther};
 
 use crate::event_fault::{EventFault, event_fault};
-use crate::shown::{FileName, Quoted};
+use crate::shown::Quoted;
 use memchr::memchr;
+use near_words::FileName;
 use std::alloc::Allocator;
 use std::fmt;
 use trace_text::split_event;

@@ -45,9 +45,8 @@
 //! | `Missing` | `too short; finish W ok V or finish W fail C` |
 //! | `Surplus` | `more behind its end; clock T` |
 //!
-//! A word may be meant where it is the one that stands there but for the case of its ASCII letters, as `clock` by `CLOCK`. Else
-//! one may be meant where two edits at most lead to it, and no more than half the characters of the longer of the two: of several
-//! the one with the fewest edits is told, and of those the first.
+//! A word may be meant as [`near_words`] has it: where it is the one that stands there but for the case of its ASCII letters, as
+//! `clock` by `CLOCK`, and else where two edits at most lead to it. Of those that it finds the first is told.
 //!
 //! [`line_fault`] tells what is wrong with any line, as far as it shows without its forms: the faults of `Line` in the order of
 //! the table, and else the first word that would be a number but for a sign, a leading zero, a unit or its size, as
@@ -55,7 +54,7 @@
 //!
 //! # Errors
 //!
-//! There are none. Where there is no memory to count edits, no word is told as one to which they lead, or another one is.
+//! There are none. Where there is no memory, no word is told as one that may be meant.
 //!
 //! # What is proved
 //!
@@ -70,12 +69,16 @@
 //! [`line_fault`] answers the first fault of the line's form, in the order of the table, and where none is so the first word
 //! that would be a number, with its fault, and else `NoSuchLine` (`IsLineFault`).
 //!
-//! Which fault an [`EventFault`] tells, which word may be meant, and the text of a reason are only tested, in `src/tests`.
+//! A word that may be meant is one of those that can stand there, and the same but for the case of ASCII letters, or at most two
+//! edits away (`IsNear`).
+//!
+//! Which fault an [`EventFault`] tells, which of the words that are near is told, and the text of a reason are only tested, in
+//! `src/tests`.
 //!
 //! # Memory and cost
 //!
-//! A text is read once, up to its first line that is no event's, and that line some times more. Memory is taken only to count
-//! edits, a few words for each word that may be meant, and given back. A reason borrows from the text.
+//! A text is read once, up to its first line that is no event's, and that line some times more. Memory is taken only to look for
+//! words that may be meant, a few words for each, and given back. A reason borrows from the text.
 #![tactic(auto)]
 
 mod choice;
@@ -83,7 +86,6 @@ mod event_fault;
 mod events;
 mod form;
 mod line;
-mod near;
 mod number;
 mod shown;
 #[cfg(test)]
@@ -95,5 +97,6 @@ pub use event_fault::EventFault;
 pub use events::{EventsReason, EventsReasonInFile, reason_of_events};
 pub use form::{EventNumber, Form};
 pub use line::{LineFault, line_fault};
+pub use near_words::FileName;
 pub use number::{NumberFault, number_fault};
-pub use shown::{FileName, Quoted};
+pub use shown::Quoted;

@@ -1,2 +1,1 @@
-mod Nearness
 mod Numbered

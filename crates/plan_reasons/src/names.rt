@@ -5,7 +5,7 @@ ghost use Rattle.toml.specs.View.{table_view};
 ghost use Rattle.plan_reasons.specs.own.Details.{IsIn};
 
 use crate::blocks::times_of;
-use crate::near::near;
+use crate::meant::meant;
 use crate::scene::{Detail, Scene, tables_at, text_at};
 use crate::wanted::{Namesake, Wanted};
 use plan_lines::{Place, line_of};
@@ -68,7 +68,7 @@ impl<'t> Scene<'t> {
             }
         }
         Ok(Wanted::Before {
-            near: near(self.heap, name, names.as_slice())?,
+            near: meant(self.heap, name, names.as_slice())?,
             behind: self.namesake(submissions.as_slice(), name),
         })
     }

@@ -1,8 +1,9 @@
 //! Why a text is no plan, in words.
 
 use crate::found::Found;
-use crate::spelled::{KeyName, Whole};
+use crate::spelled::KeyName;
 use crate::wanted::Wanted;
+use near_words::FileName;
 use plan_read::{PlanFault, PlanFaultKind};
 use std::fmt;
 
@@ -131,7 +132,7 @@ pub struct InFile<'r> {
 
 impl fmt::Display for InFile<'_> {
     fn fmt<W: fmt::Write>(&self, f: &mut fmt::Formatter<W>) -> fmt::Result {
-        write!(f, "{}", Whole(self.file))?;
+        write!(f, "{}", FileName(self.file))?;
         if let Some(line) = self.reason.line {
             write!(f, ":{line}")?;
         }

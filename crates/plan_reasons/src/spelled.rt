@@ -1,5 +1,6 @@
 //! Texts of others in one line of ours.
 
+use near_words::write_escaped;
 use std::fmt;
 
 /// How many characters of a text are shown.
@@ -47,19 +48,6 @@ impl fmt::Display for Plain<'_> {
     }
 }
 
-/// A whole text as it stands, as the name of a file, with escapes for characters that cannot be seen.
-#[derive(Clone, Copy)]
-pub struct Whole<'a>(pub &'a str);
-
-impl fmt::Display for Whole<'_> {
-    fn fmt<W: fmt::Write>(&self, f: &mut fmt::Formatter<W>) -> fmt::Result {
-        for character in self.0.chars() {
-            write_escaped(f, character)?;
-        }
-        Ok(())
-    }
-}
-
 /// A key as TOML spells it: bare, or in quotes.
 #[derive(Clone, Copy)]
 pub struct KeyName<'a>(pub &'a str);
@@ -83,31 +71,4 @@ fn is_bare(key: &str) -> bool {
 /// Whether a text has more characters than are shown.
 fn is_cut(text: &str) -> bool {
     text.chars().nth(MOST_SHOWN).is_some()
-}
-
-/// Writes a character, and one that cannot be seen as an escape of TOML.
-fn write_escaped<W: fmt::Write>(f: &mut fmt::Formatter<W>, character: char) -> fmt::Result {
-    match character {
-        '\n' => f.write_str("\\n"),
-        '\r' => f.write_str("\\r"),
-        '\t' => f.write_str("\\t"),
-        _ if is_unseen(character) => {
-            let code = u32::from(character);
-            write!(f, "\\u{code:04X}")
-        }
-        _ => f.write_char(character),
-    }
-}
-
-/// Whether a character cannot be seen, or cannot be told from a space.
-fn is_unseen(character: char) -> bool {
-    match character {
-        ' ' => false,
-        '\u{AD}'
-        | '\u{200B}'..='\u{200F}'
-        | '\u{202A}'..='\u{202E}'
-        | '\u{2060}'..='\u{206F}'
-        | '\u{FEFF}' => true,
-        _ => character.is_control() || character.is_whitespace(),
-    }
 }

@@ -5,7 +5,7 @@ ghost use Rattle.toml.specs.View.{table_view};
 ghost use Rattle.plan_reasons.specs.own.Details.{IsIn};
 
 use crate::keys::{Key, Shape};
-use crate::near::near;
+use crate::meant::meant;
 use crate::scene::{Detail, Scene, integer_at, text_at};
 use crate::versions::{POLICIES, is_unit, units};
 use crate::wanted::{Choice, Wanted};
@@ -34,7 +34,7 @@ impl<'t> Scene<'t> {
         ensures { IfOk result (IsIn (table_view table.now)) }
     {
         let near = match text_at(table, key) {
-            Some(word) => near(self.heap, word, words)?,
+            Some(word) => meant(self.heap, word, words)?,
             None => Vec::new(self.heap),
         };
         let words = words.to_vec(self.heap)?;
@@ -52,7 +52,7 @@ impl<'t> Scene<'t> {
         for (key, _) in table {
             let key = key.as_str();
             if !words.contains(&key) {
-                let near = near(self.heap, key, words.as_slice())?;
+                let near = meant(self.heap, key, words.as_slice())?;
                 return Ok(self.at_key(table, key, Wanted::OneOf(Choice { near, words })));
             }
         }

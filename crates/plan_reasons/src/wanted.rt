@@ -2,8 +2,9 @@
 
 use crate::keys::Shape;
 use crate::limits::MOST_CALLS;
-use crate::spelled::{Plain, Whole};
+use crate::spelled::Plain;
 use crate::versions::word_of_unit;
+use near_words::write_text;
 use sched_time::{LONGEST, Unit};
 use std::fmt;
 
@@ -89,7 +90,7 @@ impl fmt::Display for Wanted {
     fn fmt<W: fmt::Write>(&self, f: &mut fmt::Formatter<W>) -> fmt::Result {
         match self {
             Wanted::Unsaid => Ok(()),
-            Wanted::Document(why) => write!(f, "{}", Whole(why.as_str())),
+            Wanted::Document(why) => write_text(f, why.as_str()),
             Wanted::Bytes(most) => write!(f, "at most {most} bytes"),
             Wanted::Shape(shape) => write!(f, "{shape}"),
             Wanted::OneOf(choice) => write_choice(f, choice),

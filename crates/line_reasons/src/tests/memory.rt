@@ -6,7 +6,7 @@ use std::process::Abort;
 use std::test::Fail;
 
 /// Finds the reason of a text where the growth of this number is refused, and tells whether it was. Where it was, no word may be
-/// meant, or another one, and all else is as it is with memory.
+/// told as meant, and all else is as it is with memory.
 fn is_refused_at(rt: &(impl AllocGlobal + Abort), number: u64) -> Result<bool, Fail> {
     let alloc = rt.alloc();
     let heap = Refusing::new(alloc);

@@ -2,11 +2,10 @@ use Rattle.std.proofs.Common.{◌≡◌, ◌∙◌, ◌+◌, ◌<◌, [], ℕ, L
 use Rattle.std.proofs.lemmas.List.{get_or_default}
 use Rattle.std.proofs.lemmas.List.Elements.{All-push}
 use Rattle.std.specs.Borrow.{Bor}
-use Rattle.std.specs.Prelude.{string_bytes}
-use Rattle.plan_reasons.specs.own.Near.{IsNear, IsSameBut}
-use Rattle.plan_reasons.proofs.Nearness.{is_near_but}
-use Rattle.plan_reasons.proofs.near.in_other_case.Goals as goal
-use Rattle.plan_reasons.proofs.near.in_other_case.Goals.{then-len-lt-MOST_NEAR+then-eq_ignore_ascii_case+in_ok-from_str+in_ok-push, else-len-lt-MOST_NEAR, else-len-lt-MOST_NEAR-via-then-len-lt-MOST_NEAR+else-eq_ignore_ascii_case, else-len-lt-MOST_NEAR-via-else-len-lt-MOST_NEAR}
+use Rattle.near_words.specs.Near.{IsNear, IsSameBut}
+use Rattle.near_words.proofs.Places.{is_near_but}
+use Rattle.near_words.proofs.nearness.in_other_case.Goals as goal
+use Rattle.near_words.proofs.nearness.in_other_case.Goals.{then-len-lt-MOST_NEAR+then-eq_ignore_ascii_case+in_ok-push, else-len-lt-MOST_NEAR, else-len-lt-MOST_NEAR-via-then-len-lt-MOST_NEAR+else-eq_ignore_ascii_case, else-len-lt-MOST_NEAR-via-else-len-lt-MOST_NEAR}
 
 -- where none of the first `n` words is the same, and not the next one, none of the first `n + 1` is
 one_more : (word : List ℕ) (words : List (Bor (List ℕ))) (n : ℕ) (d : Bor (List ℕ)) → n < length words
@@ -18,21 +17,20 @@ one_more word words n d some old here i x within is same =
     grind (arith, old i x, λ (e : i ≡ n). here (last e))
 
 pub loop-other-preserved : goal.loop-other-preserved
-loop-other-preserved c =
+loop-other-preserved g c =
     let old = c.loop-other.invariant in
     let word = c.args.word.now in
     let words = c.args.words.now in
     let n = c.loop-other.other-index in
     let d : Bor (List ℕ) = record { ref_ptr = (0, 0); now = [] } in
     elim c.if-len-lt-MOST_NEAR.branch [
-      | then-len-lt-MOST_NEAR+then-eq_ignore_ascii_case+in_ok-from_str+in_ok-push w ↦
-          let bytes = w.in_ok-from_str.ensures.ok in
+      | then-len-lt-MOST_NEAR+then-eq_ignore_ascii_case+in_ok-push w ↦
           let same : IsSameBut word (get_or words n d).now = w.eq_ignore_ascii_case.ensures.test.0 w.if-eq_ignore_ascii_case.true in
-          let told = subst (λ (t : List ℕ). IsSameBut word t) (sym bytes) same in
           rw (w.those-is, w.in_ok-push.ensures.items) record {
-            near = All-push (IsNear word words) _ _ old.near (is_near_but word words n d _ c.loop-other-test.true bytes told);
-            same = All-push (λ t. IsSameBut word (string_bytes t)) _ _ old.same told;
+            near = All-push (λ other. IsNear word words other.now) _ _ old.near (is_near_but word words n d c.loop-other-test.true same);
+            same = All-push (λ other. IsSameBut word other.now) _ _ old.same same;
             none = λ empty. absurd (grind (arith, length-append, ap length empty));
+            few = grind (arith, length-append, c.len.ensures, w.if-len-lt-MOST_NEAR.true);
           }
       | else-len-lt-MOST_NEAR w ↦ rw w.those-is record {
         near = old.near;
@@ -42,5 +40,6 @@ loop-other-preserved c =
               one_more word words n d c.loop-other-test.true (old.none empty) (λ same. grind (arith, v.eq_ignore_ascii_case.ensures.test.1 same, v.if-eq_ignore_ascii_case.false))
           | else-len-lt-MOST_NEAR-via-else-len-lt-MOST_NEAR v ↦ absurd (grind (arith, ap length empty, c.len.ensures, v.if-len-lt-MOST_NEAR.false))
         ];
+        few = old.few;
       }
     ]

@@ -1,9 +1,8 @@
 -- Which words may be meant by another.
-use Rattle.std.specs.Prelude.{◌≡◌, ◌⊎◌, ℕ, ◌≤◌, List, length, map, nat_eq, Any, String, string_bytes}
+use Rattle.std.specs.Prelude.{◌≡◌, ◌⊎◌, ℕ, ◌≤◌, List, length, map, nat_eq, Any}
 use Rattle.std.specs.Borrow.{Bor}
 use Rattle.std.specs.Char.{to_ascii_lowercase}
 use Rattle.std.specs.Str.{chars}
-use Rattle.std.specs.declared.alloc.Global.{Global}
 use Rattle.strsim.specs.Edits.{levenshtein_row}
 
 -- how many edits lead from a word to another: characters that are added, left out or changed
@@ -15,6 +14,6 @@ abbrev pub IsSameBut : List ℕ → List ℕ → Type 0
 IsSameBut word other = map to_ascii_lowercase word ≡ map to_ascii_lowercase other
 
 -- a text is one of some words, and at most two edits lead to it, or it is the same but for the case of ASCII letters
-pub record IsNear (word : List ℕ) (words : List (Bor (List ℕ))) (text : String Global) : Type 0 where
-  pub among : Any (λ other. other.now ≡ string_bytes text) words
-  pub near : (edits_between word (string_bytes text) ≤ 2) ⊎ IsSameBut word (string_bytes text)
+pub record IsNear (word : List ℕ) (words : List (Bor (List ℕ))) (text : List ℕ) : Type 0 where
+  pub among : Any (λ other. other.now ≡ text) words
+  pub near : (edits_between word text ≤ 2) ⊎ IsSameBut word text
