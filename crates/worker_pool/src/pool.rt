@@ -14,22 +14,40 @@
 //!
 //! | Who | Waits for | Where | Is woken by |
 //! |---|---|---|---|
-//! | a worker | work, or that all leave | `work` | who makes work, or sees more of it than it takes: one worker; who makes the run leave: all |
+//! | a worker | work, or that all leave | `work` | who makes or leaves work: one, where one is wanted; who makes all leave: all |
 //! | who leads | quiet | `quiet` | who makes all quiet |
 //!
 //! Who waits looks under the lock, and goes to sleep and lets go of the lock in one step; it looks again when it is woken.
 //! Who makes true what another waits for does so under the lock, and wakes it afterwards. So a waiter either sees the change or
-//! is asleep when it is woken: no wake-up is lost. It is left to see that each such change wakes somebody. Whom a hold wakes is
-//! in its answer, and clauses say when: a worker exactly where it leaves work behind, who leads exactly where all is quiet.
+//! is asleep when it is woken: no wake-up is lost. It is left to see that each such change wakes somebody, or that somebody comes
+//! anyhow. Whom a hold wakes is in its answer, and clauses say when: a worker exactly where there is work, some worker is asleep
+//! and none is coming; who leads exactly where all is quiet.
+//!
+//! **Who is asleep, and who is coming**, is counted under the lock. A worker is *asleep* from the hold that finds no work for it
+//! until it is back at the lock. One of those that are asleep is *coming* from the hold that tells to wake it. A worker that is
+//! back from its sleep, woken or not, takes one from each count, and leaves a 0 as it is.
 //!
 //! **Work** comes into being in three ways.
-//! - A clock makes a task ripe, that of who leads or that of [`Pool::advance`]: each wakes one worker where there is work.
+//! - A clock makes a task ripe, that of who leads or that of [`Pool::advance`]: each wakes a worker where one is wanted.
 //! - A finish arms its task again, and the next due moment is reached: the worker that finished is awake, and takes a start in
 //!   the same hold of the lock.
 //! - The first clock of a run opens it: it is one of the clocks above.
 //!
-//! A worker that takes a start and leaves work behind wakes one more. So while there is work, a worker is awake that will look,
-//! or was woken and will, or all are in jobs; and each looks for work when its job is done.
+//! A worker that takes a start and leaves work behind wakes one more where one is wanted. So while there is work and the lock is
+//! free, some worker is awake and will look, or one is coming, or none is asleep: all are in jobs, and each looks for work when
+//! its job is done. For a hold that leaves work wakes a worker unless one is coming or none is asleep, and no worker goes to
+//! sleep beside work.
+//!
+//! What is counted as coming does come. One is woken only where none is coming, so the count is 0 or 1, and it is 0 again as soon
+//! as any worker is back from its sleep. While it is 1, none came back since it was counted, so one at least is asleep; and who
+//! counted it has woken one, or is about to. If somebody waits by then, that one comes; if nobody does, each that is asleep has
+//! stopped waiting already, and comes. Whichever is back first looks under the lock, takes a start where there is work, and wakes
+//! the next where it leaves some behind. One that woke by itself may be back before the one that was woken, and takes its count:
+//! then one more may be woken than is wanted, and never one too few.
+//!
+//! All that are asleep are woken where all leave, whoever is coming. Each is back at the lock once more before it leaves, and is
+//! joined before the run ends: so both counts are 0 then, and the next run begins with them. A clock of [`Pool::advance`] may
+//! wake a worker so late that the run has ended: nobody waits then, or one of the next run looks once for nothing.
 //!
 //! **Quiet** comes into being in four ways.
 //! - The last job is done, or a start finds only tasks that are cancelled: that worker looks for more in the same hold, and
@@ -59,6 +77,7 @@ ghost use Rattle.worker_pool.specs.Shares.{known_to};
 
 mod limit;
 mod shift;
+mod sleepers;
 mod stage;
 
 use crate::applied::{Applied, Work};
@@ -72,7 +91,7 @@ use limit::Limit;
 use queue_code::Code;
 use sched_time::Ending;
 use shift::Shift;
-use stage::{Lead, Next};
+use stage::{Came, Lead, Next};
 use std::alloc::Allocator;
 use std::marker::Model;
 use std::sync::{Condvar, Mutex, Wait};
@@ -203,19 +222,19 @@ impl<'s, N: Named, A: HeapAllocator> Pool<'s, N, A> {
 
     /// What a worker does: the jobs that it is given, until it is to leave.
     fn work<R: Wait, J: Job>(&self, rt: &R, job: &J, worker: u8) {
-        let mut done = None;
+        let mut came = Came::Made;
         for _ in rt.forever() {
-            let Some(work) = self.next(rt, worker, done) else {
+            let Some(work) = self.next(rt, worker, came) else {
                 return;
             };
-            done = Some(job.run(work.task, work.run));
+            came = Came::Done(job.run(work.task, work.run));
         }
     }
 
     /// Gives the finish of the job that a worker has done to the book, and the worker its next one. `None`: it is to leave.
-    fn next<R: Wait>(&self, rt: &R, worker: u8, done: Option<Ending>) -> Option<Work> {
+    fn next<R: Wait>(&self, rt: &R, worker: u8, came: Came) -> Option<Work> {
         let mut shift = self.shift.lock(rt);
-        let mut next = shift.hold(self.shared, worker, done);
+        let mut next = shift.hold(self.shared, worker, came);
         for _ in rt.forever() {
             match next {
                 Next::Job { work, wakes_one } => {
@@ -236,7 +255,7 @@ impl<'s, N: Named, A: HeapAllocator> Pool<'s, N, A> {
                         self.quiet.notify_one();
                     }
                     shift = self.work.wait(rt, shift);
-                    next = shift.hold(self.shared, worker, None);
+                    next = shift.hold(self.shared, worker, Came::Woken);
                 }
             }
         }

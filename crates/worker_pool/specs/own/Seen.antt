@@ -4,6 +4,6 @@ use Rattle.worker_pool.specs.declared.pool.shift.Shift.{Shift}
 use Rattle.worker_pool.specs.own.Shifts.{Under}
 
 module _ {N A : Type 0} {named : Ghosts N} where
-  -- the book, and how far the run over it is
+  -- the book, how far the run over it is, and who sleeps
   abbrev pub seen : Shift N A named → Under
-  seen it = record { book = it.book; stage = it.stage; running = it.running; fault = it.fault }
+  seen it = record { book = it.book; stage = it.stage; running = it.running; fault = it.fault; sleepers = it.sleepers }

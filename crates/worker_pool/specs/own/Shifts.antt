@@ -1,5 +1,5 @@
 -- What lies under the lock of a pool, and what one hold of it does there. All of it is this project's rule.
-use Rattle.std.specs.Prelude.{◌≡◌, ℕ, ◌+◌, ◌-◌, ◌^◌, min, zero, suc, is_some, if◌then◌else◌, ◌↔◌, ◌⊎◌, Bool, true, false, IsTrue, IsSome, Option, Some, None, unwrap_or}
+use Rattle.std.specs.Prelude.{◌≡◌, ℕ, ◌+◌, ◌-◌, ◌^◌, ◌<◌, min, zero, suc, is_some, if◌then◌else◌, ◌↔◌, ◌⊎◌, Bool, true, false, IsTrue, IsSome, Option, Some, None, unwrap_or}
 use Rattle.sched_time.specs.declared.timing.Ending.{Ending}
 use Rattle.executor_core.specs.CoreView.{state_of}
 use Rattle.executor_core.specs.State.{view_of_state}
@@ -9,6 +9,9 @@ use Rattle.executor_core.specs.declared.types.Event.TheVariants as v
 use Rattle.worker_pool.specs.declared.applied.Work.{Work}
 use Rattle.worker_pool.specs.declared.error.PoolError.{PoolError}
 use Rattle.worker_pool.specs.declared.error.PoolError.TheVariants as p
+use Rattle.worker_pool.specs.declared.pool.sleepers.Sleepers.{Sleepers}
+use Rattle.worker_pool.specs.declared.pool.stage.Came.{Came}
+use Rattle.worker_pool.specs.declared.pool.stage.Came.TheVariants as c
 use Rattle.worker_pool.specs.declared.pool.stage.Stage.{Stage}
 use Rattle.worker_pool.specs.declared.pool.stage.Stage.TheVariants as s
 use Rattle.worker_pool.specs.declared.pool.stage.Next.{Next}
@@ -31,13 +34,14 @@ ends_runs p.Full = true
 ends_runs p.Memory = true
 ends_runs _ = false
 
--- what lies under the lock: the book, how far the run over it is, how many workers are in a job, and what a call of a run was
--- refused with first
+-- what lies under the lock: the book, how far the run over it is, how many workers are in a job, what a call of a run was refused
+-- with first, and the workers that sleep
 pub record Under : Type 0 where
   pub book : BookView
   pub stage : Stage
   pub running : ℕ
   pub fault : Option PoolError
+  pub sleepers : Sleepers
 
 -- some task is ripe in a book
 abbrev pub HasRipe : BookView → Type 0
@@ -73,12 +77,41 @@ pub record Refuses (fault : PoolError) (old new : Under) : Type 0 where
   pub stage : new.stage ≡ s.Leaving
   pub running : new.running ≡ old.running
   pub first : new.fault ≡ Some (unwrap_or old.fault fault)
+  pub sleepers : new.sleepers ≡ old.sleepers
+
+-- ---- who sleeps
+
+-- one worker more; a count of 64 bits goes no further than its end
+abbrev pub one_more : ℕ → ℕ
+one_more count = min (count + 1) (2 ^ 64 - 1)
+
+-- no worker sleeps
+abbrev pub no_sleepers : Sleepers
+no_sleepers = record { asleep = 0; coming = 0 }
+
+-- one more goes to sleep
+abbrev pub rested : Sleepers → Sleepers
+rested s = record { asleep = one_more s.asleep; coming = s.coming }
+
+-- one that slept is back, woken or not
+abbrev pub risen : Sleepers → Sleepers
+risen s = record { asleep = s.asleep - 1; coming = s.coming - 1 }
+
+-- one more is woken, and on its way
+abbrev pub called : Sleepers → Sleepers
+called s = record { asleep = s.asleep; coming = one_more s.coming }
+
+-- some sleep, and none that was woken is on its way
+abbrev pub IsCallable : Sleepers → Type 0
+IsCallable s = (0 < s.asleep) × (s.coming ≡ 0)
+
+-- a worker is woken exactly where there is work, some sleep and none is on its way; then it is counted as on its way, and nothing
+-- else changes
+pub record Wakes (woken : Bool) (old new : Under) : Type 0 where
+  pub wanted : IsTrue woken ↔ (HasWork old × IsCallable old.sleepers)
+  pub counted : new ≡ record old { sleepers = if woken then called old.sleepers else old.sleepers }
 
 -- ---- a hold of the lock by a worker
-
--- one worker more is in a job; a count of 64 bits goes no further than its end
-abbrev pub one_more : ℕ → ℕ
-one_more running = min (running + 1) (2 ^ 64 - 1)
 
 -- there was work, and a start of the worker was taken, which got it, or gives nothing: every task that it met is cancelled, or the
 -- answer is an error, as of a worker that is busy. The run goes on
@@ -88,6 +121,7 @@ pub record Starts (worker : ℕ) (got : Option Work) (old new : Under) : Type 0 
   pub stage : new.stage ≡ old.stage
   pub running : new.running ≡ (if is_some got then one_more old.running else old.running)
   pub fault : new.fault ≡ old.fault
+  pub sleepers : new.sleepers ≡ old.sleepers
 
 -- so many starts one after the other got nothing
 abbrev pub GetNothing : ℕ → ℕ → Under → Under → Type 0
@@ -100,42 +134,52 @@ pub record IsRefusedWork (old new : Under) : Type 0 where
   pub fault : PoolError
   pub refuses : Refuses fault old new
 
--- what a worker is told it does next, by what lies under the lock. It gets work, and wakes one more worker exactly where more of it
--- is left behind. It leaves where the workers are to leave, or where its start is refused. Else it sleeps, where there is no work,
--- and wakes who leads exactly where all is quiet
+-- what a worker is told it does next, by what lies under the lock. It gets work, and wakes one more worker where it leaves work
+-- behind and one is to be woken for it. It leaves where the workers are to leave, or where its start is refused. Else it sleeps,
+-- where there is no work, is counted as asleep, and wakes who leads exactly where all is quiet
 abbrev pub Decides : ℕ → Next → Under → Under → Type 0
-Decides worker (n.Job work wakes_one) old new = Starts worker (Some work) old new × (IsTrue wakes_one ↔ HasWork new)
+Decides worker (n.Job work wakes_one) old new = (left : Under) × Starts worker (Some work) old left × Wakes wakes_one left new
 Decides worker n.Leave old new = ((new ≡ old) × (old.stage ≡ s.Leaving)) ⊎ IsRefusedWork old new
 Decides worker (n.Sleep wakes_leader) old new =
-    (new ≡ old) × (HasWork old → ⊥) × (old.stage ≡ s.Leaving → ⊥) × (IsTrue wakes_leader ↔ IsQuiet old)
+    (new ≡ record old { sleepers = rested old.sleepers }) × (HasWork old → ⊥) × (old.stage ≡ s.Leaving → ⊥)
+    × (IsTrue wakes_leader ↔ IsQuiet old)
 
 -- the finish of a worker's job was taken, or refused; one worker less is in a job either way
 pub record Finishes (worker : ℕ) (ending : Ending) (old new : Under) : Type 0 where
   pub running : new.running ≡ old.running - 1
+  pub sleepers : new.sleepers ≡ old.sleepers
   pub done : (Applies old.book new.book (v.Finish worker ending) × (new.stage ≡ old.stage) × (new.fault ≡ old.fault))
       ⊎ ((fault : PoolError) × Refuses fault (record old { running = old.running - 1 }) new)
 
--- the finish of a job, if the worker comes from one
-abbrev pub Gives : ℕ → Option Ending → Under → Under → Type 0
-Gives worker None old new = new ≡ old
-Gives worker (Some ending) old new = Finishes worker ending old new
+-- what a worker brings: the finish of its job if it comes from one; and where it comes from its sleep, it sleeps no more
+abbrev pub Brings : ℕ → Came → Under → Under → Type 0
+Brings worker c.Made old new = new ≡ old
+Brings worker (c.Done ending) old new = Finishes worker ending old new
+Brings worker c.Woken old new = new ≡ record old { sleepers = risen old.sleepers }
 
--- a hold of the lock by a worker: it gives the finish of its job, takes starts until one gets something or there is no more work,
+-- a hold of the lock by a worker: it brings what it comes with, takes starts until one gets something or there is no more work,
 -- and is told what it does next
-pub record Holds (worker : ℕ) (done : Option Ending) (next : Next) (old new : Under) : Type 0 where
-  pub given : Under
-  pub gives : Gives worker done old given
+pub record Holds (worker : ℕ) (came : Came) (next : Next) (old new : Under) : Type 0 where
+  pub brought : Under
+  pub brings : Brings worker came old brought
   pub count : ℕ
   pub last : Under
-  pub nothing : GetNothing worker count given last
+  pub nothing : GetNothing worker count brought last
   pub decides : Decides worker next last new
 
 -- ---- a hold of the lock by who leads
 
--- who leads shows the next moment of its run. Where a call of the run was refused before, nothing changes, and the run ends. Else the
--- clock is taken, which opens the run, and a worker is woken exactly where there is work; or it is refused, and the run ends
+-- the clock of who leads is taken, and opens the run
+pub record Opens (moment : ℕ) (old new : Under) : Type 0 where
+  pub unrefused : old.fault ≡ None
+  pub did : Applies old.book new.book (v.Clock moment)
+  pub stage : new.stage ≡ s.Open
+  pub running : new.running ≡ old.running
+  pub fault : new.fault ≡ None
+  pub sleepers : new.sleepers ≡ old.sleepers
+
+-- who leads shows the next moment of its run. Where a call of the run was refused before, nothing changes, and the run ends. Else
+-- the clock is taken, and a worker is woken where there is work and one is to be woken for it; or it is refused, and the run ends
 abbrev pub Leads : ℕ → Lead → Under → Under → Type 0
-Leads moment (l.Moves wakes_one) old new =
-    (old.fault ≡ None) × Applies old.book new.book (v.Clock moment) × (new.stage ≡ s.Open) × (new.running ≡ old.running) × (new.fault ≡ None)
-    × (IsTrue wakes_one ↔ HasWork new)
+Leads moment (l.Moves wakes_one) old new = (opened : Under) × Opens moment old opened × Wakes wakes_one opened new
 Leads moment l.Ends old new = ((new ≡ old) × IsSome old.fault) ⊎ ((old.fault ≡ None) × (fault : PoolError) × Refuses fault old new)

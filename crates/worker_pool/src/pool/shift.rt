@@ -1,5 +1,5 @@
-//! What lies under the lock of a pool: a book, and how far the run over it is. Its functions are what a thread does there in one
-//! hold of the lock, and say what it does next.
+//! What lies under the lock of a pool: a book, how far the run over it is, and who sleeps. Its functions are what a thread does
+//! there in one hold of the lock, and say what it does next.
 ghost use Rattle.std.specs.Prelude.{◌≡◌, ◌⊎◌, ◌+◌, ◌≤◌, ◌↔◌, ℕ, true, false, Some, None, Err, IsTrue, IsOk, IsSome, IsErrOf, IfErr, IfOk, OnOk, OnErr, MatchOption, is_some, unwrap_or, length};
 ghost use Rattle.std.specs.Option.{ForSome};
 ghost use Rattle.task_word.specs.Views.{most_handles, new_handle, one_out};
@@ -9,21 +9,22 @@ ghost use Rattle.executor_core.specs.declared.types.Event.TheVariants as v;
 ghost use Rattle.worker_pool.specs.Books.{IsBook};
 ghost use Rattle.worker_pool.specs.Shares.{known_to};
 ghost use Rattle.worker_pool.specs.Applies.{Applies, Tells};
-ghost use Rattle.worker_pool.specs.own.Shifts.{is_stopped, ends_runs, Under, HasWork, IsQuiet, KeepsLimit, KeepsFault, Refuses, Starts, GetNothing, Decides, Finishes, Holds, Leads};
+ghost use Rattle.worker_pool.specs.own.Shifts.{is_stopped, ends_runs, Under, HasWork, IsQuiet, KeepsLimit, KeepsFault, Refuses, no_sleepers, Wakes, Starts, GetNothing, Decides, Finishes, Brings, Holds, Leads};
 
 use crate::applied::Work;
 use crate::book::Book;
 use crate::error::PoolError;
 use crate::handle::Handle;
 use crate::named::Named;
-use crate::pool::stage::{Advanced, Lead, Next, Stage};
+use crate::pool::sleepers::Sleepers;
+use crate::pool::stage::{Advanced, Came, Lead, Next, Stage};
 use crate::shared::Shared;
 use executor_core::Event;
 use heap_allocator::HeapAllocator;
 use sched_time::Ending;
 use std::alloc::Allocator;
 
-/// A book, and how far the run over it is.
+/// A book, how far the run over it is, and who sleeps.
 #[derive(Drop)]
 pub struct Shift<N: Named, A: Allocator> {
     book: Book<N, A>,
@@ -32,6 +33,7 @@ pub struct Shift<N: Named, A: Allocator> {
     running: u64,
     /// What a call of a run was refused with first. It ends that run and each later one.
     fault: Option<PoolError>,
+    sleepers: Sleepers,
     ghost kept: { ForSome fault (λ e. (ends_runs e ≡ true) × (is_stopped stage ≡ true)) },
     ghost within: { book.core.taken ≤ book.core.limit },
 }
@@ -42,13 +44,15 @@ impl<N: Named, A: Allocator> Shift<N, A> {
     /// A book over which no run is under way.
     pub fn new(book: Book<N, A>) -> Shift<N, A>
         requires within { book.core.taken ≤ book.core.limit }
-        ensures new { seen result ≡ record { book = book; stage = Stage.Closed; running = 0; fault = None } }
+        ensures new { seen result
+            ≡ record { book = book; stage = Stage.Closed; running = 0; fault = None; sleepers = no_sleepers } }
     {
         Shift {
             book,
             stage: Stage::Closed,
             running: 0,
             fault: None,
+            sleepers: Sleepers::new(),
         }
     }
 
@@ -60,7 +64,8 @@ impl<N: Named, A: Allocator> Shift<N, A> {
         ensures kinds { IfErr result (λ e. (e ≡ PoolError.Running) ⊎ ((e ≡ PoolError.Full) ⊎ (e ≡ PoolError.Memory))) }
         ensures opened { OnOk result ((self.new.stage ≡ Stage.Opening) × (self.old.fault ≡ None)) }
         ensures refused { OnErr result (self.new.stage ≡ self.old.stage) }
-        ensures same { (self.new.book ≡ self.old.book) × (self.new.running ≡ self.old.running) × (self.new.fault ≡ self.old.fault) }
+        ensures same { (self.new.book ≡ self.old.book) × (self.new.running ≡ self.old.running)
+            × (self.new.fault ≡ self.old.fault) × (self.new.sleepers ≡ self.old.sleepers) }
     {
         if self.stage != Stage::Closed {
             return Err(PoolError::Running);
@@ -77,7 +82,8 @@ impl<N: Named, A: Allocator> Shift<N, A> {
         ensures answer { MatchOption self.old.fault (IsOk result) (λ e. result ≡ Err e) }
         ensures kinds { IfErr result (λ e. (e ≡ PoolError.Full) ⊎ (e ≡ PoolError.Memory)) }
         ensures closed { self.new.stage ≡ Stage.Closed }
-        ensures same { (self.new.book ≡ self.old.book) × (self.new.running ≡ self.old.running) × (self.new.fault ≡ self.old.fault) }
+        ensures same { (self.new.book ≡ self.old.book) × (self.new.running ≡ self.old.running)
+            × (self.new.fault ≡ self.old.fault) × (self.new.sleepers ≡ self.old.sleepers) }
     {
         self.stage = Stage::Closed;
         match self.fault {
@@ -90,7 +96,8 @@ impl<N: Named, A: Allocator> Shift<N, A> {
     pub fn begin(&mut self, made: bool)
         ensures made { IsTrue made → seen self.new ≡ seen self.old }
         ensures unmade { made ≡ false → (self.new.stage ≡ Stage.Leaving) × (self.new.fault ≡ Some (unwrap_or self.old.fault PoolError.Memory)) }
-        ensures same { (self.new.book ≡ self.old.book) × (self.new.running ≡ self.old.running) }
+        ensures same { (self.new.book ≡ self.old.book) × (self.new.running ≡ self.old.running)
+            × (self.new.sleepers ≡ self.old.sleepers) }
     {
         if !made {
             self.fail(PoolError::Memory);
@@ -100,7 +107,8 @@ impl<N: Named, A: Allocator> Shift<N, A> {
     /// Lets the workers of a run leave.
     pub fn leave(&mut self)
         ensures leaving { self.new.stage ≡ Stage.Leaving }
-        ensures same { (self.new.book ≡ self.old.book) × (self.new.running ≡ self.old.running) × (self.new.fault ≡ self.old.fault) }
+        ensures same { (self.new.book ≡ self.old.book) × (self.new.running ≡ self.old.running)
+            × (self.new.fault ≡ self.old.fault) × (self.new.sleepers ≡ self.old.sleepers) }
     {
         self.stage = Stage::Leaving;
     }
@@ -110,7 +118,8 @@ impl<N: Named, A: Allocator> Shift<N, A> {
         requires { ends_runs fault ≡ true }
         ensures first { self.new.fault ≡ Some (unwrap_or self.old.fault fault) }
         ensures leaving { self.new.stage ≡ Stage.Leaving }
-        ensures same { (self.new.book ≡ self.old.book) × (self.new.running ≡ self.old.running) }
+        ensures same { (self.new.book ≡ self.old.book) × (self.new.running ≡ self.old.running)
+            × (self.new.sleepers ≡ self.old.sleepers) }
     {
         self.stage = Stage::Leaving;
         if self.fault.is_none() {
@@ -138,6 +147,21 @@ impl<N: Named, A: Allocator> Shift<N, A> {
         !self.book.ripe()
     }
 
+    /// Whether a worker is to be woken, which is counted as on its way from then on: there is work, some sleep, and none that was
+    /// woken is on its way.
+    fn wake(&mut self) -> bool
+        ensures wakes { Wakes result (seen self.old) (seen self.new) }
+    {
+        if !self.sleepers.is_callable() {
+            return false;
+        }
+        if !self.has_work() {
+            return false;
+        }
+        self.sleepers.call();
+        true
+    }
+
     /// The book alone.
     pub fn into_book(self) -> Book<N, A>
         ensures same { result ≡ self.book }
@@ -150,6 +174,7 @@ impl<N: Named, A: Allocator> Shift<N, A> {
             stage: _,
             running: _,
             fault: _,
+            sleepers: _,
         } = self;
         let _happenings = book.happenings();
         book
@@ -159,21 +184,35 @@ impl<N: Named, A: Allocator> Shift<N, A> {
 impl<N: Named, A: HeapAllocator> Shift<N, A> {
     ghost use Rattle.worker_pool.specs.own.Seen.{seen};
 
-    /// What a worker does while it holds the lock: it gives the finish of its job to the book, if it comes from one, whether the run
-    /// goes on or not, and takes a start as long as there is work. What it does next is the answer.
+    /// What a worker does while it holds the lock: it gives the finish of its job to the book, if it comes from one, whether the
+    /// run goes on or not; is counted as back, if it slept; and takes a start as long as there is work. What it does next is
+    /// the answer.
     ///
-    /// A start may find only tasks that are cancelled: then the worker looks again. A refused finish or start makes the run leave.
-    pub fn hold(&mut self, shared: &Shared<A>, worker: u8, done: Option<Ending>) -> Next
+    /// A start may find only tasks that are cancelled: then the worker looks again. A refused finish or start makes the run
+    /// leave.
+    pub fn hold(&mut self, shared: &Shared<A>, worker: u8, came: Came) -> Next
         requires shared { (shared.now.table ≡ N.table) × (shared.now.cells ≡ N.cells) }
-        ensures holds { Holds worker done result (seen self.old) (seen self.new) }
+        ensures holds { Holds worker came result (seen self.old) (seen self.new) }
         ensures leaves { (result ≡ Next.Leave) ↔ (self.new.stage ≡ Stage.Leaving) }
         ensures limit { KeepsLimit (seen self.old) (seen self.new) }
         ensures fault { KeepsFault (seen self.old) (seen self.new) }
     {
-        if let Some(ending) = done {
-            self.finish(shared, worker, ending);
-        }
+        self.bring(shared, worker, came);
         self.next(shared, worker)
+    }
+
+    /// Takes what a worker brings to the lock.
+    fn bring(&mut self, shared: &Shared<A>, worker: u8, came: Came)
+        requires shared { (shared.now.table ≡ N.table) × (shared.now.cells ≡ N.cells) }
+        ensures brings { Brings worker came (seen self.old) (seen self.new) }
+        ensures limit { KeepsLimit (seen self.old) (seen self.new) }
+        ensures fault { KeepsFault (seen self.old) (seen self.new) }
+    {
+        match came {
+            Came::Made => {}
+            Came::Done(ending) => self.finish(shared, worker, ending),
+            Came::Woken => self.sleepers.rise(),
+        }
     }
 
     /// Takes starts until one gets work, or there is no more of it.
@@ -187,7 +226,7 @@ impl<N: Named, A: HeapAllocator> Shift<N, A> {
         while self.has_work() {
             match self.start(shared, worker) {
                 Ok(Some(work)) => {
-                    let more = self.has_work();
+                    let more = self.wake();
                     return Next::Job {
                         work,
                         wakes_one: more,
@@ -202,6 +241,7 @@ impl<N: Named, A: HeapAllocator> Shift<N, A> {
             return Next::Leave;
         }
         let wakes_leader = self.is_quiet();
+        self.sleepers.rest();
         Next::Sleep { wakes_leader }
     }
 
@@ -241,8 +281,8 @@ impl<N: Named, A: HeapAllocator> Shift<N, A> {
         }
     }
 
-    /// Who leads shows the next moment of its run, which opens it, if no call of the run was refused. Where this clock is refused,
-    /// the run is to end.
+    /// Who leads shows the next moment of its run, which opens it, if no call of the run was refused. Where this clock is
+    /// refused, the run is to end.
     pub fn lead(&mut self, shared: &Shared<A>, moment: u64) -> Lead
         requires shared { (shared.now.table ≡ N.table) × (shared.now.cells ≡ N.cells) }
         ensures leads { Leads moment result (seen self.old) (seen self.new) }
@@ -258,7 +298,7 @@ impl<N: Named, A: HeapAllocator> Shift<N, A> {
             return Lead::Ends;
         }
         self.stage = Stage::Open;
-        let wakes_one = self.has_work();
+        let wakes_one = self.wake();
         Lead::Moves { wakes_one }
     }
 
@@ -270,8 +310,8 @@ impl<N: Named, A: HeapAllocator> Shift<N, A> {
         ensures refused { OnErr result.applied (self.new.book ≡ self.old.book) }
         ensures applied { IfOk result.applied (λ told. (did : Applies self.old.book self.new.book (v.Clock moment)) × Tells self.old.book self.new.book did.last told) }
         ensures told { IfOk result.applied (λ told. (1 ≤ told.count) × (told.work ≡ None)) }
-        ensures wakes { (IsTrue result.wakes_one ↔ HasWork (seen self.new)) × (IsTrue result.wakes_leader ↔ IsQuiet (seen self.new)) }
-        ensures same { (self.new.stage ≡ self.old.stage) × (self.new.running ≡ self.old.running) × (self.new.fault ≡ self.old.fault) }
+        ensures wakes { Wakes result.wakes_one (record (seen self.old) { book = self.new.book }) (seen self.new) }
+        ensures quiet { IsTrue result.wakes_leader ↔ IsQuiet (seen self.new) }
         ensures limit { KeepsLimit (seen self.old) (seen self.new) }
     {
         let _before = self.book.lines();
@@ -279,7 +319,7 @@ impl<N: Named, A: HeapAllocator> Shift<N, A> {
         let _after = self.book.lines();
         Advanced {
             applied,
-            wakes_one: self.has_work(),
+            wakes_one: self.wake(),
             wakes_leader: self.is_quiet(),
         }
     }
@@ -291,7 +331,8 @@ impl<N: Named, A: HeapAllocator> Shift<N, A> {
         ensures others { IfErr result (λ e. (e ≡ PoolError.Seats) ⊎ (e ≡ PoolError.Memory)) }
         ensures refused { OnErr result (self.new.book ≡ self.old.book) }
         ensures admitted { OnOk result (self.new.book ≡ record self.old.book { seat = one_out self.old.book.seat }) }
-        ensures same { (self.new.stage ≡ self.old.stage) × (self.new.running ≡ self.old.running) × (self.new.fault ≡ self.old.fault) }
+        ensures same { (self.new.stage ≡ self.old.stage) × (self.new.running ≡ self.old.running)
+            × (self.new.fault ≡ self.old.fault) × (self.new.sleepers ≡ self.old.sleepers) }
         ensures handle { IfOk result (λ h. h.seat ≡ new_handle (length N.cells)) }
         ensures notes { IfOk result (λ h. AreNotesOf h.notes N.cells × ((k : ℕ) → known_to h k ≡ None)) }
     {

@@ -15,6 +15,7 @@ returns-then-is_some-clause-taken g c =
       stage = refl;
       running = one ∙ sym (ap (λ (b : Bool). if b then one_more r else r) got);
       fault = refl;
+      sleepers = refl;
     }
 
 pub returns-else-is_some-clause-taken : goal.returns-else-is_some-clause-taken
@@ -27,4 +28,5 @@ returns-else-is_some-clause-taken g c =
       stage = refl;
       running = sym (ap (λ (b : Bool). if b then one_more r else r) got);
       fault = refl;
+      sleepers = refl;
     }
