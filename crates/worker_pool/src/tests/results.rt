@@ -45,6 +45,12 @@ fn verdicts_are_read(rt: HostRuntime) -> Result<(), Fail> {
         Step::Agrees(0, 2),
         Step::Agrees(0, 3),
         Step::Result(0, 0),
+        // A handle that is admitted once the tasks have ended.
+        Step::Admit,
+        Step::Result(1, 0),
+        Step::Agrees(1, 1),
+        Step::Result(1, 1),
+        Step::Result(1, 2),
     ];
     let played = play(rt.alloc(), &instrs, 1, 1_000_000, &steps)?;
     check(
@@ -70,6 +76,11 @@ fn verdicts_are_read(rt: HostRuntime) -> Result<(), Fail> {
             Told::Verdict(None),
             Told::Verdict(None),
             ended(0, Ending::Value(7)),
+            Told::Admitted,
+            ended(0, Ending::Value(7)),
+            ended(1, Ending::Fault(3)),
+            ended(1, Ending::Fault(3)),
+            Told::Verdict(None),
         ],
         "0 submit 0 schedule due 0\n0 submit 1 schedule due 0\n0 submit 2 rate due 0\n0 clock\n\
          0 start 0 task 0 run 0 due 0\n0 finish 0 task 0 run 0 done 7\n\
