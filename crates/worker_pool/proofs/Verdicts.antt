@@ -1,15 +1,12 @@
--- A finish that tells a verdict was going to tell one before the cancels that were noted in front of it.
-use Rattle.std.proofs.Common.{◌≡◌, ℕ, ◌||◌, nat_lt, Bool, true, false, cond, inl, inr, List, [], ◌∷◌, ◌++◌, Option, Some, None, refl, sym, ap, ◌∙◌, subst}
-use Rattle.std.specs.Prelude.{IsSome, ◌↔◌, drop, slice_index_or}
+-- Finishes alone tell a verdict.
+use Rattle.std.proofs.Common.{◌≡◌, ℕ, nat_lt, Bool, true, false, cond, List, ◌∷◌, ◌++◌, Option, Some, None, refl, sym, ap, ◌∙◌, subst}
+use Rattle.std.specs.Prelude.{IsSome, slice_index_or}
 use Rattle.std.specs.Option.{option_map_or}
-use Rattle.std.specs.List.{All}
 use Rattle.std.proofs.lemmas.Bool.{false≢true}
-use Rattle.std.proofs.lemmas.List.Elements.{All-head, All-tail}
 use Rattle.sched_time.specs.Times.{longest}
-use Rattle.sched_time.specs.declared.timing.Timing.{Timing}
 use Rattle.sched_time.specs.declared.timing.Ending.{Ending}
 use Rattle.task_word.specs.declared.views.CoreSeatView.{CoreSeatView}
-use Rattle.queue_code.specs.Calls.{Planned, numbers, task_count, terms_of}
+use Rattle.queue_code.specs.Calls.{Planned, numbers, task_count}
 use Rattle.executor_core.specs.declared.types.CancelEffect.{CancelEffect}
 use Rattle.executor_core.specs.declared.types.CancelEffect.TheVariants as f
 use Rattle.executor_core.specs.declared.types.EventError.TheVariants as x
@@ -22,17 +19,15 @@ use Rattle.executor_core.specs.declared.types.Happening.{Happening}
 use Rattle.executor_core.specs.declared.types.Happening.TheVariants as h
 use Rattle.executor_core.specs.declared.types.Line.{Line}
 use Rattle.executor_core.specs.View.{View, first_enabled}
-use Rattle.executor_core.specs.Answers.{Reply, bare, finish_answer, start_answer, outcome_in, stops_periodic, due_next, effect_on}
-use Rattle.executor_core.specs.Histories.{HistoryEntry, IsHistoryOf, happenings, cancels, is_call}
+use Rattle.executor_core.specs.Answers.{Reply, start_answer, effect_on}
+use Rattle.executor_core.specs.Histories.{HistoryEntry, IsHistoryOf}
 use Rattle.executor_core.specs.Flows.{happening_of}
-use Rattle.executor_core.specs.State.{State, view_of_state, state_after, next, reply_of}
-use Rattle.executor_core.specs.Needs.{need_of, need_of_answer, need_of_finish}
+use Rattle.executor_core.specs.State.{State, view_of_state, reply_of}
+use Rattle.executor_core.specs.Needs.{need_of, need_of_answer}
 use Rattle.executor_core.specs.CoreView.{CoreView, workers_of}
 use Rattle.executor_core.proofs.Agree.{after_agrees, answers_alike}
 use Rattle.worker_pool.specs.Books.{BookView, IsBook, past_of}
-use Rattle.worker_pool.specs.Applies.{calls_in}
 use Rattle.worker_pool.specs.own.Results.{puts_verdict, verdict_in}
-use Rattle.worker_pool.specs.own.Steps.{IsPassed, need_in}
 use Rattle.worker_pool.proofs.Steps.{state_at}
 use Rattle.worker_pool.proofs.Applying.{Took, history_same}
 
@@ -80,65 +75,11 @@ cancels_put calls workers s k =
     let effect = effect_on ((view_of_state calls s).fate k) in
     neither_puts s.shut (nat_lt k (task_count calls)) (a.Outside k effect) (a.Error x.NoTask) (outside_puts s.shut k effect) refl
 
--- ---- a cancel leaves it so
+-- ---- a verdict is told of a finish alone
 
--- what was not cancelled before is not cancelled by less
-less_cancelled : (more cancelled stops : Bool) (timing : Timing) (due k : ℕ) (ending : Ending) → puts_verdict (need_of_finish k (outcome_in (more || cancelled) stops timing due ending)) ≡ true → puts_verdict (need_of_finish k (outcome_in cancelled stops timing due ending)) ≡ true
-less_cancelled true cancelled stops timing due k ending q = absurd (false≢true q)
-less_cancelled false cancelled stops timing due k ending q = q
-
--- the need of a finish in a state, by whether there is such a worker, and its task
-abbrev puts_in : List Planned → State → ℕ → Ending → Bool → Option ℕ → Bool
-puts_in calls s w ending b work = puts_verdict (need_of_answer s.shut (cond b (finish_answer calls (view_of_state calls s) w ending work) (a.Error x.NoWorker)))
-
-outside_still : (calls : List Planned) (s : State) (j : ℕ) (effect : CancelEffect) (w : ℕ) (ending : Ending) (b : Bool) (work : Option ℕ) → puts_in calls (state_after calls s (h.Cancel j) (bare (a.Outside j effect))) w ending b work ≡ true → puts_in calls s w ending b work ≡ true
-outside_still calls s j effect w ending false work q = absurd (false≢true q)
-outside_still calls s j effect w ending true None q = absurd (false≢true q)
-outside_still calls s j effect w ending true (Some k) q =
-    let u = view_of_state calls s in
-    less_cancelled (cancels k (a.Outside j effect) []) (s.tasks k).cancelled (stops_periodic s.shut s.stopped s.policies) (terms_of calls k).timing (due_next calls u k) k ending q
-
-refused_still : (calls : List Planned) (s : State) (j w : ℕ) (ending : Ending) (b : Bool) (work : Option ℕ) → puts_in calls (state_after calls s (h.Cancel j) (bare (a.Error x.NoTask))) w ending b work ≡ true → puts_in calls s w ending b work ≡ true
-refused_still calls s j w ending false work q = absurd (false≢true q)
-refused_still calls s j w ending true None q = absurd (false≢true q)
-refused_still calls s j w ending true (Some k) q = q
-
-cancel_still : (calls : List Planned) (workers : ℕ) (s : State) (j w : ℕ) (ending : Ending) → puts_verdict (need_of calls workers (next calls workers s (h.Cancel j)) (h.Finish w ending)) ≡ true → puts_verdict (need_of calls workers s (h.Finish w ending)) ≡ true
-cancel_still calls workers s j w ending = by (nat_lt j (task_count calls))
-  where
-    to : Bool → Answer
-    to b = cond b (a.Outside j (effect_on ((view_of_state calls s).fate j))) (a.Error x.NoTask)
-
-    by : (b : Bool) → puts_verdict (need_of calls workers (state_after calls s (h.Cancel j) (bare (to b))) (h.Finish w ending)) ≡ true → puts_verdict (need_of calls workers s (h.Finish w ending)) ≡ true
-    by true q = outside_still calls s j (effect_on ((view_of_state calls s).fate j)) w ending (nat_lt w workers) (s.workers w) q
-    by false q = refused_still calls s j w ending (nat_lt w workers) (s.workers w) q
-
--- each entry is a cancel, where none is a call
-pub noted_still : (calls : List Planned) (workers : ℕ) (between past : List HistoryEntry) (w : ℕ) (ending : Ending) → All IsPassed between → happenings (calls_in between) ≡ [] →
-    puts_verdict (need_of calls workers (state_at calls workers (between ++ past)) (h.Finish w ending)) ≡ true → puts_verdict (need_of calls workers (state_at calls workers past) (h.Finish w ending)) ≡ true
-noted_still calls workers [] past w ending all none q = q
-noted_still calls workers (e ∷ between) past w ending all none q =
-    let F = λ (s : State). puts_verdict (need_of calls workers s (h.Finish w ending)) in
-    let before = state_at calls workers (between ++ past) in
-    let then : happenings (calls_in between) ≡ [] → F before ≡ true → F (state_at calls workers past) ≡ true = noted_still calls workers between past w ending (All-tail IsPassed e between all) in
-    let all_calls : (b : Bool) → is_call e.happening ≡ b → happenings (cond b (e ∷ calls_in between) (calls_in between)) ≡ [] =
-    λ b is. ap (λ c. happenings (cond c (e ∷ calls_in between) (calls_in between))) (sym is) ∙ none
-    in
-    let pick : (b : Bool) → is_call e.happening ≡ b → IsPassed e → F (state_at calls workers past) ≡ true = elim [
-      | true ↦ λ is passed. let clash : e.happening ∷ happenings (calls_in between) ≡ [] = all_calls true is in absurd cc
-      | false ↦ λ is passed. elim passed [
-        | inl call ↦ absurd (false≢true (sym is ∙ call))
-        | inr cancel ↦ then (all_calls false is) (cancel_still calls workers before cancel.0 w ending (ap (λ y. F (next calls workers before y)) (sym cancel.1.happening) ∙ q))
-      ]
-    ]
-    in
-    pick (is_call e.happening) refl (All-head IsPassed e between all)
-
--- ---- there is room for the verdict that is told
-
-pub room_there : {X : Type 0} (cells : List ℕ) (old : BookView) (core : CoreView) (seat : CoreSeatView) (happened : List Happening) (lines : List Line) (event : Event) (room : Option X) → IsBook cells old → (t : Took old core seat happened lines event) →
-    IsSome (verdict_in t.took.last.answer) → ((w : ℕ) (ending : Ending) → event ≡ v.Finish w ending → IsSome room ↔ (puts_verdict (need_in old.core (h.Finish w ending)) ≡ true)) → IsSome room
-room_there cells old core seat happened lines event room book t tells finish = by event refl
+pub puts_alone : {R : Type 0} (cells : List ℕ) (old : BookView) (core : CoreView) (seat : CoreSeatView) (happened : List Happening) (lines : List Line) (event : Event) → IsBook cells old → (t : Took old core seat happened lines event) →
+    IsSome (verdict_in t.took.last.answer) → ((w : ℕ) (ending : Ending) → event ≡ v.Finish w ending → R) → R
+puts_alone {R} cells old core seat happened lines event book t tells finish = by event refl
   where
     calls : List Planned
     calls = old.core.calls
@@ -165,11 +106,8 @@ room_there cells old core seat happened lines event room book t tells finish = b
     puts one is = subst (λ y. puts_verdict (need_of calls workers s (happening_of y)) ≡ true) is
         (subst (λ y. puts_verdict (need_of calls workers s y) ≡ true) is_event (tells_puts s.shut (reply_of calls workers s t.took.last.happening).answer (subst (λ answer. IsSome (verdict_in answer)) said tells)))
 
-    by : (one : Event) → event ≡ one → IsSome room
+    by : (one : Event) → event ≡ one → R
     by (v.Clock moment) is = absurd (false≢true (sym (clock_puts calls workers s moment) ∙ puts (v.Clock moment) is))
     by (v.Start w) is = absurd (false≢true (sym (starts_put calls workers s w) ∙ puts (v.Start w) is))
     by (v.Cancel k) is = absurd (false≢true (sym (cancels_put calls workers s k) ∙ puts (v.Cancel k) is))
-    by (v.Finish w ending) is =
-        let none : happenings (calls_in t.took.between) ≡ [] = ap (drop 1) (t.took.part ∙ ap (λ one. Rattle.executor_core.specs.Flows.part_of calls old.core.made old.core.moment one) is) in
-        let before = noted_still calls workers t.took.between (past_of old) w ending t.took.each none (puts (v.Finish w ending) is) in
-        (finish w ending is).1 (subst (λ z. puts_verdict (need_of calls workers z (h.Finish w ending)) ≡ true) (sym book.stands) before)
+    by (v.Finish w ending) is = finish w ending is

@@ -20,7 +20,7 @@ use crate::desk::Desk;
 use crate::error::PoolError;
 use crate::handle::{Handle, notes_of};
 use crate::named::Named;
-use crate::results::{agreed, empty_notes, settle, verdict_room};
+use crate::results::{agreed, empty_notes, keep_room, settle, verdict_rooms};
 use crate::shared::Shared;
 use executor_core::{Answer, Core, CoreError, Event, Happening, Line};
 use heap_allocator::HeapAllocator;
@@ -36,6 +36,8 @@ pub struct Book<N: Named, A: Allocator> {
     desk: Desk<A>,
     /// Of each task the note with which the book set its cell.
     notes: Vec<Option<Note<Verdict>>, A>,
+    /// Rooms for verdicts that will be put, as many as tasks at first.
+    rooms: Vec<Box<Verdict>, A>,
     of: PhantomData<N>,
 }
 
@@ -91,6 +93,9 @@ impl<N: Named, A: HeapAllocator> Book<N, A> {
         let Ok(notes) = empty_notes(alloc, count) else {
             return Err(PoolError::Memory);
         };
+        let Ok(rooms) = verdict_rooms(alloc, count) else {
+            return Err(PoolError::Memory);
+        };
         let desk = Desk {
             core,
             seat,
@@ -100,6 +105,7 @@ impl<N: Named, A: HeapAllocator> Book<N, A> {
         Ok(Book {
             desk,
             notes,
+            rooms,
             of: PhantomData,
         })
     }
@@ -127,7 +133,7 @@ impl<N: Named, A: HeapAllocator> Book<N, A> {
         if desk.core.full() {
             return Err(PoolError::Full);
         }
-        let Ok(room) = verdict_room(alloc, &desk.core, event) else {
+        let Ok(()) = keep_room(alloc, &mut self.rooms, event) else {
             return Err(PoolError::Memory);
         };
         if desk.make_room().is_err() {
@@ -138,7 +144,7 @@ impl<N: Named, A: HeapAllocator> Book<N, A> {
         desk.take(&shared.words, event);
         let count = desk.lines.len() - first;
         let answer = desk.last_answer();
-        settle(&shared.cells, &mut self.notes, answer, room);
+        settle(&shared.cells, &mut self.notes, answer, &mut self.rooms);
         Ok(Applied {
             first,
             count,

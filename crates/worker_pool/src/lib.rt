@@ -90,10 +90,10 @@
 //!
 //! # Memory and cost
 //!
-//! [`Book::apply`], [`Book::note_cancels`] and [`Book::retire`] first make room for a line and a happening for the event, for
-//! each call that is left and for each task that is not cancelled, and `apply` a box where the event ends a task. After that
-//! nothing fails. The lists double, so most events take no memory but that box, which is on the heap: it is what the
-//! allocator is a [`HeapAllocator`](heap_allocator::HeapAllocator) for. [`Book::admit`] asks for room for a note of each task,
+//! [`Book::new`] makes a box for the verdict on each task. The boxes are on the heap, since cells keep them: it is what the allocator
+//! is a [`HeapAllocator`](heap_allocator::HeapAllocator) for. [`Book::apply`], [`Book::note_cancels`] and [`Book::retire`] first
+//! make room for a line and a happening for the event, for each call that is left and for each task that is not cancelled; after
+//! that nothing fails. The lists double, so most events take no memory. [`Book::admit`] asks for room for a note of each task,
 //! which is a growth of no bytes, since notes take none.
 //!
 //! A handle's calls are one atomic step each. An event costs what it costs the core, and an atomic step for each word that it
@@ -109,8 +109,8 @@
 //! turn, and all others are granted (`growths.rt`, over the crate `refusing_allocator`): [`Shared::new`], [`Book::new`],
 //! [`Book::apply`], [`Book::note_cancels`], [`Book::admit`] and [`Book::retire`] then tell [`PoolError::Memory`], and each
 //! other call what it tells with ample memory; the refused call is made again, and the lines are those of the row; and no byte
-//! stays in use. The box of a verdict is not asked of the allocator, but of the heap that it leads to: it
-//! is neither refused nor counted there.
+//! stays in use. The boxes of verdicts are not asked of the allocator, but of the heap that it leads to: they
+//! are neither refused nor counted there.
 //!
 //! `handles.rt`, `limits.rt` and `results.rt` are about several handles, errors and verdicts. `table.rt` plays all short sequences
 //! of steps over one plan, beside the plain program; the text of the lines of each goes through

@@ -1,40 +1,50 @@
 //! The verdicts on tasks that are done or have failed, and the notes of their cells.
-ghost use Rattle.std.specs.Prelude.{◌≡◌, ◌≢◌, ◌⊎◌, ◌↔◌, ℕ, ◌<◌, ◌≤◌, true, Some, None, IfOk, IfSome, IfNone, IsSome, length, replicate, slice_index, slice_index_or};
+ghost use Rattle.std.specs.Prelude.{◌≡◌, ◌≢◌, ◌⊎◌, ℕ, ◌<◌, ◌≤◌, Some, None, IfOk, IfSome, IfNone, IsSome, OnOk, length, replicate, slice_index, slice_index_or};
 ghost use Rattle.once_cell.specs.declared.race.note.Note.{Note as CellNote};
 ghost use Rattle.result_cell.specs.declared.verdict.Verdict.{Verdict as Put};
 ghost use Rattle.result_cell.specs.Cells.{AreNotesOf, StaysKnown, known_at};
 ghost use Rattle.executor_core.specs.declared.types.Answer.{Answer as OneAnswer};
 ghost use Rattle.executor_core.specs.declared.types.Event.TheVariants as v;
-ghost use Rattle.executor_core.specs.declared.types.Happening.TheVariants as h;
 ghost use Rattle.sched_time.specs.declared.timing.Ending.{Ending as Ended};
 ghost use Rattle.worker_pool.specs.Books.{ending_in, ending_of_outcome};
-ghost use Rattle.worker_pool.specs.own.Results.{HasNoteOf, TookVerdict, puts_verdict, verdict_told};
-ghost use Rattle.worker_pool.specs.own.Steps.{need_in};
+ghost use Rattle.worker_pool.specs.own.Results.{HasNoteOf, TookVerdict, verdict_told};
 
-use executor_core::{Answer, Core, Event, Need, Outcome};
+use executor_core::{Answer, Event, Outcome};
 use heap_allocator::HeapAllocator;
 use result_cell::{Note, ResultCell, Verdict, same};
 use sched_time::Ending;
 use std::alloc::{AllocError, Allocator};
 
-/// A box for the verdict that an event may put, as that is told before it: there is one exactly where the event is a finish
-/// that puts one, if no cancel is noted in front of it.
-pub fn verdict_room<A: HeapAllocator>(
+/// Rooms for the verdicts on so many tasks: boxes on the heap, all made by one thread, before any other.
+pub fn verdict_rooms<A: HeapAllocator>(
     alloc: A,
-    core: &Core<A>,
-    event: Event,
-) -> Result<Option<Box<Verdict>>, AllocError>
-    ensures finish { (worker : ℕ) (ending : Ended) → event ≡ v.Finish worker ending → IfOk result (λ room. IsSome room ↔ (puts_verdict (need_in core.now (h.Finish worker ending)) ≡ true)) }
-{
-    let Event::Finish(worker, ending) = event else {
-        return Ok(None);
-    };
-    match core.finish_need(worker, ending) {
-        Need::Done(task) | Need::Fail(task) => {
-            Ok(Some(Box::new(alloc.heap(), Verdict { task, ending })?))
-        }
-        _ => Ok(None),
+    tasks: usize,
+) -> Result<Vec<Box<Verdict>, A>, AllocError> {
+    let mut rooms = Vec::with_capacity(alloc, tasks)?;
+    for _task in 0..tasks {
+        rooms.push(empty_room(alloc)?)?;
     }
+    Ok(rooms)
+}
+
+/// A room that waits for its verdict.
+fn empty_room<A: HeapAllocator>(alloc: A) -> Result<Box<Verdict>, AllocError> {
+    let ending = Ending::Value(0);
+    Ok(Box::new(alloc.heap(), Verdict { task: 0, ending })?)
+}
+
+/// Makes a room where none is left and an event may put a verdict, which finishes alone do.
+pub fn keep_room<A: HeapAllocator>(
+    alloc: A,
+    rooms: &mut Vec<Box<Verdict>, A>,
+    event: Event,
+) -> Result<(), AllocError>
+    ensures finish { (worker : ℕ) (ending : Ended) → event ≡ v.Finish worker ending → OnOk result (1 ≤ length rooms.new.items) }
+{
+    if rooms.is_empty() && matches!(event, Event::Finish(..)) {
+        rooms.push(empty_room(alloc)?)?;
+    }
+    Ok(())
 }
 
 /// The verdict that an answer tells: of a task that is done, or has failed.
@@ -75,28 +85,27 @@ pub fn empty_notes<A: Allocator>(
     Ok(notes)
 }
 
-/// Puts the verdict that an answer tells, if any, into the cell of its task, in the room that was made for it. Where the cell
-/// takes it, its note is kept. The room comes back as it was where no verdict is told, and with the verdict told where the cell
-/// was set before.
+/// Puts the verdict that an answer tells, if any, into the cell of its task, in one of the rooms. Where the cell takes it, its note is
+/// kept; where the cell was set before, the room comes back with the verdict told.
 pub fn settle<A: Allocator>(
     cells: &[ResultCell],
     notes: &mut Vec<Option<Note<Verdict>>, A>,
     answer: Option<Answer>,
-    room: Option<Box<Verdict>>,
+    rooms: &mut Vec<Box<Verdict>, A>,
 ) -> Option<Box<Verdict>>
     requires below { (task : ℕ) (ending : Ended) (said : OneAnswer) → answer ≡ Some said → ending_in task said ≡ Some ending → task < length cells.now }
     requires count { length notes.old.items ≡ length cells.now }
-    requires room { IsSome (verdict_told answer) → IsSome room }
+    requires room { IsSome (verdict_told answer) → 1 ≤ length rooms.old.items }
     ensures count { length notes.new.items ≡ length notes.old.items }
     ensures each { (k : ℕ) → (slice_index_or notes.new.items k None ≡ slice_index_or notes.old.items k None)
         ⊎ ((note : CellNote Put) × (slice_index_or notes.new.items k None ≡ Some note) × TookVerdict cells.now answer k note) }
-    ensures untold { verdict_told answer ≡ None → (result ≡ room) × (notes.new.items ≡ notes.old.items) }
+    ensures untold { verdict_told answer ≡ None → (result ≡ None) × (notes.new.items ≡ notes.old.items) }
     ensures told { IfSome (verdict_told answer) (λ v. IfNone result (HasNoteOf cells.now notes.new.items v) × IfSome result (λ back. back.value ≡ v)) }
 {
     let Some(verdict) = verdict_of(answer) else {
-        return room;
+        return None;
     };
-    set_cell(cells, notes, verdict, room?)
+    set_cell(cells, notes, verdict, rooms.pop()?)
 }
 
 /// Puts a verdict into the cell of its task. Where the cell takes it, its note is kept; else the room comes back with it.

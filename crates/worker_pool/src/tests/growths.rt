@@ -1,7 +1,7 @@
 //! Want of memory: rows are played with each growth of a call refused in turn, and all before and behind it granted.
 //!
 //! What is refused, and counted, is what the words, the core, the lists of a book and the notes ask of their allocator. The
-//! box of a verdict is asked of the heap to which the allocator leads, which grants it, and gives it back to a cell.
+//! boxes of verdicts are asked of the heap to which the allocator leads, which grants them, and cells give them back to it.
 ghost use Rattle.std.specs.Prelude.{◌≡◌};
 ghost use Rattle.queue_code.specs.Calls.{task_count};
 ghost use Rattle.queue_code.specs.Codes.{calls_of};

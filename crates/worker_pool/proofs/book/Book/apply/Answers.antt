@@ -9,7 +9,7 @@ use Rattle.worker_pool.specs.Books.{BookView, ending_in}
 use Rattle.worker_pool.specs.Applies.{Applies, Tells, work_started}
 use Rattle.worker_pool.specs.own.Results.{TookVerdict, verdict_told}
 use Rattle.worker_pool.proofs.Applying.{Took, book_of, took_room, last_said, lines_added, verdict_fits, settled, took_book, took_applies}
-use Rattle.worker_pool.proofs.Verdicts.{room_there}
+use Rattle.worker_pool.proofs.Verdicts.{puts_alone}
 use Rattle.worker_pool.proofs.book.Book.apply.Goals as goal
 
 pub overflow_sub-count : goal.overflow_sub-count
@@ -58,7 +58,7 @@ settle-requires-clause-room g c = λ tells.
     in
     let last = last_said b new.core new.seat.view new.happenings.items new.lines.items c.args.event t in
     let answer = c.last_answer-answer.ensures last.0 last.1 t.took.last.answer last.2 in
-    room_there g.N.Named.cells b new.core new.seat.view new.happenings.items new.lines.items c.args.event c.in-Ok.room c.self.invariant.5 t (subst (λ o. IsSome (verdict_told o)) answer tells) c.in-Ok.ensures.finish
+    puts_alone g.N.Named.cells b new.core new.seat.view new.happenings.items new.lines.items c.args.event c.self.invariant.5 t (subst (λ o. IsSome (verdict_told o)) answer tells) (λ w ending is. c.in-Ok.ensures.finish w ending is)
 
 pub invariant_of-self-2 : goal.invariant_of-self-2
 invariant_of-self-2 g c =
