@@ -1,12 +1,18 @@
 //! Faults of a block's header.
 
-ghost use Rattle.std.specs.Prelude.{IfOk};
+ghost use Rattle.std.specs.Prelude.{List, IfOk, codes};
 ghost use Rattle.toml.specs.View.{table_view};
-ghost use Rattle.plan_reasons.specs.own.Details.{IsIn};
+ghost use Rattle.plan_read.specs.Keys.{Key, header_keys};
+ghost use Rattle.plan_read.specs.declared.faults.PlanFaultKind.{PlanFaultKind};
+ghost use Rattle.plan_read.specs.declared.faults.PlanFaultKind.TheVariants.{BadTimes, Missing, TooMany};
+ghost use Rattle.plan_read.specs.declared.versions.Version.{Version};
+ghost use Rattle.plan_reasons.specs.Told.{FitsKey};
+ghost use Rattle.plan_reasons.specs.own.Details.{IsIn, Suits};
+ghost use Rattle.plan_reasons.specs.own.Keys.{plan_version};
 
 use crate::keys::header_keys;
 use crate::limits::{MOST_BLOCK_CALLS, MOST_CALLS};
-use crate::scene::{Detail, Scene, integer_at, tables_at};
+use crate::scene::{Detail, Scene, integer_at, tables_at, value_at};
 use crate::wanted::Wanted;
 use plan_lines::Place;
 use plan_read::PlanFaultKind;
@@ -39,7 +45,8 @@ impl Pace {
 impl<'t> Scene<'t> {
     /// What is told of a fault of a header. `Err` is want of memory.
     pub fn header_detail(&self, header: &'t Table) -> Result<Detail<'t>, AllocError>
-        ensures { IfOk result (IsIn (table_view header.now)) }
+        ensures at { IfOk result (IsIn (table_view header.now)) }
+        ensures suits { IfOk result (Suits self.now.fault.kind (header_keys (plan_version self.now.version)) (table_view header.now)) }
     {
         let keys = header_keys(self.version);
         match self.fault.kind {
@@ -49,11 +56,14 @@ impl<'t> Scene<'t> {
             PlanFaultKind::BadTimes => Ok(self.bad_times(header)),
             PlanFaultKind::Missing => Ok(self.missing_every(header)),
             PlanFaultKind::Negative => Ok(self.negative(header, header, TIMES)),
-            PlanFaultKind::TooLarge => {
-                let detail = self.too_large(header, header, TIMES);
-                Ok(detail.unwrap_or(self.at_place()))
+            PlanFaultKind::TooLarge => match self.too_large(header, header, TIMES) {
+                Some(detail) => Ok(detail),
+                None => Ok(self.at_place()),
+            },
+            PlanFaultKind::OutOfOrder => {
+                // It begins before the last call of the blocks before it.
+                Ok(self.not_before(header, header, self.end_before()))
             }
-            PlanFaultKind::OutOfOrder => Ok(self.too_early(header)),
             PlanFaultKind::TooMany => Ok(self.too_many_calls(header)),
             _ => Ok(self.at_place()),
         }
@@ -70,34 +80,33 @@ impl<'t> Scene<'t> {
 
     /// That a `times` is out of its range.
     fn bad_times(&self, header: &'t Table) -> Detail<'t>
-        ensures { IsIn (table_view header.now) result }
+        ensures at { IsIn (table_view header.now) result }
+        ensures suits { (version : Version) → Suits BadTimes (header_keys version) (table_view header.now) result }
     {
         let wanted = Wanted::Number {
             least: Some(1),
             most: MOST_CALLS,
             unit: None,
         };
-        self.at_key(header, "times", wanted)
+        self.at_standing(header, "times", wanted)
     }
 
     /// That an `every` is missing.
     fn missing_every(&self, header: &'t Table) -> Detail<'t>
-        ensures { IsIn (table_view header.now) result }
+        ensures at { IsIn (table_view header.now) result }
+        ensures suits { (version : Version) → Suits Missing (header_keys version) (table_view header.now) result }
     {
+        if value_at(header, "every").is_some() {
+            return self.at_place();
+        }
         let times = integer_at(header, "times").unwrap_or(1);
         self.at_key(header, "every", Wanted::Every { times })
     }
 
-    /// That a block begins before the last call before it.
-    fn too_early(&self, header: &'t Table) -> Detail<'t>
-        ensures { IsIn (table_view header.now) result }
-    {
-        self.not_before(header, header, self.end_before())
-    }
-
     /// That the `at` of a table, in a block with this header, is before a moment or an offset in nanoseconds.
     pub fn not_before(&self, header: &Table, table: &'t Table, nanos: u128) -> Detail<'t>
-        ensures { IsIn (table_view table.now) result }
+        ensures at { IsIn (table_view table.now) result }
+        ensures suits { (kind : PlanFaultKind) (keys : List Key) → FitsKey kind keys (table_view table.now) (codes "at") → Suits kind keys (table_view table.now) result }
     {
         let unit = self.unit(header, table, "at");
         let least = nanos.div_ceil(u128::from(unit.nanos()));
@@ -123,7 +132,8 @@ impl<'t> Scene<'t> {
 
     /// That there are too many calls: in the block, or in all.
     fn too_many_calls(&self, header: &'t Table) -> Detail<'t>
-        ensures { IsIn (table_view header.now) result }
+        ensures at { IsIn (table_view header.now) result }
+        ensures suits { (version : Version) → Suits TooMany (header_keys version) (table_view header.now) result }
     {
         let count = tables_at(header, "call").len();
         if count > MOST_BLOCK_CALLS {

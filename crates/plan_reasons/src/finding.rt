@@ -1,6 +1,6 @@
 //! The reason of a text.
 
-ghost use Rattle.std.specs.Prelude.{◌≡◌, ◌⊎◌, Some, IfNone, IfOk, IfSome};
+ghost use Rattle.std.specs.Prelude.{◌≡◌, ◌⊎◌, None, Some, IfNone, IfOk, IfSome};
 ghost use Rattle.toml.specs.Data.{Members};
 ghost use Rattle.toml.specs.Parse.{parse_document};
 ghost use Rattle.toml.specs.View.{table_view};
@@ -9,7 +9,10 @@ ghost use Rattle.plan_read.specs.Plans.{PlanTree};
 ghost use Rattle.plan_read.specs.Reads.{out_of_memory};
 ghost use Rattle.plan_read.specs.Texts.{TextFails, TextWrites};
 ghost use Rattle.plan_reasons.specs.Standing.{IsAtKey, IsPlacedIn};
-ghost use Rattle.plan_reasons.specs.own.Details.{IsInPlace};
+ghost use Rattle.plan_reasons.specs.Told.{IsAtKeyOfKind};
+ghost use Rattle.plan_reasons.specs.declared.found.Found.TheVariants.{Nothing};
+ghost use Rattle.plan_reasons.specs.own.Details.{IsInPlace, SuitsPlace};
+ghost use Rattle.plan_reasons.specs.own.Keys.{plan_version};
 
 use crate::reason::Reason;
 use crate::scene::{Detail, Scene, integer_at, table_in, tables_at};
@@ -21,8 +24,8 @@ use toml::Table;
 
 /// Why a text writes no plan; none where it writes one.
 ///
-/// The fault is that of [`read_plan`]. A reason of the kind [`PlanFaultKind::Memory`] may come in place of any other answer, and says
-/// nothing of the text.
+/// The fault is that of [`read_plan`]. A reason of the kind [`PlanFaultKind::Memory`] may come in place of any other answer, and
+/// says nothing of the text.
 pub fn reason_of<A: HeapAllocator>(alloc: A, text: &[u8]) -> Option<Reason>
     ensures fine { IfNone result ((plan : PlanTree) × TextWrites text.now plan) }
     ensures only { (plan : PlanTree) → TextWrites text.now plan → IfSome result (λ r. r.fault ≡ out_of_memory) }
@@ -30,6 +33,8 @@ pub fn reason_of<A: HeapAllocator>(alloc: A, text: &[u8]) -> Option<Reason>
     ensures line { IfSome result (λ r. IfSome r.line (IsLineOf text.now)) }
     ensures column { IfSome result (IsPlacedIn text.now) }
     ensures key { IfSome result (λ r. (tree : Members) → parse_document text.now ≡ Some tree → IsAtKey tree r) }
+    ensures kind { IfSome result (λ r. (tree : Members) → parse_document text.now ≡ Some tree → IsAtKeyOfKind tree r) }
+    ensures bare { IfSome result (λ r. r.key ≡ None → r.found ≡ Nothing) }
 {
     match read_plan(alloc, text) {
         Ok(_) => None,
@@ -43,6 +48,8 @@ fn reason_of_fault(heap: Global, text: &[u8], fault: PlanFault) -> Reason
     ensures line { IfSome result.line (IsLineOf text.now) }
     ensures column { IsPlacedIn text.now result }
     ensures key { (tree : Members) → parse_document text.now ≡ Some tree → IsAtKey tree result }
+    ensures kind { (tree : Members) → parse_document text.now ≡ Some tree → IsAtKeyOfKind tree result }
+    ensures bare { result.key ≡ None → result.found ≡ Nothing }
 {
     match try_reason(heap, text, fault) {
         Ok(reason) => reason,
@@ -56,6 +63,8 @@ fn try_reason(heap: Global, text: &[u8], fault: PlanFault) -> Result<Reason, All
     ensures line { IfOk result (λ r. IfSome r.line (IsLineOf text.now)) }
     ensures column { IfOk result (IsPlacedIn text.now) }
     ensures key { IfOk result (λ r. (tree : Members) → parse_document text.now ≡ Some tree → IsAtKey tree r) }
+    ensures kind { IfOk result (λ r. (tree : Members) → parse_document text.now ≡ Some tree → IsAtKeyOfKind tree r) }
+    ensures bare { IfOk result (λ r. r.key ≡ None → r.found ≡ Nothing) }
 {
     match fault.kind {
         PlanFaultKind::Memory => Ok(unplaced(fault)),
@@ -80,6 +89,8 @@ fn reason_in_tree(
     ensures line { IfOk result (λ r. IfSome r.line (IsLineOf text.now)) }
     ensures column { IfOk result (IsPlacedIn text.now) }
     ensures key { IfOk result (IsAtKey (table_view tree.now)) }
+    ensures kind { IfOk result (IsAtKeyOfKind (table_view tree.now)) }
+    ensures bare { IfOk result (λ r. r.key ≡ None → r.found ≡ Nothing) }
 {
     let scene = Scene {
         heap,
@@ -93,7 +104,8 @@ fn reason_in_tree(
 
 /// What is told of a fault. `Err` is want of memory.
 fn detail<'t>(scene: &Scene<'t>) -> Result<Detail<'t>, AllocError>
-    ensures { IfOk result (IsInPlace (table_view scene.now.tree.now) scene.now.fault.block scene.now.fault.call) }
+    ensures at { IfOk result (IsInPlace (table_view scene.now.tree.now) scene.now.fault.block scene.now.fault.call) }
+    ensures suits { IfOk result (SuitsPlace scene.now.fault.kind (plan_version scene.now.version) (table_view scene.now.tree.now) scene.now.fault.block scene.now.fault.call) }
 {
     let PlanFault { block, call, .. } = scene.fault;
     if block == 0 {

@@ -1,14 +1,16 @@
 //! The keys of a plan's tables.
 
 ghost use Rattle.std.specs.Prelude.{◌≡◌, [], MatchOption, is_some};
-ghost use Rattle.toml.specs.View.{items_view, view};
-ghost use Rattle.plan_read.specs.Keys.{are_tables, call_keys, has_shape, header_keys, top_keys, verb_of_word};
+ghost use Rattle.toml.specs.View.{items_view, table_view, view};
+ghost use Rattle.plan_read.specs.Keys.{are_tables, call_keys, has_shape, header_keys, is_key, top_keys, verb_of_word};
 ghost use Rattle.plan_read.specs.declared.versions.Version.TheVariants.{One, Two};
+ghost use Rattle.plan_reasons.specs.Told.{operation_of};
 ghost use Rattle.plan_reasons.specs.own.Keys.{plan_keys, plan_shape, plan_version};
 
+use crate::scene::text_at;
 use crate::versions::{Version, is_policy};
 use std::fmt;
-use toml::Value;
+use toml::{Table, Value};
 
 /// What the value of a key has to be.
 #[derive(Clone, Copy, Debug, PartialEq, Eq)]
@@ -64,7 +66,7 @@ impl fmt::Display for Shape {
 }
 
 /// A key: its name, what its value is, and whether it has to be there.
-#[derive(Clone, Copy, Debug, PartialEq, Eq)]
+#[derive(Clone, Copy)]
 pub struct Key {
     pub name: &'static str,
     pub shape: Shape,
@@ -186,6 +188,23 @@ pub fn header_keys(version: Version) -> &'static [Key]
     match version {
         Version::One => HEADER_1,
         Version::Two => HEADER_2,
+    }
+}
+
+/// Whether one of some keys has a name.
+pub fn has_key(keys: &[Key], name: &str) -> bool
+    ensures { result ≡ is_key (plan_keys keys.now) name.now }
+{
+    keys.iter().any(|key| name == key.name)
+}
+
+/// The keys of a call by its operation; those of `ask` where it has none.
+pub fn operation_keys(version: Version, call: &Table) -> &'static [Key]
+    ensures { plan_keys result.now ≡ call_keys (plan_version version) (operation_of (table_view call.now)) }
+{
+    match text_at(call, "op") {
+        Some(word) if is_operation(word) => call_keys(version, word),
+        _ => call_keys(version, "ask"),
     }
 }
 

@@ -25,9 +25,9 @@
 //! | `found` | what stands at the key in the fault's table |
 //! | `wanted` | what is wanted: a type, a range in the unit at hand, words, a name |
 //!
-//! A reason prints as one line, `PLACE, KEY = FOUND: WHAT IS WRONG; WHAT IS WANTED`, of which parts may be missing. Texts of the plan
-//! stand in it as TOML spells them, with escapes for characters that cannot be seen, and are cut at 40 characters. So does the name
-//! of the file, which is not cut.
+//! A reason prints as one line, `PLACE, KEY = FOUND: WHAT IS WRONG; WHAT IS WANTED`, of which parts may be missing. Texts of the
+//! plan stand in it as TOML spells them, with escapes for characters that cannot be seen, and are cut at 40 characters. So does
+//! the name of the file, which is not cut.
 //!
 //! | Kind | Key | What is wrong; what is wanted |
 //! |---|---|---|
@@ -49,9 +49,9 @@
 //! | `TooMany` | `block`, `call` | `too many; at most 256`; `too many; at most 65536 calls in all, and these make 131072` |
 //! | `Memory` | | `out of memory` |
 //!
-//! Words may be meant that are the same but for the case of ASCII letters. Where there are none, those may be to which two edits at
-//! most lead, and no more than half the characters of the longer of the two words: those with the fewest edits. At most three are
-//! told.
+//! Words may be meant that are the same but for the case of ASCII letters. Where there are none, those may be to which two edits
+//! at most lead, and no more than half the characters of the longer of the two words: those with the fewest edits. At most three
+//! are told.
 //!
 //! # Errors
 //!
@@ -60,16 +60,22 @@
 //! # What is proved
 //!
 //! - The fault is that of `read_plan`.
-//! - What is told to stand at the key does stand there, in the table of the fault's place, or the key is missing there (`IsAtKey`).
+//! - What is told to stand at the key does stand there, in the table of the fault's place, or the key is missing there
+//!   (`IsAtKey`).
+//! - A key that is told is one at which a fault of its kind may be (`IsAtKeyOfKind`): at `UnknownKey` it does not belong in the
+//!   table of the fault's place, and stands there; at `Missing` it belongs there, and is missing; at `WrongType` and `BadTimes`
+//!   it belongs there and stands; at `Version`, `OutOfOrder` and `TooMany` it belongs there; at `TooLarge` it belongs there or
+//!   stands; at the others it stands there. At `TooLong`, `Toml` and `Memory` no key is told. Where none is told, nothing is told
+//!   to stand there.
 //! - The lists of keys in which this crate looks are those of `plan_read`.
-//! - A line which is told is one of the text. A column is told of a text that is no document alone, and with its line: both are those
-//!   of one place of the text (`IsPlacedIn`).
-//! - Words that may be meant are among the words that they are looked for in. They are the same but for the case of ASCII letters,
-//!   or else at most two edits away.
-//! - The limits that are told are those of `plan_read` ([`limits_agree`]).
+//! - A line which is told is one of the text. A column is told of a text that is no document alone, and with its line: both are
+//!   those of one place of the text (`IsPlacedIn`).
+//! - Words that may be meant are among the words that they are looked for in. They are the same but for the case of ASCII
+//!   letters, or else at most two edits away.
+//! - The most blocks and the most calls, of a block and in all, are those of `plan_read` ([`limits_agree`]).
 //!
-//! That a key is told and which, what is told to be wanted, the keys and the words of a choice among it, and the text of a reason are
-//! only tested, in `src/tests`.
+//! That a key is told, and which of those at which a fault of its kind may be, what is told to be wanted, the keys and the words
+//! of a choice among it, and the text of a reason are only tested, in `src/tests`.
 //!
 //! # Memory and cost
 //!

@@ -1,15 +1,16 @@
 //! Faults of names.
 
-ghost use Rattle.std.specs.Prelude.{IfOk};
+ghost use Rattle.std.specs.Prelude.{List, IfOk};
 ghost use Rattle.toml.specs.View.{table_view};
-ghost use Rattle.plan_reasons.specs.own.Details.{IsIn};
+ghost use Rattle.plan_read.specs.Keys.{Key};
+ghost use Rattle.plan_reasons.specs.own.Details.{IsIn, Suits};
 
 use crate::blocks::times_of;
 use crate::meant::meant;
 use crate::scene::{Detail, Scene, tables_at, text_at};
 use crate::wanted::{Namesake, Wanted};
 use plan_lines::{Place, line_of};
-use plan_read::{PlanFault, PlanFaultKind};
+use plan_read::PlanFaultKind;
 use std::alloc::{AllocError, Global};
 use toml::Table;
 
@@ -24,29 +25,31 @@ struct Submission<'t> {
     name: &'t str,
 }
 
-impl Submission<'_> {
-    /// Whether it stands before the call of a fault.
-    fn is_before(&self, fault: PlanFault) -> bool {
-        self.block < fault.block || (self.block == fault.block && self.call < fault.call)
-    }
-}
-
 impl<'t> Scene<'t> {
     /// What is told of a fault of a call's name. `Err` is want of memory.
     pub fn name_detail(&self, call: &'t Table) -> Result<Detail<'t>, AllocError>
-        ensures { IfOk result (IsIn (table_view call.now)) }
+        ensures at { IfOk result (IsIn (table_view call.now)) }
+        ensures suits { (keys : List Key) → IfOk result (Suits self.now.fault.kind keys (table_view call.now)) }
     {
         let Some(name) = text_at(call, "name") else {
             return Ok(self.at_place());
         };
-        let wanted = match self.fault.kind {
-            PlanFaultKind::BadName => Wanted::Name,
-            PlanFaultKind::DuplicateName => self.another_name(name)?,
-            PlanFaultKind::UnknownName => self.earlier_name(name)?,
-            PlanFaultKind::Ambiguous => self.unrepeated_name(name)?,
-            _ => return Ok(self.at_place()),
-        };
-        Ok(self.at_key(call, "name", wanted))
+        match self.fault.kind {
+            PlanFaultKind::BadName => Ok(self.at_key(call, "name", Wanted::Name)),
+            PlanFaultKind::DuplicateName => {
+                let wanted = self.another_name(name)?;
+                Ok(self.at_key(call, "name", wanted))
+            }
+            PlanFaultKind::UnknownName => {
+                let wanted = self.earlier_name(name)?;
+                Ok(self.at_key(call, "name", wanted))
+            }
+            PlanFaultKind::Ambiguous => {
+                let wanted = self.unrepeated_name(name)?;
+                Ok(self.at_key(call, "name", wanted))
+            }
+            _ => Ok(self.at_place()),
+        }
     }
 
     /// That a name is that of a submission before. `Err` is want of memory.
@@ -62,8 +65,9 @@ impl<'t> Scene<'t> {
     fn earlier_name(&self, name: &str) -> Result<Wanted, AllocError> {
         let submissions = submissions(self.heap, self.tree)?;
         let mut names = Vec::new(self.heap);
+        let place = (self.fault.block, self.fault.call);
         for submission in submissions.as_slice() {
-            if submission.is_before(self.fault) {
+            if (submission.block, submission.call) < place {
                 names.push(submission.name)?;
             }
         }

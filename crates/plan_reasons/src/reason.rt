@@ -30,16 +30,12 @@ impl Reason {
         InFile { file, reason: self }
     }
 
-    /// Whether the fault is that a text is none of the words that are wanted.
-    fn is_no_word(&self) -> bool {
-        matches!(self.found, Found::Text(_)) && matches!(self.wanted, Wanted::OneOf(_))
-    }
-
-    /// That there is no such word at the key.
-    fn no_such_word(&self) -> &'static str {
-        match &self.key {
-            Some(key) if key.as_str() == "op" => "no such op",
-            _ => "no such policy",
+    /// What is wrong with a value: that its text is none of the words that are wanted, or that it is of another type.
+    fn no_such_value(&self) -> &'static str {
+        match (&self.found, &self.wanted, &self.key) {
+            (Found::Text(_), Wanted::OneOf(_), Some(key)) if key.as_str() == "op" => "no such op",
+            (Found::Text(_), Wanted::OneOf(_), _) => "no such policy",
+            _ => "of the wrong type",
         }
     }
 
@@ -60,8 +56,7 @@ impl Reason {
             PlanFaultKind::Version => self.no_version(),
             PlanFaultKind::UnknownKey => "no such key",
             PlanFaultKind::Missing => "missing",
-            PlanFaultKind::WrongType if self.is_no_word() => self.no_such_word(),
-            PlanFaultKind::WrongType => "of the wrong type",
+            PlanFaultKind::WrongType => self.no_such_value(),
             PlanFaultKind::BadUnit => "no such unit",
             PlanFaultKind::BadTimes => "out of range",
             PlanFaultKind::Negative => "negative",
@@ -122,8 +117,8 @@ impl fmt::Display for Reason {
 
 /// A reason with a file's name and its line before it.
 ///
-/// It prints as `plan.toml:12: block 2, ..`; a fault of TOML with its column too, as `plan.toml:3:9: ..`, and one whose line cannot
-/// be told without, as `plan.toml: ..`.
+/// It prints as `plan.toml:12: block 2, ..`; a fault of TOML with its column too, as `plan.toml:3:9: ..`, and one whose line
+/// cannot be told without, as `plan.toml: ..`.
 #[derive(Clone, Copy)]
 pub struct InFile<'r> {
     file: &'r str,

@@ -1,11 +1,15 @@
 //! The tree of a plan text, and what is told of a fault in it.
 
-ghost use Rattle.std.specs.Prelude.{◌≡◌, None, IfOk, IfSome, option_map};
-ghost use Rattle.toml.specs.Data.{Members, get_member};
+ghost use Rattle.std.specs.Prelude.{◌≡◌, true, List, None, IfOk, IfSome, is_some, option_and_then, option_copied, option_map};
+ghost use Rattle.toml.specs.Data.{Members, as_integer, as_str, get_member};
 ghost use Rattle.toml.specs.View.{items_view, table_view, view};
 ghost use Rattle.plan_lines.specs.Lines.{IsLineOf};
+ghost use Rattle.plan_read.specs.Keys.{Key, is_key};
+ghost use Rattle.plan_read.specs.declared.faults.PlanFaultKind.{PlanFaultKind};
+ghost use Rattle.plan_read.specs.declared.versions.Version.{Version as PlanVersion};
 ghost use Rattle.plan_reasons.specs.Standing.{block_table, items_at_key, numbered_table};
-ghost use Rattle.plan_reasons.specs.own.Details.{IsIn, IsInPlace};
+ghost use Rattle.plan_reasons.specs.Told.{FitsKey, HasKeysOf, may_be_at};
+ghost use Rattle.plan_reasons.specs.own.Details.{IsIn, IsInPlace, Suits, SuitsPlace};
 
 use crate::found::Found;
 use crate::reason::Reason;
@@ -27,13 +31,19 @@ pub struct Scene<'t> {
     pub fault: PlanFault,
 }
 
+/// A key, and what stands there.
+#[derive(Clone, Copy)]
+pub struct AtKey<'t> {
+    pub key: &'t str,
+    /// None where the key is missing.
+    pub value: Option<&'t Value>,
+}
+
 /// What is told of a fault.
 #[derive(Drop)]
 pub struct Detail<'t> {
     /// The key that the fault is at.
-    pub key: Option<&'t str>,
-    /// What stands there.
-    pub value: Option<&'t Value>,
+    pub at: Option<AtKey<'t>>,
     pub wanted: Wanted,
     /// The place whose line is told.
     pub place: Place<'t>,
@@ -41,6 +51,8 @@ pub struct Detail<'t> {
 
 impl<'t> Scene<'t> {
     ghost use Rattle.plan_reasons.specs.Standing.{IsAtKey};
+    ghost use Rattle.plan_reasons.specs.Told.{IsAtKeyOfKind};
+    ghost use Rattle.plan_reasons.specs.declared.found.Found.TheVariants.{Nothing};
 
     /// The table of a block, numbered from 1.
     pub fn block(&self, number: u32) -> Option<&'t Table>
@@ -51,24 +63,35 @@ impl<'t> Scene<'t> {
 
     /// What is told where the fault is at a key of a table, which is that of its place.
     pub fn at_key(&self, table: &'t Table, key: &'t str, wanted: Wanted) -> Detail<'t>
-        ensures { IsIn (table_view table.now) result }
+        ensures at { IsIn (table_view table.now) result }
+        ensures suits { (kind : PlanFaultKind) (keys : List Key) → FitsKey kind keys (table_view table.now) key.now → Suits kind keys (table_view table.now) result }
     {
         let value = value_at(table, key);
         Detail {
-            key: Some(key),
-            value,
+            at: Some(AtKey { key, value }),
             wanted,
             place: place_of(self.fault, if value.is_some() { Some(key) } else { None }),
         }
     }
 
+    /// What is told where the fault is at a key of a table that stands there. No key is told where it is missing.
+    pub fn at_standing(&self, table: &'t Table, key: &'t str, wanted: Wanted) -> Detail<'t>
+        ensures at { IsIn (table_view table.now) result }
+        ensures suits { (kind : PlanFaultKind) (keys : List Key) → may_be_at kind (is_key keys key.now) true ≡ true → Suits kind keys (table_view table.now) result }
+    {
+        if value_at(table, key).is_some() {
+            self.at_key(table, key, wanted)
+        } else {
+            self.at_place()
+        }
+    }
+
     /// What is told where no key is found.
     pub fn at_place(&self) -> Detail<'t>
-        ensures { result.key ≡ None }
+        ensures { result.at ≡ None }
     {
         Detail {
-            key: None,
-            value: None,
+            at: None,
             wanted: Wanted::Unsaid,
             place: place_of(self.fault, None),
         }
@@ -80,22 +103,23 @@ impl<'t> Scene<'t> {
         ensures line { IfOk result (λ r. IfSome r.line (IsLineOf self.now.text.now)) }
         ensures column { IfOk result (λ r. r.column ≡ None) }
         ensures key { (tree : Members) → IsInPlace tree self.now.fault.block self.now.fault.call detail.entry → IfOk result (IsAtKey tree) }
+        ensures kind { (tree : Members) (version : PlanVersion) → HasKeysOf version tree → SuitsPlace self.now.fault.kind version tree self.now.fault.block self.now.fault.call detail.entry → IfOk result (IsAtKeyOfKind tree) }
+        ensures bare { IfOk result (λ r. r.key ≡ None → r.found ≡ Nothing) }
     {
-        let Detail {
-            key,
-            value,
-            wanted,
-            place,
-        } = detail;
+        let Detail { at, wanted, place } = detail;
+        let (key, found) = match at {
+            Some(at) => (
+                Some(String::from_str(self.heap, at.key)?),
+                Found::of(self.heap, at.value)?,
+            ),
+            None => (None, Found::Nothing),
+        };
         Ok(Reason {
             fault: self.fault,
             line: line_of(self.text, place),
             column: None,
-            key: match key {
-                Some(key) => Some(String::from_str(self.heap, key)?),
-                None => None,
-            },
-            found: Found::of(self.heap, value)?,
+            key,
+            found,
             wanted,
         })
     }
@@ -138,7 +162,8 @@ pub fn unit_key(key: &str) -> &'static str {
 
 /// The value at a key, if there is one.
 pub fn value_at<'t>(table: &'t Table, key: &str) -> Option<&'t Value>
-    ensures { option_map (λ v. view v.now) result ≡ get_member key.now (table_view table.now) }
+    ensures value { option_map (λ v. view v.now) result ≡ get_member key.now (table_view table.now) }
+    ensures stands { is_some result ≡ is_some (get_member key.now (table_view table.now)) }
 {
     table.get(key)
 }
@@ -168,7 +193,10 @@ pub fn table_in(tables: &[Value], number: u32) -> Option<&Table>
 }
 
 /// The integer at a key, if there is one.
-pub fn integer_at(table: &Table, key: &str) -> Option<i64> {
+pub fn integer_at(table: &Table, key: &str) -> Option<i64>
+    ensures value { result ≡ option_and_then as_integer (get_member key.now (table_view table.now)) }
+    ensures stands { IfSome result (λ _. is_some (get_member key.now (table_view table.now)) ≡ true) }
+{
     match value_at(table, key) {
         Some(value) => value.as_integer(),
         None => None,
@@ -176,7 +204,10 @@ pub fn integer_at(table: &Table, key: &str) -> Option<i64> {
 }
 
 /// The text at a key, if there is one.
-pub fn text_at<'t>(table: &'t Table, key: &str) -> Option<&'t str> {
+pub fn text_at<'t>(table: &'t Table, key: &str) -> Option<&'t str>
+    ensures value { option_copied result ≡ option_and_then as_str (get_member key.now (table_view table.now)) }
+    ensures stands { IfSome result (λ _. is_some (get_member key.now (table_view table.now)) ≡ true) }
+{
     match value_at(table, key) {
         Some(value) => value.as_str(),
         None => None,

@@ -1,12 +1,17 @@
 //! Faults that a table of any kind may have.
 
-ghost use Rattle.std.specs.Prelude.{IfOk, IfSome};
+ghost use Rattle.std.specs.Prelude.{List, IfOk, IfSome};
 ghost use Rattle.toml.specs.View.{table_view};
-ghost use Rattle.plan_reasons.specs.own.Details.{IsIn};
+ghost use Rattle.plan_read.specs.Keys.{Key as PlanKey};
+ghost use Rattle.plan_read.specs.declared.faults.PlanFaultKind.{PlanFaultKind};
+ghost use Rattle.plan_read.specs.declared.faults.PlanFaultKind.TheVariants.{BadUnit, Missing, Negative, TooLarge, UnknownKey, WrongType};
+ghost use Rattle.plan_reasons.specs.Told.{FitsKey};
+ghost use Rattle.plan_reasons.specs.own.Details.{IsIn, Suits};
+ghost use Rattle.plan_reasons.specs.own.Keys.{plan_keys};
 
-use crate::keys::{Key, Shape};
+use crate::keys::{Key, Shape, has_key};
 use crate::meant::meant;
-use crate::scene::{Detail, Scene, integer_at, text_at};
+use crate::scene::{Detail, Scene, integer_at, text_at, value_at};
 use crate::versions::{POLICIES, is_unit, units};
 use crate::wanted::{Choice, Wanted};
 use sched_time::{LONGEST, span};
@@ -31,7 +36,8 @@ impl<'t> Scene<'t> {
         key: &'t str,
         words: &[&'static str],
     ) -> Result<Detail<'t>, AllocError>
-        ensures { IfOk result (IsIn (table_view table.now)) }
+        ensures at { IfOk result (IsIn (table_view table.now)) }
+        ensures suits { (kind : PlanFaultKind) (keys : List PlanKey) → FitsKey kind keys (table_view table.now) key.now → IfOk result (Suits kind keys (table_view table.now)) }
     {
         let near = match text_at(table, key) {
             Some(word) => meant(self.heap, word, words)?,
@@ -43,7 +49,8 @@ impl<'t> Scene<'t> {
 
     /// That the first key of a table, by its letters, which is none of these does not belong there. `Err` is want of memory.
     pub fn unknown_key(&self, table: &'t Table, keys: &[Key]) -> Result<Detail<'t>, AllocError>
-        ensures { IfOk result (IsIn (table_view table.now)) }
+        ensures at { IfOk result (IsIn (table_view table.now)) }
+        ensures suits { IfOk result (Suits UnknownKey (plan_keys keys.now) (table_view table.now)) }
     {
         let mut words = Vec::with_capacity(self.heap, keys.len())?;
         for key in keys {
@@ -51,20 +58,22 @@ impl<'t> Scene<'t> {
         }
         for (key, _) in table {
             let key = key.as_str();
-            if !words.contains(&key) {
+            if !has_key(keys, key) {
                 let near = meant(self.heap, key, words.as_slice())?;
-                return Ok(self.at_key(table, key, Wanted::OneOf(Choice { near, words })));
+                return Ok(self.at_standing(table, key, Wanted::OneOf(Choice { near, words })));
             }
         }
         Ok(self.at_place())
     }
 
     /// That the first of these keys that has to be there, and is not, is missing. `Err` is want of memory.
+    #[tactic(auto, using(crate::proofs::Belonging::is_key_within))]
     pub fn missing_key(&self, table: &'t Table, keys: &[Key]) -> Result<Detail<'t>, AllocError>
-        ensures { IfOk result (IsIn (table_view table.now)) }
+        ensures at { IfOk result (IsIn (table_view table.now)) }
+        ensures suits { IfOk result (Suits Missing (plan_keys keys.now) (table_view table.now)) }
     {
         for key in keys {
-            if key.required && !table.contains_key(key.name) {
+            if key.required && value_at(table, key.name).is_none() {
                 return self.wanted(table, key);
             }
         }
@@ -72,11 +81,13 @@ impl<'t> Scene<'t> {
     }
 
     /// That the value at the first of these keys is not of its shape. `Err` is want of memory.
+    #[tactic(auto, using(crate::proofs::Belonging::is_key_within))]
     pub fn wrong_type(&self, table: &'t Table, keys: &[Key]) -> Result<Detail<'t>, AllocError>
-        ensures { IfOk result (IsIn (table_view table.now)) }
+        ensures at { IfOk result (IsIn (table_view table.now)) }
+        ensures suits { IfOk result (Suits WrongType (plan_keys keys.now) (table_view table.now)) }
     {
         for key in keys {
-            let Some(value) = table.get(key.name) else {
+            let Some(value) = value_at(table, key.name) else {
                 continue;
             };
             if !key.shape.fits(value) {
@@ -88,7 +99,8 @@ impl<'t> Scene<'t> {
 
     /// That a value of its shape is wanted at a key. `Err` is want of memory.
     fn wanted(&self, table: &'t Table, key: &Key) -> Result<Detail<'t>, AllocError>
-        ensures { IfOk result (IsIn (table_view table.now)) }
+        ensures at { IfOk result (IsIn (table_view table.now)) }
+        ensures suits { (kind : PlanFaultKind) (keys : List PlanKey) → FitsKey kind keys (table_view table.now) key.now.name.now → IfOk result (Suits kind keys (table_view table.now)) }
     {
         match key.shape {
             Shape::Policy => self.no_word(table, key.name, POLICIES),
@@ -98,10 +110,14 @@ impl<'t> Scene<'t> {
 
     /// That the text at the first key of a unit is none. `Err` is want of memory.
     pub fn bad_unit(&self, table: &'t Table) -> Result<Detail<'t>, AllocError>
-        ensures { IfOk result (IsIn (table_view table.now)) }
+        ensures at { IfOk result (IsIn (table_view table.now)) }
+        ensures suits { (keys : List PlanKey) → IfOk result (Suits BadUnit keys (table_view table.now)) }
     {
         for key in UNIT_KEYS {
-            if text_at(table, key).is_some_and(|word| !is_unit(self.version, word)) {
+            let Some(word) = text_at(table, key) else {
+                continue;
+            };
+            if !is_unit(self.version, word) {
                 return self.no_word(table, key, units(self.version));
             }
         }
@@ -110,10 +126,14 @@ impl<'t> Scene<'t> {
 
     /// That the number at the first of these keys is below 0, in a block with this header.
     pub fn negative(&self, header: &Table, table: &'t Table, keys: &[&'t str]) -> Detail<'t>
-        ensures { IsIn (table_view table.now) result }
+        ensures at { IsIn (table_view table.now) result }
+        ensures suits { (all : List PlanKey) → Suits Negative all (table_view table.now) result }
     {
         for key in keys {
-            if integer_at(table, key).is_some_and(|number| number < 0) {
+            let Some(number) = integer_at(table, key) else {
+                continue;
+            };
+            if number < 0 {
                 return self.at_time(header, table, key);
             }
         }
@@ -127,10 +147,13 @@ impl<'t> Scene<'t> {
         table: &'t Table,
         keys: &[&'t str],
     ) -> Option<Detail<'t>>
-        ensures { IfSome result (IsIn (table_view table.now)) }
+        ensures at { IfSome result (IsIn (table_view table.now)) }
+        ensures suits { (all : List PlanKey) → IfSome result (Suits TooLarge all (table_view table.now)) }
     {
         for key in keys {
-            let number = integer_at(table, key).unwrap_or(0);
+            let Some(number) = integer_at(table, key) else {
+                continue;
+            };
             if span(number, self.unit(header, table, key)).is_err() {
                 return Some(self.at_time(header, table, key));
             }
@@ -140,7 +163,8 @@ impl<'t> Scene<'t> {
 
     /// That a time in its range is wanted at a key, in a block with this header.
     fn at_time(&self, header: &Table, table: &'t Table, key: &'t str) -> Detail<'t>
-        ensures { IsIn (table_view table.now) result }
+        ensures at { IsIn (table_view table.now) result }
+        ensures suits { (kind : PlanFaultKind) (keys : List PlanKey) → FitsKey kind keys (table_view table.now) key.now → Suits kind keys (table_view table.now) result }
     {
         let unit = self.unit(header, table, key);
         let least = match key {

@@ -29,8 +29,8 @@ fn fault(alloc: Global, text: &[u8]) -> Option<PlanFault> {
     }
 }
 
-/// What is told of the text of a file `p`: `fine`, or the reason in one line. It is "another fault" where the fault is not that of
-/// `read_plan`.
+/// What is told of the text of a file `p`: `fine`, or the reason in one line. It is "another fault" where the fault is not that
+/// of `read_plan`.
 fn told(alloc: Global, text: &str) -> Result<String, Fail> {
     let text = text.as_bytes();
     let fault = fault(alloc, text);

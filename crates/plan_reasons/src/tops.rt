@@ -4,8 +4,11 @@ ghost use Rattle.std.specs.Prelude.{◌≡◌, None, IfOk, IfSome};
 ghost use Rattle.toml.specs.View.{table_view};
 ghost use Rattle.plan_lines.specs.Lines.{IsLineOf};
 ghost use Rattle.plan_reasons.specs.Standing.{IsBehind};
-ghost use Rattle.plan_reasons.specs.own.Details.{IsIn};
+ghost use Rattle.plan_reasons.specs.declared.found.Found.TheVariants.{Nothing};
+ghost use Rattle.plan_reasons.specs.own.Details.{IsIn, Suits};
+ghost use Rattle.plan_read.specs.Keys.{top_keys};
 ghost use Rattle.plan_read.specs.Reads.{out_of_memory};
+ghost use Rattle.plan_read.specs.declared.faults.PlanFaultKind.TheVariants.{TooMany, Version};
 
 use crate::found::Found;
 use crate::keys::top_keys;
@@ -24,6 +27,7 @@ pub fn too_long(fault: PlanFault) -> Reason
     ensures line { result.line ≡ None }
     ensures column { result.column ≡ None }
     ensures key { result.key ≡ None }
+    ensures found { result.found ≡ Nothing }
 {
     Reason {
         fault,
@@ -41,6 +45,7 @@ pub fn want_of_memory() -> Reason
     ensures line { result.line ≡ None }
     ensures column { result.column ≡ None }
     ensures key { result.key ≡ None }
+    ensures found { result.found ≡ Nothing }
 {
     unplaced(PlanFault {
         kind: PlanFaultKind::Memory,
@@ -55,6 +60,7 @@ pub fn unplaced(fault: PlanFault) -> Reason
     ensures line { result.line ≡ None }
     ensures column { result.column ≡ None }
     ensures key { result.key ≡ None }
+    ensures found { result.found ≡ Nothing }
 {
     Reason {
         fault,
@@ -72,6 +78,7 @@ pub fn no_document(heap: Global, text: &[u8], fault: PlanFault) -> Result<Reason
     ensures line { IfOk result (λ r. IfSome r.line (IsLineOf text.now)) }
     ensures column { IfOk result (λ r. IfSome r.column (IsBehind text.now r.line)) }
     ensures key { IfOk result (λ r. r.key ≡ None) }
+    ensures found { IfOk result (λ r. r.found ≡ Nothing) }
 {
     match toml::table_from_slice(heap, text) {
         Ok(_) => Ok(unplaced(fault)),
@@ -91,6 +98,7 @@ fn fault_of_toml(
     ensures line { IfOk result (λ r. IfSome r.line (IsLineOf text.now)) }
     ensures column { IfOk result (λ r. IfSome r.column (IsBehind text.now r.line)) }
     ensures key { IfOk result (λ r. r.key ≡ None) }
+    ensures found { IfOk result (λ r. r.found ≡ Nothing) }
 {
     let begin = match error.span() {
         Some(range) => range.start,
@@ -113,7 +121,8 @@ fn fault_of_toml(
 impl<'t> Scene<'t> {
     /// What is told of a fault of the top. `Err` is want of memory.
     pub fn top_detail(&self) -> Result<Detail<'t>, AllocError>
-        ensures { IfOk result (IsIn (table_view self.now.tree.now)) }
+        ensures at { IfOk result (IsIn (table_view self.now.tree.now)) }
+        ensures suits { IfOk result (Suits self.now.fault.kind top_keys (table_view self.now.tree.now)) }
     {
         match self.fault.kind {
             PlanFaultKind::Version => self.no_version(),
@@ -126,7 +135,8 @@ impl<'t> Scene<'t> {
 
     /// That the version is none. `Err` is want of memory.
     fn no_version(&self) -> Result<Detail<'t>, AllocError>
-        ensures { IfOk result (IsIn (table_view self.now.tree.now)) }
+        ensures at { IfOk result (IsIn (table_view self.now.tree.now)) }
+        ensures suits { IfOk result (Suits Version top_keys (table_view self.now.tree.now)) }
     {
         let near = Vec::new(self.heap);
         let words = VERSIONS.to_vec(self.heap)?;
@@ -135,7 +145,8 @@ impl<'t> Scene<'t> {
 
     /// That there are too many blocks.
     fn too_many_blocks(&self) -> Detail<'t>
-        ensures { IsIn (table_view self.now.tree.now) result }
+        ensures at { IsIn (table_view self.now.tree.now) result }
+        ensures suits { Suits TooMany top_keys (table_view self.now.tree.now) result }
     {
         let wanted = Wanted::AtMost(MOST_BLOCKS as u64);
         Detail {

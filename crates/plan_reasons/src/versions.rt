@@ -1,14 +1,14 @@
 //! The versions of a plan, and the words that texts of them have.
 
-ghost use Rattle.std.specs.Prelude.{◌≡◌, is_some};
+ghost use Rattle.std.specs.Prelude.{◌≡◌, ◌↔◌, Some, is_some, pos};
 ghost use Rattle.plan_read.specs.Keys.{unit_of_word, which_of_word};
-ghost use Rattle.plan_read.specs.declared.versions.Version.TheVariants.{Two};
+ghost use Rattle.plan_read.specs.declared.versions.Version.TheVariants.{One, Two};
 ghost use Rattle.plan_reasons.specs.own.Keys.{plan_version};
 
 use sched_time::Unit;
 
 /// The version of a plan text.
-#[derive(Clone, Copy, Debug, PartialEq, Eq)]
+#[derive(Clone, Copy)]
 pub enum Version {
     /// A block has one unit for all its times.
     One,
@@ -18,7 +18,9 @@ pub enum Version {
 
 impl Version {
     /// The version of this number. One that there is not counts as 2.
-    pub fn of_number(number: Option<i64>) -> Version {
+    pub fn of_number(number: Option<i64>) -> Version
+        ensures { (plan_version result ≡ One) ↔ (number ≡ Some (pos 1)) }
+    {
         match number {
             Some(1) => Version::One,
             _ => Version::Two,
