@@ -12,6 +12,7 @@ import time
 from dataclasses import dataclass
 from pathlib import Path
 
+import licences
 import parts as made
 from library import TOP
 from machine import Machine
@@ -24,6 +25,7 @@ REVISION = "1"
 ARCHITECTURE = "amd64"
 # What refuses to be set up on a processor below level 2. There is none for the levels above.
 LEVEL_2 = "sse4.2-support"
+APACHE_2 = "/usr/share/common-licenses/Apache-2.0"
 
 
 @dataclass(frozen=True)
@@ -55,9 +57,16 @@ def runs_on(machine: Machine) -> list[str]:
     return [f"libc6 (>= {machine.glibc_text})", *([LEVEL_2] if machine.level > 1 else [])]
 
 
+def told(licence: str) -> str:
+    """A licence in a package: of one that each Debian system has, where it stands there."""
+    if "Apache License" in licence and "Version 2.0, January 2004" in licence:
+        return f"Apache License, Version 2.0. On Debian systems its text is in {APACHE_2}."
+    return licence
+
+
 def copyright_text(crates: list[str]) -> str:
     """The licences of a package."""
-    text = made.notices(crates).content.decode()
+    text = licences.notices(crates, told)
     return f"""Sources: the repository of sched. It names no holder of the copyright. Its commits are by {maintainer()}.
 
 {text}"""

@@ -3,6 +3,7 @@
 from __future__ import annotations
 
 import re
+from collections.abc import Callable
 from pathlib import Path
 
 from library import TOP, kit
@@ -55,11 +56,16 @@ def headed(name: str, text: str) -> str:
     return f"{'-' * 72}\n{name}\n\n{stripped}\n"
 
 
-def notices(crates: list[str]) -> str:
-    """The licences of the toolchain's crates on which some crates of the repository stand."""
+def whole(text: str) -> str:
+    """A licence as its file has it."""
+    return text
+
+
+def notices(crates: list[str], told: Callable[[str], str] = whole) -> str:
+    """The licences of the toolchain's crates on which some crates of the repository stand, each as it is to be told."""
     folder = kit()
     found = {name: chosen(folder / "rattle" / name) for name in sorted(below(crates, folder))}
-    texts = [headed(name, file.read_text()) for name, licences in found.items() for file in licences]
+    texts = [headed(name, told(file.read_text())) for name, licences in found.items() for file in licences]
     if not texts:
         raise ToolError(f"no licence is found below {folder}")
     names = ", ".join(name for name, licences in found.items() if licences)
