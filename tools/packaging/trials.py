@@ -67,8 +67,8 @@ Trial = Callable[[Trials, Parts, dict[str, bytes], Path], None]
 
 
 def outside(home: Path, *more: Path) -> dict[str, str]:
-    """An environment that knows nothing of the toolchain."""
-    path = os.pathsep.join([*SYSTEM_FOLDERS, *map(str, more)])
+    """An environment that knows nothing of the toolchain. What is in the folders named comes before what the system has."""
+    path = os.pathsep.join([*map(str, more), *SYSTEM_FOLDERS])
     if shutil.which("rt", path=path):
         raise ToolError(f"the toolchain is in {path}")
     return {"PATH": path, "HOME": str(home), "LANG": "C.UTF-8"}
