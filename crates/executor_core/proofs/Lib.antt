@@ -21,6 +21,7 @@ pub mod Asking
 pub mod Opens
 pub mod Rooms
 pub mod Needing
+pub mod Ending
 pub mod Events
 pub mod Parts
 pub mod RunNumbers
@@ -31,3 +32,4 @@ pub mod Quieting
 pub mod WholeSweeps
 pub mod Noting
 pub mod SweepSteps
+pub mod SaidEquality

@@ -6,6 +6,7 @@ pub use Rattle.queue_code.specs.Calls
 pub use Rattle.queue_code.specs.Codes
 pub mod Counts
 pub mod View
+pub mod Lines
 pub mod Answers
 pub mod Histories
 pub mod State
@@ -14,4 +15,5 @@ pub mod Flows
 pub mod Within
 pub mod CoreView
 pub mod Needs
+pub mod Foresight
 pub mod own

@@ -1,7 +1,9 @@
 -- What no public clause of this crate, or of those above it, leads to: means of its own contracts and proofs.
 pub mod Histories
 pub mod Invariants
+pub mod Kept
 pub mod OwnSteps
+pub mod Said
 pub mod Sought
 pub mod Tables
 pub mod Within

@@ -15,7 +15,7 @@
 //!     core.event(event, &mut lines)?;
 //! }
 //! for line in &lines {
-//!     println!(rt; "{} {:?}", line.moment, line.message)?;
+//!     println!(rt; "{} {:?}", line.moment(), line.message())?;
 //! }
 //! // 0 Answer(Submit { task: 0, kind: Schedule, due: 5 })
 //! // 5 Answer(Clock)
@@ -49,6 +49,15 @@
 //! of its own first; [`sweeps`](Core::sweeps) tells whom a sweep would end. Each kind of happening has a step of its own as well
 //! ([`make_call`](Core::make_call), [`move_clock`](Core::move_clock), [`start`](Core::start), [`finish`](Core::finish),
 //! [`cancel`](Core::cancel)), and a need of its own but for a clock, which moves no word.
+//!
+//! A layer that needs both, what a happening moves and its step, looks once: what [`foresee`](Core::foresee) tells is taken by
+//! [`happen_foreseen`](Core::happen_foreseen), so that the outcome of a finish is worked out once.
+//!
+//! ```rust
+//! let foreseen = core.foresee(Happening::Start(0));
+//! assert_eq!(rt; foreseen.need, Need::Start(0));
+//! core.happen_foreseen(foreseen, &mut lines);
+//! ```
 //!
 //! # Behaviour
 //!
@@ -84,6 +93,9 @@
 //!
 //! # Memory and cost
 //!
+//! A [`Line`] takes 32 bytes, and a happening that is kept, a [`KeptHappening`], 16: the shapes of [`Message`] (40 bytes) and
+//! [`Happening`] (24) nest, so a list holds neither.
+//!
 //! `Core::new` takes all memory that the core needs for itself: for each task some 80 bytes, and 12 for each worker. It
 //! keeps the code, and fetches the calls from it one after the other: however often a loop of the code is made, its
 //! calls take no memory. `event` takes memory for lines alone, and none where the list has room for one line, one for
@@ -102,10 +114,13 @@
 #![tactic(auto)]
 
 mod error;
+mod foreseen;
+mod kept;
 mod laws;
 mod limits;
 mod machine;
 mod room;
+mod said;
 mod sought;
 mod tallies;
 mod task;
@@ -113,7 +128,9 @@ mod tasks;
 mod types;
 
 pub use error::CoreError;
-pub use laws::most_workers_is_the_limit;
+pub use foreseen::{Foreseen, RunEnd};
+pub use kept::KeptHappening;
+pub use laws::{line_equality_tells, most_workers_is_the_limit};
 pub use limits::MOST_WORKERS;
 pub use machine::Core;
 pub use room::make_room;

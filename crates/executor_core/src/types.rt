@@ -1,7 +1,9 @@
 ghost use Rattle.std.specs.Prelude.{◌≡◌};
 ghost use Rattle.executor_core.specs.Flows.{happening_of};
 
+use crate::said::Said;
 use sched_time::{Ending, Which};
+use std::marker::Model;
 
 /// What the outside reports to the executor.
 #[derive(Clone, Copy, Debug, PartialEq, Eq)]
@@ -192,11 +194,56 @@ pub enum Message {
 }
 
 /// A line of a trace: what it says, and the moment at which it was said.
+///
+/// It takes 32 bytes, where a [`Message`] alone takes 40.
 #[derive(Clone, Copy, Debug, PartialEq, Eq)]
 pub struct Line {
+    moment: u64,
+    said: Said,
+}
+
+const _: () = prove!(size_of::<Line>() == 32);
+
+impl Model for Line {
+    ghost use Rattle.executor_core.specs.Lines.{LineView};
+    ghost use Rattle.executor_core.specs.own.Said.{said_of, message_of, said_of_message};
+
+    ghost Value = { LineView };
+
+    ghost view = { λ l. record { moment = l.moment; message = message_of l.said } };
+
+    ghost inverse = { λ v. record { moment = v.moment; said = said_of v.message } };
+
+    ghost inverse_ok = { λ l h. said_of_message (λ said. record { moment = l.moment; said = said }) l.said };
+}
+
+impl Line {
+    /// A line that says this at that moment, 0 to 2^62 nanoseconds.
+    #[inline(always)]
+    pub fn new(moment: u64, message: Message) -> Line
+        ensures { result ≡ record { moment = moment; message = message } }
+    {
+        Line {
+            moment,
+            said: Said::of(message),
+        }
+    }
+
     /// The moment, 0 to 2^62 nanoseconds.
-    pub moment: u64,
-    pub message: Message,
+    #[inline(always)]
+    pub fn moment(self) -> u64
+        ensures { result ≡ self.moment }
+    {
+        self.moment
+    }
+
+    /// What it says.
+    #[inline(always)]
+    pub fn message(self) -> Message
+        ensures { result ≡ self.message }
+    {
+        self.said.message()
+    }
 }
 
 /// The word moves of the step that would follow.

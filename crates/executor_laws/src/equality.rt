@@ -1,9 +1,10 @@
-//! What the comparisons of the executor's types say: `==` is true of a value and itself, and leaves no field out.
+//! What the comparisons of the executor's types say: `==` is true of a value and itself, and leaves no field out. That of lines is
+//! [`line_equality_tells`](executor_core::line_equality_tells).
 ghost use Rattle.std.specs.Prelude.{◌≡◌, ◌↔◌, true};
 
 use executor_core::{
-    Answer, CancelEffect, CoreError, Event, EventError, Happening, Kind, Line, Message, Need,
-    Outcome, Refusal, Stage, Task,
+    Answer, CancelEffect, CoreError, Event, EventError, Happening, Kind, Message, Need, Outcome,
+    Refusal, Stage, Task,
 };
 
 /// Two errors of a core compare as equal exactly when they are the same.
@@ -64,11 +65,6 @@ pub fn outcome_equality_tells()
 /// Two answers compare as equal exactly when they are the same.
 pub fn answer_equality_tells()
     ensures { (a b : Answer) → (⟦<Answer as PartialEq>⟧.eq a b ≡ true) ↔ (a ≡ b) }
-{}
-
-/// Two lines compare as equal exactly when they are the same.
-pub fn line_equality_tells()
-    ensures { (a b : Line) → (⟦<Line as PartialEq>⟧.eq a b ≡ true) ↔ (a ≡ b) }
 {}
 
 /// Two messages compare as equal exactly when they are the same.

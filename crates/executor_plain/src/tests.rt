@@ -60,18 +60,12 @@ fn setting(moment: u64, which: Which, value: bool) -> (u64, CodeCall) {
 
 /// The line of an answer.
 fn line(moment: u64, answer: Answer) -> Line {
-    Line {
-        moment,
-        message: Message::Answer(answer),
-    }
+    Line::new(moment, Message::Answer(answer))
 }
 
 /// The line of a task that an answer ends.
 fn end(moment: u64, task: u32) -> Line {
-    Line {
-        moment,
-        message: Message::End(task),
-    }
+    Line::new(moment, Message::End(task))
 }
 
 fn accepted(task: u32, due: u64) -> Answer {

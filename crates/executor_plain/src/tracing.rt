@@ -221,15 +221,9 @@ fn add_lines<A: Allocator>(
 ) -> Result<(), AllocError>
     ensures { OnOk result (lines.new.items ≡ lines.old.items ++ flows.lines_at moment (flows.reply_in entry.now)) }
 {
-    lines.push(Line {
-        moment,
-        message: Message::Answer(entry.answer),
-    })?;
+    lines.push(Line::new(moment, Message::Answer(entry.answer)))?;
     for task in &entry.ends {
-        lines.push(Line {
-            moment,
-            message: Message::End(*task),
-        })?;
+        lines.push(Line::new(moment, Message::End(*task)))?;
     }
     Ok(())
 }

@@ -27,20 +27,14 @@ fn lines() -> [Line; 4] {
     [
         answer(5, Answer::Clock),
         answer(5, Answer::Idle { worker: 0 }),
-        Line {
-            moment: 5,
-            message: Message::End(3),
-        },
+        Line::new(5, Message::End(3)),
         answer(77, Answer::Idle { worker: 1 }),
     ]
 }
 
 /// The line of an answer.
 fn answer(moment: u64, answer: Answer) -> Line {
-    Line {
-        moment,
-        message: Message::Answer(answer),
-    }
+    Line::new(moment, Message::Answer(answer))
 }
 
 /// What is copied where there are so many bytes.
@@ -80,7 +74,8 @@ fn no_lines_come_to_nothing(rt: HostRuntime) {
 
 #[test]
 fn lines_are_copied_one_at_a_time(rt: HostRuntime) {
-    let lines = lines();
+    let all = lines();
+    let lines = &all[..];
     let mut out = [b'x'; 158];
     let mut copy = LineCopy::new();
     assert!(rt; copy.put(&mut out, &lines[0]));
@@ -98,7 +93,8 @@ fn lines_are_copied_one_at_a_time(rt: HostRuntime) {
 
 #[test]
 fn the_last_line_is_copied_where_there_is_just_enough_room(rt: HostRuntime) {
-    let lines = lines();
+    let all = lines();
+    let lines = &all[..];
     let mut out = [b'x'; 128];
     let mut copy = LineCopy::new();
     assert!(rt; copy.put(&mut out, &lines[3]));
@@ -112,7 +108,8 @@ fn the_last_line_is_copied_where_there_is_just_enough_room(rt: HostRuntime) {
 
 #[test]
 fn what_is_left_is_copied_by_a_further_call(rt: HostRuntime) {
-    let lines = lines();
+    let all = lines();
+    let lines = &all[..];
     let mut out = [0u8; 128];
     let mut from = 0;
     let mut at = 0;

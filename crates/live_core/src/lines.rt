@@ -39,7 +39,7 @@ impl<A: Allocator> ScheduledExecutor<A> {
         }
         let moment = self.now();
         let message = Message::Answer(answer);
-        lines.push_reserved(Line { moment, message });
+        lines.push_reserved(Line::new(moment, message));
         push_ends(ended, moment, lines);
         Ok(())
     }
@@ -53,7 +53,7 @@ fn push_ends<B: Allocator>(ended: &[TaskRef], moment: u64, lines: &mut Vec<Line,
 {
     for task in ended {
         let message = Message::End(task.number as u32);
-        lines.push_reserved(Line { moment, message });
+        lines.push_reserved(Line::new(moment, message));
     }
 }
 

@@ -32,10 +32,7 @@ pub(crate) fn tell<A: Allocator>(
     ensures { IfSome result (λ told. lines_told told lines.new.items ≡ lines_at executor.now.table.moment (ending answer executor.now.ended)) }
 {
     if executor.ended().is_empty() {
-        return Some(Told::One(Line {
-            moment: executor.now(),
-            message: Message::Answer(answer),
-        }));
+        return Some(Told::One(Line::new(executor.now(), Message::Answer(answer))));
     }
     if !list_lines(executor, answer, lines) {
         return None;
@@ -58,8 +55,8 @@ fn list_lines<A: Allocator>(
 
 /// How many lines there are.
 #[inline(always)]
-pub(crate) fn count_told(told: Told, lines: &[Line]) -> u64
-    ensures { result ≡ length (lines_told told lines.now) }
+pub(crate) fn count_told(told: &Told, lines: &[Line]) -> u64
+    ensures { result ≡ length (lines_told told.now lines.now) }
 {
     match told {
         Told::One(_) => 1,

@@ -54,7 +54,7 @@ pub(crate) fn answer_line<A: Allocator>(
             call,
         });
     }
-    counts.written += count_told(told, lines);
+    counts.written += count_told(&told, lines);
     counts.read += 1;
     Ok(told)
 }

@@ -8,8 +8,8 @@ ghost use Rattle.live_engine.specs.own.LiveTurns.{IsFrontEnd};
 
 use crate::live_line::LiveLine;
 use crate::stops::PieceEnd;
-use call_text::{LiveFront, front_line, split_call};
-use trace_text::split_event;
+use call_text::split_call;
+use trace_text::{is_part, split_event};
 
 /// The line at the front of some bytes, and what follows it; or why there is none: less than a line, or none at all.
 #[inline(always)]
@@ -33,9 +33,9 @@ fn end_of(bytes: &[u8]) -> PieceEnd
     requires call { IsUnread call_line FitsCall bytes.now }
     ensures { IsFrontEnd result bytes.now }
 {
-    match front_line(bytes) {
-        LiveFront::Event(..) | LiveFront::Call(..) => unreachable!(),
-        LiveFront::Part => PieceEnd::Part,
-        LiveFront::Refused => PieceEnd::Refused,
+    if is_part(bytes) {
+        PieceEnd::Part
+    } else {
+        PieceEnd::Refused
     }
 }

@@ -1,15 +1,16 @@
 -- Courses: what happened in the history of a book, its clocks and its events.
-use Rattle.std.proofs.Common.{◌≡◌, ◌≢◌, ℕ, ◌+◌, ◌<◌, ◌≤◌, Bool, true, false, cond, List, [], ◌∷◌, ◌++◌, reverse, take, drop, length, refl, ap, ◌∙◌, sym, subst, arith, append_assoc, append-nil, take-append-drop}
+use Rattle.std.proofs.Common.{◌≡◌, ◌≢◌, ℕ, ◌+◌, ◌<◌, ◌≤◌, Bool, true, false, cond, List, [], ◌∷◌, ◌++◌, reverse, take, length, refl, ap, ◌∙◌, sym, subst, arith, append_assoc, append-nil}
 use mir.Val.{bool_byte}
 use Rattle.std.specs.Prelude.{slice_index_or}
-use Rattle.std.proofs.lemmas.List.{append_cancel_left, reverse-reverse, take_more}
+use Rattle.std.proofs.lemmas.Bool.{false≢true}
+use Rattle.std.proofs.lemmas.List.{append_cancel_left, reverse-reverse, take_all, take_more}
 use Rattle.executor_core.specs.declared.Happening.{Happening}
 use Rattle.executor_core.specs.declared.Happening.TheVariants as h
 use Rattle.executor_core.proofs.Flowing.{happenings_from, how_many-more}
 use Rattle.queue_code.specs.Calls.{Planned}
 use Rattle.worker_pool.specs.Books.{history_for}
 use Rattle.pool_engine.specs.PoolRuns.{clocks_of, happened_in, event_count, is_taken}
-use Rattle.pool_engine.specs.own.Ended.{ShowsAnother}
+use Rattle.pool_engine.specs.own.Ended.{ShowsAnother, ShowsSoFar}
 
 -- what happened in the history of some happenings is these
 pub course_is : (calls : List Planned) (workers : ℕ) (happened : List Happening) → happened_in (history_for calls workers happened) ≡ happened
@@ -25,26 +26,46 @@ clocks_of-append (h.Finish w e ∷ xs) ys = clocks_of-append xs ys
 clocks_of-append (h.Cancel k ∷ xs) ys = clocks_of-append xs ys
 
 -- the clocks of one happening more
-pub clocks_on : (happened : List Happening) (i : ℕ) (d : Happening) → i < length happened → clocks_of (take (i + 1) happened) ≡ clocks_of (take i happened) ++ clocks_of (slice_index_or happened i d ∷ [])
-clocks_on happened i d low = ap clocks_of (take_more happened i d low) ∙ clocks_of-append (take i happened) (slice_index_or happened i d ∷ [])
+clocks_on : (happened : List Happening) (i : ℕ) (d happening : Happening) → i < length happened → happening ≡ slice_index_or happened i d → clocks_of (take (i + 1) happened) ≡ clocks_of (take i happened) ++ clocks_of (happening ∷ [])
+clocks_on happened i d happening low next =
+    ap clocks_of (take_more happened i d low) ∙ (clocks_of-append (take i happened) (slice_index_or happened i d ∷ [])
+    ∙ ap (λ (x : Happening). clocks_of (take i happened) ++ clocks_of (x ∷ [])) (sym next))
 
--- the clocks of some happenings are those of the first of them, of the next, and of the others
-clocks_around : (happened : List Happening) (i : ℕ) (d : Happening) → i < length happened
-    → clocks_of happened ≡ clocks_of (take i happened) ++ (clocks_of (slice_index_or happened i d ∷ []) ++ clocks_of (drop (i + 1) happened))
-clocks_around happened i d low =
-    ap clocks_of (sym (take-append-drop (i + 1) happened)) ∙ (clocks_of-append (take (i + 1) happened) (drop (i + 1) happened)
-    ∙ (ap (λ l. l ++ clocks_of (drop (i + 1) happened)) (clocks_on happened i d low) ∙ append_assoc (clocks_of (take i happened)) _ _))
+-- what the next happening shows is taken from the moments that are left
+taken_off : (shows : Bool) (so_far next left rest moments : List ℕ) → ShowsSoFar shows so_far left moments → next ++ rest ≡ left → ShowsSoFar shows (so_far ++ next) rest moments
+taken_off true so_far next left rest moments shown same = append_assoc so_far next rest ∙ (ap (λ l. so_far ++ l) same ∙ shown)
+taken_off false so_far next left rest moments other same = λ later all. other (next ++ later) (sym (append_assoc so_far next later) ∙ all)
 
--- where the next happening shows another moment than the first that is left, the clocks do not show all moments
+-- where the moments that are left do not begin with what the next happening shows, the first moments are not shown any more
+not_taken_off : (shows : Bool) (so_far next left moments : List ℕ) → ShowsSoFar shows so_far left moments → ((later : List ℕ) → left ≢ next ++ later) → ShowsSoFar false (so_far ++ next) left moments
+not_taken_off true so_far next left moments shown another =
+    λ later all. another later (append_cancel_left so_far left (next ++ later) (shown ∙ (sym all ∙ append_assoc so_far next later)))
+not_taken_off false so_far next left moments other another = λ later all. other (next ++ later) (sym (append_assoc so_far next later) ∙ all)
+
+-- a happening that shows another moment than the first that is left shows none of these
 shows_another : (happening : Happening) (left later : List ℕ) → ShowsAnother happening left → left ≢ clocks_of (happening ∷ []) ++ later
 shows_another happening left later another same =
     another.2 later (same ∙ ap (λ (x : Happening). clocks_of (x ∷ []) ++ later) another.1)
 
-pub not_shown : (happened : List Happening) (i : ℕ) (d : Happening) (left moments : List ℕ) → i < length happened → clocks_of (take i happened) ++ left ≡ moments → ShowsAnother (slice_index_or happened i d) left
-    → clocks_of happened ≢ moments
-not_shown happened i d left moments low shown another same =
-    shows_another (slice_index_or happened i d) left (clocks_of (drop (i + 1) happened)) another
-    (append_cancel_left (clocks_of (take i happened)) left _ (shown ∙ (sym same ∙ clocks_around happened i d low)))
+-- one happening more shows no other moment
+pub shown_on : (happened : List Happening) (i : ℕ) (d happening : Happening) (shows : Bool) (left rest moments : List ℕ) → i < length happened → happening ≡ slice_index_or happened i d
+    → ShowsSoFar shows (clocks_of (take i happened)) left moments → clocks_of (happening ∷ []) ++ rest ≡ left → ShowsSoFar shows (clocks_of (take (i + 1) happened)) rest moments
+shown_on happened i d happening shows left rest moments low next so_far same =
+    subst (λ l. ShowsSoFar shows l rest moments) (sym (clocks_on happened i d happening low next))
+    (taken_off shows (clocks_of (take i happened)) (clocks_of (happening ∷ [])) left rest moments so_far same)
+
+-- one happening more shows another moment
+pub another_on : (happened : List Happening) (i : ℕ) (d happening : Happening) (shows : Bool) (left moments : List ℕ) → i < length happened → happening ≡ slice_index_or happened i d
+    → ShowsSoFar shows (clocks_of (take i happened)) left moments → ShowsAnother happening left → ShowsSoFar false (clocks_of (take (i + 1) happened)) left moments
+another_on happened i d happening shows left moments low next so_far another =
+    subst (λ l. ShowsSoFar false l left moments) (sym (clocks_on happened i d happening low next))
+    (not_taken_off shows (clocks_of (take i happened)) (clocks_of (happening ∷ [])) left moments so_far (λ later. shows_another happening left later another))
+
+-- where the clocks so far do not show the first moments, all clocks do not show all moments
+pub not_shown : (happened : List Happening) (i : ℕ) (shows : Bool) (left moments : List ℕ) → length happened ≤ i → shows ≡ false → ShowsSoFar shows (clocks_of (take i happened)) left moments → clocks_of happened ≢ moments
+not_shown happened i true left moments whole not so_far same = absurd (false≢true (sym not))
+not_shown happened i false left moments whole not other same =
+    other [] (append-nil (clocks_of (take i happened)) ∙ (ap clocks_of (take_all i happened whole) ∙ same))
 
 -- one happening more is counted
 pub event_on : (happened : List Happening) (i : ℕ) (d : Happening) (count byte : ℕ) (b : Bool) → i < length happened → count ≡ event_count (take i happened) → b ≡ is_taken (slice_index_or happened i d) → byte ≡ bool_byte b

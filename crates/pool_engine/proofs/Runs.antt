@@ -5,7 +5,7 @@ use Rattle.std.specs.Io.KnownBytes.{Appends}
 use Rattle.executor_core.specs.declared.Happening.{Happening}
 use Rattle.trace_check.specs.Laws.{FitsHappening}
 use Rattle.executor_core.specs.declared.Line.{Line}
-use Rattle.executor_core.specs.CoreView.{workers_of}
+use Rattle.executor_core.specs.CoreView.{state_of, workers_of}
 use Rattle.executor_core.specs.Needs.{IsRipe}
 use Rattle.executor_core.specs.State.{view_of_state}
 use Rattle.queue_code.specs.Calls.{Planned}
@@ -35,6 +35,10 @@ pub record FitsBook (b : BookView) : Type 0 where
 -- what a list shows that is a book's
 pub book_fits : (b : BookView) (happened : List Happening) → happened ≡ b.happened → All FitsHappening happened → length happened ≤ 2 ^ 64 → FitsBook b
 book_fits b happened same fit short = record { fit = subst (All FitsHappening) same fit; short = subst (λ (l : List Happening). length l ≤ 2 ^ 64) same short }
+
+-- a list shows these moments that is a book's, and nothing is due in the book
+pub at_rest_by : (b : BookView) (happened : List Happening) (moments : List ℕ) → happened ≡ b.happened → clocks_of happened ≡ moments → (IsRipe b.core.calls (view_of_state b.core.calls (state_of b.core)) → ⊥) → IsRested b moments
+at_rest_by b happened moments same shown rests = record { clocks = ap clocks_of (sym same) ∙ shown; rests = rests }
 
 -- a book is at rest, and has no more events than the limit allows
 rested : (cells : List ℕ) (b : BookView) (limit events : ℕ) (moments : List ℕ) → IsBook cells b → FitsBook b → IsRested b moments → events ≡ event_count b.happened → events ≤ limit

@@ -8,7 +8,7 @@ ghost use Rattle.pool_engine.specs.own.ClockLines.{IsClockRead, IsNoClockEnd, Is
 use executor_core::Event;
 use sched_engine::{Filled, Held, RunError, Source};
 use std::alloc::Allocator;
-use trace_text::{Front, front_event, split_event};
+use trace_text::{is_part, split_event};
 
 /// Why no further clock was taken of the bytes at hand.
 #[derive(Clone, Copy)]
@@ -112,10 +112,10 @@ fn end_of(rest: &[u8]) -> ClocksEnd
     requires { IsRefused rest.now }
     ensures { IsNoClockEnd result rest.now }
 {
-    match front_event(rest) {
-        Front::Event(..) => unreachable!(),
-        Front::Part => ClocksEnd::Part,
-        Front::Refused => ClocksEnd::Refused,
+    if is_part(rest) {
+        ClocksEnd::Part
+    } else {
+        ClocksEnd::Refused
     }
 }
 

@@ -4,40 +4,53 @@ ghost use Rattle.trace_text.specs.Spelling.{lines_text};
 ghost use Rattle.trace_check.specs.Laws.{FitsHappening};
 ghost use Rattle.sched_engine.specs.Ends.{CountsTries};
 ghost use Rattle.pool_engine.specs.PoolRuns.{clocks_of, event_count, is_taken};
-ghost use Rattle.pool_engine.specs.own.Ended.{IsRested, ShowsAnother, TextWritten};
+ghost use Rattle.pool_engine.specs.own.Ended.{ShowsAnother, TextWritten};
 
-use executor_core::{Happening, Line};
+use executor_core::{Happening, KeptHappening, Line};
 use sched_engine::{Draft, Sink, write_text};
 use sched_time::Ending;
 use std::alloc::Allocator;
-use worker_pool::{Book, Named};
 
-/// Whether the clocks of a book show just these moments, in order, and nothing is due in it.
-pub fn is_rested<N: Named, A: Allocator>(book: &Book<N, A>, moments: &[u64]) -> bool
-    ensures { IsTrue result ↔ IsRested book.now moments.now }
-{
-    shows(book.happenings(), moments) && !book.ripe()
+/// What the happenings of an ended book tell.
+#[derive(Clone, Copy)]
+pub struct Told {
+    /// How many of them are events.
+    pub events: usize,
+    /// Whether the clocks among them show just the moments of the input, in order.
+    pub shows_moments: bool,
 }
 
-/// Whether the clocks among some happenings show just these moments, in order.
-fn shows(happened: &[Happening], moments: &[u64]) -> bool
-    ensures { IsTrue result ↔ (clocks_of happened.now ≡ moments.now) }
+/// What some happenings tell, the oldest first, where the input has these moments.
+pub fn look_back(happened: &[KeptHappening], moments: &[u64]) -> Told
+    ensures events { result.events ≡ event_count happened.now }
+    ensures shows { IsTrue result.shows_moments ↔ (clocks_of happened.now ≡ moments.now) }
+    ensures fit { All FitsHappening happened.now }
+    ensures short { length happened.now ≤ 2 ^ 64 }
 {
+    let _length = happened.len();
+    let mut events = 0;
     let mut left = moments;
-    for happening in happened {
-        let Some(rest) = left_behind(happening, left) else {
-            return false;
-        };
-        left = rest;
+    let mut shows = true;
+    for kept in happened {
+        let happening = kept.happening();
+        prove_fits(happening);
+        events += usize::from(is_taken(happening));
+        match left_behind(happening, left) {
+            Some(rest) => left = rest,
+            None => shows = false,
+        }
     }
-    left.is_empty()
+    Told {
+        events,
+        shows_moments: shows && left.is_empty(),
+    }
 }
 
 /// The moments that are left behind those that a happening shows. `None`: it shows another one.
-fn left_behind<'a>(happening: &Happening, moments: &'a [u64]) -> Option<&'a [u64]>
-    ensures { MatchOption result (ShowsAnother happening.now moments.now) (λ rest. clocks_of (happening.now ∷ []) ++ rest.now ≡ moments.now) }
+fn left_behind(happening: Happening, moments: &[u64]) -> Option<&[u64]>
+    ensures { MatchOption result (ShowsAnother happening moments.now) (λ rest. clocks_of (happening ∷ []) ++ rest.now ≡ moments.now) }
 {
-    let Happening::Clock(moment) = *happening else {
+    let Happening::Clock(moment) = happening else {
         return Some(moments);
     };
     let (first, rest) = moments.split_first()?;
@@ -47,24 +60,9 @@ fn left_behind<'a>(happening: &Happening, moments: &'a [u64]) -> Option<&'a [u64
     Some(rest)
 }
 
-/// How many of some happenings are events.
-pub fn count_events(happened: &[Happening]) -> usize
-    ensures count { result ≡ event_count happened.now }
-    ensures fit { All FitsHappening happened.now }
-    ensures short { length happened.now ≤ 2 ^ 64 }
-{
-    let _length = happened.len();
-    let mut count = 0;
-    for happening in happened {
-        prove_fits(happening);
-        count += usize::from(is_taken(happening));
-    }
-    count
-}
-
 /// Whether a happening is an event that a pool takes.
-fn is_taken(happening: &Happening) -> bool
-    ensures { result ≡ is_taken happening.now }
+fn is_taken(happening: Happening) -> bool
+    ensures { result ≡ is_taken happening }
 {
     matches!(
         happening,
@@ -73,10 +71,10 @@ fn is_taken(happening: &Happening) -> bool
 }
 
 /// What a happening hands in is in the range of its type.
-fn prove_fits(happening: &Happening)
-    ensures { FitsHappening happening.now }
+fn prove_fits(happening: Happening)
+    ensures { FitsHappening happening }
 {
-    if let Happening::Finish(_, ending) = *happening {
+    if let Happening::Finish(_, ending) = happening {
         match ending {
             Ending::Value(_value) => {}
             Ending::Fault(_code) => {}

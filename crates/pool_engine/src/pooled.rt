@@ -9,7 +9,7 @@ ghost use Rattle.pool_engine.specs.PoolRuns.{LeavesWriter, PoolRan, PoolWrote, e
 ghost use Rattle.pool_engine.specs.own.Ended.{IsRested};
 
 use crate::clocks::read_clocks;
-use crate::ended::{count_events, is_rested, write_lines};
+use crate::ended::{look_back, write_lines};
 use executor_core::MOST_WORKERS;
 use queue_code::Code;
 use sched_engine::{Draft, HeapAllocator, Report, RunError, Sink, Source, code_of};
@@ -142,8 +142,8 @@ fn write_rested<N: Named, A: Allocator, W: Sink>(
     ensures lost { IsErrOf result RunError.Lost ↔ ¬ (IsRested book.now asked.now.moments.now × (event_count book.now.happened ≤ asked.now.limit)) }
     ensures others { IfErr result (λ e. (e ≡ RunError.Lost) ⊎ (e ≡ RunError.Write)) }
 {
-    let events = count_events(book.happenings());
-    if !is_rested(book, asked.moments) || events > asked.limit as usize {
+    let told = look_back(book.happenings(), asked.moments);
+    if !told.shows_moments || book.ripe() || told.events > asked.limit as usize {
         return Err(RunError::Lost);
     }
     let lines = book.lines();
@@ -151,7 +151,7 @@ fn write_rested<N: Named, A: Allocator, W: Sink>(
         return Err(RunError::Write);
     }
     Ok(Report {
-        events: events as u32,
+        events: told.events as u32,
         lines: lines.len() as u64,
     })
 }
@@ -170,7 +170,8 @@ fn write_full<N: Named, A: Allocator, W: Sink>(
     ensures lost { IsErrOf result RunError.Lost ↔ ¬ (event_count book.now.happened ≡ asked.now.limit) }
     ensures others { MatchResult result (λ _. ⊥) (λ e. (e ≡ RunError.Lost) ⊎ ((e ≡ RunError.Write) ⊎ (e ≡ RunError.Full))) }
 {
-    if count_events(book.happenings()) != asked.limit as usize {
+    let told = look_back(book.happenings(), asked.moments);
+    if told.events != asked.limit as usize {
         return Err(RunError::Lost);
     }
     if !write_lines(draft, book.lines(), writer) {

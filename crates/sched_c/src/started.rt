@@ -57,6 +57,6 @@ impl Started {
     pub fn last_of(lines: &[Line]) -> Option<Started>
         ensures { result ≡ last_start lines.now }
     {
-        Started::of(lines.last()?.message)
+        Started::of(lines.last()?.message())
     }
 }

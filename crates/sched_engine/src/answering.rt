@@ -9,9 +9,9 @@ use crate::draft::Draft;
 use crate::ends::Sink;
 use crate::one_event::answer_event;
 use crate::report::RunError;
-use executor_core::{Core, Event, Line};
+use executor_core::{Core, Line};
 use std::alloc::Allocator;
-use trace_text::{Front, front_event, split_event};
+use trace_text::{is_part, split_event};
 
 /// Why no further event was taken of the bytes at hand.
 #[derive(Clone, Copy, Debug, PartialEq, Eq)]
@@ -98,9 +98,9 @@ fn end_of(rest: &[u8]) -> PieceEnd
     requires { IsRefused rest.now }
     ensures { (core : CoreView) → IsPieceEnd result core rest.now }
 {
-    match front_event(rest) {
-        Front::Event(..) => unreachable!(),
-        Front::Part => PieceEnd::Part,
-        Front::Refused => PieceEnd::Refused,
+    if is_part(rest) {
+        PieceEnd::Part
+    } else {
+        PieceEnd::Refused
     }
 }

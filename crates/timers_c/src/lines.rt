@@ -80,7 +80,7 @@ fn clock_line(moment: u64) -> Line
     ensures { result ≡ record { moment = moment; message = message.Answer answer.Clock } }
 {
     let message = Message::Answer(Answer::Clock);
-    Line { moment, message }
+    Line::new(moment, message)
 }
 
 /// The line at a place of those behind that of the clock: the answer, and then the tasks that were ended.
@@ -91,7 +91,7 @@ fn said_line(said: Said, moment: u64, ended: &[TaskRef], place: usize) -> Option
     let answer = answer_in(said)?;
     if place == 0 {
         let message = Message::Answer(answer);
-        return Some(Line { moment, message });
+        return Some(Line::new(moment, message));
     }
     end_line_at(moment, ended, place - 1)
 }
@@ -105,7 +105,7 @@ fn end_line_at(moment: u64, ended: &[TaskRef], place: usize) -> Option<Line>
         return None;
     };
     let message = Message::End(task.number as u32);
-    Some(Line { moment, message })
+    Some(Line::new(moment, message))
 }
 
 /// The answer of a line, and `None` where it has no room for a number.

@@ -13,7 +13,7 @@ ghost use Rattle.trace_check.specs.own.Standing.{TellBusy, IsStanding, IsReady, 
 use crate::busy::Busy;
 use crate::error::CheckError;
 use crate::finding::Finding;
-use executor_core::{Answer, Core, Line, MOST_WORKERS, Message};
+use executor_core::{Answer, Core, Line, MOST_WORKERS, Message, line_equality_tells};
 use plan_compile::compile;
 use plan_read::Plan;
 use std::alloc::Allocator;
@@ -85,9 +85,10 @@ impl<A: Allocator> Checker<A> {
         let mut rest = text;
         let mut count = 0u64;
         while !rest.is_empty() {
-            let Some((line, behind)) = split_line(rest) else {
+            let Some(found) = split_line(rest) else {
                 return Finding::Breaks(count + 1);
             };
+            let (line, behind) = found;
             if !self.take(&line) {
                 return Finding::Breaks(count + 1);
             }
@@ -121,8 +122,8 @@ impl<A: Allocator> Checker<A> {
             self.met += 1;
             return true;
         }
-        match &line.message {
-            Message::Answer(said) => self.take_answer(line.moment, said),
+        match line.message() {
+            Message::Answer(said) => self.take_answer(line.moment(), &said),
             Message::End(_) => false,
         }
     }
@@ -151,10 +152,7 @@ impl<A: Allocator> Checker<A> {
         self.out.clear();
         self.core.happen(happening, &mut self.out);
         self.met = 1;
-        let line = Line {
-            moment,
-            message: Message::Answer(*said),
-        };
+        let line = Line::new(moment, Message::Answer(*said));
         if !is_same(&self.out[0], &line) {
             return false;
         }
@@ -167,6 +165,7 @@ impl<A: Allocator> Checker<A> {
 fn is_same(one: &Line, other: &Line) -> bool
     ensures { IsTrue result ↔ (one.now ≡ other.now) }
 {
+    line_equality_tells();
     one == other
 }
 

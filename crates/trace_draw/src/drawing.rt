@@ -61,7 +61,7 @@ fn count_marks(lines: &[Line], window: Window) -> u64
     lines
         .iter()
         .filter(|line| is_mark(line))
-        .filter(|line| shows(window, line.moment))
+        .filter(|line| shows(window, line.moment()))
         .count() as u64
 }
 
@@ -75,7 +75,7 @@ fn marks_in<A: Allocator>(
 {
     let mut marks = Vec::new(alloc);
     for line in lines {
-        if is_mark(line) && shows(window, line.moment) {
+        if is_mark(line) && shows(window, line.moment()) {
             marks.push(*line)?;
         }
     }

@@ -31,7 +31,7 @@ impl Ends {
         ensures ends { (later : List Said) → TellEnds self.old.finishes later → TellEnds self.new.finishes (line.now ∷ later) }
         ensures bar { (later : List Said) → TellEnds self.old.finishes later → result ≡ bar_in line.now.moment line.now.message later }
     {
-        match line.message {
+        match line.message() {
             Message::Answer(
                 Answer::Start {
                     worker,
@@ -44,7 +44,7 @@ impl Ends {
                 task,
                 run,
                 due,
-                first: line.moment,
+                first: line.moment(),
                 finish: self.finishes[worker as usize],
             }),
             Message::Answer(
@@ -55,7 +55,7 @@ impl Ends {
                 },
             ) => {
                 self.finishes[worker as usize] = Some(Finish {
-                    moment: line.moment,
+                    moment: line.moment(),
                     outcome,
                 });
                 None

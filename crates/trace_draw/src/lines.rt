@@ -18,10 +18,11 @@ pub fn lines_of<A: Allocator>(alloc: A, text: &[u8]) -> Result<Vec<Line, A>, Lin
     let mut lines = Vec::new(alloc);
     let mut rest = text;
     while !rest.is_empty() {
-        let Some((line, behind)) = split_line(rest) else {
+        let Some(found) = split_line(rest) else {
             let read = lines.len() as u64;
             return Err(LinesError::NotATrace { line: read + 1 });
         };
+        let (line, behind) = found;
         lines.push(line)?;
         rest = behind;
     }

@@ -10,7 +10,7 @@ pub fn is_mark(line: &Line) -> bool
     ensures { result ≡ is_mark line.now.message }
 {
     !matches!(
-        line.message,
+        line.message(),
         Message::Answer(Answer::Start { .. } | Answer::Finish { .. })
     )
 }

@@ -14,9 +14,9 @@ pub fn whole_window(lines: &[Line]) -> Window
     let [first, rest @ ..] = lines else {
         return Window::at(0);
     };
-    let mut window = Window::at(first.moment);
+    let mut window = Window::at(first.moment());
     for line in rest {
-        window = window.with(line.moment);
+        window = window.with(line.moment());
     }
     window
 }

@@ -79,7 +79,7 @@ fn tries(asked: Asked, now: u64) -> [Option<Happening>; 3] {
 /// What may be wanted in place of a happening that is answered by this line: a worker that runs a task is to end it before it
 /// starts, and one that runs none is to start before it ends.
 fn in_place_of(happening: Happening, line: &Line) -> Option<Happening> {
-    match (happening, line.message) {
+    match (happening, line.message()) {
         (Happening::Start(worker), Message::Answer(Answer::Error(EventError::Busy))) => {
             Some(Happening::Finish(worker, Ending::Value(0)))
         }

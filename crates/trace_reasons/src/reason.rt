@@ -67,7 +67,7 @@ impl<A: Allocator> fmt::Display for TraceReason<'_, A> {
 
 /// Whether a line ends a task: then it is owed, and no other one could stand.
 fn is_end(line: &Line) -> bool {
-    matches!(line.message, Message::End(_))
+    matches!(line.message(), Message::End(_))
 }
 
 /// A reason with a file's name before it, as `trace.txt:3: "5 start 0 idle": ..`.

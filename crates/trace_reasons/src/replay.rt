@@ -68,9 +68,9 @@ impl<A: Allocator> Replay<A> {
 
     /// Takes the next line. `Err` is a refused growth.
     fn take(&mut self, line: &Line) -> Result<(), AllocError> {
-        match &line.message {
+        match line.message() {
             Message::Answer(said) => {
-                if let Some(happening) = happening_of(line.moment, said) {
+                if let Some(happening) = happening_of(line.moment(), &said) {
                     self.happen(happening)?;
                 }
             }

@@ -60,7 +60,7 @@ fn write_run<W: fmt::Write>(f: &mut fmt::Formatter<W>, run: &[u8]) -> fmt::Resul
 /// Writes a line in quotes, without its newline.
 fn write_line<W: fmt::Write>(f: &mut fmt::Formatter<W>, line: &Line) -> fmt::Result {
     let mut buffer = [0; LINE_ROOM];
-    let end = put_line(&mut buffer, 0, &mut Stamp::new(line.moment), line);
+    let end = put_line(&mut buffer, 0, &mut Stamp::new(line.moment()), line);
     f.write_str("\"")?;
     for byte in &buffer[..end] {
         if *byte != b'\n' {

@@ -1,5 +1,5 @@
 -- The laws of stacks.
-use Rattle.std.proofs.Common.{◌≡◌, ℕ, ◌<◌, ◌==◌, List, [], ◌∷◌, length, refl, ◌∙◌}
+use Rattle.std.proofs.Common.{◌≡◌, ◌<◌, ◌==◌, List, [], ◌∷◌, length, refl, ◌∙◌}
 use Rattle.std.specs.List.{AllByRecursion}
 use Rattle.executor_core.specs.declared.types.Line.{Line}
 use Rattle.svg_elements.specs.declared.words.Glyph.{Glyph}

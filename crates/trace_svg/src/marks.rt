@@ -34,10 +34,10 @@ pub fn put_telling_mark<A: Allocator>(
 ) -> Result<(), AllocError>
     ensures { OnOk result (string_bytes text.new ≡ string_bytes text.old ++ telling_mark window tip.now line) }
 {
-    let glyph = glyph_of(line.message);
+    let glyph = glyph_of(line.message());
     let mark = Mark {
         glyph,
-        x: across(window, line.moment),
+        x: across(window, line.moment()),
         y: height_of(glyph),
         tip,
     };

@@ -129,30 +129,30 @@ pub fn bar_tip<A: Allocator>(alloc: A, name: &str, bar: &Bar) -> Result<String<A
 fn start_line(bar: &Bar) -> Line
     ensures { result ≡ start_line bar.now }
 {
-    Line {
-        moment: bar.first,
-        message: Message::Answer(Answer::Start {
+    Line::new(
+        bar.first,
+        Message::Answer(Answer::Start {
             worker: bar.worker,
             task: bar.task,
             run: bar.run,
             due: bar.due,
         }),
-    }
+    )
 }
 
 /// The trace's line that finishes a run.
 fn finish_line(bar: &Bar, finish: Finish) -> Line
     ensures { result ≡ finish_line bar.now finish }
 {
-    Line {
-        moment: finish.moment,
-        message: Message::Answer(Answer::Finish {
+    Line::new(
+        finish.moment,
+        Message::Answer(Answer::Finish {
             worker: bar.worker,
             task: bar.task,
             run: bar.run,
             outcome: finish.outcome,
         }),
-    }
+    )
 }
 
 /// What a run led to, as a colour.

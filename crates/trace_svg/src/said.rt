@@ -19,8 +19,8 @@ impl fmt::Display for Said {
     ghost output = { λ said. Some (line_text said.0) };
 
     fn fmt<W: fmt::Write>(&self, f: &mut fmt::Formatter<W>) -> fmt::Result {
-        let moment = self.0.moment;
-        match self.0.message {
+        let moment = self.0.moment();
+        match self.0.message() {
             Message::Answer(answer) => {
                 let answer = SaidAnswer(answer);
                 write!(f, "{moment}{answer}")

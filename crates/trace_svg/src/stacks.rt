@@ -76,7 +76,7 @@ fn row_of<A: Allocator>(alloc: A, lines: &[Line], row: Glyph) -> Result<Vec<Line
 fn mark_height(line: &Line) -> u32
     ensures { result ≡ mark_height line.now }
 {
-    height_of(glyph_of(line.message))
+    height_of(glyph_of(line.message()))
 }
 
 /// Appends the stacks that the marks of a row are.
@@ -104,9 +104,9 @@ fn stack_len(window: Window, marks: &[Line]) -> usize
     ensures within { result ≤ length marks.now }
     ensures stack { groups_of (stands_on window) marks.now ≡ take result marks.now ∷ groups_of (stands_on window) (drop result marks.now) }
 {
-    let place = across(window, marks[0].moment);
+    let place = across(window, marks[0].moment());
     for index in 1..marks.len() {
-        if across(window, marks[index].moment) != place {
+        if across(window, marks[index].moment()) != place {
             return index;
         }
     }
@@ -200,7 +200,7 @@ fn stack_across(window: Window, stack: &[Line]) -> u32
     ensures within { result ≤ 1170 }
 {
     match stack.first() {
-        Some(line) => across(window, line.moment),
+        Some(line) => across(window, line.moment()),
         None => 0,
     }
 }

@@ -35,10 +35,12 @@ pub fn front_event(bytes: &[u8]) -> Front
     Front::Event(event, bytes.len() - rest.len())
 }
 
-/// Whether some bytes, which do not begin with an event's line, are too few to tell: no newline is among them, and there is
-/// room for one.
+/// Whether some bytes are a part of a line alone: no newline is among them, and they are fewer than [`MOST_EVENT_BYTES`], so that
+/// more of them may make a line, or show that there is none.
+///
+/// Where [`split_event`] has found no event's line this tells why, as [`front_event`] does, and does not parse the bytes again.
 #[cold]
-fn is_part(bytes: &[u8]) -> bool
+pub fn is_part(bytes: &[u8]) -> bool
     ensures { IsTrue result ↔ IsPart bytes.now }
 {
     bytes.len() < MOST_EVENT_BYTES && memchr(b'\n', bytes).is_none()

@@ -3,7 +3,8 @@
 //! # Usage
 //!
 //! - [`read_event`] reads one line of input, with its newline. [`front_event`] reads at the front of bytes that come piece by
-//!   piece, in one pass, and tells a part of a line from one that is refused. [`split_event`] also gives what follows.
+//!   piece, in one pass, and tells a part of a line from one that is refused. [`split_event`] also gives what follows; where it
+//!   finds no line [`is_part`] tells a part of one.
 //! - [`read_line`] reads one line of a trace, with its newline. [`split_line`] reads at the front of a trace, and also gives what
 //!   follows, so that a trace is read line by line with no search for newlines.
 //! - [`write_line`] appends to a `Vec<u8>`: it makes room and calls [`put_line`], which writes at a place of any slice. In a
@@ -18,13 +19,13 @@
 //! front_event(b"start");             // Front::Part
 //! front_event(b"clock 05\n");        // Front::Refused
 //!
-//! read_line(b"5 end 3\n");           // Some(Line { moment: 5, message: Message::End(3) })
+//! read_line(b"5 end 3\n");           // Some(Line::new(5, Message::End(3)))
 //! read_line(b"5 end 03\n");          // None
 //! let trace = b"5 clock\n5 start 0 idle\n";
 //! split_line(trace);                 // Some((the line of the clock, b"5 start 0 idle\n"))
 //!
 //! let mut text = Vec::with_capacity(alloc, 10 * LINE_ROOM)?;
-//! write_line(&mut text, &Line { moment: 5, message: Message::Answer(Answer::Clock) })?;
+//! write_line(&mut text, &Line::new(5, Message::Answer(Answer::Clock)))?;
 //! text.as_slice();                   // b"5 clock\n"
 //! ```
 //!
@@ -101,7 +102,7 @@ mod text_error;
 mod words;
 
 pub use event::{read_event, split_event};
-pub use front::{Front, MOST_EVENT_BYTES, front_event};
+pub use front::{Front, MOST_EVENT_BYTES, front_event, is_part};
 pub use laws::{
     event_lines_are_one, front_equality_tells, fronts_are_one, fronts_stay, line_room_is_the_limit,
     lines_are_one, lines_end_once, most_event_bytes_is_the_limit, text_error_equality_tells,

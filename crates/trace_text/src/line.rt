@@ -13,9 +13,10 @@ use executor_core::Line;
 pub fn read_line(line: &[u8]) -> Option<Line>
     ensures { SpellsLine line.now result }
 {
-    let Some((read, rest)) = split_line(line) else {
+    let Some(found) = split_line(line) else {
         return None;
     };
+    let (read, rest) = found;
     if !rest.is_empty() {
         return None;
     }
@@ -34,7 +35,7 @@ pub fn split_line(bytes: &[u8]) -> Option<(Line, &[u8])>
     let Some((message, rest)) = split_message(rest) else {
         return None;
     };
-    Some((Line { moment, message }, rest))
+    Some((Line::new(moment, message), rest))
 }
 
 #[cfg(test)]

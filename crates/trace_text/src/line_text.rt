@@ -60,7 +60,7 @@ fn write_line_with_room<A: Allocator>(out: &mut Vec<u8, A>, line: &Line)
     let Ok(()) = out.resize(at + LINE_ROOM, 0) else {
         unreachable!();
     };
-    let end = put_line(out, at, &mut Stamp::new(line.moment), line);
+    let end = put_line(out, at, &mut Stamp::new(line.moment()), line);
     out.truncate(end);
 }
 
@@ -76,9 +76,9 @@ pub fn put_line(buffer: &mut [u8], at: usize, stamp: &mut Stamp, line: &Line) ->
     ensures put { Puts (take at buffer.old) (take result buffer.new) (line_text line.now) }
     ensures stamp { stamp.new ≡ line.now.moment }
 {
-    stamp.turn_to(line.moment);
+    stamp.turn_to(line.moment());
     let at = stamp.put(buffer, at);
-    put_message(buffer, at, line.message)
+    put_message(buffer, at, line.message())
 }
 
 #[cfg(test)]

@@ -22,7 +22,7 @@ use crate::handle::{Handle, notes_of};
 use crate::named::Named;
 use crate::results::{agreed, empty_notes, keep_room, settle, verdict_rooms};
 use crate::shared::Shared;
-use executor_core::{Answer, Core, CoreError, Event, Happening, Line};
+use executor_core::{Answer, Core, CoreError, Event, KeptHappening, Line};
 use heap_allocator::HeapAllocator;
 use queue_code::Code;
 use result_cell::{Note, Verdict};
@@ -256,7 +256,7 @@ impl<N: Named, A: Allocator> Book<N, A> {
 
 impl<N: Named, A: Allocator> Book<N, A> {
     /// What happened, the oldest first: calls of the plan, events, and the cancels of handles that were noted.
-    pub fn happenings(&self) -> &[Happening]
+    pub fn happenings(&self) -> &[KeptHappening]
         ensures items { result.now ≡ self.now.happened }
         ensures book { IsBook N.cells self.now }
         ensures named { (self.now.core.calls ≡ N.calls) × (workers_of self.now.core ≡ N.workers) × (self.now.table ≡ N.table) × (length N.cells ≡ task_count N.calls) }

@@ -14,7 +14,9 @@ ghost use Rattle.worker_pool.specs.own.Moves.{WasMet};
 ghost use Rattle.worker_pool.specs.own.Steps.{IsKept, past_in, Comes, need_in, HasRoom, SamePlan, OnlyOwnGrows, OnlyNoted, NotedFor, Notes, Passes, Completes, MovesOn, part_in, SweepsUpTo};
 
 use crate::moving::move_word;
-use executor_core::{Answer, Core, Event, Happening, Line, Message, Need, make_room};
+use executor_core::{
+    Answer, Core, Event, Happening, KeptHappening, Line, Message, Need, make_room,
+};
 use std::alloc::{AllocError, Allocator};
 use task_word::{CoreCancel, CoreSeat, TaskWords};
 
@@ -23,7 +25,7 @@ use task_word::{CoreCancel, CoreSeat, TaskWords};
 pub struct Desk<A: Allocator> {
     pub core: Core<A>,
     pub seat: CoreSeat<A>,
-    pub happenings: Vec<Happening, A>,
+    pub happenings: Vec<KeptHappening, A>,
     pub lines: Vec<Line, A>,
 }
 
@@ -50,7 +52,8 @@ impl<A: Allocator> Desk<A> {
             × HasRoom self.new.core (vec_len self.new.lines) (vec_capacity self.new.lines) (vec_len self.new.happenings) (vec_capacity self.new.happenings) }
     {
         self.core.cancel(task, &mut self.lines);
-        self.happenings.push_reserved(Happening::Cancel(task));
+        self.happenings
+            .push_reserved(KeptHappening::new(Happening::Cancel(task)));
     }
 
     /// Takes the words of a happening, and lets it happen; or notes the cancel of a task whose word was met cancelled. Says
@@ -73,7 +76,8 @@ impl<A: Allocator> Desk<A> {
         ensures more { (result ≡ false) ⊎ (is_call happening ≡ true) → IsCounted self.new.core × (room_of self.new.core + 1 ≤ room_of self.old.core)
             × HasRoom self.new.core (vec_len self.new.lines) (vec_capacity self.new.lines) (vec_len self.new.happenings) (vec_capacity self.new.happenings) }
     {
-        let need = self.core.need(happening);
+        let foreseen = self.core.foresee(happening);
+        let need = foreseen.need;
         if let Need::Sweep = need {
             self.sweep(words);
             return true;
@@ -83,8 +87,8 @@ impl<A: Allocator> Desk<A> {
             self.note(task);
             return false;
         }
-        self.core.happen(happening, &mut self.lines);
-        self.happenings.push_reserved(happening);
+        self.core.happen_foreseen(foreseen, &mut self.lines);
+        self.happenings.push_reserved(KeptHappening::new(happening));
         true
     }
 }
@@ -152,7 +156,8 @@ impl<A: Allocator> Desk<A> {
     {
         self.sweep_all(words);
         self.core.make_call(&mut self.lines);
-        self.happenings.push_reserved(Happening::Call);
+        self.happenings
+            .push_reserved(KeptHappening::new(Happening::Call));
     }
 }
 
@@ -273,7 +278,7 @@ impl<A: Allocator> Desk<A> {
     pub fn last_answer(&self) -> Option<Answer>
         ensures { (before : List Line) (moment : ℕ) (answer : Answer) → self.now.lines.items ≡ before ++ answer_line moment answer ∷ [] → result ≡ Some answer }
     {
-        match self.lines.last()?.message {
+        match self.lines.last()?.message() {
             Message::Answer(answer) => Some(answer),
             Message::End(_) => None,
         }

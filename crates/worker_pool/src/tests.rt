@@ -18,7 +18,7 @@ use executor_core::{Event, Happening, Line};
 use heap_allocator::HeapAllocator;
 use queue_code::{Code, Instr};
 use result_cell::Verdict;
-use std::alloc::{AllocGlobal, Allocator, Global};
+use std::alloc::{AllocError, AllocGlobal, Allocator, Global};
 use std::marker::Brand;
 use std::process::Abort;
 use std::test::Fail;
@@ -176,6 +176,18 @@ fn step_of<'s, N: Named, A: HeapAllocator>(
     }
 }
 
+/// What happened in a book, the oldest first.
+fn happenings_of<N: Named, A: Allocator>(
+    alloc: Global,
+    book: &Book<N, A>,
+) -> Result<Vec<Happening>, AllocError> {
+    let mut happened = Vec::new(alloc);
+    for kept in book.happenings() {
+        happened.push(kept.happening())?;
+    }
+    Ok(happened)
+}
+
 /// Does the steps in order.
 fn steps_of<'s, N: Named>(
     book: &mut Book<N, Global>,
@@ -190,8 +202,7 @@ fn steps_of<'s, N: Named>(
     for step in steps {
         told.push(step_of(book, shared, &mut handles, *step)?)?;
     }
-    let mut happened = Vec::new(alloc);
-    happened.extend_from_slice(book.happenings())?;
+    let happened = happenings_of(alloc, book)?;
     let mut lines = Vec::new(alloc);
     lines.extend_from_slice(book.lines())?;
     Ok(Played {

@@ -58,10 +58,7 @@ impl<A: Allocator> Core<A> {
             CodeCall::Cancel { task } => self.cancel_by_plan(task),
             CodeCall::Ask => self.ask(),
         };
-        out.push_reserved(Line {
-            moment: self.moment,
-            message: Message::Answer(answer),
-        });
+        out.push_reserved(Line::new(self.moment, Message::Answer(answer)));
     }
 
     /// The next call submits a task: it is refused where the executor is shut.

@@ -33,10 +33,7 @@ impl<A: Allocator> Core<A> {
         ensures capacity { vec_capacity out.new ≡ vec_capacity out.old }
     {
         let answer = self.answer_cancel(task);
-        out.push_reserved(Line {
-            moment: self.moment,
-            message: Message::Answer(answer),
-        });
+        out.push_reserved(Line::new(self.moment, Message::Answer(answer)));
     }
 
     /// What a cancel from outside the plan is answered.

@@ -31,10 +31,7 @@ impl<A: Allocator> Core<A> {
         ensures capacity { vec_capacity out.new ≡ vec_capacity out.old }
     {
         let answer = self.answer_clock(moment);
-        out.push_reserved(Line {
-            moment: self.moment,
-            message: Message::Answer(answer),
-        });
+        out.push_reserved(Line::new(self.moment, Message::Answer(answer)));
     }
 
     /// Why a clock that shows this moment is refused, and `None` where it is accepted.

@@ -3,12 +3,15 @@ ghost use Rattle.std.specs.Prelude.{◌≡◌, ℕ, ◌+◌, ◌≤◌, ◌↔�
 ghost use Rattle.executor_core.specs.Flows.{happening_of, CallComes, EventComes};
 ghost use Rattle.executor_core.specs.Histories.{MayFrom, is_call};
 ghost use Rattle.executor_core.specs.Needs.{need_of};
+ghost use Rattle.executor_core.specs.Foresight.{foresight};
 ghost use Rattle.executor_core.specs.State.{reply_of};
 ghost use Rattle.executor_core.specs.declared.types.Happening.TheVariants as h;
 ghost use Rattle.executor_core.specs.declared.types.Answer.TheVariants as answer;
 ghost use Rattle.executor_core.specs.declared.types.CancelEffect.TheVariants as effect;
 
 use super::Core;
+use super::needs::need_of_end;
+use crate::foreseen::Foreseen;
 use crate::types::{Event, Happening, Line, Need};
 use sched_time::LONGEST;
 use std::alloc::Allocator;
@@ -75,6 +78,27 @@ impl<A: Allocator> Core<A> {
         }
     }
 
+    /// What one look tells of a happening, so that a layer that moves words of its own first, and then lets it
+    /// [happen](Core::happen_foreseen), has its outcome worked out once.
+    #[inline(always)]
+    pub fn foresee(&self, happening: Happening) -> Foreseen
+        ensures { result ≡ foresight self.now happening }
+    {
+        if let Happening::Finish(worker, ending) = happening {
+            let end = self.run_end(worker, ending);
+            return Foreseen {
+                happening,
+                need: need_of_end(end),
+                end,
+            };
+        }
+        Foreseen {
+            happening,
+            need: self.need(happening),
+            end: None,
+        }
+    }
+
     /// A happening comes: its line is added, and one for each task that it ends, for which `out` has room.
     ///
     /// It [may come](Core::may_come), and where it is a start, the task that it gets, which [`need`](Core::need) names, has in
@@ -100,6 +124,32 @@ impl<A: Allocator> Core<A> {
             Happening::Start(worker) => self.start(worker, out),
             Happening::Finish(worker, ending) => self.finish(worker, ending, out),
             Happening::Cancel(task) => self.cancel(task, out),
+        }
+    }
+
+    /// A happening comes, as it was [foreseen](Core::foresee): the core is as it was then. The rest is as with
+    /// [`happen`](Core::happen).
+    #[inline(always)]
+    pub fn happen_foreseen<B: Allocator>(&mut self, foreseen: Foreseen, out: &mut Vec<Line, B>)
+        requires foreseen { foreseen ≡ foresight self.old foreseen.happening }
+        requires comes { MayFrom self.old.calls self.old.made self.old.moment foreseen.happening }
+        requires counted { RunsBelowTaken self.old foreseen.need }
+        requires room { vec_len out.old + room_of self.old ≤ vec_capacity out.old }
+        ensures steps { Steps self.old self.new out.old.items out.new.items (foreseen.happening ∷ []) }
+        ensures history { ContinuesAny self.old self.new out.old.items out.new.items foreseen.happening }
+        ensures leaves { Leaves self.old self.new (vec_len out.old) (vec_len out.new) }
+        ensures call { is_call foreseen.happening ≡ true → GivesRoom self.old self.new (vec_len out.old) (vec_len out.new) }
+        ensures effective { (task : ℕ) → foreseen.happening ≡ h.Cancel task
+            → (reply_of self.old.calls (workers_of self.old) (state_of self.old) foreseen.happening).answer ≡ answer.Outside task effect.Yes
+            → GivesRoom self.old self.new (vec_len out.old) (vec_len out.new) }
+        ensures counted { comes_before_event foreseen.happening ≡ true → IsCounted self.old → IsCounted self.new }
+        ensures capacity { vec_capacity out.new ≡ vec_capacity out.old }
+    {
+        match foreseen.happening {
+            Happening::Finish(worker, ending) => {
+                self.finish_as(worker, ending, foreseen.end, out);
+            }
+            _ => self.happen(foreseen.happening, out),
         }
     }
 }

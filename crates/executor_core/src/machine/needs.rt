@@ -7,10 +7,12 @@ ghost use Rattle.executor_core.specs.Flows.{ReachesNext, reached};
 ghost use Rattle.executor_core.specs.Histories.{AreMade, is_end};
 ghost use Rattle.executor_core.specs.State.{reply_of, vacant, view_of_state};
 ghost use Rattle.executor_core.specs.Needs.{need_of, need_of_finish, IsRipe};
+ghost use Rattle.executor_core.specs.Foresight.{need_of_end};
 
 use super::Core;
 use super::cancels::effect_on;
 use super::sweeps::setting_sweeps;
+use crate::foreseen::RunEnd;
 use crate::types::{CancelEffect, Need, Outcome};
 use delay_queue::{DelayQueue, Entry};
 use queue_code::CodeCall;
@@ -113,16 +115,7 @@ impl<A: Allocator> Core<A> {
     pub fn finish_need(&self, worker: u8, ending: Ending) -> Need
         ensures { result ≡ need_of self.now.calls (workers_of self.now) (state_of self.now) (happening.Finish worker ending) }
     {
-        let place = worker as usize;
-        if place >= self.work.len() {
-            return Need::Nothing;
-        }
-        let Some(number) = self.work[place] else {
-            return Need::Nothing;
-        };
-        let task = self.tasks.get(number as usize);
-        let (outcome, _) = self.end_of_run(task, ending);
-        need_of_finish(number, outcome)
+        need_of_end(self.run_end(worker, ending))
     }
 
     /// The word moves of a cancel of this task from outside the plan.
@@ -167,6 +160,17 @@ fn first_due<A: Allocator>(queue: &DelayQueue<A>, now: u64) -> Option<Entry>
         return None;
     }
     Some(entry)
+}
+
+/// The word moves of the end of a run, where one ends.
+#[inline(always)]
+pub fn need_of_end(end: Option<RunEnd>) -> Need
+    ensures { result ≡ need_of_end end }
+{
+    match end {
+        Some(end) => need_of_finish(end.task, end.outcome),
+        None => Need::Nothing,
+    }
 }
 
 /// The word moves of the end of a run of a task with this outcome.

@@ -39,10 +39,10 @@ impl<A: Allocator> Core<A> {
     {
         self.moment = self.calls.pass();
         self.policies = self.policies.with(which, value);
-        out.push_reserved(Line {
-            moment: self.moment,
-            message: Message::Answer(Answer::Policy { which, value }),
-        });
+        out.push_reserved(Line::new(
+            self.moment,
+            Message::Answer(Answer::Policy { which, value }),
+        ));
         if setting_sweeps(self.shut, which, value) {
             self.sweep(out);
         }
@@ -62,17 +62,11 @@ impl<A: Allocator> Core<A> {
     {
         self.moment = self.calls.pass();
         if self.shut {
-            out.push_reserved(Line {
-                moment: self.moment,
-                message: Message::Answer(Answer::ShutdownAgain),
-            });
+            out.push_reserved(Line::new(self.moment, Message::Answer(Answer::ShutdownAgain)));
             return;
         }
         self.shut = true;
-        out.push_reserved(Line {
-            moment: self.moment,
-            message: Message::Answer(Answer::Shutdown),
-        });
+        out.push_reserved(Line::new(self.moment, Message::Answer(Answer::Shutdown)));
         self.sweep(out);
     }
 
@@ -91,10 +85,7 @@ impl<A: Allocator> Core<A> {
         self.moment = self.calls.pass();
         self.shut = true;
         self.stopped = true;
-        out.push_reserved(Line {
-            moment: self.moment,
-            message: Message::Answer(Answer::ShutdownNow),
-        });
+        out.push_reserved(Line::new(self.moment, Message::Answer(Answer::ShutdownNow)));
         self.sweep(out);
     }
 
@@ -223,10 +214,7 @@ impl<A: Allocator> Core<A> {
     {
         self.tasks.cancel(task);
         self.queue.remove(task as u32);
-        out.push_reserved(Line {
-            moment: self.moment,
-            message: Message::End(task as u32),
-        });
+        out.push_reserved(Line::new(self.moment, Message::End(task as u32)));
     }
 
     /// Drops the kept tasks from the queue.

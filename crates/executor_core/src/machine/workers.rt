@@ -6,12 +6,14 @@ ghost use Rattle.executor_core.specs.declared.types.Happening.TheVariants as hap
 ghost use Rattle.sched_time.specs.Dues.{next_due};
 ghost use Rattle.sched_time.specs.Times.{longest};
 ghost use Rattle.executor_core.specs.Needs.{need_of};
+ghost use Rattle.executor_core.specs.Foresight.{end_in, need_of_end};
 ghost use Rattle.executor_core.specs.State.{due_past, vacant};
 ghost use Rattle.executor_core.specs.own.OwnSteps.{finished_task, queued_again, is_met};
 ghost use Rattle.sched_time.specs.declared.timing.Timing.{Timing};
 ghost use Rattle.executor_core.specs.Answers.{outcome_in, stops_periodic};
 
 use super::Core;
+use crate::foreseen::RunEnd;
 use crate::task::Task;
 use crate::tasks::Tasks;
 use crate::types::{Answer, EventError, Line, Message, Outcome};
@@ -38,10 +40,7 @@ impl<A: Allocator> Core<A> {
         ensures capacity { vec_capacity out.new ≡ vec_capacity out.old }
     {
         let answer = self.answer_start(worker);
-        out.push_reserved(Line {
-            moment: self.moment,
-            message: Message::Answer(answer),
-        });
+        out.push_reserved(Line::new(self.moment, Message::Answer(answer)));
     }
 
     /// What a worker that asks for work is answered.
@@ -99,16 +98,34 @@ impl<A: Allocator> Core<A> {
         ensures leaves { Leaves self.old self.new (vec_len out.old) (vec_len out.new) }
         ensures capacity { vec_capacity out.new ≡ vec_capacity out.old }
     {
-        let answer = self.answer_finish(worker, ending);
-        out.push_reserved(Line {
-            moment: self.moment,
-            message: Message::Answer(answer),
-        });
+        let end = self.run_end(worker, ending);
+        self.finish_as(worker, ending, end, out);
     }
 
-    /// What a worker whose run ended is answered.
+    /// The run of a worker ended, and this was told of its end.
     #[inline(always)]
-    fn answer_finish(&mut self, worker: u8, ending: Ending) -> Answer
+    pub(super) fn finish_as<B: Allocator>(
+        &mut self,
+        worker: u8,
+        ending: Ending,
+        end: Option<RunEnd>,
+        out: &mut Vec<Line, B>,
+    )
+        requires end { end ≡ end_in self.old (happening.Finish worker ending) }
+        requires room { vec_len out.old + room_of self.old ≤ vec_capacity out.old }
+        ensures steps { Steps self.old self.new out.old.items out.new.items (happening.Finish worker ending ∷ []) }
+        ensures history { ContinuesAny self.old self.new out.old.items out.new.items (happening.Finish worker ending) }
+        ensures leaves { Leaves self.old self.new (vec_len out.old) (vec_len out.new) }
+        ensures capacity { vec_capacity out.new ≡ vec_capacity out.old }
+    {
+        let answer = self.answer_finish(worker, ending, end);
+        out.push_reserved(Line::new(self.moment, Message::Answer(answer)));
+    }
+
+    /// What a worker is answered whose run ended so, where this was told of its end.
+    #[inline(always)]
+    fn answer_finish(&mut self, worker: u8, ending: Ending, end: Option<RunEnd>) -> Answer
+        requires { end ≡ end_in self.old (happening.Finish worker ending) }
         ensures step { Takes self.old self.new (happening.Finish worker ending) result }
         ensures size { length self.new.tasks ≡ length self.old.tasks }
     {
@@ -116,26 +133,54 @@ impl<A: Allocator> Core<A> {
         if place >= self.work.len() {
             return Answer::Error(EventError::NoWorker);
         }
-        let Some(number) = self.work[place] else {
+        let Some(end) = end else {
             return Answer::Error(EventError::NotRunning);
         };
-        let task = self.tasks.get(number as usize);
-        let run = u64::from(task.run);
-        let (outcome, due) = self.end_of_run(task, ending);
-        end_run(&mut self.tasks, number as usize, outcome, due);
+        let RunEnd {
+            task,
+            run,
+            due,
+            outcome,
+        } = end;
+        end_run(&mut self.tasks, task as usize, outcome, due);
         self.work[place] = None;
-        queue_if_again(&mut self.queue, number, outcome);
+        queue_if_again(&mut self.queue, task, outcome);
         Answer::Finish {
             worker,
-            task: number,
-            run,
+            task,
+            run: u64::from(run),
             outcome,
         }
     }
 
+    /// The end of the run of a worker, whose run ended so, where one is under way.
+    #[inline(always)]
+    pub(super) fn run_end(&self, worker: u8, ending: Ending) -> Option<RunEnd>
+        ensures end { result ≡ end_in self.now (happening.Finish worker ending) }
+        ensures need { need_of_end result ≡ need_of self.now.calls (workers_of self.now) (state_of self.now) (happening.Finish worker ending) }
+    {
+        let place = worker as usize;
+        if place >= self.work.len() {
+            return None;
+        }
+        let Some(number) = self.work[place] else {
+            return None;
+        };
+        let task = self.tasks.get(number as usize);
+        let run = task.run;
+        let (outcome, due) = self.end_of_run(task, ending);
+        Some(RunEnd {
+            task: number,
+            run,
+            due,
+            outcome,
+        })
+    }
+
     /// What the end of the run of a task leads to, and the due moment that the task holds from then on: that of the run after
     /// it, where one would come.
-    pub(super) fn end_of_run(&self, task: Task, ending: Ending) -> (Outcome, u64)
+    #[inline(always)]
+    fn end_of_run(&self, task: Task, ending: Ending) -> (Outcome, u64)
         requires { task.due ≤ longest }
         ensures outcome { result.0 ≡ outcome_in task.cancelled (stops_periodic self.now.shut self.now.stopped self.now.policies) task.timing (due_past task.timing task.due self.now.moment) ending }
         ensures due { result.1 ≡ due_past task.timing task.due self.now.moment }

@@ -1,7 +1,9 @@
 //! Cores by themselves, as their callers see them.
+mod foreseen;
 mod heap;
 mod loops;
 mod needs;
+mod shapes;
 mod singles;
 mod sizes;
 mod sweeps;
@@ -117,7 +119,7 @@ fn lines_after(
 fn text_of_lines(alloc: Global, lines: &[Line]) -> Result<String, Fail> {
     let mut text = String::new(alloc);
     for line in lines {
-        writeln!(text, "{} {:?}", line.moment, line.message)?;
+        writeln!(text, "{} {:?}", line.moment(), line.message())?;
     }
     Ok(text)
 }

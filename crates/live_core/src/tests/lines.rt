@@ -25,7 +25,7 @@ fn add<A: Allocator, B: Allocator>(
 fn compare(rt: &impl Abort, lines: &[Line], wanted: &[Said]) {
     assert_eq!(rt; lines.len(), wanted.len());
     for (place, (line, said)) in lines.iter().zip(wanted).enumerate() {
-        assert_eq!(rt; (line.moment, line.message), *said, "line {place}");
+        assert_eq!(rt; (line.moment(), line.message()), *said, "line {place}");
     }
 }
 

@@ -9,10 +9,7 @@ use std::test::Fail;
 
 /// The line of an answer.
 fn line(moment: u64, answer: Answer) -> Line {
-    Line {
-        moment,
-        message: Message::Answer(answer),
-    }
+    Line::new(moment, Message::Answer(answer))
 }
 
 #[test]

@@ -1,6 +1,6 @@
 -- Beside `specs/PoolRuns`: what an ended book tells, and its text.
 -- All of it is this project's rule.
-use Rattle.std.specs.Prelude.{◌≡◌, ◌≢◌, ℕ, List, ◌∷◌, Option, Bool, true, false, take}
+use Rattle.std.specs.Prelude.{◌≡◌, ◌≢◌, ℕ, List, ◌∷◌, ◌++◌, Option, Bool, true, false, take}
 use Rattle.std.specs.Io.KnownBytes.{Appends}
 use Rattle.executor_core.specs.declared.Happening.{Happening}
 use Rattle.executor_core.specs.declared.Happening.TheVariants as h
@@ -18,6 +18,12 @@ pub record IsRested (b : BookView) (moments : List ℕ) : Type 0 where
 -- a happening is a clock, and these moments do not begin with its moment
 abbrev pub ShowsAnother : Happening → List ℕ → Type 0
 ShowsAnother happening moments = (t : ℕ) × (happening ≡ h.Clock t) × ((rest : List ℕ) → moments ≢ t ∷ rest)
+
+-- `true`: the clocks so far show the first of these moments, and the others are left; `false`: they do not show the first of them,
+-- whatever follows
+abbrev pub ShowsSoFar : Bool → List ℕ → List ℕ → List ℕ → Type 0
+ShowsSoFar true so_far left moments = so_far ++ left ≡ moments
+ShowsSoFar false so_far left moments = (later : List ℕ) → so_far ++ later ≢ moments
 
 -- `true`: the whole text was appended; `false`: a front of it
 abbrev pub TextWritten : Bool → Option (List ℕ) → Option (List ℕ) → List ℕ → Type 0

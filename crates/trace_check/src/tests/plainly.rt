@@ -77,10 +77,11 @@ fn happen_plainly(
     happened: &mut Vec<Happening>,
 ) -> Result<bool, AllocError> {
     for i in 0..lines.len() {
-        let Message::Answer(answer) = lines[i].message else {
+        let Message::Answer(answer) = lines[i].message() else {
             continue;
         };
-        let Some(happening) = plain_happening(workers, &lines[..i], lines[i].moment, answer) else {
+        let Some(happening) = plain_happening(workers, &lines[..i], lines[i].moment(), answer)
+        else {
             return Ok(false);
         };
         if !may_come(calls, happened, happening) {
@@ -135,7 +136,7 @@ fn first_worker(workers: u8, before: &[Line], wanted: bool) -> Option<u8> {
 fn is_busy(before: &[Line], asked: u8) -> bool {
     let mut is_busy = false;
     for line in before {
-        match line.message {
+        match line.message() {
             Message::Answer(Answer::Start { worker, .. }) if worker == asked => is_busy = true,
             Message::Answer(Answer::Finish { worker, .. }) if worker == asked => is_busy = false,
             _ => {}

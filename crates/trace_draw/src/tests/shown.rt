@@ -93,11 +93,11 @@ fn all_but_starts_and_finishes_are_marks(rt: HostRuntime) -> Result<(), Fail> {
     let marks = shown.marks();
     assert_eq!(rt; marks.len(), 4);
     assert_eq!(rt;
-        marks[0].message,
+        marks[0].message(),
         Message::Answer(Answer::Idle { worker: 0 })
     );
-    assert_eq!(rt; marks[1].message, Message::Answer(Answer::Clock));
-    assert_eq!(rt; marks[3].message, Message::Answer(Answer::ShutdownNow));
+    assert_eq!(rt; marks[1].message(), Message::Answer(Answer::Clock));
+    assert_eq!(rt; marks[3].message(), Message::Answer(Answer::ShutdownNow));
     let others =
         "0 end 3\n0 error busy\n0 policy remove true\n0 ask queue 1 running 0 shutdown no terminated no\n";
     let shown = drawn(&rt, others, 0, 0, 2000)??;

@@ -1,5 +1,5 @@
 //! Fronts of bytes by hand.
-use crate::front::{Front, MOST_EVENT_BYTES, front_event};
+use crate::front::{Front, MOST_EVENT_BYTES, front_event, is_part};
 use executor_core::Event;
 use sched_time::Ending;
 use std::process::Abort;
@@ -47,4 +47,16 @@ fn refuses_the_rest(rt: HostRuntime) {
     is_front(&rt, b"start 256\nstart 0\n", Front::Refused);
     is_front(&rt, &[b'x'; MOST_EVENT_BYTES], Front::Refused);
     is_front(&rt, &[b'0'; 1_000], Front::Refused);
+}
+
+#[test]
+fn tells_a_part_of_a_line(rt: HostRuntime) {
+    for part in [&b""[..], b"clock 5", b"clock 05", b"nothing"] {
+        assert!(rt; is_part(part));
+    }
+    assert!(rt; is_part(&[b'x'; MOST_EVENT_BYTES - 1]));
+    for other in [&b"\n"[..], b"clock 5\n", b"clock 05\nstart"] {
+        assert!(rt; !is_part(other));
+    }
+    assert!(rt; !is_part(&[b'x'; MOST_EVENT_BYTES]));
 }

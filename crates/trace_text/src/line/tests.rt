@@ -5,6 +5,7 @@ use crate::line::{read_line, split_line};
 use crate::line_text::write_line;
 use executor_core::{Answer, Line, Message};
 use std::process::Abort;
+use std::test::Fail;
 
 mod others;
 mod runs;
@@ -18,7 +19,7 @@ fn reads(rt: &(impl AllocGlobal + Abort), moment: u64, answer: Answer, text: &st
 
 /// Checks that a text is read as a line, and that the line is written so.
 fn reads_message(rt: &(impl AllocGlobal + Abort), moment: u64, message: Message, text: &str) {
-    let line = Line { moment, message };
+    let line = Line::new(moment, message);
     let read = read_line(text.as_bytes());
     assert!(rt; read == Some(line), "{text}: {read:?}");
     let mut out = Vec::new(rt.alloc());
@@ -79,31 +80,19 @@ fn reads_no_other(rt: &(impl AllocGlobal + Abort), text: &[u8]) {
 }
 
 #[test]
-fn gives_what_follows_a_line(rt: HostRuntime) {
-    let text = b"5 clock\n5 start 0 idle\n5";
-    let (first, rest) = split_line(text).expect(&rt, "a first line");
-    assert!(rt;
-        first
-            == Line {
-                moment: 5,
-                message: Message::Answer(Answer::Clock)
-            },
-        "{first:?}"
-    );
-    let (second, rest) = split_line(rest).expect(&rt, "a second line");
+fn gives_what_follows_a_line(rt: HostRuntime) -> Result<(), Fail> {
+    let Some(first) = split_line(b"5 clock\n5 start 0 idle\n5") else {
+        return Err(Fail::from("a first line"));
+    };
+    assert_eq!(rt; first.0, Line::new(5, Message::Answer(Answer::Clock)));
+    let Some(second) = split_line(first.1) else {
+        return Err(Fail::from("a second line"));
+    };
     let idle = Message::Answer(Answer::Idle { worker: 0 });
-    assert!(rt;
-        second
-            == Line {
-                moment: 5,
-                message: idle
-            },
-        "{second:?}"
-    );
-    assert!(rt;
-        rest == b"5".as_slice() && split_line(rest).is_none(),
-        "{rest:?}"
-    );
+    assert_eq!(rt; second.0, Line::new(5, idle));
+    assert_eq!(rt; second.1, b"5".as_slice());
+    assert!(rt; split_line(second.1).is_none());
+    Ok(())
 }
 
 #[test]

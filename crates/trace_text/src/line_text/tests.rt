@@ -14,7 +14,7 @@ fn writes(rt: &(impl AllocGlobal + Abort), moment: u64, answer: Answer, text: &s
 /// Checks the text of one line.
 fn writes_message(rt: &(impl AllocGlobal + Abort), moment: u64, message: Message, text: &str) {
     let mut out = Vec::new(rt.alloc());
-    let said = write_line(&mut out, &Line { moment, message });
+    let said = write_line(&mut out, &Line::new(moment, message));
     assert!(rt; said.is_ok(), "{text}");
     assert!(rt; out.as_slice() == text.as_bytes(), "{text}");
 }

@@ -15,7 +15,7 @@ fn lines_in_a_row_have_their_moments(rt: HostRuntime) {
     for moment in [4, 4, u64::MAX, u64::MAX, 0, 12, 12] {
         assert!(rt; buffer.len().saturating_sub(end) >= LINE_ROOM);
         let message = Message::Answer(Answer::Clock);
-        end = put_line(&mut buffer, end, &mut stamp, &Line { moment, message });
+        end = put_line(&mut buffer, end, &mut stamp, &Line::new(moment, message));
     }
     assert!(rt; end <= buffer.len());
     assert!(rt; &buffer[..end] == TEXT.as_bytes());

@@ -7,7 +7,7 @@ ghost use Rattle.queue_code.specs.Calls.{task_count};
 ghost use Rattle.queue_code.specs.Codes.{calls_of};
 ghost use Rattle.task_word.specs.Views.{new_core};
 
-use super::{Handles, Step, Told, check_lines, code_with_halt, step_of};
+use super::{Handles, Step, Told, check_lines, code_with_halt, happenings_of, step_of};
 use crate::{Book, Named, PoolError, Shared};
 use executor_core::{Happening, Line};
 use heap_allocator::HeapAllocator;
@@ -159,8 +159,7 @@ fn shown_by<N: Named, A: HeapAllocator>(
     book: &Book<N, A>,
     handles: &mut Handles<'_, N, A>,
 ) -> Result<Shown, Fail> {
-    let mut happened = Vec::new(alloc);
-    happened.extend_from_slice(book.happenings())?;
+    let happened = happenings_of(alloc, book)?;
     let mut lines = Vec::new(alloc);
     lines.extend_from_slice(book.lines())?;
     let mut states = Vec::new(alloc);

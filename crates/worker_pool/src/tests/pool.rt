@@ -13,6 +13,7 @@ ghost use Rattle.queue_code.specs.Calls.{task_count};
 ghost use Rattle.queue_code.specs.Codes.{calls_of};
 ghost use Rattle.task_word.specs.Views.{new_core};
 
+use super::happenings_of;
 use crate::{Applied, Book, Handle, Job, Named, Pool, PoolError, Shared};
 use executor_core::{Answer, Happening, Line, Message, Outcome};
 use plan_read::Plan;
@@ -139,7 +140,7 @@ fn conforms(
 /// Whether a line says that a task is done, with the value 1.
 fn is_done(line: &Line) -> bool {
     matches!(
-        line.message,
+        line.message(),
         Message::Answer(Answer::Finish {
             outcome: Outcome::Done(1),
             ..
@@ -192,8 +193,7 @@ fn told_by<N: Named>(
         results.push(handle.result(task))?;
         agreed.push(book.agrees(shared, handle, task))?;
     }
-    let mut happened = Vec::new(alloc);
-    happened.extend_from_slice(book.happenings())?;
+    let happened = happenings_of(alloc, book)?;
     let mut lines = Vec::new(alloc);
     lines.extend_from_slice(book.lines())?;
     Ok(Played {

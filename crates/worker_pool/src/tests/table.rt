@@ -93,7 +93,7 @@ fn found(
 
 /// What a line says that a cancel of this task from outside did, if it says that.
 fn outside(line: &Line, task: u32) -> Option<CancelEffect> {
-    match line.message {
+    match line.message() {
         Message::Answer(Answer::Outside { task: of, effect }) if of == task => Some(effect),
         _ => None,
     }

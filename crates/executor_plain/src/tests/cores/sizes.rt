@@ -47,14 +47,8 @@ fn cores_of_each_number_of_workers(rt: HostRuntime) -> Result<(), Fail> {
 fn a_core_without_calls(rt: HostRuntime) -> Result<(), Fail> {
     let moment = 9;
     let lines = [
-        Line {
-            moment,
-            message: Message::Answer(Answer::Clock),
-        },
-        Line {
-            moment,
-            message: Message::Answer(Answer::Idle { worker: 0 }),
-        },
+        Line::new(moment, Message::Answer(Answer::Clock)),
+        Line::new(moment, Message::Answer(Answer::Idle { worker: 0 })),
     ];
     for workers in 1..=64 {
         let out = lines_after(&rt, &[], workers, &[Event::Clock(9), Event::Start(0)])?;
@@ -127,7 +121,7 @@ fn end_with_the_last_start(rt: &impl Abort, lines: &[Line]) {
     };
     assert_eq!(rt; lines.len(), 65_601);
     assert_eq!(rt;
-        lines.get(65_600).map(|line| line.message),
+        lines.get(65_600).map(|line| line.message()),
         Some(Message::Answer(last))
     );
 }

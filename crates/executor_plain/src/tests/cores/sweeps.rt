@@ -19,7 +19,7 @@ fn plan_of_thousand(alloc: Global, last: Instr) -> Result<Vec<Instr>, Fail> {
 /// Checks what a line says, which was said at moment 3.
 fn line_says(rt: &impl Abort, line: Option<&Line>, message: Message) {
     let moment = 3;
-    assert_eq!(rt; line.copied(), Some(Line { moment, message }));
+    assert_eq!(rt; line.copied(), Some(Line::new(moment, message)));
 }
 
 /// Checks the lines of a thousand tasks that end behind this answer, and of the calls before and behind them.
@@ -57,11 +57,11 @@ fn one_clock_ends_a_thousand_tasks(rt: HostRuntime) -> Result<(), Fail> {
 fn finishes_and_ends(alloc: Global, lines: &[Line]) -> Result<String, Fail> {
     let mut text = String::new(alloc);
     for line in lines {
-        match line.message {
+        match line.message() {
             Message::Answer(Answer::Finish { task, outcome, .. }) => {
-                write!(text, "{} {task} {outcome:?}; ", line.moment)?;
+                write!(text, "{} {task} {outcome:?}; ", line.moment())?;
             }
-            Message::End(task) => write!(text, "{} {task} ends; ", line.moment)?,
+            Message::End(task) => write!(text, "{} {task} ends; ", line.moment())?,
             Message::Answer(_) => {}
         }
     }

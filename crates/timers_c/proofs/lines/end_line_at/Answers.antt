@@ -1,5 +1,6 @@
-use Rattle.std.proofs.Common.{◌≡◌, ◌<◌, ◌^◌, true, length, slice_index_or, refl, sym, rules}
+use Rattle.std.proofs.Common.{◌≡◌, ◌<◌, ◌^◌, true, Some, length, slice_index_or, refl, sym, ap, ◌∙◌, rules}
 use Rattle.std.proofs.lemmas.Option.{slice_get_read}
+use Rattle.executor_core.specs.declared.types.Line.{Line}
 use Rattle.timers_c.specs.Texts.{is_narrow}
 use Rattle.timers_c.proofs.Spelled.{line_there, narrow_there}
 use Rattle.timers_c.proofs.lines.end_line_at.Goals as goal
@@ -18,4 +19,4 @@ returns c =
     let ended = c.args.ended.now in let place = c.args.place in let task = c.in-Some.task.now in
     let within : place < length ended = search rules in
     let is : task ≡ slice_index_or ended place task = search rules in
-    sym (line_there c.args.moment ended place task (slice_get_read ended (length ended) place task refl within is))
+    ap (λ (line : Line). Some line) c.new.ensures ∙ sym (line_there c.args.moment ended place task (slice_get_read ended (length ended) place task refl within is))

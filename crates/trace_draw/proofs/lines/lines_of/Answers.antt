@@ -21,6 +21,6 @@ returns-in_default-clause-error g c =
 pub loop-rest-preserved : goal.loop-rest-preserved
 loop-rest-preserved g c =
     rw c.in_ok-push.ensures.items (record {
-      fit = fit_more c.loop-rest.lines.items c.in-Some.line c.loop-rest.invariant.fit c.in-Some.ensures.0;
-      spelled = goes_on c.args.text.now c.loop-rest.lines.items c.in-Some.line c.loop-rest.rest.now c.in-Some.behind.now c.loop-rest.invariant.spelled c.in-Some.ensures.1;
+      fit = fit_more c.loop-rest.lines.items c.in-Some.found.0 c.loop-rest.invariant.fit c.in-Some.ensures.0;
+      spelled = goes_on c.args.text.now c.loop-rest.lines.items c.in-Some.found.0 c.loop-rest.rest.now c.in-Some.found.1.now c.loop-rest.invariant.spelled c.in-Some.ensures.1;
     })

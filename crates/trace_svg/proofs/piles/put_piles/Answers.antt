@@ -1,7 +1,7 @@
 use Rattle.std.proofs.Common.{◌≡◌, ◌∷◌, map, string_bytes, sym, ap₂, ◌∙◌}
 use Rattle.trace_svg.specs.Groups.{groups_of}
 use Rattle.trace_svg.specs.Piles.{lies_on, pile_text}
-use Rattle.trace_svg.proofs.Groups.{one_written, all_written}
+use Rattle.trace_svg.proofs.Groups.{one_written}
 use Rattle.trace_svg.proofs.piles.put_piles.Goals as goal
 
 pub loop-rest-preserved : goal.loop-rest-preserved

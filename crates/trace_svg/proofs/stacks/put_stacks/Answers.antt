@@ -1,7 +1,7 @@
 use Rattle.std.proofs.Common.{◌≡◌, ◌∷◌, string_bytes, sym, ap₂, ◌∙◌}
 use Rattle.trace_svg.specs.Groups.{groups_of}
 use Rattle.trace_svg.specs.Stacks.{stack_text, stands_on}
-use Rattle.trace_svg.proofs.Groups.{one_written, all_written}
+use Rattle.trace_svg.proofs.Groups.{one_written}
 use Rattle.trace_svg.proofs.stacks.put_stacks.Goals as goal
 
 pub loop-rest-preserved : goal.loop-rest-preserved

@@ -1,4 +1,4 @@
-use Rattle.std.proofs.Common.{◌≡◌, ℕ, List, ◌++◌, string_bytes, ap, ◌∙◌}
+use Rattle.std.proofs.Common.{◌≡◌, ◌++◌, string_bytes, ap, ◌∙◌}
 use Rattle.std.specs.Prelude.{flat_map}
 use Rattle.trace_text.specs.Spelling.{line_text}
 use Rattle.trace_svg.specs.Runs.{telling_mark}

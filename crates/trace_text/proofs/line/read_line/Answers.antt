@@ -9,4 +9,4 @@ returns-in_default c = λ line fits h. c.in_default.ensures line [] fits (h ∙ 
 pub returns-then-not-is_empty : goal.returns-then-not-is_empty
 returns-then-not-is_empty c =
     let front = c.in-Some.ensures in
-    nothing_behind_line c.args.line.now c.in-Some.rest.now c.in-Some.read front.0 front.1 c.if-not-is_empty.ensures
+    nothing_behind_line c.args.line.now c.in-Some.found.1.now c.in-Some.found.0 front.0 front.1 c.if-not-is_empty.ensures

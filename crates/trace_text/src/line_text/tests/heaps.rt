@@ -6,21 +6,21 @@ use linked_list_allocator::LocalHeap;
 use std::test::Fail;
 
 /// The line with the longest text.
-const LONGEST: Line = Line {
-    moment: u64::MAX,
-    message: Message::Answer(Answer::Finish {
+fn longest() -> Line {
+    let answer = Answer::Finish {
         worker: 255,
         task: u32::MAX,
         run: u64::MAX,
         outcome: Outcome::Again(u64::MAX),
-    }),
-};
+    };
+    Line::new(u64::MAX, Message::Answer(answer))
+}
 
 #[test]
 fn takes_the_room_of_a_line(rt: HostRuntime) -> Result<(), Fail> {
     let heap = LocalHeap::new(rt.alloc(), LINE_ROOM)?;
     let mut text = Vec::new(&heap);
-    write_line(&mut text, &LONGEST)?;
+    write_line(&mut text, &longest())?;
     assert_eq!(rt; text.len(), 104);
     assert_eq!(rt; heap.used(), LINE_ROOM);
     Ok(())
@@ -32,7 +32,7 @@ fn takes_no_memory_where_there_is_room(rt: HostRuntime) -> Result<(), Fail> {
         let heap = LocalHeap::new(rt.alloc(), size + LINE_ROOM)?;
         let mut text = Vec::with_capacity(&heap, size + LINE_ROOM)?;
         text.resize(size, b'x')?;
-        write_line(&mut text, &LONGEST)?;
+        write_line(&mut text, &longest())?;
         assert_eq!(rt; text.len(), size + 104);
         assert_eq!(rt; heap.used(), size + LINE_ROOM);
     }
@@ -44,7 +44,7 @@ fn a_refused_line_leaves_the_text(rt: HostRuntime) -> Result<(), Fail> {
     let heap = LocalHeap::new(rt.alloc(), LINE_ROOM)?;
     let mut text = Vec::with_capacity(&heap, LINE_ROOM)?;
     text.extend_from_slice(b"5 clock\n")?;
-    let refused = write_line(&mut text, &LONGEST);
+    let refused = write_line(&mut text, &longest());
     assert!(rt; refused == Err(TextError::Memory), "{refused:?}");
     assert!(rt; text.as_slice() == b"5 clock\n".as_slice());
     assert_eq!(rt; text.capacity(), LINE_ROOM);

@@ -43,7 +43,7 @@ impl Job for Counted {
 fn count_starts(lines: &[Line]) -> u64 {
     lines
         .iter()
-        .filter(|line| matches!(line.message, Message::Answer(Answer::Start { .. })))
+        .filter(|line| matches!(line.message(), Message::Answer(Answer::Start { .. })))
         .count() as u64
 }
 

@@ -28,8 +28,8 @@ fn each_of_many_clocks_is_applied(rt: HostRuntime) -> Result<(), Fail> {
     assert_eq!(rt; played.said.as_slice(), said.as_slice());
     assert_eq!(rt; played.lines.len(), 65_538);
     for (place, line) in played.lines.iter().enumerate() {
-        assert_eq!(rt; line.moment, place as u64);
-        assert_eq!(rt; line.message, Message::Answer(Answer::Clock));
+        assert_eq!(rt; line.moment(), place as u64);
+        assert_eq!(rt; line.message(), Message::Answer(Answer::Clock));
     }
     Ok(())
 }

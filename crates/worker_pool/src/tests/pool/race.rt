@@ -337,7 +337,7 @@ fn ends_in(lines: &[Line]) -> Ends {
         any_well: false,
     };
     for line in lines {
-        let Message::Answer(answer) = line.message else {
+        let Message::Answer(answer) = line.message() else {
             continue;
         };
         match answer {

@@ -152,7 +152,7 @@ impl Job for Gate {
 
 /// Whether a line is that of a run that ended.
 fn is_finish(line: &Line) -> bool {
-    matches!(line.message, Message::Answer(Answer::Finish { .. }))
+    matches!(line.message(), Message::Answer(Answer::Finish { .. }))
 }
 
 /// Checks that each of so many tasks, of which there is one for each worker, is done, and that its job saw all others.

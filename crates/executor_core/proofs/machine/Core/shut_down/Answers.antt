@@ -1,4 +1,4 @@
-use Rattle.std.proofs.Common.{◌≡◌, true, Some, refl, ap, ◌∙◌}
+use Rattle.std.proofs.Common.{◌≡◌, true, Some, refl, ap, ◌∙◌, ◌++◌, ◌∷◌, []}
 use Rattle.std.specs.Prelude.{slice_get, vec_len}
 use Rattle.queue_code.specs.declared.call.CodeCall.TheVariants as call
 use Rattle.executor_core.proofs.Calling.{called_at, made_kept}
@@ -21,7 +21,7 @@ pub returns-then-self-clause-steps : goal.returns-then-self-clause-steps
 returns-then-self-clause-steps g c =
     let m = c.self.inside in
     let is : slice_get m.calls.items m.calls.made ≡ Some (c.requires.call.0, call.Shutdown) = ap (λ x. slice_get x.calls x.made) c.self.view_is ∙ c.requires.call.1 in
-    rw c.pass-self-inside.ensures.passed (again_steps _ c.args.self.now c.pass-self-inside.result c.requires.call.0 c.args.out.now.items c.push_reserved.new.self.items is c.if-self.true (called_at m.moment c.requires.call.0 c.pass-self-inside.result (c.self.invariant.ahead (c.requires.call.0, call.Shutdown) is) (c.pass-self-inside.ensures.moment (c.requires.call.0, call.Shutdown) is)) c.self.view_is c.push_reserved.ensures.items)
+    rw c.pass-self-inside.ensures.passed (again_steps _ c.args.self.now c.pass-self-inside.result c.requires.call.0 c.args.out.now.items c.push_reserved.new.self.items is c.if-self.true (called_at m.moment c.requires.call.0 c.pass-self-inside.result (c.self.invariant.ahead (c.requires.call.0, call.Shutdown) is) (c.pass-self-inside.ensures.moment (c.requires.call.0, call.Shutdown) is)) c.self.view_is (c.push_reserved.ensures.items ∙ ap (λ line. c.args.out.now.items ++ line ∷ []) c.new.ensures))
 
 pub returns-then-self-clause-room : goal.returns-then-self-clause-room
 returns-then-self-clause-room g c =
@@ -33,7 +33,7 @@ pub returns-clause-steps : goal.returns-clause-steps
 returns-clause-steps g c =
     let m = c.self.inside in
     let is : slice_get m.calls.items m.calls.made ≡ Some (c.requires.call.0, call.Shutdown) = ap (λ x. slice_get x.calls x.made) c.self.view_is ∙ c.requires.call.1 in
-    shutdown_steps _ c.args.self.now c.sweep.new.self c.pass-self-inside.result c.requires.call.0 c.args.out.now.items c.push_reserved-2.new.self.items c.sweep.new.out.items is c.self.invariant.count c.if-self.false (called_at m.moment c.requires.call.0 c.pass-self-inside.result (c.self.invariant.ahead (c.requires.call.0, call.Shutdown) is) (c.pass-self-inside.ensures.moment (c.requires.call.0, call.Shutdown) is)) c.self.view_is c.push_reserved-2.ensures.items (rw c.pass-self-inside.ensures.passed at c.sweep.ensures.sweeps)
+    shutdown_steps _ c.args.self.now c.sweep.new.self c.pass-self-inside.result c.requires.call.0 c.args.out.now.items c.push_reserved-2.new.self.items c.sweep.new.out.items is c.self.invariant.count c.if-self.false (called_at m.moment c.requires.call.0 c.pass-self-inside.result (c.self.invariant.ahead (c.requires.call.0, call.Shutdown) is) (c.pass-self-inside.ensures.moment (c.requires.call.0, call.Shutdown) is)) c.self.view_is (c.push_reserved-2.ensures.items ∙ ap (λ line. c.args.out.now.items ++ line ∷ []) c.new-2.ensures) (rw c.pass-self-inside.ensures.passed at c.sweep.ensures.sweeps)
 
 pub returns-clause-room : goal.returns-clause-room
 returns-clause-room g c =

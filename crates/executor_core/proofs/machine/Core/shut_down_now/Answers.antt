@@ -1,4 +1,4 @@
-use Rattle.std.proofs.Common.{◌≡◌, true, Some, refl, ap, ◌∙◌}
+use Rattle.std.proofs.Common.{◌≡◌, true, Some, refl, ap, ◌∙◌, ◌++◌, ◌∷◌, []}
 use Rattle.std.specs.Prelude.{slice_get, vec_len}
 use Rattle.queue_code.specs.declared.call.CodeCall.TheVariants as call
 use Rattle.executor_core.proofs.Calling.{called_at, made_kept}
@@ -15,7 +15,7 @@ pub returns-clause-steps : goal.returns-clause-steps
 returns-clause-steps g c =
     let m = c.self.inside in
     let is : slice_get m.calls.items m.calls.made ≡ Some (c.requires.call.0, call.ShutdownNow) = ap (λ x. slice_get x.calls x.made) c.self.view_is ∙ c.requires.call.1 in
-    stop_steps _ c.args.self.now c.sweep.new.self c.pass-self-inside.result c.requires.call.0 c.args.out.now.items c.push_reserved.new.self.items c.sweep.new.out.items is c.self.invariant.count (called_at m.moment c.requires.call.0 c.pass-self-inside.result (c.self.invariant.ahead (c.requires.call.0, call.ShutdownNow) is) (c.pass-self-inside.ensures.moment (c.requires.call.0, call.ShutdownNow) is)) c.self.view_is c.push_reserved.ensures.items (rw c.pass-self-inside.ensures.passed at c.sweep.ensures.sweeps)
+    stop_steps _ c.args.self.now c.sweep.new.self c.pass-self-inside.result c.requires.call.0 c.args.out.now.items c.push_reserved.new.self.items c.sweep.new.out.items is c.self.invariant.count (called_at m.moment c.requires.call.0 c.pass-self-inside.result (c.self.invariant.ahead (c.requires.call.0, call.ShutdownNow) is) (c.pass-self-inside.ensures.moment (c.requires.call.0, call.ShutdownNow) is)) c.self.view_is (c.push_reserved.ensures.items ∙ ap (λ line. c.args.out.now.items ++ line ∷ []) c.new.ensures) (rw c.pass-self-inside.ensures.passed at c.sweep.ensures.sweeps)
 
 pub returns-clause-room : goal.returns-clause-room
 returns-clause-room g c =

@@ -1,5 +1,6 @@
-use Rattle.std.proofs.Common.{[], take, drop, subst, sym, append-nil, rules}
-use Rattle.trace_text.specs.Spelling.{lines_text}
+use Rattle.std.proofs.Common.{[], ◌++◌, take, drop, subst, sym, append-nil, rules}
+use Rattle.executor_core.specs.declared.Line.{Line}
+use Rattle.trace_text.specs.Spelling.{line_text, lines_text}
 use Rattle.sched_engine.specs.Pieces.{Gives, Output}
 use Rattle.sched_engine.proofs.Giving.{gives_both, gives_front, gives_put, lines_on, lines_split}
 use Rattle.sched_engine.proofs.Tries.{good_then_bad, good_then_good, no_try}
@@ -33,6 +34,7 @@ loop-line-preserved g c =
     let kept = c.loop-line.invariant in
     let all : Gives old roomy so_far = subst (Gives old roomy) (append-nil so_far) (gives_both old here roomy so_far [] kept.given made) in
     record {
-      given = subst (Gives old new) (sym (lines_on lines i _ c.loop-line-test.true)) (gives_put old roomy so_far _ c.put.new.self all c.put.ensures);
+      given = subst (Gives old new) (sym (lines_on lines i c.line-item.result c.loop-line-test.true))
+          (subst (λ (line : Line). Gives old new (so_far ++ line_text line)) c.line-item.is (gives_put old roomy so_far _ c.put.new.self all c.put.ensures));
       counts = good_then_good _ _ _ _ _ _ kept.counts c.if-not-make_room.ensures.counts;
     }

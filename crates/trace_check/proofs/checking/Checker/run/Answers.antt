@@ -35,31 +35,31 @@ returns-then-not-take g c =
     let self = c.loop-rest.self in
     moved (λ calls workers. Breaks calls workers c.args.text.now (c.loop-rest.count + 1)) self.core.calls c.args.self.now.core.calls (workers_of self.core) (workers_of c.args.self.now.core)
     c.loop-rest.invariant.calls c.loop-rest.invariant.workers
-    (stops_refused self.core.calls (workers_of self.core) c.args.text.now c.loop-rest.rest.now c.loop-rest.count (state_of self.core) (drop self.met self.out.items) self.busy.flags c.in-Some.line c.in-Some.behind.now
+    (stops_refused self.core.calls (workers_of self.core) c.args.text.now c.loop-rest.rest.now c.loop-rest.count (state_of self.core) (drop self.met self.out.items) self.busy.flags c.in-Some.found.0 c.in-Some.found.1.now
     first_line line_ended c.loop-rest.invariant.come c.in-Some.ensures.0 c.in-Some.ensures.1 (c.take.ensures.breaks c.if-not-take.true))
 
 pub loop-rest-preserved : goal.loop-rest-preserved
 loop-rest-preserved g c =
     let self = c.loop-rest.self in
     let new = c.take.new.self in
-    let less = shorter c.in-Some.line c.loop-rest.rest.now c.in-Some.behind.now line_ended c.in-Some.ensures.0 c.in-Some.ensures.1 in
+    let less = shorter c.in-Some.found.0 c.loop-rest.rest.now c.in-Some.found.1.now line_ended c.in-Some.ensures.0 c.in-Some.ensures.1 in
     record {
       calls = c.take.ensures.calls ∙ c.loop-rest.invariant.calls;
       workers = c.take.ensures.workers ∙ c.loop-rest.invariant.workers;
       limit = c.take.ensures.limit ∙ c.loop-rest.invariant.limit;
       taken = omega (arith, c.take.ensures.taken, c.loop-rest.invariant.taken);
       ready = c.take.ensures.ready;
-      come = moved (λ calls workers. HasCome calls workers c.args.text.now c.in-Some.behind.now (c.loop-rest.count + 1) (state_of new.core) (drop new.met new.out.items) new.busy.flags)
+      come = moved (λ calls workers. HasCome calls workers c.args.text.now c.in-Some.found.1.now (c.loop-rest.count + 1) (state_of new.core) (drop new.met new.out.items) new.busy.flags)
           self.core.calls new.core.calls (workers_of self.core) (workers_of new.core) (sym c.take.ensures.calls) (sym c.take.ensures.workers)
-          (comes_on self.core.calls (workers_of self.core) c.args.text.now c.loop-rest.rest.now c.in-Some.behind.now c.loop-rest.count (state_of self.core) (state_of new.core) (drop self.met self.out.items) (drop new.met new.out.items)
-          self.busy.flags new.busy.flags c.in-Some.line c.loop-rest.invariant.come c.in-Some.ensures.0 c.in-Some.ensures.1
-          (λ lines at. moved (λ calls workers. IsAt calls workers (state_of new.core) (drop new.met new.out.items) new.busy.flags (c.in-Some.line ∷ lines))
+          (comes_on self.core.calls (workers_of self.core) c.args.text.now c.loop-rest.rest.now c.in-Some.found.1.now c.loop-rest.count (state_of self.core) (state_of new.core) (drop self.met self.out.items) (drop new.met new.out.items)
+          self.busy.flags new.busy.flags c.in-Some.found.0 c.loop-rest.invariant.come c.in-Some.ensures.0 c.in-Some.ensures.1
+          (λ lines at. moved (λ calls workers. IsAt calls workers (state_of new.core) (drop new.met new.out.items) new.busy.flags (c.in-Some.found.0 ∷ lines))
           new.core.calls self.core.calls (workers_of new.core) (workers_of self.core) c.take.ensures.calls c.take.ensures.workers (c.take.ensures.goes c.if-not-take.false lines at)));
       few = omega (arith, less, c.loop-rest.invariant.few);
     }
 
 pub loop-rest-smaller : goal.loop-rest-smaller
-loop-rest-smaller g c = omega (arith, shorter c.in-Some.line c.loop-rest.rest.now c.in-Some.behind.now line_ended c.in-Some.ensures.0 c.in-Some.ensures.1)
+loop-rest-smaller g c = omega (arith, shorter c.in-Some.found.0 c.loop-rest.rest.now c.in-Some.found.1.now line_ended c.in-Some.ensures.0 c.in-Some.ensures.1)
 
 pub take-requires-clause-some : goal.take-requires-clause-some
 take-requires-clause-some g c =

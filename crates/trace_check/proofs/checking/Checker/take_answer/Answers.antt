@@ -26,7 +26,7 @@ returns-then-not-is_same-clause-breaks g c = λ u lines at.
     (sym c.in-Some.is ∙ (c.representative.ensures lines at.busy ∙ ap (λ n. representative_of n lines c.args.moment c.args.said.now) c.requires.ready.count))
     (λ same. false≢true (subst IsTrue c.if-not-is_same.true (c.is_same.ensures.1 (c.index.ensures
     ∙ (first_line self.core c.happen.new.self c.in-Some.happening c.happen.new.out.items c.index.result.now
-    (took self.core c.count.new.self c.happen.new.self c.in-Some.happening c.clear.new.self.items c.happen.new.out.items c.count.ensures.same c.clear.ensures.items c.happen.ensures.steps) ∙ same)))))
+    (took self.core c.count.new.self c.happen.new.self c.in-Some.happening c.clear.new.self.items c.happen.new.out.items c.count.ensures.same c.clear.ensures.items c.happen.ensures.steps) ∙ (same ∙ sym c.new-line.ensures))))))
 
 pub returns-clause-goes : goal.returns-clause-goes
 returns-clause-goes g c = λ u lines at.
@@ -35,5 +35,5 @@ returns-clause-goes g c = λ u lines at.
     (sym c.in-Some.is ∙ (c.representative.ensures lines at.busy ∙ ap (λ n. representative_of n lines c.args.moment c.args.said.now) c.requires.ready.count))
     (c.may_come.ensures.0 c.if-not-may_come.false)
     (took self.core c.count.new.self c.happen.new.self c.in-Some.happening c.clear.new.self.items c.happen.new.out.items c.count.ensures.same c.clear.ensures.items c.happen.ensures.steps)
-    (sym c.index.ensures ∙ c.is_same.ensures.0 c.if-not-is_same.false)
+    (sym c.index.ensures ∙ (c.is_same.ensures.0 c.if-not-is_same.false ∙ c.new-line.ensures))
     c.note.ensures.flags

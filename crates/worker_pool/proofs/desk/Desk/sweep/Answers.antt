@@ -1,4 +1,4 @@
-use Rattle.std.proofs.Common.{◌∙◌, sym, ap}
+use Rattle.std.proofs.Common.{[], ◌∷◌, ◌++◌, ◌∙◌, sym, ap}
 use Rattle.executor_core.specs.declared.types.Happening.TheVariants as h
 use Rattle.executor_core.specs.CoreView.{workers_of}
 use Rattle.worker_pool.specs.own.Steps.{past_in}
@@ -14,7 +14,7 @@ returns-clause-kept g c =
     let all = c.sweep_all.ensures in
     let tasks = c.requires.tasks ∙ sym (ap Rattle.queue_code.specs.Calls.task_count all.noted.only.same.calls) in
     (sweeps_all old.seat.view.own mid.core c.make_call.new.self mid.seat.view mid.happenings.items c.push_reserved.new.self.items mid.lines.items c.make_call.new.out.items c.args.words.now.tasks tasks all.upto
-    (all.noted.only.sweeps c.requires.need) (still_comes old.core mid.core h.Call all.noted.only.same.calls all.noted.only.made all.noted.only.moment c.requires.comes) c.make_call.ensures.steps c.push_reserved.ensures.items).0
+    (all.noted.only.sweeps c.requires.need) (still_comes old.core mid.core h.Call all.noted.only.same.calls all.noted.only.made all.noted.only.moment c.requires.comes) c.make_call.ensures.steps (c.push_reserved.ensures.items ∙ ap (λ y. mid.happenings.items ++ y ∷ []) c.new.ensures)).0
 
 pub returns-clause-done : goal.returns-clause-done
 returns-clause-done g c =
@@ -24,10 +24,10 @@ returns-clause-done g c =
     let steps = c.make_call.ensures.steps in
     let tasks = c.requires.tasks ∙ sym (ap Rattle.queue_code.specs.Calls.task_count all.noted.only.same.calls) in
     let own = (sweeps_all old.seat.view.own mid.core c.make_call.new.self mid.seat.view mid.happenings.items c.push_reserved.new.self.items mid.lines.items c.make_call.new.out.items c.args.words.now.tasks tasks all.upto
-    (all.noted.only.sweeps c.requires.need) (still_comes old.core mid.core h.Call all.noted.only.same.calls all.noted.only.made all.noted.only.moment c.requires.comes) steps c.push_reserved.ensures.items).1
+    (all.noted.only.sweeps c.requires.need) (still_comes old.core mid.core h.Call all.noted.only.same.calls all.noted.only.made all.noted.only.moment c.requires.comes) steps (c.push_reserved.ensures.items ∙ ap (λ y. mid.happenings.items ++ y ∷ []) c.new.ensures)).1
     in
     takes_one old.core.calls mid.core.calls (workers_of old.core) (workers_of mid.core) old.seat.view.own mid.seat.view.own (past_in old.core old.happenings.items) (past_in mid.core mid.happenings.items) (past_in c.make_call.new.self c.push_reserved.new.self.items) h.Call all.noted.only.noting all.noted.way
-    (past_more mid.core c.make_call.new.self mid.happenings.items c.push_reserved.new.self.items h.Call steps.calls steps.workers c.push_reserved.ensures.items) own
+    (past_more mid.core c.make_call.new.self mid.happenings.items c.push_reserved.new.self.items h.Call steps.calls steps.workers (c.push_reserved.ensures.items ∙ ap (λ y. mid.happenings.items ++ y ∷ []) c.new.ensures)) own
 
 pub returns-clause-same : goal.returns-clause-same
 returns-clause-same g c =
