@@ -8,7 +8,8 @@ use Rattle.atomic_table.specs.Table.{Final, Seen}
 use Rattle.task_word.specs.Words.{IsWord}
 use Rattle.task_word.specs.Views.{entry}
 use Rattle.task_word.specs.own.Views.{core_of}
-use Rattle.task_word.specs.Rule.{word_of_value, Matches, EntriesFit}
+use Rattle.task_word.specs.Numbers.{word_of_value}
+use Rattle.task_word.specs.Rule.{Matches, EntriesFit}
 use Rattle.task_word.specs.own.Rule.{task_words}
 use Rattle.task_word.specs.Steps.{CoreTells}
 use Rattle.task_word.specs.Answers.{Closes}

@@ -11,7 +11,8 @@ use Rattle.task_word.specs.own.Writes.{Exchanges}
 use Rattle.task_word.specs.Words.{Parts, IsWord, bit, value, marked, is_cancelled, new_in}
 use Rattle.task_word.specs.Views.{most_handles, entry, times, wins, and_if, with_entry, core_cancelled, MeetsEntry}
 use Rattle.task_word.specs.own.Views.{core_of}
-use Rattle.task_word.specs.Rule.{word_of_value, word_at, Matches, flag, taken_by, is_handle, EntriesFit, HasMet, taken_in_all, handles, IsWellFormedTable}
+use Rattle.task_word.specs.Numbers.{word_of_value}
+use Rattle.task_word.specs.Rule.{word_at, Matches, flag, taken_by, is_handle, EntriesFit, HasMet, taken_in_all, handles, IsWellFormedTable}
 use Rattle.task_word.specs.Steps.{CoreTells}
 use Rattle.task_word.specs.own.Steps.{Holder, AtTask, CoreIs, Submitted, Exchanged, CoreMeets, CoreCancelled, CoreLooked}
 use Rattle.task_word.specs.declared.phases.Phase.TheVariants.{Vacant}

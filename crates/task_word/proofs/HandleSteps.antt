@@ -9,7 +9,8 @@ use Rattle.task_word.specs.Writes.{handle_cancel}
 use Rattle.task_word.specs.Words.{Parts, IsWord, bit, value, marked, is_cancelled, rank}
 use Rattle.task_word.specs.Views.{times, wins, handle_looked, handle_cancelled, MeetsHandle}
 use Rattle.task_word.specs.own.Views.{handle_of}
-use Rattle.task_word.specs.Rule.{word_of_value, word_at, Matches, flag, is_handle, HasMet, IsWellFormedTable}
+use Rattle.task_word.specs.Numbers.{word_of_value}
+use Rattle.task_word.specs.Rule.{word_at, Matches, flag, is_handle, HasMet, IsWellFormedTable}
 use Rattle.task_word.specs.own.Steps.{Holder, HandleIs, HandleCancelled, HandleLooked}
 use Rattle.task_word.specs.declared.views.HandleSeatView.{HandleSeatView}
 use Rattle.task_word.specs.declared.views.View.{View}

@@ -6,6 +6,7 @@ use Rattle.std.proofs.lemmas.List.{length-replicate, get_or-replicate}
 use Rattle.task_word.specs.Words.{Parts, IsWord, vacant_word, is_cancelled, rank}
 use Rattle.task_word.specs.Views.{new_core}
 use Rattle.task_word.specs.own.Views.{first_view}
+use Rattle.task_word.specs.Numbers.{word_of_value}
 use Rattle.task_word.specs.Rule.{word_at, HasMet, IsWellFormedTable}
 use Rattle.task_word.specs.own.Rule.{task_words}
 use Rattle.task_word.specs.declared.views.CoreSeatView.{CoreSeatView}
@@ -26,7 +27,7 @@ met_first n words =
     }
 
 none_cancelled : (n k : ℕ) → is_cancelled (word_at (replicate n 0) k) ≡ false
-none_cancelled n k = ap (λ m. is_cancelled (Rattle.task_word.specs.Rule.word_of_value m)) (zeros n k)
+none_cancelled n k = ap (λ m. is_cancelled (word_of_value m)) (zeros n k)
 
 -- the words of the tasks are vacant, where all words of the table are
 zero_words : (n : ℕ) → task_words (replicate (n + 1) 0) ≡ replicate n 0

@@ -8,7 +8,7 @@ use Rattle.task_word.specs.declared.phases.Phase.TheVariants.{Vacant, New, Runni
 use Rattle.task_word.specs.declared.answers.TaskState.TheVariants as state
 use Rattle.task_word.specs.Views.{most_handles, with_entry, wins}
 use Rattle.task_word.specs.own.Views.{core_of, handle_of}
-use Rattle.task_word.specs.Rule.{word_of_value}
+use Rattle.task_word.specs.Numbers.{word_of_value}
 use Rattle.task_word.specs.own.Steps.{Holder, Exchanged}
 use Rattle.task_word.specs.declared.views.CoreSeatView.{CoreSeatView}
 use Rattle.task_word.specs.declared.views.HandleSeatView.{HandleSeatView}

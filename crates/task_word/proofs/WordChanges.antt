@@ -7,7 +7,8 @@ use mathlib.Core.Option.{some}
 use lib.ListN.{get_elem?}
 use Rattle.task_word.specs.Words.{Parts, IsWord, vacant_word, marked, is_live, is_ended_phase, is_cancelled, rank}
 use Rattle.task_word.specs.Views.{times, wins, and_if}
-use Rattle.task_word.specs.Rule.{word_of_value, word_at, Matches, flag, taken_by, ranks_of, seen_of, won_of, last_of, EntriesFit, HasMet, taken_in_all, IsWellFormedTable}
+use Rattle.task_word.specs.Numbers.{word_of_value}
+use Rattle.task_word.specs.Rule.{word_at, Matches, flag, taken_by, ranks_of, seen_of, won_of, last_of, EntriesFit, HasMet, taken_in_all, IsWellFormedTable}
 use Rattle.task_word.specs.declared.views.View.{View}
 use Rattle.task_word.specs.declared.views.View.TheVariants.{Core, Handle, Spent}
 use Rattle.task_word.proofs.ViewLists.{sum_set, sum_part}

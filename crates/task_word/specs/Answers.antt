@@ -5,7 +5,8 @@ use Rattle.atomic_table.specs.Seated.{TableId}
 use Rattle.task_word.specs.Words.{Parts, IsWord, marked, is_cancelled, rank}
 use Rattle.task_word.specs.Writes.{Kind, ChangesWord, core_cancel}
 use Rattle.task_word.specs.Views.{entry, with_entry, and_if, core_cancelled, handle_looked, handle_cancelled, seen_at, MeetsEntry, MeetsHandle}
-use Rattle.task_word.specs.Rule.{word_of_value, Matches}
+use Rattle.task_word.specs.Numbers.{word_of_value}
+use Rattle.task_word.specs.Rule.{Matches}
 use Rattle.task_word.specs.Steps.{CoreTells}
 use Rattle.task_word.specs.declared.phases.Phase.{Phase}
 use Rattle.task_word.specs.declared.phases.Phase.TheVariants.{Vacant, New, Running, Done, Failed}

@@ -1,4 +1,5 @@
 pub mod Words
+pub mod Numbers
 pub mod Writes
 pub mod Views
 pub mod Rule

@@ -1,24 +1,15 @@
 -- The rule of the words of tasks, which is so between any two steps. The word of task k is word k.
 -- This project's rule.
-use Rattle.std.specs.Prelude.{◌≡◌, ℕ, ◌/◌, ◌%◌, ◌<◌, ◌≤◌, Bool, true, false, List, ◌++◌, [], length, slice_index, slice_index_or, ◌⊎◌, nat_le, ◌==◌, if◌then◌else◌}
+use Rattle.std.specs.Prelude.{◌≡◌, ℕ, ◌<◌, ◌≤◌, Bool, true, false, List, ◌++◌, [], length, slice_index, slice_index_or, ◌⊎◌}
 use Rattle.std.specs.List.{sum_by}
 use mathlib.Core.Option.{some}
 use lib.ListN.{get_elem?}
-use Rattle.task_word.specs.Words.{Parts, IsWord, bit, value, vacant_word, marked, is_ended_phase, is_cancelled, rank}
+use Rattle.task_word.specs.Words.{Parts, IsWord, value, vacant_word, marked, is_ended_phase, is_cancelled, rank}
+use Rattle.task_word.specs.Numbers.{word_of_value}
 use Rattle.task_word.specs.Views.{times, most_handles}
-use Rattle.task_word.specs.declared.phases.Phase.{Phase}
-use Rattle.task_word.specs.declared.phases.Phase.TheVariants.{Vacant, New, Running, Done, Failed}
 use Rattle.task_word.specs.declared.views.CoreSeatView.{CoreSeatView}
 use Rattle.task_word.specs.declared.views.View.{View}
 use Rattle.task_word.specs.declared.views.View.TheVariants.{Core, Handle, Spent}
-
--- the phase of a number
-abbrev pub phase_of : ℕ → Phase
-phase_of n = if n == 0 then Vacant else if n == 1 then New else if n == 2 then Running else if n == 3 then Done else Failed
-
--- what a number says as a word
-abbrev pub word_of_value : ℕ → Parts
-word_of_value n = record { phase = phase_of (n % 8); run = n % bit / 8; marked = nat_le bit n }
 
 -- the word of task k
 abbrev pub word_at : List ℕ → ℕ → Parts

@@ -4,7 +4,7 @@ use Rattle.atomic_table.specs.Table.{Me}
 use Rattle.task_word.specs.Words.{IsWord, value, marked, new_in}
 use Rattle.task_word.specs.Views.{entry, with_entry, core_cancelled, handle_looked, handle_cancelled, MeetsEntry, MeetsHandle}
 use Rattle.task_word.specs.own.Views.{core_of, handle_of}
-use Rattle.task_word.specs.Rule.{word_of_value}
+use Rattle.task_word.specs.Numbers.{word_of_value}
 use Rattle.task_word.specs.declared.views.CoreSeatView.{CoreSeatView}
 use Rattle.task_word.specs.declared.views.HandleSeatView.{HandleSeatView}
 use Rattle.task_word.specs.declared.views.View.{View}

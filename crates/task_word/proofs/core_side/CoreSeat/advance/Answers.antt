@@ -3,7 +3,7 @@ use Rattle.task_word.specs.Words.{value}
 use Rattle.task_word.specs.own.Writes.{Exchanges}
 use Rattle.task_word.specs.Views.{entry, with_entry}
 use Rattle.task_word.specs.own.Views.{core_of}
-use Rattle.task_word.specs.Rule.{word_of_value}
+use Rattle.task_word.specs.Numbers.{word_of_value}
 use Rattle.task_word.proofs.WordNumbers.{reads_back}
 use Rattle.task_word.proofs.SeatFields.{core_sits, found_it}
 use Rattle.task_word.proofs.CoreSteps.{moves}

@@ -1,7 +1,7 @@
 use Rattle.std.proofs.Common.{◌≡◌, ◌<◌, length, sym, ap, ◌∙◌, refl, arith, subst}
 use Rattle.task_word.specs.Views.{entry, core_cancelled, wins, and_if, MeetsEntry}
 use Rattle.task_word.specs.own.Views.{core_of}
-use Rattle.task_word.specs.Rule.{word_of_value}
+use Rattle.task_word.specs.Numbers.{word_of_value}
 use Rattle.task_word.specs.Steps.{CoreTells}
 use Rattle.task_word.specs.Answers.{core_answer, is_won}
 use Rattle.task_word.proofs.SeatFields.{won_wins}

@@ -2,7 +2,7 @@ use Rattle.std.proofs.Common.{◌≡◌, sym, ap, ◌∙◌, refl, arith, subst,
 use Rattle.task_word.specs.Words.{rank, is_cancelled}
 use Rattle.task_word.specs.Views.{handle_cancelled, wins, and_if, MeetsHandle}
 use Rattle.task_word.specs.own.Views.{handle_of}
-use Rattle.task_word.specs.Rule.{word_of_value}
+use Rattle.task_word.specs.Numbers.{word_of_value}
 use Rattle.task_word.specs.Answers.{cancel_answer, is_handle_win}
 use Rattle.task_word.proofs.HandleSteps.{handle_cancels}
 use Rattle.task_word.proofs.SeatFields.{handle_sits, keeps_met, yes_wins}
