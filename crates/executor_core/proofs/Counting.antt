@@ -1,5 +1,5 @@
 -- How many tasks are of some sorts, as the tables are written.
-use Rattle.std.proofs.Common.{◌≡◌, ℕ, ◌+◌, ◌^◌, ◌<◌, ◌≤◌, zero, suc, Bool, true, false, cond, List, [], ◌∷◌, length, replicate, ap, subst, refl, sym, ◌∙◌, arith}
+use Rattle.std.proofs.Common.{◌≡◌, ◌≢◌, ℕ, ◌+◌, ◌-◌, ◌&&◌, ◌^◌, ◌<◌, ◌≤◌, zero, suc, Bool, true, false, cond, List, [], ◌∷◌, length, replicate, ap, subst, refl, sym, ◌∙◌, arith}
 use Rattle.std.proofs.lemmas.List.{length-replicate}
 use Rattle.std.specs.Prelude.{slice_index_or, not}
 use Rattle.std.proofs.Math.ListN.{set}
@@ -12,7 +12,8 @@ use Rattle.executor_core.specs.declared.types.Outcome.{Outcome}
 use Rattle.executor_core.specs.declared.types.Outcome.TheVariants as o
 use Rattle.executor_core.specs.State.{vacant, end_task}
 use Rattle.executor_core.specs.Tasks.{uncancelled_in}
-use Rattle.executor_core.specs.own.Tables.{tasks_in_tables, running_in, periodic_in, is_running_phase, waits_again, one, Count, IsRecount, AreTallies, TablesAgree}
+use Rattle.executor_core.specs.declared.task.Stage.TheVariants as ph
+use Rattle.executor_core.specs.own.Tables.{tasks_in_tables, running_in, periodic_in, is_running_phase, is_waiting_phase, is_periodic, is_again, waits_again, one, Count, IsRecount, AreTallies, TablesAgree}
 use Rattle.executor_core.proofs.Pairs.{length_of}
 
 -- the first task counts for itself
@@ -110,3 +111,33 @@ end_keeps (o.Again next) due t = refl
 -- no more tasks are not cancelled than there are
 pub uncancelled_le : (tasks : List Task) → uncancelled_in tasks ≤ length tasks
 uncancelled_le tasks = counted_le alive tasks
+
+-- the numbers where a run of a task begins, which waits and is not cancelled
+pub started_recount : (old : Tallies) (t : Task) → t.phase ≡ ph.Waiting → t.cancelled ≡ false → Count old t
+    → IsRecount old (record old { running = old.running + 1; periodic = old.periodic - one (is_periodic t.timing) }) t (record t { phase = ph.Running }) × (one (is_periodic t.timing) ≤ old.periodic)
+started_recount old t waits live count =
+    let (some, runs, again, room_some, room_runs, room_again) = count in
+    let none : one (is_running_phase t.phase) ≡ 0 = ap (λ p. one (is_running_phase p)) waits in
+    let same : one (waits_again t) ≡ one (is_periodic t.timing) = λ i. one (is_waiting_phase (waits i) && (not (live i) && is_periodic t.timing)) in
+    ((refl, omega (arith, none), omega (arith, same, again)), omega (arith, same, again))
+
+-- the numbers where the run of a task ends
+pub ended_recount : (old : Tallies) (outcome : Outcome) (due : ℕ) (t : Task) → t.phase ≡ ph.Running → (outcome ≢ o.Dropped → t.cancelled ≡ false) → (is_again outcome ≡ true → is_periodic t.timing ≡ true) → 1 ≤ old.running
+    → IsRecount old (record old { running = old.running - 1; periodic = old.periodic + one (is_again outcome) }) t (end_task outcome due t)
+ended_recount old outcome due t runs live again some = by outcome live again
+  where
+    here : one (is_running_phase t.phase) ≡ 1
+    here = ap (λ p. one (is_running_phase p)) runs
+
+    none : one (waits_again t) ≡ 0
+    none = ap (λ p. one (is_waiting_phase p && (not t.cancelled && is_periodic t.timing))) runs
+
+    by : (q : Outcome) → (q ≢ o.Dropped → t.cancelled ≡ false) → (is_again q ≡ true → is_periodic t.timing ≡ true) → IsRecount old (record old { running = old.running - 1; periodic = old.periodic + one (is_again q) }) t (end_task q due t)
+    by (o.Done value) l a = (refl, omega (arith, here, some), omega (arith, none))
+    by (o.Failed code) l a = (refl, omega (arith, here, some), omega (arith, none))
+    by o.Dropped l a = (refl, omega (arith, here, some), omega (arith, none))
+    by o.Ended l a = (refl, omega (arith, here, some), omega (arith, none))
+    by (o.Again next) l a =
+        let free : t.cancelled ≡ false = l (λ q. absurd cc) in
+        let more : one (not t.cancelled && is_periodic t.timing) ≡ 1 = λ i. one (not (free i) && a refl i) in
+        (refl, omega (arith, here, some), omega (arith, none, more))

@@ -15,7 +15,7 @@ use Rattle.executor_core.specs.declared.types.Outcome.{Outcome}
 use Rattle.executor_core.specs.declared.types.Outcome.TheVariants as o
 use Rattle.executor_core.specs.State.{vacant, submit_task, end_task}
 use Rattle.executor_core.specs.Tasks.{word_phase, word_of_task}
-use Rattle.executor_core.specs.own.Tables.{phase_in, task_of, tasks_in_tables}
+use Rattle.executor_core.specs.own.Tables.{phase_in, task_of, tasks_in_tables, is_periodic, is_over}
 
 -- the tables have one length, and so have the tasks
 pub length_of : (ws : List Parts) (ds : List Detail) → length ws ≡ length ds → length (tasks_in_tables ws ds) ≡ length ws
@@ -170,6 +170,16 @@ start_sets ws ds tasks k x y d e view low at with_it is =
     let task = task_read ws ds tasks k x d e view low at ∙ ap (task_of x) (sym with_it) in
     both_set ws ds k y c e ∙ (λ i. set (view i) k (task_of (is i) c)) ∙ ap (λ (t : Task). set tasks k (record t { phase = ph.Running })) (sym task)
 
+-- whether a task is periodic, as what is kept beside its word says
+pub periodic_so : (ws : List Parts) (ds : List Detail) (tasks : List Task) (k : ℕ) (x : Parts) (d : Detail) → length ws ≡ length ds → tasks_in_tables ws ds ≡ tasks → k < length tasks → x ≡ get_or ws k x → d ≡ get_or ds k d
+    → is_periodic d.timing ≡ is_periodic (slice_index_or tasks k vacant).timing
+periodic_so ws ds tasks k x d e view low at with_it = ap (λ (q : Task). is_periodic q.timing) (sym (task_read ws ds tasks k x d e view low at ∙ ap (task_of x) (sym with_it)))
+
+-- a run that is dropped, or ends as its task is cancelled, is the last one
+pub over_of : (q : Outcome) → (q ≡ o.Dropped) ⊎ (q ≡ o.Ended) → is_over q ≡ true
+over_of q (inl is) = ap is_over is
+over_of q (inr is) = ap is_over is
+
 -- a task is kept, or is kept no more
 pub keep_sets : (ws : List Parts) (ds : List Detail) (tasks : List Task) (k : ℕ) (d : Detail) (kept : Bool) → length ws ≡ length ds → tasks_in_tables ws ds ≡ tasks → k < length tasks → d ≡ get_or ds k d →
     tasks_in_tables ws (set ds k (record d { kept = kept })) ≡ set tasks k (record (slice_index_or tasks k vacant) { kept = kept })
@@ -191,6 +201,13 @@ vacant_tables n x ws ds is all none = (λ i. tasks_in_tables (all i) (none i)) �
 -- what is held beside the word of a task once its run has ended
 abbrev pub detail_past : Task → ℕ → Bool → Detail
 detail_past t due over = record { due = due; timing = t.timing; over = over; kept = t.kept }
+
+-- and it is what was held, with another due moment
+pub detail_kept : (ws : List Parts) (ds : List Detail) (tasks : List Task) (k : ℕ) (x : Parts) (d : Detail) (t : Task) (due : ℕ) (over : Bool) → length ws ≡ length ds → tasks_in_tables ws ds ≡ tasks → k < length tasks
+    → x ≡ get_or ws k x → d ≡ get_or ds k d → t ≡ slice_index_or tasks k vacant → record d { due = due; over = over } ≡ detail_past t due over
+detail_kept ws ds tasks k x d t due over e view low at with_it is =
+    let task : t ≡ task_of x d = is ∙ (task_read ws ds tasks k x d e view low at ∙ ap (task_of x) (sym with_it)) in
+    ap (λ (q : Task). detail_past q due over) (sym task)
 
 -- a task whose word and detail were written since it is done
 pub ended_done : (due : ℕ) (x y : Parts) (over : Bool) (outcome : Outcome) {value : ℕ} (t : Task) → IsWordOf x t → outcome ≡ o.Done value → y ≡ words.ended_well x → task_of y (detail_past t due over) ≡ end_task outcome due t

@@ -4,14 +4,12 @@ use Rattle.std.specs.Prelude.{ℕ, Option, Some, None, slice_index_or}
 use Rattle.sched_time.specs.declared.timing.Ending.{Ending}
 use Rattle.executor_core.specs.declared.types.Happening.{Happening}
 use Rattle.executor_core.specs.declared.types.Happening.TheVariants as h
-use Rattle.executor_core.specs.declared.types.Need.{Need}
-use Rattle.executor_core.specs.declared.types.Need.TheVariants as n
 use Rattle.executor_core.specs.declared.foreseen.RunEnd.{RunEnd}
 use Rattle.executor_core.specs.declared.foreseen.Foreseen.{Foreseen}
 use Rattle.executor_core.specs.declared.task.Task.{Task}
 use Rattle.executor_core.specs.Answers.{outcome_in, stops_periodic}
 use Rattle.executor_core.specs.State.{vacant, due_past}
-use Rattle.executor_core.specs.Needs.{need_of, need_of_finish}
+use Rattle.executor_core.specs.Needs.{need_of}
 use Rattle.executor_core.specs.CoreView.{CoreView, workers_of, state_of}
 
 -- the end of the run of task k, as the core holds it
@@ -32,11 +30,6 @@ end_of_work m ending (Some k) = Some (run_end m k ending (slice_index_or m.tasks
 abbrev pub end_in : CoreView → Happening → Option RunEnd
 end_in m (h.Finish w ending) = end_of_work m ending (slice_index_or m.work w None)
 end_in m _ = None
-
--- what the end of a run moves of the words
-abbrev pub need_of_end : Option RunEnd → Need
-need_of_end None = n.Nothing
-need_of_end (Some end) = need_of_finish end.task end.outcome
 
 -- what is told of a happening
 abbrev pub foresight : CoreView → Happening → Foreseen

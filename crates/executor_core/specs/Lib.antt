@@ -7,6 +7,7 @@ pub use Rattle.queue_code.specs.Codes
 pub mod Counts
 pub mod View
 pub mod Lines
+pub mod Said
 pub mod Answers
 pub mod Histories
 pub mod State

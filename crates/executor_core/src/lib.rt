@@ -50,8 +50,9 @@
 //! ([`make_call`](Core::make_call), [`move_clock`](Core::move_clock), [`start`](Core::start), [`finish`](Core::finish),
 //! [`cancel`](Core::cancel)), and a need of its own but for a clock, which moves no word.
 //!
-//! A layer that needs both, what a happening moves and its step, looks once: what [`foresee`](Core::foresee) tells is taken by
-//! [`happen_foreseen`](Core::happen_foreseen), so that the outcome of a finish is worked out once.
+//! A layer that needs both, what a happening moves and its step, hands what [`foresee`](Core::foresee) tells to
+//! [`happen_foreseen`](Core::happen_foreseen): the outcome of a finish is then worked out once. Of the others it tells the need
+//! alone, which is a look at the head of the queue, or at one task.
 //!
 //! ```rust
 //! let foreseen = core.foresee(Happening::Start(0));
@@ -134,6 +135,7 @@ pub use laws::{line_equality_tells, most_workers_is_the_limit};
 pub use limits::MOST_WORKERS;
 pub use machine::Core;
 pub use room::make_room;
+pub use said::{Said, said_equality_tells};
 pub use task::{Stage, Task};
 pub use types::{
     Answer, CancelEffect, Event, EventError, Happening, Kind, Line, Message, Need, Outcome, Refusal,

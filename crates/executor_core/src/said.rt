@@ -1,13 +1,14 @@
 //! What a line says, in 24 bytes: the shapes of [`Message`] nest, and each nesting takes eight bytes for its tag.
 ghost use Rattle.std.specs.Prelude.{◌≡◌, ◌↔◌, true, ℕ};
-ghost use Rattle.executor_core.specs.own.Said.{said_of, message_of};
+ghost use Rattle.executor_core.specs.Said.{said_of, message_of};
 ghost use Rattle.executor_core.specs.declared.types.Answer.TheVariants as answer;
 ghost use Rattle.executor_core.specs.declared.types.Message.TheVariants as message;
 
 use crate::types::{Answer, CancelEffect, EventError, Kind, Message, Outcome, Refusal};
 use sched_time::Which;
 
-/// A [`Message`] without nesting, the narrow fields first.
+/// A [`Message`] without nesting, the narrow fields first: the variants and the fields mean what those of [`Answer`] mean, and a
+/// finish has a variant for each [`Outcome`].
 #[derive(Clone, Copy, Debug, PartialEq, Eq)]
 pub enum Said {
     Submit {

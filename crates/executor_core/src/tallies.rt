@@ -1,5 +1,5 @@
 //! How many tasks are of some sorts. The numbers are kept beside the tasks, so that no call has to count.
-ghost use Rattle.std.specs.Prelude.{◌≡◌};
+ghost use Rattle.std.specs.Prelude.{◌≡◌, ◌+◌, ◌-◌, ◌^◌, ◌<◌, ◌≤◌};
 ghost use Rattle.executor_core.specs.own.Tables.{Count, IsRecount, is_periodic, is_running_phase, one, waits_again};
 
 use crate::task::{Stage, Task};
@@ -26,6 +26,32 @@ impl Tallies {
             uncancelled: self.uncancelled + one(!after.cancelled) - one(!before.cancelled),
             running: self.running + one(is_running(after.phase)) - one(is_running(before.phase)),
             periodic: self.periodic + one(waits_again(after)) - one(waits_again(before)),
+        }
+    }
+
+    /// The numbers once a run has begun, of a periodic task or not.
+    #[inline(always)]
+    pub(crate) fn run_started(self, periodic: bool) -> Tallies
+        requires { (self.running < 2 ^ 63) × (one periodic ≤ self.periodic) }
+        ensures { result ≡ record self { running = self.running + 1; periodic = self.periodic - one periodic } }
+    {
+        Tallies {
+            uncancelled: self.uncancelled,
+            running: self.running + 1,
+            periodic: self.periodic - one(periodic),
+        }
+    }
+
+    /// The numbers once a run has ended, and its task waits again or not.
+    #[inline(always)]
+    pub(crate) fn run_ended(self, again: bool) -> Tallies
+        requires { (1 ≤ self.running) × (self.periodic < 2 ^ 63) }
+        ensures { result ≡ record self { running = self.running - 1; periodic = self.periodic + one again } }
+    {
+        Tallies {
+            uncancelled: self.uncancelled,
+            running: self.running - 1,
+            periodic: self.periodic + one(again),
         }
     }
 }

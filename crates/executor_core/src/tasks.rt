@@ -4,9 +4,9 @@ ghost use Rattle.executor_core.specs.declared.task.Stage.TheVariants as ph;
 ghost use Rattle.executor_core.specs.declared.types.Outcome.TheVariants as o;
 ghost use Rattle.executor_core.specs.State.{vacant, submit_task, end_task};
 ghost use Rattle.executor_core.specs.Tasks.{word_of_task, uncancelled_in};
-ghost use Rattle.executor_core.specs.own.Tables.{phase_in, running_in, periodic_in};
+ghost use Rattle.executor_core.specs.own.Tables.{phase_in, running_in, periodic_in, is_periodic, is_again, is_over};
 
-use crate::tallies::Tallies;
+use crate::tallies::{Tallies, is_periodic};
 use crate::task::{Stage, Task};
 use crate::types::Outcome;
 use sched_time::Timing;
@@ -142,31 +142,6 @@ impl<A: Allocator> Tasks<A> {
         }
     }
 
-    /// The task of this number, which waits and is not cancelled. What the caller knows of it need not be looked up.
-    fn get_waiting(&self, task: usize) -> Task
-        requires known { task < length self.now }
-        requires phase { (slice_index_or self.now task vacant).phase ≡ ph.Waiting }
-        requires live { (slice_index_or self.now task vacant).cancelled ≡ false }
-        ensures { result ≡ slice_index_or self.now task vacant }
-    {
-        Task {
-            phase: Stage::Waiting,
-            ..self.get_live(task)
-        }
-    }
-
-    /// The task of this number, of which a run is under way. What the caller knows of it need not be looked up.
-    fn get_running(&self, task: usize) -> Task
-        requires known { task < length self.now }
-        requires phase { (slice_index_or self.now task vacant).phase ≡ ph.Running }
-        ensures { result ≡ slice_index_or self.now task vacant }
-    {
-        Task {
-            phase: Stage::Running,
-            ..self.get(task)
-        }
-    }
-
     /// A task is submitted, timed so, and first due at this moment.
     pub(crate) fn submit(&mut self, task: usize, timing: Timing, due: u64)
         requires known { task < length self.old }
@@ -197,14 +172,11 @@ impl<A: Allocator> Tasks<A> {
         requires live { (slice_index_or self.old task vacant).cancelled ≡ false }
         ensures { self.new ≡ slice_set self.old task (record (slice_index_or self.old task vacant) { phase = ph.Running }) }
     {
-        let before = self.get_waiting(task);
-        let after = Task {
-            phase: Stage::Running,
-            ..before
-        };
         self.words[task] = self.words[task].started();
-        self.details[task].over = false;
-        self.tallies = self.tallies.recount(before, after);
+        let detail = &mut self.details[task];
+        detail.over = false;
+        let again = is_periodic(detail.timing);
+        self.tallies = self.tallies.run_started(again);
     }
 
     /// The run of a task ends with this outcome, and the run after it is due at this moment.
@@ -214,10 +186,9 @@ impl<A: Allocator> Tasks<A> {
         requires phase { (slice_index_or self.old task vacant).phase ≡ ph.Running }
         requires live { outcome ≢ o.Dropped → (slice_index_or self.old task vacant).cancelled ≡ false }
         requires run { (slice_index_or self.old task vacant).run + 1 < 2 ^ 32 }
+        requires again { is_again outcome ≡ true → is_periodic (slice_index_or self.old task vacant).timing ≡ true }
         ensures { self.new ≡ slice_set self.old task (end_task outcome due (slice_index_or self.old task vacant)) }
     {
-        let before = self.get_running(task);
-        let after = end_task(outcome, due, before);
         let word = self.words[task];
         self.words[task] = match outcome {
             Outcome::Done(_) => word.done(),
@@ -225,13 +196,11 @@ impl<A: Allocator> Tasks<A> {
             Outcome::Again(_) => word.rearmed(),
             Outcome::Dropped | Outcome::Ended => word,
         };
-        self.details[task] = Detail {
-            due,
-            timing: before.timing,
-            over: after.phase == Stage::Dropped,
-            kept: before.kept,
-        };
-        self.tallies = self.tallies.recount(before, after);
+        let over = is_over(outcome);
+        let detail = &mut self.details[task];
+        detail.due = due;
+        detail.over = over;
+        self.tallies = self.tallies.run_ended(is_again(outcome));
     }
 
     /// A task that is not cancelled is cancelled.
@@ -272,33 +241,25 @@ fn vacant() -> Task
     }
 }
 
-/// A task once its run ended with this outcome, and which holds this due moment from then on.
-fn end_task(outcome: Outcome, due: u64, task: Task) -> Task
-    requires { task.run + 1 < 2 ^ 32 }
-    ensures { result ≡ end_task outcome due task }
+/// Whether a run that comes to this is the last one of its task, and its word does not say so.
+#[inline(always)]
+fn is_over(outcome: Outcome) -> bool
+    ensures { result ≡ is_over outcome }
 {
     match outcome {
-        Outcome::Done(_) => Task {
-            phase: Stage::Done,
-            due,
-            ..task
-        },
-        Outcome::Failed(_) => Task {
-            phase: Stage::Failed,
-            due,
-            ..task
-        },
-        Outcome::Dropped | Outcome::Ended => Task {
-            phase: Stage::Dropped,
-            due,
-            ..task
-        },
-        Outcome::Again(_) => Task {
-            phase: Stage::Waiting,
-            run: task.run + 1,
-            due,
-            ..task
-        },
+        Outcome::Dropped | Outcome::Ended => true,
+        Outcome::Done(_) | Outcome::Failed(_) | Outcome::Again(_) => false,
+    }
+}
+
+/// Whether the task waits for another run.
+#[inline(always)]
+fn is_again(outcome: Outcome) -> bool
+    ensures { result ≡ is_again outcome }
+{
+    match outcome {
+        Outcome::Again(_) => true,
+        Outcome::Done(_) | Outcome::Failed(_) | Outcome::Dropped | Outcome::Ended => false,
     }
 }
 

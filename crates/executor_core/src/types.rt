@@ -1,5 +1,6 @@
 ghost use Rattle.std.specs.Prelude.{◌≡◌};
 ghost use Rattle.executor_core.specs.Flows.{happening_of};
+ghost use Rattle.executor_core.specs.Said.{message_of};
 
 use crate::said::Said;
 use sched_time::{Ending, Which};
@@ -206,7 +207,8 @@ const _: () = prove!(size_of::<Line>() == 32);
 
 impl Model for Line {
     ghost use Rattle.executor_core.specs.Lines.{LineView};
-    ghost use Rattle.executor_core.specs.own.Said.{said_of, message_of, said_of_message};
+    ghost use Rattle.executor_core.specs.Said.{said_of, message_of};
+    ghost use Rattle.executor_core.specs.own.Said.{said_of_message};
 
     ghost Value = { LineView };
 
@@ -218,7 +220,7 @@ impl Model for Line {
 }
 
 impl Line {
-    /// A line that says this at that moment, 0 to 2^62 nanoseconds.
+    /// A line that says this at that moment, in nanoseconds. A core makes lines of moments up to 2^62.
     #[inline(always)]
     pub fn new(moment: u64, message: Message) -> Line
         ensures { result ≡ record { moment = moment; message = message } }
@@ -229,7 +231,7 @@ impl Line {
         }
     }
 
-    /// The moment, 0 to 2^62 nanoseconds.
+    /// The moment, in nanoseconds: up to 2^62 where a core made the line.
     #[inline(always)]
     pub fn moment(self) -> u64
         ensures { result ≡ self.moment }
@@ -243,6 +245,14 @@ impl Line {
         ensures { result ≡ self.message }
     {
         self.said.message()
+    }
+
+    /// What it says, without nesting, as the line keeps it: nothing is put together.
+    #[inline(always)]
+    pub fn said(self) -> Said
+        ensures { message_of result ≡ self.message }
+    {
+        self.said
     }
 }
 

@@ -7,63 +7,18 @@ ghost use Rattle.trace_text.specs.Spelling.{kind_text, refusal_text, error_text,
 ghost use Rattle.sched_time.specs.Policies.{policy_text, truth_text};
 ghost use Rattle.trace_text.specs.Writing.{Puts};
 ghost use Rattle.executor_core.specs.declared.Answer.TheVariants as a;
+ghost use Rattle.executor_core.specs.declared.Outcome.TheVariants as o;
 
 use crate::put::{put_number, put_text};
 use crate::words::{CONTINUE, EXECUTE, REMOVE};
-use executor_core::{Answer, CancelEffect, EventError, Kind, Outcome, Refusal};
+use executor_core::{CancelEffect, EventError, Kind, Outcome, Refusal};
 use sched_time::Which;
 
 /// How many bytes there have to be for an answer.
 pub const ANSWER_ROOM: usize = 108;
 
-/// Puts an answer.
-#[inline(always)]
-pub fn put_answer(buffer: &mut [u8], at: usize, answer: Answer) -> usize
-    requires { at + ANSWER_ROOM ≤ length buffer.old }
-    ensures end { result ≤ at + ANSWER_ROOM }
-    ensures put { Puts (take at buffer.old) (take result buffer.new) (answer_text answer) }
-{
-    match answer {
-        Answer::Submit { task, kind, due } => put_submit(buffer, at, task, kind, due),
-        Answer::Refuse { task, refusal } => put_refuse(buffer, at, task, refusal),
-        Answer::Cancel { task, effect } => {
-            let at = put_text(buffer, at, *b" cancel ");
-            put_effect(buffer, at, task, effect)
-        }
-        Answer::Outside { task, effect } => {
-            let at = put_text(buffer, at, *b" outside ");
-            put_effect(buffer, at, task, effect)
-        }
-        Answer::Policy { which, value } => put_policy(buffer, at, which, value),
-        Answer::Shutdown => put_text(buffer, at, *b" shutdown\n"),
-        Answer::ShutdownAgain => put_text(buffer, at, *b" shutdown again\n"),
-        Answer::ShutdownNow => put_text(buffer, at, *b" shutdown now\n"),
-        Answer::Ask {
-            queue,
-            running,
-            shutdown,
-            terminated,
-        } => put_ask(buffer, at, queue, running, shutdown, terminated),
-        Answer::Clock => put_text(buffer, at, *b" clock\n"),
-        Answer::Start {
-            worker,
-            task,
-            run,
-            due,
-        } => put_start(buffer, at, worker, task, run, due),
-        Answer::Idle { worker } => put_idle(buffer, at, worker),
-        Answer::Finish {
-            worker,
-            task,
-            run,
-            outcome,
-        } => put_finish(buffer, at, worker, task, run, outcome),
-        Answer::Error(error) => put_error(buffer, at, error),
-    }
-}
-
 /// Puts a task that was accepted.
-fn put_submit(buffer: &mut [u8], at: usize, task: u32, kind: Kind, due: u64) -> usize
+pub fn put_submit(buffer: &mut [u8], at: usize, task: u32, kind: Kind, due: u64) -> usize
     requires { at + ANSWER_ROOM ≤ length buffer.old }
     ensures end { result ≤ at + ANSWER_ROOM }
     ensures put { Puts (take at buffer.old) (take result buffer.new) (answer_text (a.Submit task kind due)) }
@@ -77,7 +32,7 @@ fn put_submit(buffer: &mut [u8], at: usize, task: u32, kind: Kind, due: u64) -> 
 
 /// Puts a task that was not accepted.
 #[cold]
-fn put_refuse(buffer: &mut [u8], at: usize, task: u32, refusal: Refusal) -> usize
+pub fn put_refuse(buffer: &mut [u8], at: usize, task: u32, refusal: Refusal) -> usize
     requires { at + ANSWER_ROOM ≤ length buffer.old }
     ensures end { result ≤ at + ANSWER_ROOM }
     ensures put { Puts (take at buffer.old) (take result buffer.new) (answer_text (a.Refuse task refusal)) }
@@ -90,7 +45,7 @@ fn put_refuse(buffer: &mut [u8], at: usize, task: u32, refusal: Refusal) -> usiz
 }
 
 /// Puts a task of which a cancel was asked for, and what that did.
-fn put_effect(buffer: &mut [u8], at: usize, task: u32, effect: CancelEffect) -> usize
+pub fn put_effect(buffer: &mut [u8], at: usize, task: u32, effect: CancelEffect) -> usize
     requires { at + 60 ≤ length buffer.old }
     ensures end { result ≤ at + 60 }
     ensures put { Puts (take at buffer.old) (take result buffer.new) (cancel_text (task, effect)) }
@@ -103,7 +58,7 @@ fn put_effect(buffer: &mut [u8], at: usize, task: u32, effect: CancelEffect) -> 
 
 /// Puts a policy, and what it was set to.
 #[cold]
-fn put_policy(buffer: &mut [u8], at: usize, which: Which, value: bool) -> usize
+pub fn put_policy(buffer: &mut [u8], at: usize, which: Which, value: bool) -> usize
     requires { at + ANSWER_ROOM ≤ length buffer.old }
     ensures end { result ≤ at + ANSWER_ROOM }
     ensures put { Puts (take at buffer.old) (take result buffer.new) (answer_text (a.Policy which value)) }
@@ -115,7 +70,7 @@ fn put_policy(buffer: &mut [u8], at: usize, which: Which, value: bool) -> usize
 
 /// Puts how far the executor is.
 #[cold]
-fn put_ask(
+pub fn put_ask(
     buffer: &mut [u8],
     at: usize,
     queue: u32,
@@ -136,8 +91,8 @@ fn put_ask(
 }
 
 /// Puts a worker that starts a run.
-#[inline(never)]
-fn put_start(buffer: &mut [u8], at: usize, worker: u8, task: u32, run: u64, due: u64) -> usize
+#[inline(always)]
+pub fn put_start(buffer: &mut [u8], at: usize, worker: u8, task: u32, run: u64, due: u64) -> usize
     requires { at + ANSWER_ROOM ≤ length buffer.old }
     ensures end { result ≤ at + ANSWER_ROOM }
     ensures put { Puts (take at buffer.old) (take result buffer.new) (answer_text (a.Start worker task run due)) }
@@ -154,8 +109,7 @@ fn put_start(buffer: &mut [u8], at: usize, worker: u8, task: u32, run: u64, due:
 }
 
 /// Puts a worker that gets no work.
-#[inline(always)]
-fn put_idle(buffer: &mut [u8], at: usize, worker: u8) -> usize
+pub fn put_idle(buffer: &mut [u8], at: usize, worker: u8) -> usize
     requires { at + ANSWER_ROOM ≤ length buffer.old }
     ensures end { result ≤ at + ANSWER_ROOM }
     ensures put { Puts (take at buffer.old) (take result buffer.new) (answer_text (a.Idle worker)) }
@@ -165,9 +119,45 @@ fn put_idle(buffer: &mut [u8], at: usize, worker: u8) -> usize
     put_text(buffer, at, *b" idle\n")
 }
 
-/// Puts a worker whose run ended, and what it led to.
+/// Puts a worker whose run ended, by which its task is done.
 #[inline(never)]
-fn put_finish(
+pub fn put_done(buffer: &mut [u8], at: usize, worker: u8, task: u32, run: u64, value: u64) -> usize
+    requires { at + ANSWER_ROOM ≤ length buffer.old }
+    ensures end { result ≤ at + ANSWER_ROOM }
+    ensures put { Puts (take at buffer.old) (take result buffer.new) (answer_text (a.Finish worker task run (o.Done value))) }
+{
+    let at = put_text(buffer, at, *b" finish ");
+    let at = put_number(buffer, at, worker as u64);
+    let at = put_text(buffer, at, *b" task ");
+    let at = put_number(buffer, at, task as u64);
+    let at = put_text(buffer, at, *b" run ");
+    let at = put_number(buffer, at, run);
+    let at = put_text(buffer, at, *b" done ");
+    let end = put_number(buffer, at, value);
+    put_text(buffer, end, *b"\n")
+}
+
+/// Puts a worker whose run ended, after which its task waits for its next run.
+#[inline(never)]
+pub fn put_again(buffer: &mut [u8], at: usize, worker: u8, task: u32, run: u64, due: u64) -> usize
+    requires { at + ANSWER_ROOM ≤ length buffer.old }
+    ensures end { result ≤ at + ANSWER_ROOM }
+    ensures put { Puts (take at buffer.old) (take result buffer.new) (answer_text (a.Finish worker task run (o.Again due))) }
+{
+    let at = put_text(buffer, at, *b" finish ");
+    let at = put_number(buffer, at, worker as u64);
+    let at = put_text(buffer, at, *b" task ");
+    let at = put_number(buffer, at, task as u64);
+    let at = put_text(buffer, at, *b" run ");
+    let at = put_number(buffer, at, run);
+    let at = put_text(buffer, at, *b" again due ");
+    let end = put_number(buffer, at, due);
+    put_text(buffer, end, *b"\n")
+}
+
+/// Puts a worker whose run ended, and what it led to.
+#[cold]
+pub fn put_finish(
     buffer: &mut [u8],
     at: usize,
     worker: u8,
@@ -217,8 +207,8 @@ fn put_outcome(buffer: &mut [u8], at: usize, outcome: Outcome) -> usize
 }
 
 /// Puts an event that had no effect.
-#[inline(always)]
-fn put_error(buffer: &mut [u8], at: usize, error: EventError) -> usize
+#[cold]
+pub fn put_error(buffer: &mut [u8], at: usize, error: EventError) -> usize
     requires { at + ANSWER_ROOM ≤ length buffer.old }
     ensures end { result ≤ at + ANSWER_ROOM }
     ensures put { Puts (take at buffer.old) (take result buffer.new) (answer_text (a.Error error)) }

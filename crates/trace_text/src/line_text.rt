@@ -3,7 +3,7 @@ ghost use Rattle.std.specs.Prelude.{◌≡◌, ◌+◌, ◌≤◌, ◌<◌, ◌+
 ghost use Rattle.trace_text.specs.Spelling.{line_text};
 ghost use Rattle.trace_text.specs.Writing.{Puts};
 
-use crate::message_text::put_message;
+use crate::message_text::put_said;
 use crate::stamp::Stamp;
 use crate::text_error::TextError;
 use executor_core::Line;
@@ -78,7 +78,7 @@ pub fn put_line(buffer: &mut [u8], at: usize, stamp: &mut Stamp, line: &Line) ->
 {
     stamp.turn_to(line.moment());
     let at = stamp.put(buffer, at);
-    put_message(buffer, at, line.message())
+    put_said(buffer, at, line.said())
 }
 
 #[cfg(test)]

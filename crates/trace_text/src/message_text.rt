@@ -3,22 +3,78 @@ ghost use Rattle.std.specs.Prelude.{◌≡◌, ℕ, ◌+◌, ◌≤◌, length, 
 ghost use Rattle.trace_text.specs.Spelling.{message_text};
 ghost use Rattle.trace_text.specs.Writing.{Puts};
 ghost use Rattle.executor_core.specs.declared.Message.TheVariants as m;
+ghost use Rattle.executor_core.specs.Said.{message_of};
 
-use crate::answer_text::{ANSWER_ROOM, put_answer};
+use crate::answer_text::{
+    ANSWER_ROOM, put_again, put_ask, put_done, put_effect, put_error, put_finish, put_idle,
+    put_policy, put_refuse, put_start, put_submit,
+};
 use crate::put::{put_number, put_text};
-use executor_core::Message;
+use executor_core::{Outcome, Said};
 
-/// Puts an answer, or a task that ends, at a place of a buffer, and returns where it ends: at most [`ANSWER_ROOM`] bytes on,
-/// which have to be there.
+/// Puts what a line says at a place of a buffer, and returns where it ends: at most [`ANSWER_ROOM`] bytes on, which have to be
+/// there.
 #[inline(always)]
-pub fn put_message(buffer: &mut [u8], at: usize, message: Message) -> usize
+pub fn put_said(buffer: &mut [u8], at: usize, said: Said) -> usize
     requires { at + ANSWER_ROOM ≤ length buffer.old }
     ensures end { result ≤ at + ANSWER_ROOM }
-    ensures put { Puts (take at buffer.old) (take result buffer.new) (message_text message) }
+    ensures put { Puts (take at buffer.old) (take result buffer.new) (message_text (message_of said)) }
 {
-    match message {
-        Message::Answer(answer) => put_answer(buffer, at, answer),
-        Message::End(task) => put_end(buffer, at, task),
+    match said {
+        Said::Submit { kind, task, due } => put_submit(buffer, at, task, kind, due),
+        Said::Refuse { refusal, task } => put_refuse(buffer, at, task, refusal),
+        Said::Cancel { effect, task } => {
+            let at = put_text(buffer, at, *b" cancel ");
+            put_effect(buffer, at, task, effect)
+        }
+        Said::Outside { effect, task } => {
+            let at = put_text(buffer, at, *b" outside ");
+            put_effect(buffer, at, task, effect)
+        }
+        Said::Policy { which, value } => put_policy(buffer, at, which, value),
+        Said::Shutdown => put_text(buffer, at, *b" shutdown\n"),
+        Said::ShutdownAgain => put_text(buffer, at, *b" shutdown again\n"),
+        Said::ShutdownNow => put_text(buffer, at, *b" shutdown now\n"),
+        Said::Ask {
+            shutdown,
+            terminated,
+            queue,
+            running,
+        } => put_ask(buffer, at, queue, running, shutdown, terminated),
+        Said::Clock => put_text(buffer, at, *b" clock\n"),
+        Said::Start {
+            worker,
+            task,
+            run,
+            due,
+        } => put_start(buffer, at, worker, task, run, due),
+        Said::Idle { worker } => put_idle(buffer, at, worker),
+        Said::Done {
+            worker,
+            task,
+            run,
+            value,
+        } => put_done(buffer, at, worker, task, run, value),
+        Said::Failed {
+            worker,
+            task,
+            run,
+            code,
+        } => put_finish(buffer, at, worker, task, run, Outcome::Failed(code)),
+        Said::Again {
+            worker,
+            task,
+            run,
+            due,
+        } => put_again(buffer, at, worker, task, run, due),
+        Said::Dropped { worker, task, run } => {
+            put_finish(buffer, at, worker, task, run, Outcome::Dropped)
+        }
+        Said::Ended { worker, task, run } => {
+            put_finish(buffer, at, worker, task, run, Outcome::Ended)
+        }
+        Said::Error(error) => put_error(buffer, at, error),
+        Said::End(task) => put_end(buffer, at, task),
     }
 }
 

@@ -27,6 +27,9 @@ pub fn put_number(buffer: &mut [u8], at: usize, n: u64) -> usize
     ensures short { n < 2 ^ 32 → result ≤ at + 10 }
     ensures put { Puts (take at buffer.old) (take result buffer.new) (decimal n) }
 {
+    if n < 10 {
+        return put_text(buffer, at, [b'0' + n as u8]);
+    }
     let end = at + digit_count(n);
     write_digits(n, buffer, end);
     end
@@ -39,6 +42,9 @@ fn digit_count(n: u64) -> usize
 {
     if n < 10_000 {
         return count_from(n, 0, 1);
+    }
+    if n < 100_000 {
+        return 5;
     }
     if n < 100_000_000 {
         return count_from(n, 4, 10_000);

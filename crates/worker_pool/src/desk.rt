@@ -162,6 +162,29 @@ impl<A: Allocator> Desk<A> {
 }
 
 impl<A: Allocator> Desk<A> {
+    /// The next call, as [`attempt`](Desk::attempt) takes it. It stands alone, as calls come before clocks alone: what an event
+    /// takes is so short that it is laid out for each kind of event.
+    #[inline(never)]
+    fn attempt_call(&mut self, words: &TaskWords<A>) -> bool
+        requires table { self.old.seat.table ≡ words.now.table }
+        requires tasks { words.now.tasks ≡ task_count self.old.core.calls }
+        requires kept { IsKept self.old.core self.old.seat.view self.old.happenings.items self.old.lines.items }
+        requires counted { IsCounted self.old.core }
+        requires comes { Comes self.old.core h.Call }
+        requires room { HasRoom self.old.core (vec_len self.old.lines) (vec_capacity self.old.lines) (vec_len self.old.happenings) (vec_capacity self.old.happenings) }
+        ensures table { self.new.seat.table ≡ self.old.seat.table }
+        ensures kept { IsKept self.new.core self.new.seat.view self.new.happenings.items self.new.lines.items }
+        ensures same { SamePlan self.old.core self.new.core }
+        ensures handles { OnlyOwnGrows self.old.seat.view self.new.seat.view }
+        ensures done { IsTrue result → Completes self.old.core.calls (workers_of self.old.core) self.old.seat.view.own self.new.seat.view.own (past_in self.old.core self.old.happenings.items) (past_in self.new.core self.new.happenings.items) (h.Call ∷ [])
+            × MovesOn self.old.core self.new.core h.Call }
+        ensures noted { result ≡ false → NotedFor self.old.core self.new.core self.old.happenings.items self.new.happenings.items h.Call × (self.new.seat.view.own ≡ self.old.seat.view.own) }
+        ensures more { IsCounted self.new.core × (room_of self.new.core + 1 ≤ room_of self.old.core)
+            × HasRoom self.new.core (vec_len self.new.lines) (vec_capacity self.new.lines) (vec_len self.new.happenings) (vec_capacity self.new.happenings) }
+    {
+        self.attempt(words, Happening::Call)
+    }
+
     /// Makes the calls that come before an event.
     #[inline(always)]
     fn make_calls(&mut self, words: &TaskWords<A>, event: Event)
@@ -181,7 +204,7 @@ impl<A: Allocator> Desk<A> {
             × (part_in self.old.core event ≡ part_in self.new.core event ++ more) }
     {
         while self.core.reaches_call(event) {
-            self.attempt(words, Happening::Call);
+            self.attempt_call(words);
         }
     }
 
@@ -275,6 +298,7 @@ impl<A: Allocator> Desk<A> {
 
 impl<A: Allocator> Desk<A> {
     /// The answer of the last line, where it has one.
+    #[inline(always)]
     pub fn last_answer(&self) -> Option<Answer>
         ensures { (before : List Line) (moment : ℕ) (answer : Answer) → self.now.lines.items ≡ before ++ answer_line moment answer ∷ [] → result ≡ Some answer }
     {

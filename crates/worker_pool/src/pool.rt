@@ -94,7 +94,7 @@ use shift::Shift;
 use stage::{Came, Lead, Next};
 use std::alloc::Allocator;
 use std::marker::Model;
-use std::sync::{Condvar, Mutex, Wait};
+use std::sync::{Condvar, Mutex, MutexGuard, Wait};
 use std::thread;
 use std::thread::Threads;
 use task_word::CoreSeat;
@@ -234,7 +234,30 @@ impl<'s, N: Named, A: HeapAllocator> Pool<'s, N, A> {
     /// Gives the finish of the job that a worker has done to the book, and the worker its next one. `None`: it is to leave.
     fn next<R: Wait>(&self, rt: &R, worker: u8, came: Came) -> Option<Work> {
         let mut shift = self.shift.lock(rt);
-        let mut next = shift.hold(self.shared, worker, came);
+        match shift.hold(self.shared, worker, came) {
+            Next::Job { work, wakes_one } => {
+                drop(shift);
+                if wakes_one {
+                    self.work.notify_one();
+                }
+                Some(work)
+            }
+            told => self.rest(rt, worker, shift, told),
+        }
+    }
+
+    /// What a worker does that holds the lock and was told this: where there is no job, it sleeps and looks again until there is
+    /// one, or all are to leave.
+    #[inline(never)]
+    fn rest<R: Wait>(
+        &self,
+        rt: &R,
+        worker: u8,
+        held: MutexGuard<'_, Shift<N, A>>,
+        told: Next,
+    ) -> Option<Work> {
+        let mut shift = held;
+        let mut next = told;
         for _ in rt.forever() {
             match next {
                 Next::Job { work, wakes_one } => {

@@ -1,5 +1,5 @@
 //! The verdicts on tasks that are done or have failed, and the notes of their cells.
-ghost use Rattle.std.specs.Prelude.{◌≡◌, ◌≢◌, ◌⊎◌, ℕ, ◌<◌, ◌≤◌, Some, None, IfOk, IfSome, IfNone, IsSome, OnOk, length, replicate, slice_index, slice_index_or};
+ghost use Rattle.std.specs.Prelude.{◌≡◌, ◌≢◌, ◌⊎◌, ℕ, ◌<◌, ◌≤◌, Some, None, IfOk, IfSome, IfNone, IsSome, OnOk, OnErr, length, replicate, slice_index, slice_index_or};
 ghost use Rattle.once_cell.specs.declared.race.note.Note.{Note as CellNote};
 ghost use Rattle.result_cell.specs.declared.verdict.Verdict.{Verdict as Put};
 ghost use Rattle.result_cell.specs.Cells.{AreNotesOf, StaysKnown, known_at};
@@ -15,11 +15,14 @@ use result_cell::{Note, ResultCell, Verdict, same};
 use sched_time::Ending;
 use std::alloc::{AllocError, Allocator};
 
-/// Rooms for the verdicts on so many tasks: boxes on the heap, all made by one thread, before any other.
+/// Rooms for the verdicts on so many tasks: boxes on the heap, made one after the other by the thread that makes the book, before
+/// a worker takes memory.
 pub fn verdict_rooms<A: HeapAllocator>(
     alloc: A,
     tasks: usize,
-) -> Result<Vec<Box<Verdict>, A>, AllocError> {
+) -> Result<Vec<Box<Verdict>, A>, AllocError>
+    ensures { IfOk result (λ rooms. length rooms.items ≡ tasks) }
+{
     let mut rooms = Vec::with_capacity(alloc, tasks)?;
     for _task in 0..tasks {
         rooms.push(empty_room(alloc)?)?;
@@ -40,6 +43,8 @@ pub fn keep_room<A: HeapAllocator>(
     event: Event,
 ) -> Result<(), AllocError>
     ensures finish { (worker : ℕ) (ending : Ended) → event ≡ v.Finish worker ending → OnOk result (1 ≤ length rooms.new.items) }
+    ensures kept { 1 ≤ length rooms.old.items → rooms.new.items ≡ rooms.old.items }
+    ensures refused { OnErr result (rooms.new.items ≡ rooms.old.items) }
 {
     if rooms.is_empty() && matches!(event, Event::Finish(..)) {
         rooms.push(empty_room(alloc)?)?;
@@ -99,7 +104,7 @@ pub fn settle<A: Allocator>(
     ensures count { length notes.new.items ≡ length notes.old.items }
     ensures each { (k : ℕ) → (slice_index_or notes.new.items k None ≡ slice_index_or notes.old.items k None)
         ⊎ ((note : CellNote Put) × (slice_index_or notes.new.items k None ≡ Some note) × TookVerdict cells.now answer k note) }
-    ensures untold { verdict_told answer ≡ None → (result ≡ None) × (notes.new.items ≡ notes.old.items) }
+    ensures untold { verdict_told answer ≡ None → (result ≡ None) × (notes.new.items ≡ notes.old.items) × (rooms.new.items ≡ rooms.old.items) }
     ensures told { IfSome (verdict_told answer) (λ v. IfNone result (HasNoteOf cells.now notes.new.items v) × IfSome result (λ back. back.value ≡ v)) }
 {
     let Some(verdict) = verdict_of(answer) else {

@@ -10,6 +10,8 @@ use Rattle.queue_code.specs.Calls.{how_many}
 use Rattle.executor_core.specs.declared.task.Stage.{Stage}
 use Rattle.executor_core.specs.declared.task.Stage.TheVariants as ph
 use Rattle.executor_core.specs.declared.task.Task.{Task}
+use Rattle.executor_core.specs.declared.types.Outcome.{Outcome}
+use Rattle.executor_core.specs.declared.types.Outcome.TheVariants as o
 use Rattle.executor_core.specs.declared.tasks.Detail.{Detail}
 use Rattle.executor_core.specs.declared.tallies.Tallies.{Tallies}
 use Rattle.executor_core.specs.Tasks.{uncancelled_in}
@@ -82,6 +84,17 @@ periodic_in tasks = how_many waits_again tasks
 -- the numbers of some tasks that are kept beside them
 abbrev pub AreTallies : Tallies → List Task → Type 0
 AreTallies tallies tasks = (tallies.uncancelled ≡ uncancelled_in tasks) × (tallies.running ≡ running_in tasks) × (tallies.periodic ≡ periodic_in tasks)
+
+-- a run that comes to this is the last one of its task, and the word does not say so
+abbrev pub is_over : Outcome → Bool
+is_over o.Dropped = true
+is_over o.Ended = true
+is_over _ = false
+
+-- the task waits for another run
+abbrev pub is_again : Outcome → Bool
+is_again (o.Again due) = true
+is_again _ = false
 
 -- one where a test passes
 abbrev pub one : Bool → ℕ

@@ -1,5 +1,7 @@
 //! One happening of any kind: whether it may come, what it moves of the words, and its step.
-ghost use Rattle.std.specs.Prelude.{◌≡◌, ℕ, ◌+◌, ◌≤◌, ◌↔◌, [], ◌∷◌, true, false, IsTrue, vec_len, vec_capacity};
+ghost use Rattle.std.specs.Prelude.{◌≡◌, ℕ, ◌+◌, ◌≤◌, ◌↔◌, [], ◌∷◌, Some, true, false, IsTrue, vec_len, vec_capacity};
+ghost use Rattle.sched_time.specs.declared.timing.Ending.{Ending as EndingOf};
+ghost use Rattle.executor_core.specs.declared.foreseen.RunEnd.{RunEnd as RunEndOf};
 ghost use Rattle.executor_core.specs.Flows.{happening_of, CallComes, EventComes};
 ghost use Rattle.executor_core.specs.Histories.{MayFrom, is_call};
 ghost use Rattle.executor_core.specs.Needs.{need_of};
@@ -79,10 +81,13 @@ impl<A: Allocator> Core<A> {
     }
 
     /// What one look tells of a happening, so that a layer that moves words of its own first, and then lets it
-    /// [happen](Core::happen_foreseen), has its outcome worked out once.
+    /// [happen](Core::happen_foreseen), has the outcome of a finish worked out once. The end that is told is the one that the finish
+    /// is answered.
     #[inline(always)]
     pub fn foresee(&self, happening: Happening) -> Foreseen
-        ensures { result ≡ foresight self.now happening }
+        ensures foreseen { result ≡ foresight self.now happening }
+        ensures answer { (worker : ℕ) (ending : EndingOf) (end : RunEndOf) → happening ≡ h.Finish worker ending → result.end ≡ Some end
+            → (reply_of self.now.calls (workers_of self.now) (state_of self.now) happening).answer ≡ answer.Finish worker end.task end.run end.outcome }
     {
         if let Happening::Finish(worker, ending) = happening {
             let end = self.run_end(worker, ending);
@@ -146,10 +151,11 @@ impl<A: Allocator> Core<A> {
         ensures capacity { vec_capacity out.new ≡ vec_capacity out.old }
     {
         match foreseen.happening {
-            Happening::Finish(worker, ending) => {
-                self.finish_as(worker, ending, foreseen.end, out);
-            }
-            _ => self.happen(foreseen.happening, out),
+            Happening::Call => self.make_call(out),
+            Happening::Clock(moment) => self.move_clock(moment, out),
+            Happening::Start(worker) => self.start(worker, out),
+            Happening::Finish(worker, ending) => self.finish_as(worker, ending, foreseen.end, out),
+            Happening::Cancel(task) => self.cancel(task, out),
         }
     }
 }

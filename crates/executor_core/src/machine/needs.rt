@@ -7,7 +7,7 @@ ghost use Rattle.executor_core.specs.Flows.{ReachesNext, reached};
 ghost use Rattle.executor_core.specs.Histories.{AreMade, is_end};
 ghost use Rattle.executor_core.specs.State.{reply_of, vacant, view_of_state};
 ghost use Rattle.executor_core.specs.Needs.{need_of, need_of_finish, IsRipe};
-ghost use Rattle.executor_core.specs.Foresight.{need_of_end};
+ghost use Rattle.executor_core.specs.own.Ends.{need_of_end};
 
 use super::Core;
 use super::cancels::effect_on;

@@ -1,14 +1,18 @@
 //! Starts and finishes: what a core answers to its workers.
-ghost use Rattle.std.specs.Prelude.{◌≡◌, ◌≢◌, ℕ, ◌+◌, ◌^◌, ◌<◌, ◌≤◌, [], ◌∷◌, false, length, None, slice_set, slice_index_or, vec_len, vec_capacity};
+ghost use Rattle.std.specs.Prelude.{◌≡◌, ◌≢◌, ℕ, ◌+◌, ◌^◌, ◌<◌, ◌≤◌, [], ◌∷◌, false, length, None, Some, true, slice_set, slice_index_or, vec_len, vec_capacity};
 ghost use Rattle.executor_core.specs.declared.task.Stage.TheVariants as ph;
 ghost use Rattle.executor_core.specs.declared.types.Outcome.TheVariants as o;
 ghost use Rattle.executor_core.specs.declared.types.Happening.TheVariants as happening;
 ghost use Rattle.sched_time.specs.Dues.{next_due};
 ghost use Rattle.sched_time.specs.Times.{longest};
 ghost use Rattle.executor_core.specs.Needs.{need_of};
-ghost use Rattle.executor_core.specs.Foresight.{end_in, need_of_end};
-ghost use Rattle.executor_core.specs.State.{due_past, vacant};
+ghost use Rattle.executor_core.specs.Foresight.{end_in};
+ghost use Rattle.executor_core.specs.own.Ends.{need_of_end};
+ghost use Rattle.executor_core.specs.State.{due_past, reply_of, vacant};
+ghost use Rattle.executor_core.specs.declared.foreseen.RunEnd.{RunEnd as RunEndOf};
+ghost use Rattle.executor_core.specs.declared.types.Answer.TheVariants as answer;
 ghost use Rattle.executor_core.specs.own.OwnSteps.{finished_task, queued_again, is_met};
+ghost use Rattle.executor_core.specs.own.Tables.{is_again, is_periodic};
 ghost use Rattle.sched_time.specs.declared.timing.Timing.{Timing};
 ghost use Rattle.executor_core.specs.Answers.{outcome_in, stops_periodic};
 
@@ -157,6 +161,7 @@ impl<A: Allocator> Core<A> {
     #[inline(always)]
     pub(super) fn run_end(&self, worker: u8, ending: Ending) -> Option<RunEnd>
         ensures end { result ≡ end_in self.now (happening.Finish worker ending) }
+        ensures answer { (end : RunEndOf) → result ≡ Some end → (reply_of self.now.calls (workers_of self.now) (state_of self.now) (happening.Finish worker ending)).answer ≡ answer.Finish worker end.task end.run end.outcome }
         ensures need { need_of_end result ≡ need_of self.now.calls (workers_of self.now) (state_of self.now) (happening.Finish worker ending) }
     {
         let place = worker as usize;
@@ -214,6 +219,7 @@ fn end_run<A: Allocator>(tasks: &mut Tasks<A>, task: usize, outcome: Outcome, du
     requires phase { (slice_index_or tasks.old task vacant).phase ≡ ph.Running }
     requires live { outcome ≢ o.Dropped → (slice_index_or tasks.old task vacant).cancelled ≡ false }
     requires run { (slice_index_or tasks.old task vacant).run + 1 < 2 ^ 32 }
+    requires again { is_again outcome ≡ true → is_periodic (slice_index_or tasks.old task vacant).timing ≡ true }
     ensures { tasks.new ≡ slice_set tasks.old task (finished_task outcome due (slice_index_or tasks.old task vacant)) }
 {
     tasks.finish(task, outcome, due);

@@ -97,15 +97,15 @@ rested s = record { asleep = one_more s.asleep; coming = s.coming }
 abbrev pub risen : Sleepers → Sleepers
 risen s = record { asleep = s.asleep - 1; coming = s.coming - 1 }
 
--- one more is woken, and on its way
+-- one more is woken, and counted as coming
 abbrev pub called : Sleepers → Sleepers
 called s = record { asleep = s.asleep; coming = one_more s.coming }
 
--- some sleep, and none that was woken is on its way
+-- some sleep, and none is counted as coming
 abbrev pub IsCallable : Sleepers → Type 0
 IsCallable s = (0 < s.asleep) × (s.coming ≡ 0)
 
--- a worker is woken exactly where there is work, some sleep and none is on its way; then it is counted as on its way, and nothing
+-- a worker is woken exactly where there is work, some sleep and none is counted as coming; then it is counted so, and nothing
 -- else changes
 pub record Wakes (woken : Bool) (old new : Under) : Type 0 where
   pub wanted : IsTrue woken ↔ (HasWork old × IsCallable old.sleepers)

@@ -147,8 +147,8 @@ impl<N: Named, A: Allocator> Shift<N, A> {
         !self.book.ripe()
     }
 
-    /// Whether a worker is to be woken, which is counted as on its way from then on: there is work, some sleep, and none that was
-    /// woken is on its way.
+    /// Whether a worker is to be woken, which is counted as coming from then on: there is work, some sleep, and none is
+    /// counted as coming.
     fn wake(&mut self) -> bool
         ensures wakes { Wakes result (seen self.old) (seen self.new) }
     {

@@ -7,7 +7,7 @@ ghost use Rattle.worker_pool.specs.own.Shifts.{no_sleepers, rested, risen, calle
 pub struct Sleepers {
     /// How many sleep, or were woken and are not yet back at the lock.
     asleep: u64,
-    /// How many of these were woken.
+    /// How many of these are counted as woken. Whoever is back takes one away, also where another was woken.
     coming: u64,
 }
 
@@ -37,7 +37,7 @@ impl Sleepers {
         self.coming = self.coming.saturating_sub(1);
     }
 
-    /// Whether some sleep, and none of them is on its way.
+    /// Whether some sleep, and none of them is counted as woken.
     pub fn is_callable(&self) -> bool
         ensures { IsTrue result ↔ IsCallable self.now }
     {

@@ -52,7 +52,7 @@ pub enum Lead {
 pub struct Advanced {
     /// The answer of the book.
     pub applied: Result<Applied, PoolError>,
-    /// There is work, some worker sleeps and none is on its way: one is woken.
+    /// There is work, some worker sleeps and none is counted as coming: one is woken.
     pub wakes_one: bool,
     /// All is quiet: who leads is woken.
     pub wakes_leader: bool,

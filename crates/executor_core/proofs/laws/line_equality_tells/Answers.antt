@@ -1,7 +1,8 @@
 use Rattle.std.proofs.Common.{◌≡◌, ◌==◌, true, refl, sym, ap, ◌∙◌, arith, subst}
 use Rattle.std.proofs.lemmas.Bool.{and_from, and_parts, eqb-true}
 use Rattle.executor_core.specs.Lines.{LineView}
-use Rattle.executor_core.specs.own.Said.{said_of, message_of, message_of_said}
+use Rattle.executor_core.specs.Said.{said_of, message_of}
+use Rattle.executor_core.specs.own.Said.{message_of_said}
 use Rattle.executor_core.specs.contracts.types.LinePartialEq.TheImpl as equality
 use Rattle.executor_core.specs.contracts.said.SaidPartialEq.TheImpl as said
 use Rattle.executor_core.proofs.laws.line_equality_tells.Goals as goal

@@ -1,4 +1,5 @@
-use Rattle.std.proofs.Common.{arith}
+use Rattle.std.proofs.Common.{◌++◌, ◌∙◌, take, ap, sym, arith}
+use Rattle.std.proofs.lemmas.Fmt.{decimal_digit}
 use Rattle.trace_text.proofs.Chains.{number_put}
 use Rattle.trace_text.proofs.Counts.{number_short, code_short}
 use Rattle.trace_text.proofs.put.put_number.Goals as goal
@@ -19,3 +20,7 @@ pub returns-clause-put : goal.returns-clause-put
 returns-clause-put c =
     let w = c.write_digits in
     number_put c.args.buffer.now w.new.buf c.args.at _ w.result c.args.n (omega (arith, c.requires)) (omega (arith, c.digit_count.ensures)) w.ensures.start w.ensures.written w.ensures.before
+
+pub returns-then-n-lt10-clause-put : goal.returns-then-n-lt10-clause-put
+returns-then-n-lt10-clause-put c =
+    record { is = c.put_text.ensures.put.is ∙ ap (λ digits. take c.args.at c.args.buffer.now ++ digits) (sym (decimal_digit c.args.n c.if-n-lt10.true)) }

@@ -1,11 +1,13 @@
-use Rattle.std.proofs.Common.{◌≡◌, ◌<◌, length, None, Some, ap, refl, ◌∙◌, sym, arith}
+use Rattle.std.proofs.Common.{◌≡◌, ◌<◌, length, None, Some, ap, refl, ◌∙◌, sym, arith, subst}
 use Rattle.std.specs.Prelude.{slice_index_or}
 use Rattle.executor_core.specs.Answers.{outcome_in, stops_periodic}
-use Rattle.executor_core.specs.State.{vacant, due_past}
+use Rattle.executor_core.specs.State.{vacant, due_past, reply_of}
+use Rattle.executor_core.specs.declared.types.Happening.TheVariants as h
 use Rattle.executor_core.specs.Foresight.{run_end, end_of_work}
-use Rattle.executor_core.specs.CoreView.{CoreView}
+use Rattle.executor_core.specs.CoreView.{CoreView, workers_of, state_of}
 use Rattle.executor_core.proofs.Tables.{read_at}
-use Rattle.executor_core.proofs.RunSteps.{work_within}
+use Rattle.executor_core.proofs.RunSteps.{Ran, work_within}
+use Rattle.executor_core.proofs.Ending.{ran_as_told, finish_answers}
 use Rattle.executor_core.proofs.Needing.{finished_needs}
 use Rattle.executor_core.proofs.machine.Core.run_end.Goals as goal
 
@@ -42,3 +44,13 @@ returns-clause-need g c =
     let out = c.end_of_run-outcome.ensures.outcome ∙ ap (λ (x : CoreView). outcome_in task.cancelled (stops_periodic x.shut x.stopped x.policies) task.timing (due_past task.timing task.due x.moment) c.args.ending) (sym c.self.view_is) in
     finished_needs _ c.args.self.now m.queue.entries m.kept.entries m.sought c.args.worker k c.args.ending c.end_of_run-outcome.result.0 task _ c.self.view_is c.self.invariant
     (record { worker = l; busy = busy; is = c.get-task.ensures; out = out; next = refl }) refl
+
+pub returns-clause-answer : goal.returns-clause-answer
+returns-clause-answer g c = λ end told.
+    let m = c.self.inside in
+    let old = c.args.self.now in
+    let ran = subst (λ (y : CoreView). Ran y c.args.worker end.task c.args.ending end.outcome end.due (slice_index_or y.tasks end.task vacant) × (end.run ≡ (slice_index_or y.tasks end.task vacant).run)) (sym c.self.view_is)
+    (ran_as_told old c.args.worker c.args.ending end (sym (returns-clause-end g c) ∙ told))
+    in
+    ap (λ (x : CoreView). (reply_of x.calls (workers_of x) (state_of x) (h.Finish c.args.worker c.args.ending)).answer) (sym c.self.view_is)
+    ∙ finish_answers _ m.queue.entries m.kept.entries m.sought c.args.worker c.args.ending end c.self.invariant ran

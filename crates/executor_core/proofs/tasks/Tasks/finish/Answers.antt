@@ -1,12 +1,11 @@
-use Rattle.std.proofs.Common.{◌≡◌, ap, arith, sym, ◌∙◌}
-use Rattle.executor_core.specs.declared.task.Stage.TheVariants as ph
-use Rattle.executor_core.specs.declared.task.Task.{Task}
-use Rattle.executor_core.proofs.Pairs.{is_in, word_runs, word_marked, word_run, unmarked, ended_done, ended_failed, ended_again, ended_over, both_sets, end_over, word_there, detail_past}
+use Rattle.std.proofs.Common.{◌≡◌, ◌+◌, ◌-◌, ap, arith, refl, subst, sym, ◌∙◌}
+use Rattle.executor_core.specs.own.Tables.{tasks_in_tables, is_again, is_running_phase, one, IsRecount}
+use Rattle.executor_core.proofs.Pairs.{is_in, word_runs, word_marked, word_run, unmarked, ended_done, ended_failed, ended_again, ended_over, both_sets, detail_kept, over_of, end_over, word_there, detail_past}
 use Rattle.executor_core.proofs.tasks.Tasks.finish.Goals as goal
 use Rattle.std.proofs.lemmas.List.{length-set}
-use Rattle.std.specs.Prelude.{slice_set}
-use Rattle.executor_core.specs.State.{end_task}
-use Rattle.executor_core.proofs.Counting.{tables_count, tables_recounted}
+use Rattle.std.specs.Prelude.{slice_index_or, slice_set}
+use Rattle.executor_core.specs.State.{vacant, end_task}
+use Rattle.executor_core.proofs.Counting.{tables_count, tables_recounted, ended_recount}
 use Rattle.executor_core.proofs.tasks.Tasks.finish.Goals.{in-Done, in-Failed, in-Again, in-Dropped}
 
 pub index-word-requires : goal.index-word-requires
@@ -57,39 +56,47 @@ index_mut-requires g c =
     let m = c.self.inside in
     omega (arith, m.words.ok.0, is_in m.words.items m.details.items c.args.self.now c.args.task c.self.invariant.paired c.self.view_is c.requires.known)
 
-pub index_mut-requires-2 : goal.index_mut-requires-2
-index_mut-requires-2 g c =
+pub index_mut-detail-requires : goal.index_mut-detail-requires
+index_mut-detail-requires g c =
     let m = c.self.inside in
     omega (arith, m.details.ok.0, c.self.invariant.paired, is_in m.words.items m.details.items c.args.self.now c.args.task c.self.invariant.paired c.self.view_is c.requires.known)
 
-pub recount-self-inside-requires : goal.recount-self-inside-requires
-recount-self-inside-requires g c =
+pub run_ended-self-inside-requires : goal.run_ended-self-inside-requires
+run_ended-self-inside-requires g c =
     let m = c.self.inside in
-    tables_count m.words.items m.details.items c.args.self.now m.tallies c.args.task c.get_running-before.result c.self.invariant c.self.view_is c.requires.known c.get_running-before.ensures
+    let t = slice_index_or c.args.self.now c.args.task vacant in
+    let (some, runs, again, room_some, room_runs, room_again) = tables_count m.words.items m.details.items c.args.self.now m.tallies c.args.task t c.self.invariant c.self.view_is c.requires.known refl in
+    (omega (arith, runs, ap (λ p. one (is_running_phase p)) c.requires.phase), room_again)
 
 pub returns : goal.returns
 returns g c =
     let m = c.self.inside in
     let word = c.index-word.result.now in
-    let before = c.get_running-before.result in
-    let over = c.eq.result in
+    let t = slice_index_or c.args.self.now c.args.task vacant in
+    let over = c.is_over-over.result in
     let runs = word_runs m.words.items m.details.items c.args.self.now c.args.task word c.self.invariant.paired c.self.view_is c.requires.known c.index-word.ensures c.requires.phase in
-    let there = word_there m.words.items m.details.items c.args.self.now c.args.task word before c.self.invariant.paired c.self.view_is c.requires.known c.index-word.ensures c.get_running-before.ensures in
-    both_sets m.words.items m.details.items c.args.self.now c.args.task _ (detail_past before c.args.due over) _ c.self.invariant.paired c.self.view_is
+    let there = word_there m.words.items m.details.items c.args.self.now c.args.task word t c.self.invariant.paired c.self.view_is c.requires.known c.index-word.ensures refl in
+    let kept = detail_kept m.words.items m.details.items c.args.self.now c.args.task word c.index_mut-detail.result.now t c.args.due over c.self.invariant.paired c.self.view_is c.requires.known c.index-word.ensures c.index_mut-detail.ensures.value refl in
+    (λ i. tasks_in_tables (slice_set m.words.items c.args.task c.match-outcome.t-12) (slice_set m.details.items c.args.task (kept i)))
+    ∙ both_sets m.words.items m.details.items c.args.self.now c.args.task _ (detail_past t c.args.due over) _ c.self.invariant.paired c.self.view_is
     (elim c.match-outcome.branch [
-      | in-Done w ↦ ended_done c.args.due word _ over c.args.outcome before there w.in-Done.is (w.t-18-is ∙ w.done.ensures)
-      | in-Failed w ↦ ended_failed c.args.due word _ over c.args.outcome before there w.in-Failed.is (w.t-18-is ∙ w.failed.ensures)
-      | in-Again w ↦ ended_again c.args.due word _ over c.args.outcome before there w.in-Again.is (w.t-18-is ∙ w.rearmed.ensures)
+      | in-Done w ↦ ended_done c.args.due word _ over c.args.outcome t there w.in-Done.is (w.t-12-is ∙ w.done.ensures)
+      | in-Failed w ↦ ended_failed c.args.due word _ over c.args.outcome t there w.in-Failed.is (w.t-12-is ∙ w.failed.ensures)
+      | in-Again w ↦ ended_again c.args.due word _ over c.args.outcome t there w.in-Again.is (w.t-12-is ∙ w.rearmed.ensures)
       | in-Dropped w ↦
-          let ended = end_over c.args.outcome c.args.due before w.in-Dropped.is in
-          let phase : c.end_task-after.result.phase ≡ ph.Dropped = ap (λ (t : Task). t.phase) (c.end_task-after.ensures ∙ ended) in
-          ended_over c.args.due word _ over c.args.outcome before there ended (rw phase at c.eq.ensures) runs w.t-18-is
-    ] ∙ ap (end_task c.args.outcome c.args.due) c.get_running-before.ensures)
+          ended_over c.args.due word _ over c.args.outcome t there (end_over c.args.outcome c.args.due t w.in-Dropped.is) (c.is_over-over.ensures ∙ over_of c.args.outcome w.in-Dropped.is) runs w.t-12-is
+    ])
 
 pub invariant_of-self : goal.invariant_of-self
 invariant_of-self g c =
     let m = c.self.inside in
-    let after = c.end_task-after.ensures ∙ ap (end_task c.args.outcome c.args.due) c.get_running-before.ensures in
-    tables_recounted m.words.items _ m.details.items _ c.args.self.now m.tallies c.recount-self-inside.result c.args.task c.get_running-before.result c.end_task-after.result c.self.invariant c.self.view_is (length-set m.words.items c.args.task _) (length-set m.details.items c.args.task _)
-    (returns g c ∙ ap (slice_set c.args.self.now c.args.task) (sym after))
-    c.requires.known c.get_running-before.ensures c.recount-self-inside.ensures
+    let t = slice_index_or c.args.self.now c.args.task vacant in
+    let after = end_task c.args.outcome c.args.due t in
+    let (some, runs, again, room_some, room_runs, room_again) = tables_count m.words.items m.details.items c.args.self.now m.tallies c.args.task t c.self.invariant c.self.view_is c.requires.known refl in
+    let new : c.run_ended-self-inside.result ≡ record m.tallies { running = m.tallies.running - 1; periodic = m.tallies.periodic + one (is_again c.args.outcome) } =
+    c.run_ended-self-inside.ensures ∙ ap (λ b. record m.tallies { running = m.tallies.running - 1; periodic = m.tallies.periodic + one b }) c.is_again.ensures
+    in
+    let recount = subst (λ n. IsRecount m.tallies n t after) (sym new) (ended_recount m.tallies c.args.outcome c.args.due t c.requires.phase c.requires.live c.requires.again (omega (arith, runs, ap (λ p. one (is_running_phase p)) c.requires.phase))) in
+    tables_recounted m.words.items _ m.details.items _ c.args.self.now m.tallies c.run_ended-self-inside.result c.args.task t after c.self.invariant c.self.view_is (length-set m.words.items c.args.task _) (length-set m.details.items c.args.task _)
+    (returns g c)
+    c.requires.known refl recount

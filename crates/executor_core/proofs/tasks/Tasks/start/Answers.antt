@@ -1,10 +1,11 @@
-use Rattle.std.proofs.Common.{ap, arith, sym, ◌∙◌}
-use Rattle.std.specs.Prelude.{slice_set}
+use Rattle.std.proofs.Common.{◌≡◌, ◌+◌, ◌-◌, ap, arith, refl, subst, sym, ◌∙◌}
+use Rattle.std.specs.Prelude.{slice_index_or}
+use Rattle.executor_core.specs.State.{vacant}
+use Rattle.executor_core.specs.own.Tables.{is_periodic, one, IsRecount}
 use Rattle.executor_core.specs.declared.task.Stage.TheVariants as ph
-use Rattle.executor_core.specs.declared.task.Task.{Task}
-use Rattle.executor_core.proofs.Pairs.{is_in, word_waits, word_marked, unmarked, start_sets}
+use Rattle.executor_core.proofs.Pairs.{is_in, word_waits, word_marked, unmarked, start_sets, periodic_so}
 use Rattle.std.proofs.lemmas.List.{length-set}
-use Rattle.executor_core.proofs.Counting.{tables_count, tables_recounted}
+use Rattle.executor_core.proofs.Counting.{tables_count, tables_recounted, started_recount}
 use Rattle.executor_core.proofs.tasks.Tasks.start.Goals as goal
 
 pub index-requires : goal.index-requires
@@ -27,23 +28,34 @@ index_mut-requires g c =
     let m = c.self.inside in
     omega (arith, m.words.ok.0, is_in m.words.items m.details.items c.args.self.now c.args.task c.self.invariant.paired c.self.view_is c.requires.known)
 
-pub index_mut-requires-2 : goal.index_mut-requires-2
-index_mut-requires-2 g c =
+pub index_mut-detail-requires : goal.index_mut-detail-requires
+index_mut-detail-requires g c =
     let m = c.self.inside in
     omega (arith, m.details.ok.0, c.self.invariant.paired, is_in m.words.items m.details.items c.args.self.now c.args.task c.self.invariant.paired c.self.view_is c.requires.known)
 
 pub returns : goal.returns
 returns g c =
     let m = c.self.inside in
-    start_sets m.words.items m.details.items c.args.self.now c.args.task c.index.result.now c.started.result c.index_mut-2.result.now c.self.invariant.paired c.self.view_is c.requires.known c.index.ensures c.index_mut-2.ensures.value c.started.ensures
+    start_sets m.words.items m.details.items c.args.self.now c.args.task c.index.result.now c.started.result c.index_mut-detail.result.now c.self.invariant.paired c.self.view_is c.requires.known c.index.ensures c.index_mut-detail.ensures.value c.started.ensures
 
-pub recount-self-inside-requires : goal.recount-self-inside-requires
-recount-self-inside-requires g c =
+pub run_started-self-inside-requires : goal.run_started-self-inside-requires
+run_started-self-inside-requires g c =
     let m = c.self.inside in
-    tables_count m.words.items m.details.items c.args.self.now m.tallies c.args.task c.get_waiting-before.result c.self.invariant c.self.view_is c.requires.known c.get_waiting-before.ensures
+    let t = slice_index_or c.args.self.now c.args.task vacant in
+    let count = tables_count m.words.items m.details.items c.args.self.now m.tallies c.args.task t c.self.invariant c.self.view_is c.requires.known refl in
+    let (some, runs, again, room_some, room_runs, room_again) = count in
+    let so = periodic_so m.words.items m.details.items c.args.self.now c.args.task c.index.result.now c.index_mut-detail.result.now c.self.invariant.paired c.self.view_is c.requires.known c.index.ensures c.index_mut-detail.ensures.value in
+    (room_runs, omega (arith, ap one (c.is_periodic-again.ensures ∙ so), (started_recount m.tallies t c.requires.phase c.requires.live count).1))
 
 pub invariant_of-self : goal.invariant_of-self
 invariant_of-self g c =
     let m = c.self.inside in
-    tables_recounted m.words.items _ m.details.items _ c.args.self.now m.tallies c.recount-self-inside.result c.args.task c.get_waiting-before.result _ c.self.invariant c.self.view_is (length-set m.words.items c.args.task c.started.result) (length-set m.details.items c.args.task _)
-    (returns g c ∙ ap (λ (t : Task). slice_set c.args.self.now c.args.task (record t { phase = ph.Running })) (sym c.get_waiting-before.ensures)) c.requires.known c.get_waiting-before.ensures c.recount-self-inside.ensures
+    let t = slice_index_or c.args.self.now c.args.task vacant in
+    let count = tables_count m.words.items m.details.items c.args.self.now m.tallies c.args.task t c.self.invariant c.self.view_is c.requires.known refl in
+    let so = periodic_so m.words.items m.details.items c.args.self.now c.args.task c.index.result.now c.index_mut-detail.result.now c.self.invariant.paired c.self.view_is c.requires.known c.index.ensures c.index_mut-detail.ensures.value in
+    let new : c.run_started-self-inside.result ≡ record m.tallies { running = m.tallies.running + 1; periodic = m.tallies.periodic - one (is_periodic t.timing) } =
+    c.run_started-self-inside.ensures ∙ ap (λ b. record m.tallies { running = m.tallies.running + 1; periodic = m.tallies.periodic - one b }) (c.is_periodic-again.ensures ∙ so)
+    in
+    let recount = subst (λ n. IsRecount m.tallies n t (record t { phase = ph.Running })) (sym new) (started_recount m.tallies t c.requires.phase c.requires.live count).0 in
+    tables_recounted m.words.items _ m.details.items _ c.args.self.now m.tallies c.run_started-self-inside.result c.args.task t (record t { phase = ph.Running }) c.self.invariant c.self.view_is (length-set m.words.items c.args.task c.started.result) (length-set m.details.items c.args.task _)
+    (returns g c) c.requires.known refl recount

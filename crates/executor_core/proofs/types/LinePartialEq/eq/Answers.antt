@@ -1,5 +1,6 @@
 use Rattle.std.proofs.Common.{sym, ap, ◌∙◌}
-use Rattle.executor_core.specs.own.Said.{said_of, said_of_message}
+use Rattle.executor_core.specs.Said.{said_of}
+use Rattle.executor_core.specs.own.Said.{said_of_message}
 use Rattle.executor_core.proofs.types.LinePartialEq.eq.Goals as goal
 
 pub returns : goal.returns

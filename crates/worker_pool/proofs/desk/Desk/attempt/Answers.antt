@@ -21,7 +21,7 @@ move_word-requires g c =
     record {
       table = c.requires.table;
       can = subst (λ n. CanMove n old.seat.view c.foresee-foreseen.result.need) (sym c.requires.tasks)
-          (subst (CanMove (task_count old.core.calls) old.seat.view) (sym (ap (λ (f : Foreseen). f.need) c.foresee-foreseen.ensures))
+          (subst (CanMove (task_count old.core.calls) old.seat.view) (sym (ap (λ (f : Foreseen). f.need) c.foresee-foreseen.ensures.foreseen))
           (kept_can_move old.core old.seat.view old.happenings.items old.lines.items c.args.happening c.requires.kept c.requires.counted c.prove_bound.ensures));
     }
 
@@ -36,7 +36,7 @@ returns-in-Some g c =
     let same : new.seat.view ≡ met = ap (λ s. s.view) c.note.ensures.seat in
     let to = same ∙ was.now in
     let y = c.args.happening in
-    let way = needed_in_way old.core old.seat.view old.happenings.items old.lines.items y task c.requires.kept (subst (λ need. is_needed task need ≡ true) (ap (λ (f : Foreseen). f.need) c.foresee-foreseen.ensures) c.in-Some.ensures.named) in
+    let way = needed_in_way old.core old.seat.view old.happenings.items old.lines.items y task c.requires.kept (subst (λ need. is_needed task need ≡ true) (ap (λ (f : Foreseen). f.need) c.foresee-foreseen.ensures.foreseen) c.in-Some.ensures.named) in
     record {
       table = ap (λ s. s.table) c.note.ensures.seat ∙ c.move_word.ensures.table;
       kept = subst (λ v. IsKept new.core v new.happenings.items new.lines.items) (sym same) did.0;
@@ -56,11 +56,11 @@ returns g c =
     let seat = c.move_word.new.seat.view in
     let items = c.push_reserved.new.self.items in
     let lines = c.happen_foreseen.new.out.items in
-    let is : c.foresee-foreseen.result.happening ≡ y = ap (λ (f : Foreseen). f.happening) c.foresee-foreseen.ensures in
+    let is : c.foresee-foreseen.result.happening ≡ y = ap (λ (f : Foreseen). f.happening) c.foresee-foreseen.ensures.foreseen in
     let steps = subst (λ x. Steps old.core core old.lines.items lines (x ∷ [])) is c.happen_foreseen.ensures.steps in
     let added = c.push_reserved.ensures.items ∙ ap (λ x. old.happenings.items ++ x ∷ []) c.new.ensures in
-    let plain : need_in old.core y ≢ n.Sweep = λ q. c.in_default.not-Sweep (ap (λ (f : Foreseen). f.need) c.foresee-foreseen.ensures ∙ q) in
-    let to : seat ≡ moves_made old.seat.view (need_in old.core y) = c.move_word.ensures.moved c.in_default-move_word.is ∙ ap (λ (f : Foreseen). moves_made old.seat.view f.need) c.foresee-foreseen.ensures in
+    let plain : need_in old.core y ≢ n.Sweep = λ q. c.in_default.not-Sweep (ap (λ (f : Foreseen). f.need) c.foresee-foreseen.ensures.foreseen ∙ q) in
+    let to : seat ≡ moves_made old.seat.view (need_in old.core y) = c.move_word.ensures.moved c.in_default-move_word.is ∙ ap (λ (f : Foreseen). moves_made old.seat.view f.need) c.foresee-foreseen.ensures.foreseen in
     let after = need_after old.core old.seat.view old.happenings.items old.lines.items y c.requires.kept in
     let room = c.requires.room in
     record {
@@ -93,6 +93,6 @@ returns-in-Sweep-clause-done g c = λ q.
     let old = c.args.self.now in
     let new = c.sweep.new.self in
     let y = c.args.happening in
-    let call = sweeps_are_calls old.core y (sym (ap (λ (f : Foreseen). f.need) c.foresee-foreseen.ensures) ∙ c.in-Sweep.is) in
+    let call = sweeps_are_calls old.core y (sym (ap (λ (f : Foreseen). f.need) c.foresee-foreseen.ensures.foreseen) ∙ c.in-Sweep.is) in
     subst (λ x. Completes old.core.calls (workers_of old.core) old.seat.view.own new.seat.view.own (past_in old.core old.happenings.items) (past_in new.core new.happenings.items) (x ∷ []) × MovesOn old.core new.core x) (sym call)
     (c.sweep.ensures.done, c.sweep.ensures.on)

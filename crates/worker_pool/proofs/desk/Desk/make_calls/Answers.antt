@@ -1,4 +1,4 @@
-use Rattle.std.proofs.Common.{inr, [], ◌∙◌, sym, refl, arith}
+use Rattle.std.proofs.Common.{[], ◌∙◌, sym, refl, arith}
 use Rattle.worker_pool.proofs.Growing.{same_plan, same_then, same_handles, handles_then, none_passed, one_comes, call_tried}
 use Rattle.std.proofs.lemmas.List.{append-nil}
 use Rattle.executor_core.specs.CoreView.{workers_of}
@@ -24,9 +24,9 @@ loop-event-preserved g c =
     let was = c.loop-event.invariant in
     let first = c.args.self.now in
     let old = c.loop-event.self in
-    let new = c.attempt.new.self in
-    let did = c.attempt.ensures in
-    let more = did.more (inr refl) in
+    let new = c.attempt_call.new.self in
+    let did = c.attempt_call.ensures in
+    let more = did.more in
     record {
       table = did.table ∙ was.table;
       kept = did.kept;
@@ -34,12 +34,12 @@ loop-event-preserved g c =
       handles = handles_then first.seat.view old.seat.view new.seat.view was.handles did.handles;
       counted = more.0;
       room = more.2;
-      passed = call_tried c.attempt.result first.core old.core new.core first.seat.view.own old.seat.view.own new.seat.view.own first.happenings.items old.happenings.items new.happenings.items c.args.event was.passed.0 was.same was.passed.1 was.passed.2
+      passed = call_tried c.attempt_call.result first.core old.core new.core first.seat.view.own old.seat.view.own new.seat.view.own first.happenings.items old.happenings.items new.happenings.items c.args.event was.passed.0 was.same was.passed.1 was.passed.2
           (c.loop-event-test.ensures.call refl) did.same.calls did.done did.noted;
     }
 
 pub loop-event-smaller : goal.loop-event-smaller
-loop-event-smaller g c = let more = c.attempt.ensures.more (inr refl) in omega (arith, more.1)
+loop-event-smaller g c = let more = c.attempt_call.ensures.more in omega (arith, more.1)
 
 pub returns-clause-passed : goal.returns-clause-passed
 returns-clause-passed g c =
