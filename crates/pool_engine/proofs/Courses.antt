@@ -1,16 +1,16 @@
 -- Courses: what happened in the history of a book, its clocks and its events.
-use Rattle.std.proofs.Common.{◌≡◌, ◌≢◌, ℕ, ◌+◌, ◌<◌, ◌≤◌, Bool, true, false, cond, List, [], ◌∷◌, ◌++◌, reverse, take, length, refl, ap, ◌∙◌, sym, subst, arith, append_assoc, append-nil}
-use mir.Val.{bool_byte}
+use Rattle.std.proofs.Common.{◌≡◌, ◌≢◌, ℕ, ◌+◌, ◌<◌, ◌≤◌, Bool, true, false, cond, List, [], ◌∷◌, ◌++◌, reverse, take, length, ◌⊎◌, inl, inr, refl, ap, ◌∙◌, sym, subst, append_assoc, append-nil}
 use Rattle.std.specs.Prelude.{slice_index_or}
 use Rattle.std.proofs.lemmas.Bool.{false≢true}
 use Rattle.std.proofs.lemmas.List.{append_cancel_left, reverse-reverse, take_all, take_more}
 use Rattle.executor_core.specs.declared.Happening.{Happening}
 use Rattle.executor_core.specs.declared.Happening.TheVariants as h
+use Rattle.sched_time.specs.declared.timing.Ending.{Ending}
 use Rattle.executor_core.proofs.Flowing.{happenings_from, how_many-more}
 use Rattle.queue_code.specs.Calls.{Planned}
 use Rattle.worker_pool.specs.Books.{history_for}
 use Rattle.pool_engine.specs.PoolRuns.{clocks_of, happened_in, event_count, is_taken}
-use Rattle.pool_engine.specs.own.Ended.{ShowsAnother, ShowsSoFar}
+use Rattle.pool_engine.specs.own.Ended.{ShowsSoFar}
 
 -- what happened in the history of some happenings is these
 pub course_is : (calls : List Planned) (workers : ℕ) (happened : List Happening) → happened_in (history_for calls workers happened) ≡ happened
@@ -42,24 +42,45 @@ not_taken_off true so_far next left moments shown another =
     λ later all. another later (append_cancel_left so_far left (next ++ later) (shown ∙ (sym all ∙ append_assoc so_far next later)))
 not_taken_off false so_far next left moments other another = λ later all. other (next ++ later) (sym (append_assoc so_far next later) ∙ all)
 
--- a happening that shows another moment than the first that is left shows none of these
-shows_another : (happening : Happening) (left later : List ℕ) → ShowsAnother happening left → left ≢ clocks_of (happening ∷ []) ++ later
-shows_another happening left later another same =
-    another.2 later (same ∙ ap (λ (x : Happening). clocks_of (x ∷ []) ++ later) another.1)
+-- one happening more, which shows no moment
+silent_on : (happened : List Happening) (i : ℕ) (d happening : Happening) (shows : Bool) (left moments : List ℕ) → i < length happened → happening ≡ slice_index_or happened i d
+    → ShowsSoFar shows (clocks_of (take i happened)) left moments → clocks_of (happening ∷ []) ≡ [] → ShowsSoFar shows (clocks_of (take (i + 1) happened)) left moments
+silent_on happened i d happening shows left moments low next so_far silent =
+    subst (λ l. ShowsSoFar shows l left moments) (sym (clocks_on happened i d happening low next))
+    (taken_off shows (clocks_of (take i happened)) (clocks_of (happening ∷ [])) left left moments so_far (ap (λ l. l ++ left) silent))
 
--- one happening more shows no other moment
-pub shown_on : (happened : List Happening) (i : ℕ) (d happening : Happening) (shows : Bool) (left rest moments : List ℕ) → i < length happened → happening ≡ slice_index_or happened i d
-    → ShowsSoFar shows (clocks_of (take i happened)) left moments → clocks_of (happening ∷ []) ++ rest ≡ left → ShowsSoFar shows (clocks_of (take (i + 1) happened)) rest moments
-shown_on happened i d happening shows left rest moments low next so_far same =
+-- one start or finish more shows no moment
+pub run_on : (happened : List Happening) (i : ℕ) (d happening : Happening) (shows : Bool) (left moments : List ℕ) → i < length happened → happening ≡ slice_index_or happened i d
+    → ShowsSoFar shows (clocks_of (take i happened)) left moments → ((worker : ℕ) × happening ≡ h.Start worker) ⊎ ((worker : ℕ) × (ending : Ending) × happening ≡ h.Finish worker ending)
+    → (is_taken happening ≡ true) × ShowsSoFar shows (clocks_of (take (i + 1) happened)) left moments
+run_on happened i d happening shows left moments low next so_far (inl (worker, is)) =
+    (ap is_taken is, silent_on happened i d happening shows left moments low next so_far (ap (λ (x : Happening). clocks_of (x ∷ [])) is))
+run_on happened i d happening shows left moments low next so_far (inr (worker, ending, is)) =
+    (ap is_taken is, silent_on happened i d happening shows left moments low next so_far (ap (λ (x : Happening). clocks_of (x ∷ [])) is))
+
+-- one call or cancel more shows no moment
+pub other_on : (happened : List Happening) (i : ℕ) (d happening : Happening) (shows : Bool) (left moments : List ℕ) → i < length happened → happening ≡ slice_index_or happened i d
+    → ShowsSoFar shows (clocks_of (take i happened)) left moments → (happening ≡ h.Call) ⊎ ((task : ℕ) × happening ≡ h.Cancel task)
+    → (is_taken happening ≡ false) × ShowsSoFar shows (clocks_of (take (i + 1) happened)) left moments
+other_on happened i d happening shows left moments low next so_far (inl is) =
+    (ap is_taken is, silent_on happened i d happening shows left moments low next so_far (ap (λ (x : Happening). clocks_of (x ∷ [])) is))
+other_on happened i d happening shows left moments low next so_far (inr (task, is)) =
+    (ap is_taken is, silent_on happened i d happening shows left moments low next so_far (ap (λ (x : Happening). clocks_of (x ∷ [])) is))
+
+-- one clock more shows the first moment that is left
+pub shown_on : (happened : List Happening) (i : ℕ) (d happening : Happening) (shows : Bool) (t : ℕ) (left rest moments : List ℕ) → i < length happened → happening ≡ slice_index_or happened i d
+    → ShowsSoFar shows (clocks_of (take i happened)) left moments → happening ≡ h.Clock t → t ∷ rest ≡ left → ShowsSoFar shows (clocks_of (take (i + 1) happened)) rest moments
+shown_on happened i d happening shows t left rest moments low next so_far is same =
     subst (λ l. ShowsSoFar shows l rest moments) (sym (clocks_on happened i d happening low next))
-    (taken_off shows (clocks_of (take i happened)) (clocks_of (happening ∷ [])) left rest moments so_far same)
+    (taken_off shows (clocks_of (take i happened)) (clocks_of (happening ∷ [])) left rest moments so_far (ap (λ (x : Happening). clocks_of (x ∷ []) ++ rest) is ∙ same))
 
--- one happening more shows another moment
-pub another_on : (happened : List Happening) (i : ℕ) (d happening : Happening) (shows : Bool) (left moments : List ℕ) → i < length happened → happening ≡ slice_index_or happened i d
-    → ShowsSoFar shows (clocks_of (take i happened)) left moments → ShowsAnother happening left → ShowsSoFar false (clocks_of (take (i + 1) happened)) left moments
-another_on happened i d happening shows left moments low next so_far another =
+-- one clock more shows another moment
+pub another_on : (happened : List Happening) (i : ℕ) (d happening : Happening) (shows : Bool) (t : ℕ) (left moments : List ℕ) → i < length happened → happening ≡ slice_index_or happened i d
+    → ShowsSoFar shows (clocks_of (take i happened)) left moments → happening ≡ h.Clock t → ((rest : List ℕ) → left ≢ t ∷ rest) → ShowsSoFar false (clocks_of (take (i + 1) happened)) left moments
+another_on happened i d happening shows t left moments low next so_far is another =
     subst (λ l. ShowsSoFar false l left moments) (sym (clocks_on happened i d happening low next))
-    (not_taken_off shows (clocks_of (take i happened)) (clocks_of (happening ∷ [])) left moments so_far (λ later. shows_another happening left later another))
+    (not_taken_off shows (clocks_of (take i happened)) (clocks_of (happening ∷ [])) left moments so_far
+    (λ later same. another later (same ∙ ap (λ (x : Happening). clocks_of (x ∷ []) ++ later) is)))
 
 -- where the clocks so far do not show the first moments, all clocks do not show all moments
 pub not_shown : (happened : List Happening) (i : ℕ) (shows : Bool) (left moments : List ℕ) → length happened ≤ i → shows ≡ false → ShowsSoFar shows (clocks_of (take i happened)) left moments → clocks_of happened ≢ moments
@@ -68,18 +89,8 @@ not_shown happened i false left moments whole not other same =
     other [] (append-nil (clocks_of (take i happened)) ∙ (ap clocks_of (take_all i happened whole) ∙ same))
 
 -- one happening more is counted
-pub event_on : (happened : List Happening) (i : ℕ) (d : Happening) (count byte : ℕ) (b : Bool) → i < length happened → count ≡ event_count (take i happened) → b ≡ is_taken (slice_index_or happened i d) → byte ≡ bool_byte b
-    → count + byte ≡ event_count (take (i + 1) happened)
-event_on happened i d count byte b low so_far is sum = by b is sum
-  where
-    more : (b : Bool) → b ≡ is_taken (slice_index_or happened i d) → event_count (take (i + 1) happened) ≡ event_count (take i happened) + cond b 1 0
-    more b is = subst (λ (x : Bool). event_count (take (i + 1) happened) ≡ event_count (take i happened) + cond x 1 0) (sym is) (how_many-more is_taken happened i d low)
-
-    by : (b : Bool) → b ≡ is_taken (slice_index_or happened i d) → byte ≡ bool_byte b → count + byte ≡ event_count (take (i + 1) happened)
-    by true is sum = omega (arith, so_far, sum, more true is)
-    by false is sum = omega (arith, so_far, sum, more false is)
-
--- the count stays at most that of the happenings
-pub few_on : (count i byte : ℕ) (b : Bool) → count ≤ i → byte ≡ bool_byte b → count + byte ≤ i + 1
-few_on count i byte true few sum = omega (arith, few, sum)
-few_on count i byte false few sum = omega (arith, few, sum)
+pub event_on : (happened : List Happening) (i : ℕ) (d happening : Happening) (count : ℕ) (b : Bool) → i < length happened → happening ≡ slice_index_or happened i d → count ≡ event_count (take i happened) → is_taken happening ≡ b
+    → count + cond b 1 0 ≡ event_count (take (i + 1) happened)
+event_on happened i d happening count b low next so_far is =
+    subst (λ x. count + cond x 1 0 ≡ event_count (take (i + 1) happened)) (sym (ap is_taken next) ∙ is)
+    (ap (λ n. n + cond (is_taken (slice_index_or happened i d)) 1 0) so_far ∙ sym (how_many-more is_taken happened i d low))

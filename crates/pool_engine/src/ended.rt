@@ -1,10 +1,10 @@
 //! What is asked of a book once its pool has ended, and its text.
-ghost use Rattle.std.specs.Prelude.{◌≡◌, ◌^◌, ◌≤◌, ◌↔◌, All, length, IsTrue, MatchOption, [], ◌∷◌, ◌++◌};
+ghost use Rattle.std.specs.Prelude.{◌≡◌, ◌≢◌, ℕ, ◌^◌, ◌≤◌, ◌↔◌, List, All, length, IsTrue, MatchOption, [], ◌∷◌};
 ghost use Rattle.trace_text.specs.Spelling.{lines_text};
 ghost use Rattle.trace_check.specs.Laws.{FitsHappening};
 ghost use Rattle.sched_engine.specs.Ends.{CountsTries};
-ghost use Rattle.pool_engine.specs.PoolRuns.{clocks_of, event_count, is_taken};
-ghost use Rattle.pool_engine.specs.own.Ended.{ShowsAnother, TextWritten};
+ghost use Rattle.pool_engine.specs.PoolRuns.{clocks_of, event_count};
+ghost use Rattle.pool_engine.specs.own.Ended.{TextWritten};
 
 use executor_core::{Happening, KeptHappening, Line};
 use sched_engine::{Draft, Sink, write_text};
@@ -34,10 +34,16 @@ pub fn look_back(happened: &[KeptHappening], moments: &[u64]) -> Told
     for kept in happened {
         let happening = kept.happening();
         prove_fits(happening);
-        events += usize::from(is_taken(happening));
-        match left_behind(happening, left) {
-            Some(rest) => left = rest,
-            None => shows = false,
+        match happening {
+            Happening::Clock(moment) => {
+                events += 1;
+                match left_behind(moment, left) {
+                    Some(rest) => left = rest,
+                    None => shows = false,
+                }
+            }
+            Happening::Start(_) | Happening::Finish(..) => events += 1,
+            Happening::Call | Happening::Cancel(_) => {}
         }
     }
     Told {
@@ -46,28 +52,15 @@ pub fn look_back(happened: &[KeptHappening], moments: &[u64]) -> Told
     }
 }
 
-/// The moments that are left behind those that a happening shows. `None`: it shows another one.
-fn left_behind(happening: Happening, moments: &[u64]) -> Option<&[u64]>
-    ensures { MatchOption result (ShowsAnother happening moments.now) (λ rest. clocks_of (happening ∷ []) ++ rest.now ≡ moments.now) }
+/// The moments that follow this one, where it is the first of them. `None`: another one is, or there is none.
+fn left_behind(moment: u64, moments: &[u64]) -> Option<&[u64]>
+    ensures { MatchOption result ((rest : List ℕ) → moments.now ≢ moment ∷ rest) (λ rest. moment ∷ rest.now ≡ moments.now) }
 {
-    let Happening::Clock(moment) = happening else {
-        return Some(moments);
-    };
     let (first, rest) = moments.split_first()?;
     if *first != moment {
         return None;
     }
     Some(rest)
-}
-
-/// Whether a happening is an event that a pool takes.
-fn is_taken(happening: Happening) -> bool
-    ensures { result ≡ is_taken happening }
-{
-    matches!(
-        happening,
-        Happening::Clock(_) | Happening::Start(_) | Happening::Finish(..)
-    )
 }
 
 /// What a happening hands in is in the range of its type.

@@ -1,9 +1,7 @@
 -- Beside `specs/PoolRuns`: what an ended book tells, and its text.
 -- All of it is this project's rule.
-use Rattle.std.specs.Prelude.{◌≡◌, ◌≢◌, ℕ, List, ◌∷◌, ◌++◌, Option, Bool, true, false, take}
+use Rattle.std.specs.Prelude.{◌≡◌, ◌≢◌, ℕ, List, ◌++◌, Option, Bool, true, false, take}
 use Rattle.std.specs.Io.KnownBytes.{Appends}
-use Rattle.executor_core.specs.declared.Happening.{Happening}
-use Rattle.executor_core.specs.declared.Happening.TheVariants as h
 use Rattle.executor_core.specs.CoreView.{state_of}
 use Rattle.executor_core.specs.Needs.{IsRipe}
 use Rattle.executor_core.specs.State.{view_of_state}
@@ -14,10 +12,6 @@ use Rattle.pool_engine.specs.PoolRuns.{clocks_of}
 pub record IsRested (b : BookView) (moments : List ℕ) : Type 0 where
   pub clocks : clocks_of b.happened ≡ moments
   pub rests : IsRipe b.core.calls (view_of_state b.core.calls (state_of b.core)) → ⊥
-
--- a happening is a clock, and these moments do not begin with its moment
-abbrev pub ShowsAnother : Happening → List ℕ → Type 0
-ShowsAnother happening moments = (t : ℕ) × (happening ≡ h.Clock t) × ((rest : List ℕ) → moments ≢ t ∷ rest)
 
 -- `true`: the clocks so far show the first of these moments, and the others are left; `false`: they do not show the first of them,
 -- whatever follows
