@@ -236,53 +236,62 @@ impl<'s, N: Named, A: HeapAllocator> Pool<'s, N, A> {
         let mut shift = self.shift.lock(rt);
         match shift.hold(self.shared, worker, came) {
             Next::Job { work, wakes_one } => {
-                drop(shift);
-                if wakes_one {
-                    self.work.notify_one();
-                }
+                self.let_go(shift, wakes_one);
                 Some(work)
             }
-            told => self.rest(rt, worker, shift, told),
+            Next::Leave => {
+                self.leave(shift);
+                None
+            }
+            Next::Sleep { wakes_leader } => self.rest(rt, worker, shift, wakes_leader),
         }
     }
 
-    /// What a worker does that holds the lock and was told this: where there is no job, it sleeps and looks again until there is
-    /// one, or all are to leave.
+    /// A worker that holds the lock and finds no job sleeps, and looks again until there is one. `None`: it is to leave.
     #[inline(never)]
     fn rest<R: Wait>(
         &self,
         rt: &R,
         worker: u8,
         held: MutexGuard<'_, Shift<N, A>>,
-        told: Next,
+        wakes_leader: bool,
     ) -> Option<Work> {
         let mut shift = held;
-        let mut next = told;
+        let mut quiet = wakes_leader;
         for _ in rt.forever() {
-            match next {
+            if quiet {
+                self.quiet.notify_one();
+            }
+            shift = self.work.wait(rt, shift);
+            match shift.hold(self.shared, worker, Came::Woken) {
                 Next::Job { work, wakes_one } => {
-                    drop(shift);
-                    if wakes_one {
-                        self.work.notify_one();
-                    }
+                    self.let_go(shift, wakes_one);
                     return Some(work);
                 }
                 Next::Leave => {
-                    drop(shift);
-                    self.work.notify_all();
-                    self.quiet.notify_one();
+                    self.leave(shift);
                     return None;
                 }
-                Next::Sleep { wakes_leader } => {
-                    if wakes_leader {
-                        self.quiet.notify_one();
-                    }
-                    shift = self.work.wait(rt, shift);
-                    next = shift.hold(self.shared, worker, Came::Woken);
-                }
+                Next::Sleep { wakes_leader } => quiet = wakes_leader,
             }
         }
         unreachable!()
+    }
+
+    /// A worker that has a job lets go of the lock, and wakes another one where it is to.
+    fn let_go(&self, held: MutexGuard<'_, Shift<N, A>>, wakes_one: bool) {
+        drop(held);
+        if wakes_one {
+            self.work.notify_one();
+        }
+    }
+
+    /// A worker that leaves lets go of the lock, and wakes all others and who leads.
+    #[inline(never)]
+    fn leave(&self, held: MutexGuard<'_, Shift<N, A>>) {
+        drop(held);
+        self.work.notify_all();
+        self.quiet.notify_one();
     }
 
     /// Cuts off a handle, as [`Book::admit`] does.
