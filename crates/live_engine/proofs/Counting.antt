@@ -3,9 +3,9 @@ use Rattle.std.proofs.Common.{◌≡◌, ℕ, ◌+◌, ◌<◌, List, [], length
 use Rattle.std.specs.Io.KnownBytes.{Keeps}
 use Rattle.sched_engine.specs.declared.report.RunError.{RunError}
 use Rattle.sched_engine.specs.declared.report.RunError.TheVariants as x
-use Rattle.sched_engine.specs.Ends.{AllGood, NoneFailed}
+use Rattle.byte_ends.specs.Ends.{AllGood, NoneFailed}
 use Rattle.sched_engine.specs.Running.{CountsReader, CountsWriter}
-use Rattle.sched_engine.proofs.Tries.{good_then_bad, good_then_good, no_try}
+use Rattle.byte_ends.proofs.Tries.{good_then_bad, good_then_good, no_try}
 use Rattle.live_engine.specs.declared.engine.Turn.{Turn}
 use Rattle.live_engine.specs.declared.engine.Turn.TheVariants as t
 use Rattle.live_engine.specs.declared.report.LiveReport.{LiveReport}

@@ -15,7 +15,7 @@ use Rattle.call_journal.specs.Journals.{JournalView}
 use Rattle.live_core.specs.Lives.{LiveView}
 use Rattle.sched_engine.specs.declared.report.RunError.{RunError}
 use Rattle.sched_engine.specs.declared.report.RunError.TheVariants as x
-use Rattle.sched_engine.specs.Running.{piece}
+use Rattle.byte_ends.specs.Refills.{piece}
 use Rattle.sched_engine.proofs.Runs.{at_end, gave_front, so_far, read_so_far}
 use Rattle.sched_engine.proofs.Giving.{wrote_none}
 use Rattle.sched_engine.proofs.Turns.{kept_none, nothing_read}

@@ -12,7 +12,8 @@ use Rattle.call_journal.specs.declared.journal.MadeCall.{MadeCall}
 use Rattle.call_journal.specs.Journals.{JournalView, noted}
 use Rattle.sched_engine.specs.declared.report.RunError.{RunError}
 use Rattle.sched_engine.specs.declared.report.RunError.TheVariants as x
-use Rattle.sched_engine.specs.Running.{piece, IsUntouched}
+use Rattle.byte_ends.specs.Refills.{piece}
+use Rattle.sched_engine.specs.Running.{IsUntouched}
 use Rattle.live_engine.specs.declared.live_line.LiveLine.{LiveLine}
 use Rattle.live_engine.specs.declared.live_line.LiveLine.TheVariants as l
 use Rattle.live_engine.specs.declared.report.LiveReport.{LiveReport}

@@ -2,14 +2,15 @@
 ghost use Rattle.std.specs.Prelude.{◌≡◌, IfSome, IsTrue, length};
 ghost use Rattle.trace_text.specs.Spelling.{lines_text};
 ghost use Rattle.executor_core.specs.Flows.{lines_at};
-ghost use Rattle.sched_engine.specs.Ends.{CountsTries};
+ghost use Rattle.byte_ends.specs.Ends.{CountsTries};
 ghost use Rattle.sched_engine.specs.Pieces.{GivesText};
 ghost use Rattle.live_core.specs.Said.{ending};
 ghost use Rattle.live_engine.specs.own.LiveSteps.{lines_told};
 
 use executor_core::{Answer, Line, Message};
 use live_core::ScheduledExecutor;
-use sched_engine::{Draft, Sink};
+use byte_ends::Sink;
+use sched_engine::Draft;
 use std::alloc::Allocator;
 
 /// The lines of an answer: most have one alone, which is not copied into a list.

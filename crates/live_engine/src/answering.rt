@@ -13,7 +13,8 @@ use crate::stops::PieceEnd;
 use call_journal::Journal;
 use executor_core::Line;
 use live_core::ScheduledExecutor;
-use sched_engine::{Draft, RunError, Sink};
+use byte_ends::Sink;
+use sched_engine::{Draft, RunError};
 use std::alloc::Allocator;
 
 /// How far the bytes at hand were answered.

@@ -16,7 +16,8 @@ use crate::stops::PieceEnd;
 use call_journal::Journal;
 use executor_core::Line;
 use live_core::{MakeError, ScheduledExecutor};
-use sched_engine::{Draft, Filled, Held, RunError, Sink, Source, write_text};
+use byte_ends::{Filled, Held, Sink, Source, write_text};
+use sched_engine::{Draft, RunError};
 use std::alloc::Allocator;
 
 /// Runs an executor over the lines of the reader, events and calls, and writes its trace.

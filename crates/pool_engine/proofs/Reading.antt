@@ -9,7 +9,7 @@ use Rattle.trace_text.specs.Spelling.{FitsEvent}
 use Rattle.trace_text.specs.Reading.{IsPart, most_event_bytes}
 use Rattle.trace_text.proofs.Fronts.{some_bytes, unread_part}
 use Rattle.sched_engine.specs.Inputs.{AreEvents, input_of}
-use Rattle.sched_engine.specs.Running.{piece}
+use Rattle.byte_ends.specs.Refills.{piece}
 use Rattle.sched_engine.specs.declared.report.RunError.TheVariants as x
 use Rattle.sched_engine.proofs.Runs.{at_end, came, read_so_far, so_far, took}
 use Rattle.sched_engine.proofs.Turns.{kept_none, nothing_read, smaller}

@@ -1,10 +1,10 @@
 -- Texts: a text that was given out, and then what was left of it; and what the tries at both count.
 use Rattle.std.proofs.Common.{◌≡◌, ℕ, ◌+◌, List, [], ◌++◌, Bool, true, false, Option, length, take, ap, ◌∙◌, sym, subst}
 use Rattle.std.specs.Io.KnownBytes.{Appends}
-use Rattle.sched_engine.specs.Ends.{AllGood, CountsTries, WritesText}
+use Rattle.byte_ends.specs.Ends.{AllGood, CountsTries, WritesText}
 use Rattle.sched_engine.specs.Pieces.{Gives}
 use Rattle.sched_engine.proofs.Runs.{gave, gave_front}
-use Rattle.sched_engine.proofs.Tries.{good_then_bad, good_then_good}
+use Rattle.byte_ends.proofs.Tries.{good_then_bad, good_then_good}
 use Rattle.pool_engine.specs.own.Ended.{TextWritten}
 
 -- a text was given out with none at hand before, and then what was left at hand was written

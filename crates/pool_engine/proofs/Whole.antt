@@ -10,7 +10,7 @@ use Rattle.sched_engine.specs.Running.{CountsWriter, IsAccepted}
 use Rattle.sched_engine.specs.declared.report.Report.{Report}
 use Rattle.sched_engine.specs.declared.report.RunError.{RunError}
 use Rattle.sched_engine.specs.declared.report.RunError.TheVariants as x
-use Rattle.sched_engine.proofs.Tries.{no_try}
+use Rattle.byte_ends.proofs.Tries.{no_try}
 use Rattle.pool_engine.specs.ClockLines.{AreAllClocks, EndsReading}
 use Rattle.pool_engine.specs.PoolRuns.{LeavesWriter, PoolRan, PoolWrote}
 

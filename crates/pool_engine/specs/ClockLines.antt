@@ -9,7 +9,8 @@ use Rattle.trace_text.specs.Reading.{IsPart}
 use Rattle.sched_engine.specs.declared.report.RunError.{RunError}
 use Rattle.sched_engine.specs.declared.report.RunError.TheVariants as x
 use Rattle.sched_engine.specs.Inputs.{AreEvents, input_of}
-use Rattle.sched_engine.specs.Running.{Splits, piece}
+use Rattle.byte_ends.specs.Refills.{piece}
+use Rattle.sched_engine.specs.Running.{Splits}
 
 -- the clocks that show some moments, which stand the oldest first: the newest first, as the input of a run has its events
 abbrev pub clock_events : List ℕ → List Event

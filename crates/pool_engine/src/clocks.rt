@@ -6,7 +6,8 @@ ghost use Rattle.pool_engine.specs.ClockLines.{AreAllClocks, EndsReading};
 ghost use Rattle.pool_engine.specs.own.ClockLines.{IsClockRead, IsNoClockEnd, IsOther, StopsAt, TakesClocks};
 
 use executor_core::Event;
-use sched_engine::{Filled, Held, RunError, Source};
+use byte_ends::{Filled, Held, Source};
+use sched_engine::RunError;
 use std::alloc::Allocator;
 use trace_text::{is_part, split_event};
 

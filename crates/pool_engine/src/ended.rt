@@ -2,12 +2,13 @@
 ghost use Rattle.std.specs.Prelude.{◌≡◌, ◌≢◌, ℕ, ◌^◌, ◌≤◌, ◌↔◌, List, All, length, IsTrue, MatchOption, [], ◌∷◌};
 ghost use Rattle.trace_text.specs.Spelling.{lines_text};
 ghost use Rattle.trace_check.specs.Laws.{FitsHappening};
-ghost use Rattle.sched_engine.specs.Ends.{CountsTries};
+ghost use Rattle.byte_ends.specs.Ends.{CountsTries};
 ghost use Rattle.pool_engine.specs.PoolRuns.{clocks_of, event_count};
 ghost use Rattle.pool_engine.specs.own.Ended.{TextWritten};
 
 use executor_core::{Happening, KeptHappening, Line};
-use sched_engine::{Draft, Sink, write_text};
+use byte_ends::{Sink, write_text};
+use sched_engine::Draft;
 use sched_time::Ending;
 use std::alloc::Allocator;
 

@@ -5,7 +5,8 @@ mod growths;
 
 use crate::run_pool;
 use plan_read::{PlanFault, PlanFaultKind, read_plan};
-use sched_engine::{Pieces, Report, RunError, Writing};
+use byte_ends::{Pieces, Writing};
+use sched_engine::{Report, RunError};
 use std::alloc::Global;
 use std::process::Abort;
 use std::sync::Wait;

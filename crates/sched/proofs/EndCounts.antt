@@ -1,7 +1,7 @@
 -- EndCounts: what is counted of an end that was not called.
 use Rattle.std.proofs.Common.{ℕ, Result, Ok, Err, ap, refl}
 use Rattle.std.specs.Prelude.{IsErrOf}
-use Rattle.sched_engine.proofs.Tries.{no_try}
+use Rattle.byte_ends.proofs.Tries.{no_try}
 use Rattle.sched_engine.specs.declared.report.RunError.TheVariants as x
 use Rattle.sched.specs.Answers.{end_of}
 use Rattle.sched.specs.EndCounts.{CountsInput}

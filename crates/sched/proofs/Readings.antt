@@ -6,7 +6,7 @@ use Rattle.std.specs.Io.KnownBytes.{Consumes}
 use Rattle.std.proofs.KnownBytes.{Consumes-trans}
 use Rattle.std.proofs.Math.Seq.{take-add}
 use Rattle.std.specs.declared.io.Error.{Error}
-use Rattle.sched_engine.specs.Ends.{ReadsSome}
+use Rattle.byte_ends.specs.Ends.{ReadsSome}
 use Rattle.sched_engine.specs.declared.report.RunError.TheVariants as x
 use Rattle.sched.specs.EndCounts.{CountsFile, CountsFront}
 use Rattle.sched.specs.Errors.{IsOrMemory}

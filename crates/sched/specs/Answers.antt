@@ -12,7 +12,7 @@ use Rattle.sched.specs.declared.answer.Answer.TheVariants.{Status, Refused}
 use Rattle.sched.specs.declared.arguments.RunArguments.{RunArguments}
 use Rattle.sched.specs.declared.error.ProgramError.{ProgramError}
 use Rattle.sched.specs.declared.error.ProgramError.TheVariants.{Run}
-use Rattle.sched_engine.specs.Ends.{CountsTries, NoneFailed, WritesText}
+use Rattle.byte_ends.specs.Ends.{CountsTries, NoneFailed, WritesText}
 use Rattle.sched_engine.specs.Running.{Ran}
 use Rattle.sched_engine.specs.CodeTexts.{Listed}
 use Rattle.task_list.specs.Writing.{TasksWritten}

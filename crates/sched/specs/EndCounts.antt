@@ -4,7 +4,7 @@ use Rattle.std.specs.Prelude.{◌≡◌, ℕ, ◌⊎◌, Result, Ok, Err}
 use Rattle.sched.specs.declared.error.ProgramError.{ProgramError}
 use Rattle.sched.specs.declared.error.ProgramError.TheVariants.{PlanFile, Run, TraceFile}
 use Rattle.sched_engine.specs.declared.report.RunError.TheVariants as x
-use Rattle.sched_engine.specs.Ends.{AllGood, LastBad}
+use Rattle.byte_ends.specs.Ends.{AllGood, LastBad}
 
 -- what the calls of the reader count: what good tries do, the last of which was bad where a fault of reading is told
 abbrev pub CountsInput : Result ℕ ProgramError → ℕ → ℕ → ℕ → ℕ → Type 0

@@ -6,7 +6,7 @@ use Rattle.std.specs.IoError.{error_kind}
 use Rattle.std.specs.declared.io.Error.{Error}
 use Rattle.std.specs.declared.io.ErrorKind.TheVariants.{OutOfMemory}
 use Rattle.plan_read.specs.Texts.{longest_text}
-use Rattle.sched_engine.specs.Ends.{LastBad}
+use Rattle.byte_ends.specs.Ends.{LastBad}
 use Rattle.trace_check.specs.Standing.{most_bytes}
 
 -- how many bytes of a plan file are read at most: one more than a plan text may have, which shows that the file is longer

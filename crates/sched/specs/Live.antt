@@ -12,7 +12,7 @@ use Rattle.call_journal.specs.Journals.{JournalView}
 use Rattle.call_journal.specs.Plans.{TextFault, tree_of_calls}
 use Rattle.live_engine.specs.LiveRuns.{LiveEnds, Ran}
 use Rattle.live_engine.specs.declared.report.LiveReport.{LiveReport}
-use Rattle.sched_engine.specs.Ends.{AllGood, LastBad, WritesText}
+use Rattle.byte_ends.specs.Ends.{AllGood, LastBad, WritesText}
 use Rattle.sched_engine.specs.declared.report.RunError.{RunError}
 use Rattle.sched_engine.specs.declared.report.RunError.TheVariants as x
 use Rattle.sched.specs.Errors.{IsOfSystem, IsToldAs}

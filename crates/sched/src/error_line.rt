@@ -11,7 +11,8 @@ use crate::error::ProgramError;
 use arrayvec::ArrayString;
 use itoa::Buffer;
 use plan_read::{PlanFault, PlanFaultKind};
-use sched_engine::{RunError, Sink, write_text};
+use byte_ends::{Sink, write_text};
+use sched_engine::RunError;
 
 /// How many bytes a reason has at most.
 const LONGEST_REASON: usize = 120;

@@ -6,13 +6,13 @@ ghost use Rattle.sched.specs.EndCounts.{CountsFile, CountsFront};
 ghost use Rattle.sched.specs.Errors.{IsOrMemory};
 ghost use Rattle.sched.specs.Fronts.{IsReadOf, TakesAtMost, front, most_of_plan, most_of_trace};
 ghost use Rattle.sched.specs.declared.error.ProgramError.TheVariants.{PlanFile, Run, TraceFile, TraceTooLong};
-ghost use Rattle.sched_engine.specs.Ends.{CountsTry};
+ghost use Rattle.byte_ends.specs.Ends.{CountsTry};
 ghost use Rattle.sched_engine.specs.declared.report.RunError.TheVariants.{Memory};
 ghost use Rattle.trace_check.specs.Standing.{most_bytes};
 
 use crate::error::ProgramError;
 use plan_read::LONGEST_TEXT;
-use sched_engine::{Source, read_some};
+use byte_ends::{Source, read_some};
 use std::alloc::{AllocError, Allocator};
 use std::io;
 use trace_check::MOST_BYTES;

@@ -9,7 +9,8 @@ ghost use Rattle.trace_check.specs.Standing.{most_bytes};
 
 use crate::error::ProgramError;
 use plan_read::Plan;
-use sched_engine::{RunError, Sink, write_text};
+use byte_ends::{Sink, write_text};
+use sched_engine::RunError;
 use std::alloc::{AllocError, Allocator};
 use trace_check::{CheckError, Finding, check};
 

@@ -10,7 +10,8 @@ use crate::error::ProgramError;
 use call_journal::{Journal, plan_text};
 use live_engine::run;
 use plan_read::{PlanFault, PlanFaultKind};
-use sched_engine::{HeapAllocator, RunError, Sink, Source, write_text};
+use byte_ends::{Sink, Source, write_text};
+use sched_engine::{HeapAllocator, RunError};
 use std::io;
 
 /// Answers the lines of the reader, events and calls, as they come, and writes the trace to the writer. Then, where a file is named

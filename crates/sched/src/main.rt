@@ -98,7 +98,7 @@ mod tests;
 mod version;
 mod work;
 
-use sched_engine::Writing;
+use byte_ends::Writing;
 use std::process::ExitCode;
 
 fn main(rt: HostRuntime) -> ExitCode {

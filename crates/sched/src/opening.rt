@@ -3,7 +3,7 @@
 ghost use Rattle.std.specs.Prelude.{◌↔◌, ◌≡◌, IfOk, IsTrue, codes};
 ghost use Rattle.sched.specs.Openings.{IsInput, of_opened};
 
-use sched_engine::{Reading, Source};
+use byte_ends::{Reading, Source};
 use std::cell::Cell;
 use std::io::ErrorKind;
 use std::rt::Files;

@@ -8,7 +8,7 @@ ghost use Rattle.sched.specs.EndCounts.{CountsInput, CountsOutput};
 ghost use Rattle.sched.specs.Fronts.{IsReadOf};
 ghost use Rattle.sched.specs.Live.{IsWrittenTo};
 ghost use Rattle.sched.specs.Serving.{AnswersAlone, EndsAlone, Serves};
-ghost use Rattle.sched_engine.specs.Ends.{NoneFailed};
+ghost use Rattle.byte_ends.specs.Ends.{NoneFailed};
 ghost use Rattle.sched_engine.specs.Running.{IsUntouched};
 
 use crate::answer::{Answer, in_status};
@@ -19,7 +19,8 @@ use crate::lint::lint_files;
 use crate::live::live_lines;
 use crate::work::{check_files, list_file, migrate_file, pool_file, run_file, tasks_file};
 use clap::Error;
-use sched_engine::{HeapAllocator, Sink, Source};
+use byte_ends::{Sink, Source};
+use sched_engine::HeapAllocator;
 use std::alloc::Global;
 use std::io;
 use std::sync::Wait;

@@ -5,7 +5,7 @@ use Rattle.sched_engine.specs.declared.report.RunError.{RunError}
 use Rattle.sched_engine.specs.declared.report.RunError.TheVariants as x
 use Rattle.sched_engine.specs.Inputs.{input_of}
 use Rattle.sched_engine.specs.Running.{CountsReader, Ran, RanInMemory}
-use Rattle.sched_engine.proofs.Tries.{no_bad}
+use Rattle.byte_ends.proofs.Tries.{no_bad}
 
 known : (result : Result Report RunError) (text : List ℕ) (workers limit : ℕ) (input left output : List ℕ) → CountsReader result 0 0 0 0 →
     Ran result text workers limit (Some input) (Some left) (Some []) (Some output) → RanInMemory result text workers limit input output

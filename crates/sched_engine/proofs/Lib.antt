@@ -1,4 +1,3 @@
-pub mod Ranges
 pub mod Runs
 pub mod LineCounts
 pub mod Inputs

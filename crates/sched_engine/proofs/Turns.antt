@@ -14,7 +14,8 @@ use Rattle.sched_engine.specs.declared.engine.Turn.TheVariants as t
 use Rattle.sched_engine.specs.declared.report.RunError.{RunError}
 use Rattle.sched_engine.specs.declared.report.RunError.TheVariants as x
 use Rattle.sched_engine.specs.Inputs.{AreEvents, input_of, IsRefused, BeginsWithEvent}
-use Rattle.sched_engine.specs.Running.{IsAccepted, IsNoEventLine, IsTrace, Ran, Runs, Taken, piece, text_of}
+use Rattle.byte_ends.specs.Refills.{piece}
+use Rattle.sched_engine.specs.Running.{IsAccepted, IsNoEventLine, IsTrace, Ran, Runs, Taken, text_of}
 use Rattle.sched_engine.specs.Pieces.{Output}
 use Rattle.sched_engine.specs.Cores.{Opens}
 use Rattle.sched_engine.specs.own.Turns.{CutsSteps, Done, Extends, IsAnswered, IsBetweenTurns, IsCut, StandsAfterEvents, Progress, Setting, Turns, answers_to}

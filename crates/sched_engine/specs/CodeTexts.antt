@@ -12,7 +12,7 @@ use Rattle.plan_compile.specs.PlanCalls.{calls_of_plan}
 use Rattle.plan_compile.specs.PlanCode.{instrs_of}
 use Rattle.sched_engine.specs.declared.report.RunError.{RunError}
 use Rattle.sched_engine.specs.declared.report.RunError.TheVariants as x
-use Rattle.sched_engine.specs.Ends.{AllGood, LastBad, NoneFailed}
+use Rattle.byte_ends.specs.Ends.{AllGood, LastBad, NoneFailed}
 
 -- the text writes a plan, whose code this is, and which makes the plan's calls
 pub record IsCodeOfText (text : List ℕ) (code : List Instr) : Type 0 where

@@ -1,3 +1,5 @@
+pub use Rattle.byte_ends.specs.Ends
+pub use Rattle.byte_ends.specs.Refills
 pub use Rattle.queue_code.specs.Calls
 pub use Rattle.queue_code.specs.Codes
 pub use Rattle.queue_code.specs.Listings
@@ -13,7 +15,6 @@ pub use Rattle.trace_text.specs.Spelling
 pub use Rattle.trace_text.specs.Reading
 pub mod CodeTexts
 pub mod Cores
-pub mod Ends
 pub mod Inputs
 pub mod Pieces
 pub mod Running

@@ -10,7 +10,8 @@ use Rattle.executor_core.specs.Flows.{flow, lines_of}
 use Rattle.sched_engine.specs.declared.report.Report.{Report}
 use Rattle.sched_engine.specs.declared.report.RunError.{RunError}
 use Rattle.sched_engine.specs.declared.report.RunError.TheVariants as x
-use Rattle.sched_engine.specs.Ends.{AllGood, LastBad, NoneFailed}
+use Rattle.byte_ends.specs.Ends.{AllGood, LastBad, NoneFailed}
+use Rattle.byte_ends.specs.Refills.{piece}
 use Rattle.sched_engine.specs.Inputs.{input_of, AreEvents, IsRefused, BeginsWithEvent}
 use Rattle.trace_text.specs.Spelling.{IsLine, lines_text}
 use Rattle.trace_text.specs.declared.front.Front.TheVariants as front
@@ -19,10 +20,6 @@ use Rattle.plan_read.specs.Plans.{PlanTree}
 use Rattle.plan_read.specs.Reads.{out_of_memory}
 use Rattle.plan_read.specs.Texts.{TextWrites, TextFails}
 use Rattle.plan_compile.specs.PlanCalls.{calls_of_plan}
-
--- how many bytes are read at most behind the last event (this project's limit)
-abbrev pub piece : ℕ
-piece = 65536
 
 -- ---- traces
 

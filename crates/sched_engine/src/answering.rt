@@ -6,9 +6,9 @@ ghost use Rattle.sched_engine.specs.Running.{CountsWriter};
 ghost use Rattle.sched_engine.specs.own.Turns.{IsAnswered, IsCut, IsPieceEnd, StandsAfterEvents, WantsRoom};
 
 use crate::draft::Draft;
-use crate::ends::Sink;
 use crate::one_event::answer_event;
 use crate::report::RunError;
+use byte_ends::Sink;
 use executor_core::{Core, Line};
 use std::alloc::Allocator;
 use trace_text::{is_part, split_event};

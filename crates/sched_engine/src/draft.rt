@@ -1,12 +1,11 @@
 //! The text that answers events, until it is written.
 ghost use Rattle.std.specs.Prelude.{◌≡◌, ◌+◌, ◌≤◌, ◌↔◌, [], ◌++◌, length, IfOk, IsTrue};
 ghost use Rattle.trace_text.specs.Spelling.{line_text, lines_text};
-ghost use Rattle.sched_engine.specs.Ends.{CountsTries, WritesText};
+ghost use Rattle.byte_ends.specs.Ends.{CountsTries, WritesText};
 ghost use Rattle.sched_engine.specs.Pieces.{GivesText};
 ghost use Rattle.sched_engine.specs.own.Pieces.{MakesRoom};
 
-use crate::ends::{Sink, write_text};
-use crate::held::PIECE;
+use byte_ends::{PIECE, Sink, write_text};
 use executor_core::Line;
 use std::alloc::{AllocError, Allocator};
 use std::marker::Model;
@@ -24,7 +23,7 @@ pub struct Draft<A: Allocator> {
 
 impl<A: Allocator> Model for Draft<A> {
     ghost use Rattle.std.specs.Prelude.{◌≡◌, ◌≤◌, List, ℕ, take, vec_len};
-    ghost use Rattle.sched_engine.specs.declared.held.TheConstants.{PIECE};
+    ghost use Rattle.byte_ends.specs.declared.held.TheConstants.{PIECE};
 
     ghost Value = { List ℕ };
 

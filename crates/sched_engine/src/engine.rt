@@ -8,9 +8,8 @@ ghost use Rattle.sched_engine.specs.declared.engine.Turn.TheVariants as t;
 
 use crate::answering::{PieceEnd, answer_events};
 use crate::draft::Draft;
-use crate::ends::{Sink, Source, write_text};
-use crate::held::{Filled, Held};
 use crate::report::{Report, RunError};
+use byte_ends::{Filled, Held, Sink, Source, write_text};
 use executor_core::{Core, CoreError, Line};
 use plan_compile::{CompileFault, compile};
 use plan_read::{HeapAllocator, read_plan};

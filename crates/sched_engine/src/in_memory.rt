@@ -2,10 +2,8 @@
 ghost use Rattle.sched_engine.specs.Running.{RanInMemory};
 
 use crate::engine::run;
-use crate::held::PIECE;
-use crate::memory::Pieces;
 use crate::report::{Report, RunError};
-use crate::writers::Writing;
+use byte_ends::{PIECE, Pieces, Writing};
 use plan_read::HeapAllocator;
 
 /// Runs a plan over the event lines `input`, and gives what [`run`] answers and the trace that it

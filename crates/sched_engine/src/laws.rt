@@ -1,12 +1,8 @@
 //! What holds of each input and of each comparison, over the definitions alone.
 ghost use Rattle.std.specs.Prelude.{◌≡◌, ◌↔◌, true};
 ghost use Rattle.sched_engine.specs.Inputs.{EventsAreOne, FrontIsOne};
-ghost use Rattle.sched_engine.specs.Ends.{most_fruitless};
-ghost use Rattle.sched_engine.specs.Running.{piece};
 
 use crate::answering::{Answered, PieceEnd};
-use crate::ends::MOST_FRUITLESS;
-use crate::held::{Filled, PIECE};
 use crate::report::{Report, RunError};
 
 /// A text is the lines of one list of events and of no other.
@@ -21,16 +17,6 @@ pub fn front_is_one()
     ensures { FrontIsOne }
 {}
 
-/// The size of a piece is the limit of which the contracts speak.
-pub(crate) fn piece_is_the_limit()
-    ensures { PIECE ≡ piece }
-{}
-
-/// That many fruitless calls in a row are the limit of which the contracts speak.
-pub(crate) fn most_fruitless_is_the_limit()
-    ensures { MOST_FRUITLESS ≡ most_fruitless }
-{}
-
 /// Two reports compare as equal exactly when they are the same.
 pub fn report_equality_tells()
     ensures { (a b : Report) → (⟦<Report as PartialEq>⟧.eq a b ≡ true) ↔ (a ≡ b) }
@@ -39,11 +25,6 @@ pub fn report_equality_tells()
 /// Two errors of a run compare as equal exactly when they are the same.
 pub fn run_error_equality_tells()
     ensures { (a b : RunError) → (⟦<RunError as PartialEq>⟧.eq a b ≡ true) ↔ (a ≡ b) }
-{}
-
-/// What two refills brought compares as equal exactly when it is the same.
-pub fn filled_equality_tells()
-    ensures { (a b : Filled) → (⟦<Filled as PartialEq>⟧.eq a b ≡ true) ↔ (a ≡ b) }
 {}
 
 /// Two ends of pieces compare as equal exactly when they are the same.

@@ -12,9 +12,8 @@
 //! write_listing(rt.alloc(), plan, &mut writer)?; // "0 submit 0 schedule 5\n1 halt\n"
 //! ```
 //!
-//! [`run`] takes any [`Source`] and any [`Sink`]: [`Reading`] and [`Writing`] make them of std's
-//! readers and writers, [`Pieces`] of bytes in memory, and [`run_in_memory`] does with no ends at
-//! all.
+//! [`run`] takes any [`Source`](byte_ends::Source) and any [`Sink`](byte_ends::Sink), of the crate `byte_ends`; [`run_in_memory`]
+//! does with no ends at all.
 //!
 //! # Behaviour
 //!
@@ -44,11 +43,8 @@
 //! [`write_listing`] answers [`RunError::Plan`] and [`RunError::Memory`] with nothing written, and
 //! [`RunError::Write`] with a front of the listing written.
 //!
-//! A read or write that fails by `Interrupted` did nothing, and is tried again. The 1,000th of them in
-//! a row is a fault of that end; one that does something sets the count back. Any other fault is told
-//! at once, and so is a write that takes nothing. An end at fault is not called again. [`read_some`]
-//! and [`write_some`] try so, [`write_text`] writes a whole text by them. At most one piece, 64 KiB, is
-//! read behind the last event that was taken.
+//! When an end is at fault is as `byte_ends` has it. An end at fault is not called again. At most one piece, 64 KiB, is read behind
+//! the last event that was taken.
 //!
 //! # Memory and cost
 //!
@@ -63,33 +59,19 @@
 
 mod answering;
 mod draft;
-mod ends;
 mod engine;
-mod fault_counts;
-mod held;
 mod in_memory;
 mod laws;
 mod listing;
-mod memory;
 mod one_event;
-mod readers;
 mod report;
 #[cfg(test)]
 mod tests;
-mod writers;
 
 pub use draft::Draft;
-pub use ends::{Sink, Source, read_some, write_some, write_text};
 pub use engine::{code_of, core_of, run};
-pub use held::{Filled, Held, PIECE};
 pub use in_memory::run_in_memory;
-pub use laws::{
-    events_are_one, filled_equality_tells, front_is_one, report_equality_tells,
-    run_error_equality_tells,
-};
+pub use laws::{events_are_one, front_is_one, report_equality_tells, run_error_equality_tells};
 pub use listing::write_listing;
-pub use memory::Pieces;
 pub use plan_read::HeapAllocator;
-pub use readers::Reading;
 pub use report::{Report, RunError};
-pub use writers::Writing;

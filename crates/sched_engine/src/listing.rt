@@ -2,9 +2,9 @@
 ghost use Rattle.std.specs.Prelude.{IfErr, IfOk, string_bytes};
 ghost use Rattle.sched_engine.specs.CodeTexts.{CountsListing, IsListingOfText, Listed, RefusesText};
 
-use crate::ends::{Sink, write_text};
 use crate::engine::code_of;
 use crate::report::RunError;
+use byte_ends::{Sink, write_text};
 use plan_read::HeapAllocator;
 use queue_code::listing;
 

@@ -9,7 +9,7 @@ ghost use Rattle.sched_engine.specs.own.Pieces.{CountsLines};
 ghost use Rattle.sched_engine.specs.own.Turns.{CutsSteps, GivesSteps, TakesEvent, answers_to};
 
 use crate::draft::Draft;
-use crate::ends::Sink;
+use byte_ends::Sink;
 use executor_core::{Core, Event, Happening, Line};
 use std::alloc::Allocator;
 

@@ -1,9 +1,7 @@
 use crate::engine::run;
 use crate::in_memory::run_in_memory;
-use crate::memory::Pieces;
-use crate::readers::Reading;
 use crate::report::{Report, RunError};
-use crate::writers::Writing;
+use byte_ends::{Pieces, Reading, Writing};
 use plan_read::{PlanFault, PlanFaultKind};
 use std::alloc::Global;
 use std::io;
@@ -12,7 +10,6 @@ use std::process::Abort;
 use std::test::Fail;
 
 mod cancels;
-mod ends;
 mod listings;
 mod long_runs;
 mod periodic;

@@ -3,7 +3,7 @@ use Rattle.std.proofs.Common.{◌≡◌, ℕ, ◌+◌, ◌≤◌, List, [], ◌�
 use Rattle.std.specs.Io.KnownBytes.{Appends}
 use Rattle.std.specs.Prelude.{flat_map}
 use Rattle.std.proofs.lemmas.List.{take-append-le, length-append}
-use Rattle.sched_engine.specs.Ends.{WritesText}
+use Rattle.byte_ends.specs.Ends.{WritesText}
 use Rattle.sched_engine.specs.Pieces.{Gives, Output}
 use Rattle.sched_engine.proofs.Runs.{gave, gave_front}
 use Rattle.task_list.specs.Lines.{submission_line}

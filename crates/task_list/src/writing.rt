@@ -2,7 +2,7 @@
 
 ghost use Rattle.std.specs.Prelude.{◌≡◌, [], IfErr, IfOk, take};
 ghost use Rattle.sched_engine.specs.CodeTexts.{CountsListing, RefusesText};
-ghost use Rattle.sched_engine.specs.Ends.{CountsTries, WritesText};
+ghost use Rattle.byte_ends.specs.Ends.{CountsTries, WritesText};
 ghost use Rattle.plan_read.specs.Texts.{TextWrites};
 ghost use Rattle.task_list.specs.Lines.{tasks_text};
 ghost use Rattle.task_list.specs.Writing.{TasksWritten};
@@ -11,7 +11,8 @@ ghost use Rattle.task_list.specs.own.Pages.{MakesRoom};
 use crate::page::Page;
 use crate::submissions::Submissions;
 use plan_read::{HeapAllocator, Plan, read_plan};
-use sched_engine::{RunError, Sink, write_text};
+use byte_ends::{Sink, write_text};
+use sched_engine::RunError;
 use std::alloc::Allocator;
 
 /// Writes a line for each submission of a plan, in ascending number.

@@ -5,7 +5,7 @@ use Rattle.plan_read.specs.Plans.{PlanTree}
 use Rattle.plan_compile.specs.PlanCalls.{calls_of_plan}
 use Rattle.executor_core.specs.Counts.{IsWorkerCount}
 use Rattle.executor_core.specs.declared.types.Line.{Line}
-use Rattle.sched_engine.specs.Ends.{AllGood, LastBad, NoneFailed}
+use Rattle.byte_ends.specs.Ends.{AllGood, LastBad, NoneFailed}
 use Rattle.task_list.specs.Submissions.{submissions_of_plan}
 use Rattle.trace_check.specs.Findings.{Breaks, Conforms}
 use Rattle.trace_draw.specs.Pictures.{bars_within, crowd, marks_within, picture_of}

@@ -13,7 +13,7 @@ use crate::report::{DrawError, Drawn};
 use crate::view::View;
 use executor_core::Line;
 use plan_read::Plan;
-use sched_engine::{Sink, write_text};
+use byte_ends::{Sink, write_text};
 use std::alloc::{AllocError, Allocator};
 use task_list::names_of_tasks;
 use trace_check::{Finding, check};

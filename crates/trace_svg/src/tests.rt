@@ -6,7 +6,7 @@ mod stacks;
 use crate::{DrawError, Drawn, View, draw, picture_text};
 use linked_list_allocator::LocalHeap;
 use plan_read::{Plan, read_plan};
-use sched_engine::Writing;
+use byte_ends::Writing;
 use scripted_ends::{Script, Taking, Trouble};
 use std::alloc::Global;
 use std::io::ErrorKind;

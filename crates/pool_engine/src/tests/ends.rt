@@ -1,7 +1,8 @@
 //! Runs whose ends follow a script.
 use super::{CLOCKS, ONE_DELAY, REPORT, TRACE, is_same};
 use crate::run_pool;
-use sched_engine::{Reading, Report, RunError, Writing};
+use byte_ends::{Reading, Writing};
+use sched_engine::{Report, RunError};
 use scripted_ends::{Giving, Script, Taking, Trouble};
 use std::io::ErrorKind;
 use std::process::Abort;

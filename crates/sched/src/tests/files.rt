@@ -4,7 +4,7 @@ use super::world::{Given, GivenFile};
 use super::{ONE_DELAY, ends_given, given};
 use crate::error::ProgramError;
 use crate::files::{MOST_OF_PLAN, MOST_OF_TRACE, plan_front, plan_text, trace_text, whole_trace};
-use sched_engine::{Pieces, Reading};
+use byte_ends::{Pieces, Reading};
 use scripted_ends::{Giving, Script, Trouble};
 use std::alloc::Global;
 use std::fs;

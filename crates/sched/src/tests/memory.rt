@@ -7,7 +7,8 @@ use crate::arguments::{
 use crate::error::ProgramError;
 use crate::serving::answer_alone;
 use refusing_allocator::Refusing;
-use sched_engine::{Pieces, RunError, Writing};
+use byte_ends::{Pieces, Writing};
+use sched_engine::RunError;
 use std::alloc::Global;
 use std::io;
 use std::process::Abort;

@@ -3,7 +3,7 @@
 ghost use Rattle.std.specs.Prelude.{IsErr};
 
 use crate::program::program;
-use sched_engine::Writing;
+use byte_ends::Writing;
 use std::alloc::{Allocator, Global};
 use std::cell::{Cell, RefCell};
 use std::env::FillError;

@@ -2,7 +2,8 @@
 
 use crate::audit::{Audit, run_and_check};
 use plan_read::read_plan;
-use sched_engine::{Report, RunError, Writing, run_in_memory, write_listing};
+use byte_ends::Writing;
+use sched_engine::{Report, RunError, run_in_memory, write_listing};
 use std::alloc::Global;
 use std::process::Abort;
 use std::test::Fail;

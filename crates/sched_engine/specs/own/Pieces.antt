@@ -3,8 +3,8 @@
 use Rattle.std.specs.Prelude.{ℕ, ◌+◌, ◌≤◌, Bool, true, false, [], Option, Some, None, length, take}
 use Rattle.std.specs.Io.KnownBytes.{Appends}
 use Rattle.trace_text.specs.declared.line_text.TheConstants.{LINE_ROOM}
-use Rattle.sched_engine.specs.declared.held.TheConstants.{PIECE}
-use Rattle.sched_engine.specs.Ends.{AllGood, LastBad}
+use Rattle.byte_ends.specs.declared.held.TheConstants.{PIECE}
+use Rattle.byte_ends.specs.Ends.{AllGood, LastBad}
 use Rattle.sched_engine.specs.Pieces.{Gives, Output}
 
 -- `Some n`: n lines were given out, and each try of the writer was good; `None`: the last was bad

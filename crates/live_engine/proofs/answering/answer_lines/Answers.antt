@@ -2,7 +2,7 @@ use Rattle.std.proofs.Common.{◌≡◌, ℕ, ◌+◌, List, ◌∷◌, ◌++◌
 use Rattle.executor_core.specs.declared.Line.{Line}
 use Rattle.call_journal.specs.Journals.{JournalView}
 use Rattle.sched_engine.specs.Pieces.{Output}
-use Rattle.sched_engine.proofs.Tries.{good_then_bad, good_then_good}
+use Rattle.byte_ends.proofs.Tries.{good_then_bad, good_then_good}
 use Rattle.live_core.specs.Lives.{LiveView}
 use Rattle.live_engine.specs.declared.counts.Counts.{Counts}
 use Rattle.live_engine.specs.declared.stops.PieceEnd.{PieceEnd}

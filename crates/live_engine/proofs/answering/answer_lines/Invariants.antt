@@ -1,5 +1,5 @@
 use Rattle.std.proofs.Common.{◌≡◌, ◌-◌, ◌≤◌, ℕ, List, Option, drop, length}
-use Rattle.sched_engine.specs.Ends.{AllGood}
+use Rattle.byte_ends.specs.Ends.{AllGood}
 use Rattle.live_engine.specs.declared.live_line.LiveLine.{LiveLine}
 use Rattle.live_engine.specs.LiveLines.{most_numbers}
 use Rattle.live_engine.specs.own.LiveTurns.{AreCounted, DoneAt, Setting}

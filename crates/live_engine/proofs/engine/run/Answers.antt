@@ -1,7 +1,7 @@
 use Rattle.std.proofs.Common.{◌≡◌, Result, Ok, Err, sym, subst, arith, rules}
 use Rattle.sched_engine.specs.Running.{CountsReader, CountsWriter}
 use Rattle.sched_engine.specs.declared.report.RunError.{RunError}
-use Rattle.sched_engine.proofs.Tries.{good_then_good, no_try}
+use Rattle.byte_ends.proofs.Tries.{good_then_good, no_try}
 use Rattle.live_engine.specs.declared.counts.Counts.{Counts}
 use Rattle.live_engine.specs.declared.engine.Turn.{Turn}
 use Rattle.live_engine.specs.declared.report.LiveReport.{LiveReport}

@@ -1,5 +1,5 @@
 use Rattle.std.proofs.Common.{◌≤◌}
-use Rattle.sched_engine.specs.Ends.{AllGood}
+use Rattle.byte_ends.specs.Ends.{AllGood}
 use Rattle.live_engine.specs.LiveLines.{most_numbers}
 use Rattle.live_engine.specs.own.LiveTurns.{AreCounted, IsBetweenTurns, Progress, still_to_come}
 use Rattle.live_engine.proofs.engine.run.Given as goal

@@ -1,7 +1,7 @@
 use Rattle.std.proofs.Common.{◌≡◌, ◌≤◌, ℕ, List, ap, sym, ◌∙◌, arith, length, drop, subst}
 use Rattle.std.specs.Prelude.{vec_len}
 use Rattle.trace_text.specs.Reading.{IsPart}
-use Rattle.sched_engine.proofs.Tries.{bad_try, good_then_bad, good_then_good, good_try, no_try}
+use Rattle.byte_ends.proofs.Tries.{bad_try, good_then_bad, good_then_good, good_try, no_try}
 use Rattle.pool_engine.specs.ClockLines.{BeginsWithClock}
 use Rattle.pool_engine.specs.declared.clocks.ClocksEnd.{ClocksEnd}
 use Rattle.pool_engine.specs.own.ClockLines.{IsRefusedForGood, StopsAt, TakesClocks}

@@ -1,6 +1,6 @@
 use Rattle.std.proofs.Common.{◌+◌, ◌-◌, ◌*◌, length}
 use Rattle.trace_text.specs.Reading.{IsPart, most_event_bytes}
-use Rattle.sched_engine.specs.Ends.{AllGood}
+use Rattle.byte_ends.specs.Ends.{AllGood}
 use Rattle.pool_engine.specs.own.ClockLines.{HasRead}
 use Rattle.pool_engine.proofs.clocks.read_clocks.Given as goal
 

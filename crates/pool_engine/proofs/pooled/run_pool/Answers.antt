@@ -5,7 +5,7 @@ use Rattle.sched_engine.specs.Running.{CountsWriter}
 use Rattle.sched_engine.specs.declared.report.Report.{Report}
 use Rattle.sched_engine.specs.declared.report.RunError.{RunError}
 use Rattle.sched_engine.specs.declared.report.RunError.TheVariants.{Memory}
-use Rattle.sched_engine.proofs.Tries.{no_try}
+use Rattle.byte_ends.proofs.Tries.{no_try}
 use Rattle.pool_engine.specs.PoolRuns.{PoolRan}
 use Rattle.pool_engine.proofs.Whole.{accepted, ends_unwritten, kept, runs_all, unwritten}
 use Rattle.pool_engine.proofs.pooled.run_pool.Goals as goal

@@ -1,6 +1,6 @@
 use Rattle.std.proofs.Common.{inl, refl, rules}
 use Rattle.std.proofs.lemmas.List.{with_items_is, places}
-use Rattle.sched_engine.proofs.Tries.{bad_try, good_then_bad, good_then_good, good_try}
+use Rattle.byte_ends.proofs.Tries.{bad_try, good_then_bad, good_then_good, good_try}
 use Rattle.sched.proofs.Readings.{read_more}
 use Rattle.sched.proofs.files.front_of.Goals as goal
 

@@ -1,6 +1,6 @@
 use Rattle.std.proofs.Common.{length, take, ◌-◌, ◌≤◌}
 use Rattle.std.specs.Io.KnownBytes.{Consumes}
-use Rattle.sched_engine.specs.Ends.{AllGood}
+use Rattle.byte_ends.specs.Ends.{AllGood}
 use Rattle.sched.proofs.files.front_of.Given as goal
 
 -- the first `filled` bytes of the text were read, and each try was good

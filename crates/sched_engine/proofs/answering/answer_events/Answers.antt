@@ -10,7 +10,7 @@ use Rattle.sched_engine.specs.declared.answering.PieceEnd.TheVariants as e
 use Rattle.sched_engine.specs.own.Turns.{IsAnswered, IsPieceEnd}
 use Rattle.sched_engine.proofs.Inputs.{answered_none, answered_on, count_fits, fewer_left, left_more}
 use Rattle.sched_engine.proofs.Rooms.{still_kept, wanted}
-use Rattle.sched_engine.proofs.Tries.{good_then_bad, good_then_good, no_try}
+use Rattle.byte_ends.proofs.Tries.{good_then_bad, good_then_good, no_try}
 use Rattle.sched_engine.proofs.answering.answer_events.Goals as goal
 use Rattle.sched_engine.proofs.answering.answer_events.Goals.{in_default, in-Some+then-full, in-Some+else-full+then-not-make_room}
 

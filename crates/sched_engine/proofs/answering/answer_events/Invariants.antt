@@ -1,6 +1,6 @@
 use Rattle.std.proofs.Common.{◌≡◌, ◌-◌, ◌≤◌, ◌⊎◌, drop, length}
 use Rattle.std.specs.Prelude.{vec_capacity}
-use Rattle.sched_engine.specs.Ends.{AllGood}
+use Rattle.byte_ends.specs.Ends.{AllGood}
 use Rattle.sched_engine.specs.own.Turns.{IsAnswered, WantsRoom}
 use Rattle.sched_engine.proofs.answering.answer_events.Given as goal
 

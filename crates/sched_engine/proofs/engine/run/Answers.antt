@@ -5,7 +5,8 @@ use Rattle.sched_engine.specs.declared.report.Report.{Report}
 use Rattle.sched_engine.specs.declared.report.RunError.{RunError}
 use Rattle.sched_engine.specs.own.Turns.{Progress, Setting, Turns}
 use Rattle.sched_engine.proofs.Turns.{first, ran_to_a_fault}
-use Rattle.sched_engine.proofs.Tries.{good_then_good, no_try, reads_refused, reads_then, writes_refused, writes_then}
+use Rattle.byte_ends.proofs.Tries.{good_then_good, no_try}
+use Rattle.sched_engine.proofs.Tries.{reads_refused, reads_then, writes_refused, writes_then}
 use Rattle.sched_engine.proofs.engine.run.Goals as goal
 
 pub loop-engine-init : goal.loop-engine-init

@@ -1,4 +1,4 @@
-use Rattle.sched_engine.specs.Ends.{AllGood}
+use Rattle.byte_ends.specs.Ends.{AllGood}
 use Rattle.sched_engine.specs.own.Turns.{IsBetweenTurns, Progress, Setting, still_to_come}
 use Rattle.sched_engine.proofs.engine.run.Given as goal
 

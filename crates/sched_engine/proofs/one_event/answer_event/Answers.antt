@@ -7,7 +7,7 @@ use Rattle.sched_engine.specs.Pieces.{Output}
 use Rattle.sched_engine.specs.own.Pieces.{CountsLines}
 use Rattle.sched_engine.specs.own.Turns.{CutsSteps, GivesSteps, answers_to}
 use Rattle.sched_engine.proofs.Stepping.{cuts_then, cuts_within, gives_nothing, gives_then, takes}
-use Rattle.sched_engine.proofs.Tries.{good_then_bad, good_then_good, no_try}
+use Rattle.byte_ends.proofs.Tries.{good_then_bad, good_then_good, no_try}
 use Rattle.sched_engine.proofs.one_event.answer_event.Goals as goal
 
 -- what is known in each case is known where there is nothing

@@ -3,7 +3,7 @@ use Rattle.std.specs.Prelude.{vec_capacity}
 use Rattle.executor_core.specs.declared.Happening.{Happening}
 use Rattle.executor_core.specs.CoreView.{IsCounted, room_of}
 use Rattle.executor_core.proofs.Parts.{part_from}
-use Rattle.sched_engine.specs.Ends.{AllGood}
+use Rattle.byte_ends.specs.Ends.{AllGood}
 use Rattle.sched_engine.specs.own.Turns.{GivesSteps}
 use Rattle.sched_engine.proofs.one_event.answer_event.Given as goal
 

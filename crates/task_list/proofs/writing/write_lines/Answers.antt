@@ -1,6 +1,6 @@
 use Rattle.std.proofs.Common.{rules, ◌≡◌, [], ◌∷◌, ◌++◌, true, false, Bool}
-use Rattle.sched_engine.specs.Ends.{CountsTries}
-use Rattle.sched_engine.proofs.Tries.{good_then_bad, good_then_good}
+use Rattle.byte_ends.specs.Ends.{CountsTries}
+use Rattle.byte_ends.proofs.Tries.{good_then_bad, good_then_good}
 use Rattle.task_list.specs.Lines.{submission_line, tasks_text}
 use Rattle.task_list.proofs.Given.{all_given, front_given, line_given, lines_left}
 use Rattle.task_list.proofs.writing.write_lines.Goals as goal

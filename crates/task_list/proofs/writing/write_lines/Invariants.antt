@@ -1,6 +1,6 @@
 use Rattle.std.proofs.Common.{◌≡◌, List, ℕ, [], ◌++◌}
 use Rattle.std.specs.Prelude.{flat_map}
-use Rattle.sched_engine.specs.Ends.{AllGood}
+use Rattle.byte_ends.specs.Ends.{AllGood}
 use Rattle.sched_engine.specs.Pieces.{Gives}
 use Rattle.task_list.specs.Lines.{submission_line, tasks_text}
 use Rattle.task_list.proofs.writing.write_lines.Given as goal

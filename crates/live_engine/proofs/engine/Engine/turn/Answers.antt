@@ -2,8 +2,9 @@ use Rattle.std.proofs.Common.{◌≡◌, ℕ, ◌+◌, ◌≤◌, List, Result, 
 use Rattle.std.specs.Io.KnownBytes.{Appends}
 use Rattle.sched_engine.specs.declared.report.RunError.{RunError}
 use Rattle.sched_engine.specs.declared.report.RunError.TheVariants.{Write}
-use Rattle.sched_engine.specs.Running.{CountsReader, CountsWriter, piece}
-use Rattle.sched_engine.proofs.Tries.{bad_try, good_then_bad, good_then_good, good_try, no_try}
+use Rattle.byte_ends.specs.Refills.{piece}
+use Rattle.sched_engine.specs.Running.{CountsReader, CountsWriter}
+use Rattle.byte_ends.proofs.Tries.{bad_try, good_then_bad, good_then_good, good_try, no_try}
 use Rattle.live_engine.specs.declared.engine.Turn.{Turn}
 use Rattle.live_engine.specs.declared.stops.PieceEnd.{PieceEnd}
 use Rattle.live_engine.specs.LiveRuns.{Runs}

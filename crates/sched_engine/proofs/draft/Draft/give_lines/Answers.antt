@@ -3,7 +3,7 @@ use Rattle.executor_core.specs.declared.Line.{Line}
 use Rattle.trace_text.specs.Spelling.{line_text, lines_text}
 use Rattle.sched_engine.specs.Pieces.{Gives, Output}
 use Rattle.sched_engine.proofs.Giving.{gives_both, gives_front, gives_put, lines_on, lines_split}
-use Rattle.sched_engine.proofs.Tries.{good_then_bad, good_then_good, no_try}
+use Rattle.byte_ends.proofs.Tries.{good_then_bad, good_then_good, no_try}
 use Rattle.sched_engine.proofs.draft.Draft.give_lines.Goals as goal
 
 pub loop-line-init : goal.loop-line-init

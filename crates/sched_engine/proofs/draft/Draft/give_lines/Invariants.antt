@@ -1,6 +1,6 @@
 use Rattle.std.proofs.Common.{take}
 use Rattle.trace_text.specs.Spelling.{lines_text}
-use Rattle.sched_engine.specs.Ends.{AllGood}
+use Rattle.byte_ends.specs.Ends.{AllGood}
 use Rattle.sched_engine.specs.Pieces.{Gives}
 use Rattle.sched_engine.proofs.draft.Draft.give_lines.Given as goal
 

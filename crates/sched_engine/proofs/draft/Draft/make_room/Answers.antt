@@ -1,4 +1,4 @@
-use Rattle.sched_engine.proofs.Tries.{no_try}
+use Rattle.byte_ends.proofs.Tries.{no_try}
 use Rattle.sched_engine.proofs.draft.Draft.make_room.Goals as goal
 
 pub returns-then-has_room-clause-counts : goal.returns-then-has_room-clause-counts

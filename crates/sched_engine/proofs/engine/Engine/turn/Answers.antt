@@ -4,10 +4,12 @@ use Rattle.sched_engine.specs.declared.answering.PieceEnd.{PieceEnd}
 use Rattle.sched_engine.specs.declared.report.RunError.{RunError}
 use Rattle.sched_engine.specs.declared.report.RunError.TheVariants.{Write}
 use Rattle.sched_engine.specs.declared.engine.Turn.{Turn}
-use Rattle.sched_engine.specs.Running.{CountsReader, CountsWriter, Runs, piece}
+use Rattle.byte_ends.specs.Refills.{piece}
+use Rattle.sched_engine.specs.Running.{CountsReader, CountsWriter, Runs}
 use Rattle.sched_engine.specs.own.Turns.{IsPieceEnd, Progress, Turns}
 use Rattle.sched_engine.proofs.Turns.{at_the_end, cut_short, faulted, few_lines, filled, full, out_of_memory, refused, smaller, unwritten, wrote}
-use Rattle.sched_engine.proofs.Tries.{bad_try, good_then_bad, good_then_good, good_try, no_try, reads_ended, writes_ended}
+use Rattle.byte_ends.proofs.Tries.{bad_try, good_then_bad, good_then_good, good_try, no_try}
+use Rattle.sched_engine.proofs.Tries.{reads_ended, writes_ended}
 use Rattle.sched_engine.proofs.engine.Engine.turn.Goals as goal
 
 pub returns-in-End-clause-turns : goal.returns-in-End-clause-turns

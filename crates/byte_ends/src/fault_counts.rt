@@ -1,7 +1,7 @@
 //! The two counts of a wrapper of std's readers and writers.
 ghost use Rattle.std.specs.Prelude.{◌≡◌};
 ghost use Rattle.std.specs.IoError.{error_kind};
-ghost use Rattle.sched_engine.specs.Ends.{CountsFault, OneFailed};
+ghost use Rattle.byte_ends.specs.Ends.{CountsFault, OneFailed};
 
 use std::io;
 use std::io::ErrorKind;

@@ -1,7 +1,7 @@
 ghost use Rattle.std.specs.Prelude.{◌≡◌, ℕ, ◌<◌, List, Option, length};
 ghost use Rattle.std.specs.Io.{ReadsAtMost, WritesAtMost};
 ghost use Rattle.std.specs.Io.KnownBytes.{ReadConsumes, WriteAppends};
-ghost use Rattle.sched_engine.specs.Ends.{CountsRead, CountsWrite, CountsTry, CountsTries, ReadsSome, WritesSome, WritesText};
+ghost use Rattle.byte_ends.specs.Ends.{CountsRead, CountsWrite, CountsTry, CountsTries, ReadsSome, WritesSome, WritesText};
 
 use std::io;
 use std::io::ErrorKind;

@@ -3,8 +3,8 @@ use borrow.Rule.Slice.PartMut.{post_of, put_mid}
 use lib.Seq.{paste}
 use Rattle.std.specs.Vec.{with_items}
 use Rattle.std.proofs.lemmas.List.{with_items_is, places}
-use Rattle.sched_engine.proofs.Ranges.{refill}
-use Rattle.sched_engine.proofs.held.Held.fill.Goals as goal
+use Rattle.byte_ends.proofs.Ranges.{refill}
+use Rattle.byte_ends.proofs.held.Held.fill.Goals as goal
 
 -- what is held, and then what the read brought
 pub returns-in-Some-clause-bytes : goal.returns-in-Some-clause-bytes

@@ -1,7 +1,7 @@
 use Rattle.std.proofs.Common.{length, take, ◌-◌, ◌≤◌}
 use Rattle.std.specs.Io.KnownBytes.{Appends}
-use Rattle.sched_engine.specs.Ends.{AllGood}
-use Rattle.sched_engine.proofs.ends.write_text.Given as goal
+use Rattle.byte_ends.specs.Ends.{AllGood}
+use Rattle.byte_ends.proofs.ends.write_text.Given as goal
 
 -- the text up to `at` was written, and each try was good
 abbrev pub invariant-loop-at : goal.invariant-loop-at

@@ -14,7 +14,7 @@ pub struct Reading<R: Read> {
 }
 
 impl<R: Read> Model for Reading<R> {
-    ghost use Rattle.sched_engine.specs.Ends.{Counted};
+    ghost use Rattle.byte_ends.specs.Ends.{Counted};
 
     ghost Value = { Counted R };
 

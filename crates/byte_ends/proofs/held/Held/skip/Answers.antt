@@ -1,6 +1,6 @@
 use Rattle.std.proofs.Common.{ℕ, length, drop, ap, ◌∙◌, arith, length-take}
-use Rattle.sched_engine.proofs.Ranges.{range_skip}
-use Rattle.sched_engine.proofs.held.Held.skip.Goals as goal
+use Rattle.byte_ends.proofs.Ranges.{range_skip}
+use Rattle.byte_ends.proofs.held.Held.skip.Goals as goal
 
 pub returns : goal.returns
 returns g c =

@@ -1,6 +1,6 @@
 use Rattle.std.specs.Io.KnownBytes.{Keeps}
-use Rattle.sched_engine.specs.Ends.{NoneFailed}
-use Rattle.sched_engine.proofs.ends.write_some.Given as goal
+use Rattle.byte_ends.specs.Ends.{NoneFailed}
+use Rattle.byte_ends.proofs.ends.write_some.Given as goal
 
 -- each write so far was fruitless
 abbrev pub invariant-loop-write : goal.invariant-loop-write

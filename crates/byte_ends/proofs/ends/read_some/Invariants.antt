@@ -1,6 +1,6 @@
 use Rattle.std.specs.Io.KnownBytes.{Keeps}
-use Rattle.sched_engine.specs.Ends.{NoneFailed}
-use Rattle.sched_engine.proofs.ends.read_some.Given as goal
+use Rattle.byte_ends.specs.Ends.{NoneFailed}
+use Rattle.byte_ends.proofs.ends.read_some.Given as goal
 
 -- each read so far was fruitless
 abbrev pub invariant-loop-read : goal.invariant-loop-read

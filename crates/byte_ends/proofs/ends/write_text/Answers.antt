@@ -2,9 +2,9 @@ use Rattle.std.proofs.Common.{take, drop, length, ◌-◌, subst, ap, arith, zer
 use Rattle.std.proofs.KnownBytes.{Appends-nil, Appends-trans}
 use Rattle.std.specs.Io.KnownBytes.{Appends}
 use Rattle.std.proofs.lemmas.List.{take_rest}
-use Rattle.sched_engine.proofs.Ranges.{take_next}
-use Rattle.sched_engine.proofs.Tries.{bad_try, good_then_bad, good_then_good, good_try, no_try}
-use Rattle.sched_engine.proofs.ends.write_text.Goals as goal
+use Rattle.byte_ends.proofs.Ranges.{take_next}
+use Rattle.byte_ends.proofs.Tries.{bad_try, good_then_bad, good_then_good, good_try, no_try}
+use Rattle.byte_ends.proofs.ends.write_text.Goals as goal
 
 pub loop-at-init : goal.loop-at-init
 loop-at-init g c =

@@ -1,5 +1,5 @@
 ghost use Rattle.std.specs.Prelude.{◌≡◌, ◌<◌, ◌≤◌, [], length, drop, IfOk};
-ghost use Rattle.sched_engine.specs.Pieces.{Fills, CountsFill};
+ghost use Rattle.byte_ends.specs.Refills.{Fills, CountsFill};
 
 use crate::ends::{Source, read_some};
 use std::alloc::{AllocError, Allocator};
@@ -30,7 +30,7 @@ pub struct Held<A: Allocator> {
 
 impl<A: Allocator> Model for Held<A> {
     ghost use Rattle.std.specs.Prelude.{◌≡◌, ◌≤◌, List, ℕ, slice_range, vec_len};
-    ghost use Rattle.sched_engine.specs.declared.held.TheConstants.{PIECE};
+    ghost use Rattle.byte_ends.specs.declared.held.TheConstants.{PIECE};
 
     ghost Value = { List ℕ };
 

@@ -14,7 +14,7 @@ pub struct Writing<W: Write> {
 }
 
 impl<W: Write> Model for Writing<W> {
-    ghost use Rattle.sched_engine.specs.Ends.{Counted};
+    ghost use Rattle.byte_ends.specs.Ends.{Counted};
 
     ghost Value = { Counted W };
 

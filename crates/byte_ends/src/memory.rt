@@ -1,7 +1,7 @@
 ghost use Rattle.std.specs.Prelude.{◌≡◌, ◌≤◌, max, IfOk};
 ghost use Rattle.std.specs.Io.{ReadsAtMost};
 ghost use Rattle.std.specs.Io.KnownBytes.{ReadConsumes};
-ghost use Rattle.sched_engine.specs.Ends.{CountsRead};
+ghost use Rattle.byte_ends.specs.Ends.{CountsRead};
 
 use crate::ends::Source;
 use std::io;
@@ -16,7 +16,7 @@ pub struct Pieces<'a> {
 }
 
 impl<'a> Model for Pieces<'a> {
-    ghost use Rattle.sched_engine.specs.Ends.{Supply};
+    ghost use Rattle.byte_ends.specs.Ends.{Supply};
 
     ghost Value = { Supply };
 

@@ -1,6 +1,5 @@
 -- Ranges: parts of a buffer, and a front in two parts.
-use Rattle.std.proofs.Common.{◌≡◌, ℕ, ◌+◌, ◌-◌, ◌≤◌, List, ◌++◌, take, drop, length, ap, ◌∙◌, sym, arith, length-drop}
-use Rattle.trace_text.proofs.Texts.{take_add}
+use Rattle.std.proofs.Common.{◌≡◌, ℕ, ◌+◌, ◌-◌, ◌≤◌, List, ◌++◌, take, drop, length, ap, ◌∙◌, sym, arith, length-drop, take-add}
 use lib.Seq.{paste}
 use Rattle.std.proofs.Math.Seq.{take-append-add}
 use Rattle.std.proofs.lemmas.List.{length-take-le, drop-take, drop-drop, take_rest, take-append-le}
@@ -14,7 +13,7 @@ range_skip xs from to n within =
 
 -- the same where the second part is taken of the slice that begins behind the first
 pub take_next : (at n : ℕ) (xs : List ℕ) → take at xs ++ take n (take (length xs - at) (drop at xs)) ≡ take (at + n) xs
-take_next at n xs = ap (λ l. take at xs ++ take n l) (take_rest xs at) ∙ take_add at n xs
+take_next at n xs = ap (λ l. take at xs ++ take n l) (take_rest xs at) ∙ sym (take-add at n xs)
 
 -- a range was moved to the front of its buffer, and n bytes were read behind it
 pub refill : (old moved read post : List ℕ) (from to n : ℕ) → from ≤ to → to ≤ length old → moved ≡ paste old 0 (drop from old) (to - from) → length moved ≡ length old → n ≤ length read

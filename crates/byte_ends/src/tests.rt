@@ -11,7 +11,6 @@ use std::io;
 use std::io::{ErrorKind, Read, Write};
 use std::process::Abort;
 use std::test::Fail;
-use trace_text::{Front, front_event};
 
 /// A text through a fresh sink: its contents are known from the start.
 fn through(alloc: Global, text: &[u8]) -> Option<Vec<u8>>
@@ -134,21 +133,21 @@ fn tries_an_interrupt_again(rt: HostRuntime) {
     }
 }
 
-/// Takes the event in front of what is held, and adds its size, or else holds more; answers whether none is left.
+/// Takes the line in front of what is held, and adds its size, or else holds more; answers whether none is left.
 fn take_or_fill(
     source: &mut Pieces<'_>,
     held: &mut Held<Global>,
     sizes: &mut Vec<usize>,
 ) -> Result<bool, Fail> {
-    if let Front::Event(_, size) = front_event(held.bytes()) {
-        sizes.push(size)?;
-        held.skip(size);
+    if let Some(end) = held.bytes().iter().position(|byte| *byte == b'\n') {
+        sizes.push(end + 1)?;
+        held.skip(end + 1);
         return Ok(false);
     }
     Ok(held.bytes().len() < 64 && held.fill(source) == Filled::End)
 }
 
-/// Takes the events of a source in at most 40 steps, and adds the size of each.
+/// Takes the lines of a source in at most 40 steps, and adds the size of each.
 fn take_all(
     source: &mut Pieces<'_>,
     held: &mut Held<Global>,
@@ -162,7 +161,7 @@ fn take_all(
     Ok(())
 }
 
-/// Holds a text of two events in pieces of at most so many bytes, and takes both.
+/// Holds a text of two lines in pieces of at most so many bytes, and takes both.
 fn holds(rt: &(impl AllocGlobal + Abort), most: usize) -> Result<(), Fail> {
     let mut source = Pieces::new(b"start 1\nclock 22\n", most);
     let mut held = Held::new(rt.alloc())?;

@@ -1,0 +1,64 @@
+//! Where bytes come from and where they go: sources and sinks whose faults are counted, and the bytes that are held between.
+//!
+//! # Usage
+//!
+//! ```text
+//! let mut source = Reading::new(rt.stdin());
+//! let mut held = Held::new(rt.alloc())?;
+//! while held.fill(&mut source) == Filled::More {
+//!     let line = held.bytes().iter().position(|byte| *byte == b'\n');
+//!     // ..
+//! }
+//! let mut sink = Writing::new(rt.stdout());
+//! let whole = write_text(&mut sink, b"5 clock\n"); // false: the sink is at fault
+//! ```
+//!
+//! [`Reading`] and [`Writing`] make a [`Source`] and a [`Sink`] of std's readers and writers, [`Pieces`] a source of bytes in
+//! memory. [`Held`] keeps what was read and not taken yet, at most 64 KiB.
+//!
+//! # Errors
+//!
+//! A read or write that fails by `Interrupted` did nothing, and is tried again. The 1,000th of them in a row is a fault of that end;
+//! one that does something sets the count back. Any other fault is told at once, and so is a write that takes nothing. An end at
+//! fault is not called again by the same call. [`read_some`] and [`write_some`] are such tries, [`write_text`] writes a whole text by
+//! them, and [`Held::fill`] is one read.
+//!
+//! | Call | At a fault | What was done |
+//! |---|---|---|
+//! | [`read_some`] | `None` | nothing was consumed |
+//! | [`write_some`] | `None` | nothing was appended |
+//! | [`write_text`] | `false` | a front of the text was appended |
+//! | [`Held::fill`] | [`Filled::Fault`] | nothing changed |
+//! | [`Held::new`] | `AllocError` | nothing |
+//!
+//! # What contracts see
+//!
+//! Of a source its bytes that are left, and of a sink those that it took, where they are known; and of both how many calls failed, and
+//! how many were fruitless, since they were interrupted. `specs/Ends` says what a call, a try and tries one behind the other count.
+//!
+//! # Memory and cost
+//!
+//! [`Held`] takes a buffer of 64 KiB, once. A refill moves what is held to its front, and reads once behind it. Nothing else takes
+//! memory.
+//!
+//! # Tests
+//!
+//! They stand in `src/tests.rt`.
+#![tactic(auto)]
+
+mod ends;
+mod fault_counts;
+mod held;
+mod laws;
+mod memory;
+mod readers;
+#[cfg(test)]
+mod tests;
+mod writers;
+
+pub use ends::{Sink, Source, read_some, write_some, write_text};
+pub use held::{Filled, Held, PIECE};
+pub use laws::filled_equality_tells;
+pub use memory::Pieces;
+pub use readers::Reading;
+pub use writers::Writing;
