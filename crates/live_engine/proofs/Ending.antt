@@ -13,8 +13,9 @@ use Rattle.call_text.proofs.CallEnds.{call_ended}
 use Rattle.call_text.proofs.LiveFronts.{no_call_follows, no_call_in_part}
 use Rattle.call_journal.specs.Journals.{JournalView}
 use Rattle.live_core.specs.Lives.{LiveView}
-use Rattle.sched_engine.specs.declared.report.RunError.{RunError}
-use Rattle.sched_engine.specs.declared.report.RunError.TheVariants as x
+use Rattle.sched_engine.specs.declared.report.StopError.{StopError}
+use Rattle.sched_engine.specs.declared.report.StopError.TheVariants as s
+use Rattle.sched_engine.specs.Stages.{told_of_stop}
 use Rattle.byte_ends.specs.Refills.{piece}
 use Rattle.sched_engine.proofs.Runs.{at_end, gave_front, so_far, read_so_far}
 use Rattle.sched_engine.proofs.Giving.{wrote_none}
@@ -125,13 +126,13 @@ first workers at m opens none blank nought = record {
 }
 
 -- want of memory for a further line
-pub out_of_memory : (run : Setting) (at : Progress) (lines : List LiveLine) → Done run at lines → at.text ≡ [] → length at.held ≤ piece → BeginsWanting run.workers (live_history run.workers lines) at.held → Runs (Err x.Memory) run.workers run.first at.ends
+pub out_of_memory : (run : Setting) (at : Progress) (lines : List LiveLine) → Done run at lines → at.text ≡ [] → length at.held ≤ piece → BeginsWanting run.workers (live_history run.workers lines) at.held → Runs (Err s.Memory) run.workers run.first at.ends
 out_of_memory run at lines done none near begins =
     taken_so_far run at lines (BeginsWanting run.workers) (BeginsWanting run.workers) (Writes run.first at.ends (λ _ _. Unit {0})) done near begins
     (λ more. begins_on _ at.held more begins) (all_written run at lines (λ _ _. Unit {0}) done none tt)
 
 -- a further line for which there is no room
-pub full : (run : Setting) (at : Progress) (lines : List LiveLine) → Done run at lines → at.text ≡ [] → length at.held ≤ piece → BeginsBeyond run.workers (live_history run.workers lines) at.held → Runs (Err x.Full) run.workers run.first at.ends
+pub full : (run : Setting) (at : Progress) (lines : List LiveLine) → Done run at lines → at.text ≡ [] → length at.held ≤ piece → BeginsBeyond run.workers (live_history run.workers lines) at.held → Runs (Err s.Full) run.workers run.first at.ends
 full run at lines done none near begins =
     taken_so_far run at lines (BeginsBeyond run.workers) (BeginsBeyond run.workers) (Writes run.first at.ends (λ _ _. Unit {0})) done near begins
     (λ more. begins_on _ at.held more begins) (all_written run at lines (λ _ _. Unit {0}) done none tt)
@@ -149,7 +150,7 @@ no_line so_far left held (inl stop) = inl stop
 no_line so_far left held (inr begins) = inr (inr begins)
 
 pub refused : (run : Setting) (at : Progress) (lines : List LiveLine) (n : ℕ) → Done run at lines → at.text ≡ [] → length at.held ≤ piece → IsLiveFront front.Refused at.held ⊎ BeginsWithBarred (live_history run.workers lines) at.held → n ≡ at.counts.read + 1 →
-    Runs (Err (x.EventLine n)) run.workers run.first at.ends
+    Runs (Err (s.EventLine n)) run.workers run.first at.ends
 refused run at lines n done none near stop is =
     taken_so_far run at lines (λ so_far. IsNoLine so_far at.ends.left) (λ so_far rest. BeginsWithNone so_far rest × (0 < length rest)) (Writes run.first at.ends (λ lines _. n ≡ length lines + 1)) done near
     (no_line (live_history run.workers lines) at.ends.left at.held stop) (λ more. none_follows (live_history run.workers lines) at.held more stop)
@@ -166,7 +167,7 @@ ended run at lines report done blank end none is =
 
 -- the end of the input, with a part of a line held
 pub cut_off : (run : Setting) (at : Progress) (lines : List LiveLine) (n : ℕ) → Done run at lines → at.text ≡ [] → IsAtEnd at.ends.left → IsPart at.held → 0 < length at.held → n ≡ at.counts.read + 1 →
-    Runs (Err (x.EventLine n)) run.workers run.first at.ends
+    Runs (Err (s.EventLine n)) run.workers run.first at.ends
 cut_off run at lines n done none end part some is =
     taken_at_end run at lines (λ so_far. IsNoLine so_far at.ends.left) (λ so_far rest. BeginsWithNone so_far rest × (0 < length rest)) (Writes run.first at.ends (λ lines _. n ≡ length lines + 1)) done end
     (omega (arith, part.1)) (inr (inl (part, some, end))) (inl (unread at.held (unread_part at.held part.0) (no_call_in_part at.held part.0)), some)
@@ -174,7 +175,7 @@ cut_off run at lines n done none end part some is =
 
 -- a fault of the reader
 pub faulted : (run : Setting) (at : Progress) (m : LiveView) (left : Option (List ℕ)) → IsBetweenTurns run at m → Keeps at.ends.left left →
-    Runs (Err x.Read) run.workers run.first (record { left = left; contents = at.ends.contents; journal = at.ends.journal })
+    Runs (Err s.Read) run.workers run.first (record { left = left; contents = at.ends.contents; journal = at.ends.journal })
 faulted run at m left between keeps =
     let here : Progress = record { ends = record { left = left; contents = at.ends.contents; journal = at.ends.journal }; held = at.held; text = at.text; counts = at.counts } in
     let lines = between.lines in
@@ -184,7 +185,7 @@ faulted run at m left between keeps =
 
 -- a fault of the writer, after a front of the text at hand
 pub unwritten : (run : Setting) (at : Progress) (lines : List LiveLine) (contents : Option (List ℕ)) (n : ℕ) → Done run at lines → length at.held ≤ piece → Appends at.ends.contents contents (take n at.text) →
-    Runs (Err x.Write) run.workers run.first (record { left = at.ends.left; contents = contents; journal = at.ends.journal })
+    Runs (Err s.Write) run.workers run.first (record { left = at.ends.left; contents = contents; journal = at.ends.journal })
 unwritten run at lines contents n done near appends =
     let whole : Progress = record { ends = record { left = at.ends.left; contents = contents; journal = at.ends.journal }; held = at.held; text = at.text; counts = at.counts } in
     let front : (k : ℕ) × Appends run.first.contents contents (take k (trace_of (live_history run.workers lines))) = (
@@ -206,7 +207,7 @@ unwritten run at lines contents n done near appends =
 
 -- a fault of the writer, after a front of the text at hand and of that of more lines
 pub cut_short : (run : Setting) (left contents : Option (List ℕ)) (held : List ℕ) (journal : JournalView) → length held ≤ piece → IsCut run left held contents journal →
-    Runs (Err x.Write) run.workers run.first (record { left = left; contents = contents; journal = journal })
+    Runs (Err s.Write) run.workers run.first (record { left = left; contents = contents; journal = journal })
 cut_short run left contents held journal near cut = record {
   lines = cut.lines;
   come = cut.come;
@@ -232,10 +233,10 @@ smaller limit old new held bytes whole rest all some rises within same short par
     by (suc n) is = omega (arith, is, within, short, part)
 
 -- the end of the input
-pub at_the_end : (run : Setting) (at : Progress) (m n : LiveView) (left : Option (List ℕ)) (held : List ℕ) (result : Result Turn RunError) → IsBetweenTurns run at m → Consumes at.ends.left left [] → IsAtEnd left → held ≡ at.held →
+pub at_the_end : (run : Setting) (at : Progress) (m n : LiveView) (left : Option (List ℕ)) (held : List ℕ) (result : Result Turn StopError) → IsBetweenTurns run at m → Consumes at.ends.left left [] → IsAtEnd left → held ≡ at.held →
     MatchResult result
     (λ turn. (turn ≡ t.Ended (record { lines_read = at.counts.read; lines_written = at.counts.written })) × (held ≡ []))
-    (λ e. (e ≡ x.EventLine (at.counts.read + 1)) × (0 < length held))
+    (λ e. (e ≡ s.EventLine (at.counts.read + 1)) × (0 < length held))
     → Turns result run at (record { ends = record { left = left; contents = at.ends.contents; journal = at.ends.journal }; held = held; text = at.text; counts = at.counts }) n
 at_the_end run at m n left held (Ok turn) between none end same is =
     let next : Progress = record { ends = record { left = left; contents = at.ends.contents; journal = at.ends.journal }; held = held; text = at.text; counts = at.counts } in
@@ -244,16 +245,12 @@ at_the_end run at m n left held (Ok turn) between none end same is =
 at_the_end run at m n left held (Err e) between none end same is =
     let next : Progress = record { ends = record { left = left; contents = at.ends.contents; journal = at.ends.journal }; held = held; text = at.text; counts = at.counts } in
     let done = filled run at between.lines left held [] between.done.done none (same ∙ sym (append-nil at.held)) in
-    subst (λ (e : RunError). Turns (Err e) run at next n) (sym is.0) (cut_off run next between.lines (at.counts.read + 1) done between.none end (subst IsPart (sym same) between.part) is.1 refl)
+    subst (λ (e : StopError). Turns (Err e) run at next n) (sym is.0) (cut_off run next between.lines (at.counts.read + 1) done between.none end (subst IsPart (sym same) between.part) is.1 refl)
 
--- a run that ended with a fault, once it had begun
-pub ran_to_a_fault : (workers : ℕ) (e : RunError) (old new : LiveEnds) → IsWorkerCount workers → Runs (Err e) workers old new → Ran (Err e) workers old new
-ran_to_a_fault workers (x.Plan fault) old new counted runs = absurd runs
-ran_to_a_fault workers x.Workers old new counted runs = absurd runs
-ran_to_a_fault workers x.Limit old new counted runs = absurd runs
-ran_to_a_fault workers x.Lost old new counted runs = absurd runs
-ran_to_a_fault workers (x.EventLine n) old new counted runs = (counted, runs)
-ran_to_a_fault workers x.Full old new counted runs = (counted, runs)
-ran_to_a_fault workers x.Read old new counted runs = (counted, runs)
-ran_to_a_fault workers x.Write old new counted runs = (counted, runs)
-ran_to_a_fault workers x.Memory old new counted runs = inr (counted, runs)
+-- a run that stopped, once it had begun
+pub ran_to_a_stop : (workers : ℕ) (e : StopError) (old new : LiveEnds) → IsWorkerCount workers → Runs (Err e) workers old new → Ran (Err (told_of_stop e)) workers old new
+ran_to_a_stop workers (s.EventLine n) old new counted runs = (counted, runs)
+ran_to_a_stop workers s.Full old new counted runs = (counted, runs)
+ran_to_a_stop workers s.Read old new counted runs = (counted, runs)
+ran_to_a_stop workers s.Write old new counted runs = (counted, runs)
+ran_to_a_stop workers s.Memory old new counted runs = inr (counted, runs)

@@ -10,6 +10,10 @@ use Rattle.call_text.specs.declared.live.LiveFront.TheVariants as front
 use Rattle.call_text.specs.Reading.{IsLiveFront}
 use Rattle.call_journal.specs.declared.journal.MadeCall.{MadeCall}
 use Rattle.call_journal.specs.Journals.{JournalView, noted}
+use Rattle.sched_engine.specs.declared.report.StopError.{StopError}
+use Rattle.sched_engine.specs.declared.report.StopError.TheVariants as s
+use Rattle.live_engine.specs.declared.opening.OpenError.{OpenError}
+use Rattle.live_engine.specs.declared.opening.OpenError.TheVariants as o
 use Rattle.sched_engine.specs.declared.report.RunError.{RunError}
 use Rattle.sched_engine.specs.declared.report.RunError.TheVariants as x
 use Rattle.byte_ends.specs.Refills.{piece}
@@ -106,33 +110,45 @@ abbrev pub Writes : LiveEnds → LiveEnds → (List LiveLine → LiveHistory →
 Writes old new IsSo lines so_far = Appends old.contents new.contents (trace_of so_far) × IsSo lines so_far
 
 -- what a run did that had begun
-abbrev pub Runs : Result LiveReport RunError → ℕ → LiveEnds → LiveEnds → Type 0
+abbrev pub Runs : Result LiveReport StopError → ℕ → LiveEnds → LiveEnds → Type 0
 Runs (Ok report) workers old new = Taken workers old.left new.left old.journal new.journal (λ _ ahead. ahead ≡ []) (λ _ rest. rest ≡ [])
     (Writes old new (λ lines so_far. (report.lines_read ≡ length lines) × (report.lines_written ≡ trace_length so_far)))
-Runs (Err (x.EventLine n)) workers old new = Taken workers old.left new.left old.journal new.journal (λ so_far. IsNoLine so_far new.left)
+Runs (Err (s.EventLine n)) workers old new = Taken workers old.left new.left old.journal new.journal (λ so_far. IsNoLine so_far new.left)
     (λ so_far rest. BeginsWithNone so_far rest × (0 < length rest)) (Writes old new (λ lines _. n ≡ length lines + 1))
-Runs (Err x.Full) workers old new = Taken workers old.left new.left old.journal new.journal (BeginsBeyond workers) (BeginsBeyond workers)
+Runs (Err s.Full) workers old new = Taken workers old.left new.left old.journal new.journal (BeginsBeyond workers) (BeginsBeyond workers)
     (Writes old new (λ _ _. Unit {0}))
-Runs (Err x.Read) workers old new = Taken workers old.left new.left old.journal new.journal (λ _ ahead. IsPart ahead) (λ _ _. Unit {0})
+Runs (Err s.Read) workers old new = Taken workers old.left new.left old.journal new.journal (λ _ ahead. IsPart ahead) (λ _ _. Unit {0})
     (Writes old new (λ _ _. Unit {0}))
-Runs (Err x.Write) workers old new = Taken workers old.left new.left old.journal new.journal (λ _ _. Unit {0}) (λ _ _. Unit {0})
+Runs (Err s.Write) workers old new = Taken workers old.left new.left old.journal new.journal (λ _ _. Unit {0}) (λ _ _. Unit {0})
     (λ _ so_far. (n : ℕ) × Appends old.contents new.contents (take n (trace_of so_far)))
-Runs (Err x.Memory) workers old new = Taken workers old.left new.left old.journal new.journal (BeginsWanting workers) (BeginsWanting workers)
+Runs (Err s.Memory) workers old new = Taken workers old.left new.left old.journal new.journal (BeginsWanting workers) (BeginsWanting workers)
     (Writes old new (λ _ _. Unit {0}))
-Runs (Err _) workers old new = ⊥
 
 -- nothing was read, written or noted
 abbrev pub IsIdle : LiveEnds → LiveEnds → Type 0
 IsIdle old new = IsUntouched old.left new.left old.contents new.contents × (new.journal ≡ old.journal)
 
 -- why a run does not begin: the workers are not 1 to 64, or else memory was refused
-abbrev pub RefusesToRun : RunError → ℕ → Type 0
-RefusesToRun x.Workers workers = IsWorkerCount workers → ⊥
-RefusesToRun x.Memory workers = IsWorkerCount workers
-RefusesToRun _ workers = ⊥
+abbrev pub RefusesToRun : OpenError → ℕ → Type 0
+RefusesToRun o.Workers workers = IsWorkerCount workers → ⊥
+RefusesToRun o.Memory workers = IsWorkerCount workers
 
--- what a run did: it did not begin, or it ran over the lines of its input
+-- what a caller is told then
+abbrev pub told_of_opening : OpenError → RunError
+told_of_opening o.Workers = x.Workers
+told_of_opening o.Memory = x.Memory
+
+-- a run that began
+abbrev pub Begins : Result LiveReport StopError → ℕ → LiveEnds → LiveEnds → Type 0
+Begins result workers old new = IsWorkerCount workers × Runs result workers old new
+
+-- what a run did, by what its caller is told: it did not begin, or it ran over the lines of its input
 abbrev pub Ran : Result LiveReport RunError → ℕ → LiveEnds → LiveEnds → Type 0
-Ran (Err x.Workers) workers old new = RefusesToRun x.Workers workers × IsIdle old new
-Ran (Err x.Memory) workers old new = (RefusesToRun x.Memory workers × IsIdle old new) ⊎ (IsWorkerCount workers × Runs (Err x.Memory) workers old new)
-Ran result workers old new = IsWorkerCount workers × Runs result workers old new
+Ran (Ok report) workers old new = Begins (Ok report) workers old new
+Ran (Err x.Workers) workers old new = RefusesToRun o.Workers workers × IsIdle old new
+Ran (Err (x.EventLine n)) workers old new = Begins (Err (s.EventLine n)) workers old new
+Ran (Err x.Full) workers old new = Begins (Err s.Full) workers old new
+Ran (Err x.Read) workers old new = Begins (Err s.Read) workers old new
+Ran (Err x.Write) workers old new = Begins (Err s.Write) workers old new
+Ran (Err x.Memory) workers old new = (RefusesToRun o.Memory workers × IsIdle old new) ⊎ Begins (Err s.Memory) workers old new
+Ran (Err _) workers old new = ⊥

@@ -7,9 +7,9 @@ ghost use Rattle.sched_engine.specs.Pieces.{GivesText};
 ghost use Rattle.live_core.specs.Said.{ending};
 ghost use Rattle.live_engine.specs.own.LiveSteps.{lines_told};
 
+use byte_ends::Sink;
 use executor_core::{Answer, Line, Message};
 use live_core::ScheduledExecutor;
-use byte_ends::Sink;
 use sched_engine::Draft;
 use std::alloc::Allocator;
 

@@ -1,6 +1,6 @@
 //! The answering: lines in, the text of the lines that answer them out. It knows of no reader.
-ghost use Rattle.std.specs.Prelude.{◌≡◌, ℕ, ◌≤◌, List, Option, IfErr, IfOk, drop, length};
-ghost use Rattle.sched_engine.specs.Running.{CountsWriter};
+ghost use Rattle.std.specs.Prelude.{◌≡◌, ℕ, ◌≤◌, List, Option, drop, length, IfSome, IsNone, is_some};
+ghost use Rattle.byte_ends.specs.Ends.{CountsTries};
 ghost use Rattle.live_engine.specs.LiveLines.{most_numbers};
 ghost use Rattle.live_engine.specs.declared.live_line.LiveLine as live_lines;
 ghost use Rattle.live_engine.specs.own.LiveTurns.{AreCounted, DoneAt, IsCut, Progress, Setting, Stopped};
@@ -10,11 +10,11 @@ use crate::counts::Counts;
 use crate::one_line::answer_line;
 use crate::splitting::split_live;
 use crate::stops::PieceEnd;
+use byte_ends::Sink;
 use call_journal::Journal;
 use executor_core::Line;
 use live_core::ScheduledExecutor;
-use byte_ends::Sink;
-use sched_engine::{Draft, RunError};
+use sched_engine::Draft;
 use std::alloc::Allocator;
 
 /// How far the bytes at hand were answered.
@@ -28,7 +28,7 @@ pub(crate) struct Answered {
 /// Answers the lines at the front of the bytes that are held, up to the first that is cut off, refused, without room or without
 /// memory, and gives out the text of the answers: what of it does not fit into the draft is written.
 ///
-/// An `Err` is [`RunError::Write`], after a front of that text was written.
+/// `None` is a fault of the writer, after a front of that text was written.
 pub(crate) fn answer_lines<A: Allocator, W: Sink>(
     executor: &mut ScheduledExecutor<A>,
     journal: &mut Journal<A>,
@@ -37,21 +37,21 @@ pub(crate) fn answer_lines<A: Allocator, W: Sink>(
     lines: &mut Vec<Line, A>,
     draft: &mut Draft<A>,
     writer: &mut W,
-) -> Result<Answered, RunError>
+) -> Option<Answered>
     requires few { executor.old.count ≤ most_numbers }
     requires counted { AreCounted counts.old }
-    ensures stopped { IfOk result (λ a. (run : Setting) (left : Option (List ℕ)) (taken : List live_lines.LiveLine) →
+    ensures stopped { IfSome result (λ a. (run : Setting) (left : Option (List ℕ)) (taken : List live_lines.LiveLine) →
         DoneAt run (record { ends = record { left = left; contents = W.contents writer.old; journal = journal.old }; held = held.now; text = draft.old; counts = counts.old }) executor.old taken →
         Stopped a.end run (record { ends = record { left = left; contents = W.contents writer.new; journal = journal.new }; held = drop a.bytes held.now; text = draft.new; counts = counts.new }) executor.new) }
-    ensures cut { IfErr result (λ error. (error ≡ RunError.Write) × ((run : Setting) (left : Option (List ℕ)) (taken : List live_lines.LiveLine) →
+    ensures cut { IsNone result → ((run : Setting) (left : Option (List ℕ)) (taken : List live_lines.LiveLine) →
         DoneAt run (record { ends = record { left = left; contents = W.contents writer.old; journal = journal.old }; held = held.now; text = draft.old; counts = counts.old }) executor.old taken →
-        IsCut run left held.now (W.contents writer.new) journal.new)) }
-    ensures within { IfOk result (λ a. a.bytes ≤ length held.now) }
+        IsCut run left held.now (W.contents writer.new) journal.new) }
+    ensures within { IfSome result (λ a. a.bytes ≤ length held.now) }
     ensures few { executor.new.count ≤ most_numbers }
-    ensures counted { IfOk result (λ a. AreCounted counts.new) }
-    ensures rises { IfOk result (λ a. counts.old.read ≤ counts.new.read) }
-    ensures same { IfOk result (λ a. counts.new.read ≡ counts.old.read → a.bytes ≡ 0) }
-    ensures write { CountsWriter result (W.failed writer.old) (W.fruitless writer.old) (W.failed writer.new) (W.fruitless writer.new) }
+    ensures counted { IfSome result (λ a. AreCounted counts.new) }
+    ensures rises { IfSome result (λ a. counts.old.read ≤ counts.new.read) }
+    ensures same { IfSome result (λ a. counts.new.read ≡ counts.old.read → a.bytes ≡ 0) }
+    ensures write { CountsTries (is_some result) (W.failed writer.old) (W.fruitless writer.old) (W.failed writer.new) (W.fruitless writer.new) }
 {
     let mut rest = held;
     let end = loop {
@@ -64,11 +64,11 @@ pub(crate) fn answer_lines<A: Allocator, W: Sink>(
             Err(end) => break end,
         };
         if !give(told, lines, draft, writer) {
-            return Err(RunError::Write);
+            return None;
         }
         rest = behind;
     };
-    Ok(Answered {
+    Some(Answered {
         bytes: held.len() - rest.len(),
         end,
     })

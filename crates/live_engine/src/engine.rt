@@ -1,6 +1,7 @@
 //! The engine: it reads a piece, answers it and writes the answers, turn by turn.
-ghost use Rattle.std.specs.Prelude.{◌≡◌, ℕ, ◌+◌, ◌<◌, ◌≤◌, List, [], Option, IfOk, IfErr, MatchResult, OnOk, length};
-ghost use Rattle.sched_engine.specs.Running.{CountsReader, CountsWriter};
+ghost use Rattle.std.specs.Prelude.{◌≡◌, ℕ, ◌+◌, ◌<◌, ◌≤◌, List, [], Option, IfOk, IfErr, IfSome, IsNone, IsSome, MatchResult, OnOk, is_some, length};
+ghost use Rattle.byte_ends.specs.Ends.{CountsTries};
+ghost use Rattle.sched_engine.specs.Running.{CountsReader, CountsReads, CountsWriter, CountsWrites};
 ghost use Rattle.task_table.specs.Tables.{workers_of};
 ghost use Rattle.live_core.specs.Lives.{Stands};
 ghost use Rattle.live_engine.specs.declared.engine.Turn.TheVariants as t;
@@ -11,13 +12,14 @@ ghost use Rattle.live_engine.specs.own.LiveTurns.{AreCounted, DoneAt, EndsAtLine
 
 use crate::answering::answer_lines;
 use crate::counts::Counts;
+use crate::opening::OpenError;
 use crate::report::LiveReport;
 use crate::stops::PieceEnd;
+use byte_ends::{Filled, Held, Sink, Source, write_text};
 use call_journal::Journal;
 use executor_core::Line;
 use live_core::{MakeError, ScheduledExecutor};
-use byte_ends::{Filled, Held, Sink, Source, write_text};
-use sched_engine::{Draft, RunError};
+use sched_engine::{Draft, RunError, StopError};
 use std::alloc::Allocator;
 
 /// Runs an executor over the lines of the reader, events and calls, and writes its trace.
@@ -75,7 +77,7 @@ pub(crate) struct Engine<A: Allocator> {
 
 impl<A: Allocator> Engine<A> {
     /// A run before anything was read.
-    fn open(alloc: A, workers: u8) -> Result<Engine<A>, RunError>
+    fn open(alloc: A, workers: u8) -> Result<Engine<A>, OpenError>
     where
         A: Copy,
         ensures opens { IfOk result (λ engine. Opens engine.executor workers) }
@@ -86,8 +88,8 @@ impl<A: Allocator> Engine<A> {
     {
         let executor = match ScheduledExecutor::new(alloc, workers) {
             Ok(executor) => executor,
-            Err(MakeError::Workers) => return Err(RunError::Workers),
-            Err(MakeError::Memory) => return Err(RunError::Memory),
+            Err(MakeError::Workers) => return Err(OpenError::Workers),
+            Err(MakeError::Memory) => return Err(OpenError::Memory),
         };
         Ok(Engine {
             executor,
@@ -107,7 +109,7 @@ impl<A: Allocator> Engine<A> {
         journal: &mut Journal<A>,
         reader: &mut S,
         writer: &mut W,
-    ) -> Result<Turn, RunError>
+    ) -> Result<Turn, StopError>
         requires between { (run : Setting) × IsBetweenTurns run (record { ends = record { left = S.remaining reader.old; contents = W.contents writer.old; journal = journal.old }; held = self.old.held; text = self.old.draft; counts = self.old.counts }) self.old.executor }
         requires few { self.old.executor.count ≤ most_numbers }
         requires counted { AreCounted self.old.counts }
@@ -115,48 +117,46 @@ impl<A: Allocator> Engine<A> {
             IsBetweenTurns run old self.old.executor → Turns result run old (record { ends = record { left = S.remaining reader.new; contents = W.contents writer.new; journal = journal.new }; held = self.new.held; text = self.new.draft; counts = self.new.counts }) self.new.executor }
         ensures few { self.new.executor.count ≤ most_numbers }
         ensures counted { OnOk result (AreCounted self.new.counts) }
-        ensures read { CountsReader result (S.failed reader.old) (S.fruitless reader.old) (S.failed reader.new) (S.fruitless reader.new) }
-        ensures write { CountsWriter result (W.failed writer.old) (W.fruitless writer.old) (W.failed writer.new) (W.fruitless writer.new) }
+        ensures read { CountsReads result (S.failed reader.old) (S.fruitless reader.old) (S.failed reader.new) (S.fruitless reader.new) }
+        ensures write { CountsWrites result (W.failed writer.old) (W.fruitless writer.old) (W.failed writer.new) (W.fruitless writer.new) }
     {
         match self.held.fill(reader) {
             Filled::More => {}
             Filled::End => return self.end(),
-            Filled::Fault => return Err(RunError::Read),
+            Filled::Fault => return Err(StopError::Read),
         }
-        let end = self.answer_held(journal, writer)?;
+        let Some(end) = self.answer_held(journal, writer) else {
+            return Err(StopError::Write);
+        };
         if !write_text(writer, self.draft.bytes()) {
-            return Err(RunError::Write);
+            return Err(StopError::Write);
         }
         self.draft.clear();
         match end {
             PieceEnd::Part => Ok(Turn::More),
             PieceEnd::Refused => Err(self.refused_line()),
-            PieceEnd::Full => Err(RunError::Full),
-            PieceEnd::Memory => Err(RunError::Memory),
+            PieceEnd::Full => Err(StopError::Full),
+            PieceEnd::Memory => Err(StopError::Memory),
         }
     }
 
-    /// Answers each line that is held, and lets go of these lines. What of the text does not fit into the draft is written; an `Err`
+    /// Answers each line that is held, and lets go of these lines. What of the text does not fit into the draft is written; `None`
     /// is a fault of that.
-    fn answer_held<W: Sink>(
-        &mut self,
-        journal: &mut Journal<A>,
-        writer: &mut W,
-    ) -> Result<PieceEnd, RunError>
+    fn answer_held<W: Sink>(&mut self, journal: &mut Journal<A>, writer: &mut W) -> Option<PieceEnd>
         requires few { self.old.executor.count ≤ most_numbers }
         requires counted { AreCounted self.old.counts }
-        ensures stopped { IfOk result (λ end. (run : Setting) (left : Option (List ℕ)) (taken : List live_lines.LiveLine) →
+        ensures stopped { IfSome result (λ end. (run : Setting) (left : Option (List ℕ)) (taken : List live_lines.LiveLine) →
             DoneAt run (record { ends = record { left = left; contents = W.contents writer.old; journal = journal.old }; held = self.old.held; text = self.old.draft; counts = self.old.counts }) self.old.executor taken →
             Stopped end run (record { ends = record { left = left; contents = W.contents writer.new; journal = journal.new }; held = self.new.held; text = self.new.draft; counts = self.new.counts }) self.new.executor) }
-        ensures cut { IfErr result (λ error. (error ≡ RunError.Write) × ((run : Setting) (left : Option (List ℕ)) (taken : List live_lines.LiveLine) →
+        ensures cut { IsNone result → ((run : Setting) (left : Option (List ℕ)) (taken : List live_lines.LiveLine) →
             DoneAt run (record { ends = record { left = left; contents = W.contents writer.old; journal = journal.old }; held = self.old.held; text = self.old.draft; counts = self.old.counts }) self.old.executor taken →
-            IsCut run left self.old.held (W.contents writer.new) journal.new)) }
+            IsCut run left self.old.held (W.contents writer.new) journal.new) }
         ensures few { self.new.executor.count ≤ most_numbers }
-        ensures counted { OnOk result (AreCounted self.new.counts) }
-        ensures fewer { OnOk result (length self.new.held ≤ length self.old.held) }
-        ensures rises { OnOk result (self.old.counts.read ≤ self.new.counts.read) }
-        ensures same { OnOk result (self.new.counts.read ≡ self.old.counts.read → self.new.held ≡ self.old.held) }
-        ensures write { CountsWriter result (W.failed writer.old) (W.fruitless writer.old) (W.failed writer.new) (W.fruitless writer.new) }
+        ensures counted { IsSome result → (AreCounted self.new.counts) }
+        ensures fewer { IsSome result → (length self.new.held ≤ length self.old.held) }
+        ensures rises { IsSome result → (self.old.counts.read ≤ self.new.counts.read) }
+        ensures same { IsSome result → (self.new.counts.read ≡ self.old.counts.read → self.new.held ≡ self.old.held) }
+        ensures write { CountsTries (is_some result) (W.failed writer.old) (W.fruitless writer.old) (W.failed writer.new) (W.fruitless writer.new) }
     {
         let answered = answer_lines(
             &mut self.executor,
@@ -166,18 +166,13 @@ impl<A: Allocator> Engine<A> {
             &mut self.lines,
             &mut self.draft,
             writer,
-        );
-        match answered {
-            Ok(answered) => {
-                self.held.skip(answered.bytes);
-                Ok(answered.end)
-            }
-            Err(error) => Err(error),
-        }
+        )?;
+        self.held.skip(answered.bytes);
+        Some(answered.end)
     }
 
     /// What the run comes to at the end of the input: a part of a line is no line.
-    fn end(&self) -> Result<Turn, RunError>
+    fn end(&self) -> Result<Turn, StopError>
         requires counted { AreCounted self.now.counts }
         ensures { MatchResult result
             (λ turn. (turn ≡ t.Ended (record { lines_read = self.now.counts.read; lines_written = self.now.counts.written })) × (self.now.held ≡ []))
@@ -193,10 +188,10 @@ impl<A: Allocator> Engine<A> {
     }
 
     /// The next line is none.
-    fn refused_line(&self) -> RunError
+    fn refused_line(&self) -> StopError
         requires counted { AreCounted self.now.counts }
         ensures { EndsAtLine result self.now.counts.read }
     {
-        RunError::EventLine(self.counts.read + 1)
+        StopError::EventLine(self.counts.read + 1)
     }
 }

@@ -47,6 +47,7 @@ mod counts;
 mod engine;
 mod live_line;
 mod one_line;
+mod opening;
 mod replies;
 mod report;
 mod splitting;
@@ -59,4 +60,5 @@ mod tests;
 
 pub use engine::run;
 pub use live_line::LiveLine;
+pub use opening::OpenError;
 pub use report::LiveReport;

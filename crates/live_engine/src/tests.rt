@@ -1,9 +1,9 @@
 //! Live runs over bytes in memory.
 use crate::{LiveReport, run};
+use byte_ends::{Pieces, Reading, Writing};
 use call_journal::{Journal, MadeCall};
 use call_text::CallLine;
 use refusing_allocator::Refusing;
-use byte_ends::{Pieces, Reading, Writing};
 use sched_engine::RunError;
 use scripted_ends::{Giving, Script, Taking, Trouble};
 use std::alloc::Global;

@@ -10,7 +10,7 @@ use Rattle.trace_text.specs.Reading.{IsPart, most_event_bytes}
 use Rattle.trace_text.proofs.Fronts.{some_bytes, unread_part}
 use Rattle.sched_engine.specs.Inputs.{AreEvents, input_of}
 use Rattle.byte_ends.specs.Refills.{piece}
-use Rattle.sched_engine.specs.declared.report.RunError.TheVariants as x
+use Rattle.pool_engine.specs.declared.clocks.ReadingError.TheVariants as r
 use Rattle.sched_engine.proofs.Runs.{at_end, came, read_so_far, so_far, took}
 use Rattle.sched_engine.proofs.Turns.{kept_none, nothing_read, smaller}
 use Rattle.pool_engine.specs.ClockLines.{AreAllClocks, BeginsWithClock, EndsReading, IsNoClock, IsNoClockLine, TakenClocks, clock_events}
@@ -96,7 +96,7 @@ ended limit input left next held same moments h new end is none =
 
 -- with a part of a line held
 pub cut_off : (limit : ℕ) (input left next : Option (List ℕ)) (held same moments : List ℕ) (n : ℕ) → HasRead limit input left held moments → Consumes left next [] → IsAtEnd next → same ≡ held → IsPart held → 0 < length same → n ≡ length moments + 1
-    → EndsReading (x.EventLine n) limit input next
+    → EndsReading (r.EventLine n) limit input next
 cut_off limit input left next held same moments n h new end is part some count =
     let here : IsPart same = subst IsPart (sym is) part in (
       moments,
@@ -106,7 +106,7 @@ cut_off limit input left next held same moments n h new end is part some count =
     )
 
 -- a line that is no clock's
-pub refused : (limit : ℕ) (input left : Option (List ℕ)) (held moments : List ℕ) (n : ℕ) → HasRead limit input left held moments → length held ≤ piece → IsRefusedForGood held → n ≡ length moments + 1 → EndsReading (x.EventLine n) limit input left
+pub refused : (limit : ℕ) (input left : Option (List ℕ)) (held moments : List ℕ) (n : ℕ) → HasRead limit input left held moments → length held ≤ piece → IsRefusedForGood held → n ≡ length moments + 1 → EndsReading (r.EventLine n) limit input left
 refused limit input left held moments n h near stop is = (
   moments,
   taken_so_far limit input left held moments (IsNoClockLine left) (λ rest. IsNoClock rest × (0 < length rest)) h near
@@ -116,17 +116,17 @@ refused limit input left held moments n h near stop is = (
 )
 
 -- a further clock at the limit
-pub full : (limit : ℕ) (input left : Option (List ℕ)) (held moments : List ℕ) → HasRead limit input left held moments → length held ≤ piece → BeginsWithClock held → length moments ≡ limit → EndsReading x.Full limit input left
+pub full : (limit : ℕ) (input left : Option (List ℕ)) (held moments : List ℕ) → HasRead limit input left held moments → length held ≤ piece → BeginsWithClock held → length moments ≡ limit → EndsReading r.Full limit input left
 full limit input left held moments h near begins reached =
     (moments, taken_so_far limit input left held moments BeginsWithClock BeginsWithClock h near begins (λ more. begins_whatever_follows held more begins), reached)
 
 -- a fault of the reader
-pub faulted : (limit : ℕ) (input left next : Option (List ℕ)) (held moments : List ℕ) → HasRead limit input left held moments → Keeps left next → IsPart held → EndsReading x.Read limit input next
+pub faulted : (limit : ℕ) (input left next : Option (List ℕ)) (held moments : List ℕ) → HasRead limit input left held moments → Keeps left next → IsPart held → EndsReading r.Read limit input next
 faulted limit input left next held moments h keeps part =
     (moments, taken_so_far limit input next held moments IsPart (λ rest. Unit {0}) (has_more limit input left next held [] held moments h (kept_none left next keeps) (sym (append-nil held))) (omega (arith, part.1)) part (λ more. tt))
 
 -- want of memory
-pub out_of_memory : (limit : ℕ) (input left : Option (List ℕ)) (held moments : List ℕ) → HasRead limit input left held moments → length held ≤ piece → EndsReading x.Memory limit input left
+pub out_of_memory : (limit : ℕ) (input left : Option (List ℕ)) (held moments : List ℕ) → HasRead limit input left held moments → length held ≤ piece → EndsReading r.Memory limit input left
 out_of_memory limit input left held moments h near =
     (moments, taken_so_far limit input left held moments (λ ahead. Unit {0}) (λ rest. Unit {0}) h near tt (λ more. tt))
 

@@ -12,7 +12,7 @@ use Rattle.queue_code.specs.Calls.{Planned}
 use Rattle.trace_text.specs.Spelling.{lines_text}
 use Rattle.worker_pool.specs.Books.{BookView, IsBook, past_of}
 use Rattle.sched_engine.specs.declared.report.Report.{Report}
-use Rattle.sched_engine.specs.declared.report.RunError.TheVariants as x
+use Rattle.pool_engine.specs.declared.stops.PoolStop.TheVariants as p
 use Rattle.sched_engine.specs.Running.{text_of}
 use Rattle.pool_engine.specs.PoolRuns.{PoolWrote, RunsToLimit, RunsToRest, clocks_of, event_count}
 use Rattle.pool_engine.specs.own.Ended.{IsRested}
@@ -81,9 +81,9 @@ wrote_rested cells b calls workers limit moments lines report old new book fits 
 -- a front of it
 pub cut_rested : (cells : List ℕ) (b : BookView) (calls : List Planned) (workers limit events : ℕ) (moments : List ℕ) (lines : List Line) (old new : Option (List ℕ))
     → IsBook cells b → FitsBook b → (b.core.calls ≡ calls) × (workers_of b.core ≡ workers) → IsRested b moments → events ≡ event_count b.happened → events ≤ limit → lines ≡ b.lines
-    → (n : ℕ) × Appends old new (take n (lines_text lines)) → PoolWrote (Err x.Write) calls workers limit moments old new
+    → (n : ℕ) × Appends old new (take n (lines_text lines)) → PoolWrote (Err p.Write) calls workers limit moments old new
 cut_rested cells b calls workers limit events moments lines old new book fits is at_rest count few said wrote =
-    named (λ cs k. PoolWrote (Err x.Write) cs k limit moments old new) b calls workers is (
+    named (λ cs k. PoolWrote (Err p.Write) cs k limit moments old new) b calls workers is (
       past_of b,
       inl (rested cells b limit events moments book fits at_rest count few),
       wrote.0,
@@ -93,9 +93,9 @@ cut_rested cells b calls workers limit events moments lines old new book fits is
 -- the whole text of a book at its limit
 pub wrote_full : (cells : List ℕ) (b : BookView) (calls : List Planned) (workers limit : ℕ) (moments : List ℕ) (lines : List Line) (old new : Option (List ℕ))
     → IsBook cells b → FitsBook b → (b.core.calls ≡ calls) × (workers_of b.core ≡ workers) → event_count b.happened ≡ limit → lines ≡ b.lines
-    → Appends old new (lines_text lines) → PoolWrote (Err x.Full) calls workers limit moments old new
+    → Appends old new (lines_text lines) → PoolWrote (Err p.Full) calls workers limit moments old new
 wrote_full cells b calls workers limit moments lines old new book fits is full said wrote =
-    named (λ cs k. PoolWrote (Err x.Full) cs k limit moments old new) b calls workers is (
+    named (λ cs k. PoolWrote (Err p.Full) cs k limit moments old new) b calls workers is (
       past_of b,
       at_limit cells b limit book fits full,
       subst (Appends old new) (text_is cells b lines book said) wrote,
@@ -104,9 +104,9 @@ wrote_full cells b calls workers limit moments lines old new book fits is full s
 -- a front of it
 pub cut_full : (cells : List ℕ) (b : BookView) (calls : List Planned) (workers limit : ℕ) (moments : List ℕ) (lines : List Line) (old new : Option (List ℕ))
     → IsBook cells b → FitsBook b → (b.core.calls ≡ calls) × (workers_of b.core ≡ workers) → event_count b.happened ≡ limit → lines ≡ b.lines
-    → (n : ℕ) × Appends old new (take n (lines_text lines)) → PoolWrote (Err x.Write) calls workers limit moments old new
+    → (n : ℕ) × Appends old new (take n (lines_text lines)) → PoolWrote (Err p.Write) calls workers limit moments old new
 cut_full cells b calls workers limit moments lines old new book fits is full said wrote =
-    named (λ cs k. PoolWrote (Err x.Write) cs k limit moments old new) b calls workers is (
+    named (λ cs k. PoolWrote (Err p.Write) cs k limit moments old new) b calls workers is (
       past_of b,
       inr (at_limit cells b limit book fits full),
       wrote.0,

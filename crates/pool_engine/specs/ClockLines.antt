@@ -6,6 +6,8 @@ use Rattle.executor_core.specs.declared.Event.{Event}
 use Rattle.executor_core.specs.declared.Event.TheVariants as v
 use Rattle.trace_text.specs.Spelling.{FitsEvent, event_line}
 use Rattle.trace_text.specs.Reading.{IsPart}
+use Rattle.pool_engine.specs.declared.clocks.ReadingError.{ReadingError}
+use Rattle.pool_engine.specs.declared.clocks.ReadingError.TheVariants as r
 use Rattle.sched_engine.specs.declared.report.RunError.{RunError}
 use Rattle.sched_engine.specs.declared.report.RunError.TheVariants as x
 use Rattle.sched_engine.specs.Inputs.{AreEvents, input_of}
@@ -47,10 +49,16 @@ AreAllClocks limit input left moments = TakenClocks limit input left (λ ahead. 
 
 -- why not all of the input was read: line n, counted from 1, is the first that is no clock's; a further clock line follows as many
 -- as the limit allows; the reader was at fault, with a part of one line read at most; or memory ran out
-abbrev pub EndsReading : RunError → ℕ → Option (List ℕ) → Option (List ℕ) → Type 0
-EndsReading (x.EventLine n) limit input left =
+abbrev pub EndsReading : ReadingError → ℕ → Option (List ℕ) → Option (List ℕ) → Type 0
+EndsReading (r.EventLine n) limit input left =
     (moments : List ℕ) × TakenClocks limit input left (IsNoClockLine left) (λ rest. IsNoClock rest × (0 < length rest)) moments × (n ≡ length moments + 1)
-EndsReading x.Full limit input left = (moments : List ℕ) × TakenClocks limit input left BeginsWithClock BeginsWithClock moments × (length moments ≡ limit)
-EndsReading x.Read limit input left = (moments : List ℕ) × TakenClocks limit input left IsPart (λ rest. Unit {0}) moments
-EndsReading x.Memory limit input left = (moments : List ℕ) × TakenClocks limit input left (λ ahead. Unit {0}) (λ rest. Unit {0}) moments
-EndsReading _ limit input left = ⊥
+EndsReading r.Full limit input left = (moments : List ℕ) × TakenClocks limit input left BeginsWithClock BeginsWithClock moments × (length moments ≡ limit)
+EndsReading r.Read limit input left = (moments : List ℕ) × TakenClocks limit input left IsPart (λ rest. Unit {0}) moments
+EndsReading r.Memory limit input left = (moments : List ℕ) × TakenClocks limit input left (λ ahead. Unit {0}) (λ rest. Unit {0}) moments
+
+-- what a caller is told then
+abbrev pub told_of_reading : ReadingError → RunError
+told_of_reading (r.EventLine n) = x.EventLine n
+told_of_reading r.Full = x.Full
+told_of_reading r.Read = x.Read
+told_of_reading r.Memory = x.Memory

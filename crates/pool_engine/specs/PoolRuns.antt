@@ -11,9 +11,14 @@ use Rattle.executor_core.specs.State.{after, view_of_state}
 use Rattle.queue_code.specs.Calls.{Planned, how_many}
 use Rattle.trace_check.specs.Laws.{FitsHappening}
 use Rattle.sched_engine.specs.declared.report.Report.{Report}
+use Rattle.sched_engine.specs.declared.report.OpenError.TheVariants as o
 use Rattle.sched_engine.specs.declared.report.RunError.{RunError}
+use Rattle.pool_engine.specs.declared.clocks.ReadingError.{ReadingError}
+use Rattle.pool_engine.specs.declared.clocks.ReadingError.TheVariants as r
+use Rattle.pool_engine.specs.declared.stops.PoolStop.{PoolStop}
+use Rattle.pool_engine.specs.declared.stops.PoolStop.TheVariants as p
 use Rattle.sched_engine.specs.declared.report.RunError.TheVariants as x
-use Rattle.sched_engine.specs.Running.{IsAccepted, IsUntouched, RefusesToRun, text_of}
+use Rattle.sched_engine.specs.Running.{IsAccepted, IsRefusedRun, text_of}
 use Rattle.pool_engine.specs.ClockLines.{AreAllClocks, EndsReading}
 
 -- ---- what happened in a history
@@ -64,18 +69,17 @@ pub record RunsToLimit (calls : List Planned) (workers limit : ℕ) (past : List
 -- ---- a run
 
 -- what a pool wrote that ran over these calls and moments
-abbrev pub PoolWrote : Result Report RunError → List Planned → ℕ → ℕ → List ℕ → Option (List ℕ) → Option (List ℕ) → Type 0
-PoolWrote (Ok r) calls workers limit moments old new =
+abbrev pub PoolWrote : Result Report PoolStop → List Planned → ℕ → ℕ → List ℕ → Option (List ℕ) → Option (List ℕ) → Type 0
+PoolWrote (Ok report) calls workers limit moments old new =
     (past : List HistoryEntry) × RunsToRest calls workers limit moments past
-    × (r.events ≡ event_count (happened_in past)) × (r.lines ≡ length (lines_of calls past)) × Appends old new (text_of calls past)
-PoolWrote (Err x.Full) calls workers limit moments old new =
+    × (report.events ≡ event_count (happened_in past)) × (report.lines ≡ length (lines_of calls past)) × Appends old new (text_of calls past)
+PoolWrote (Err p.Full) calls workers limit moments old new =
     (past : List HistoryEntry) × RunsToLimit calls workers limit past × Appends old new (text_of calls past)
-PoolWrote (Err x.Write) calls workers limit moments old new =
+PoolWrote (Err p.Write) calls workers limit moments old new =
     (past : List HistoryEntry) × (RunsToRest calls workers limit moments past ⊎ RunsToLimit calls workers limit past)
     × (n : ℕ) × Appends old new (take n (text_of calls past))
-PoolWrote (Err x.Lost) calls workers limit moments old new = Keeps old new
-PoolWrote (Err x.Memory) calls workers limit moments old new = Keeps old new
-PoolWrote (Err _) calls workers limit moments old new = ⊥
+PoolWrote (Err p.Lost) calls workers limit moments old new = Keeps old new
+PoolWrote (Err p.Memory) calls workers limit moments old new = Keeps old new
 
 -- at each error with which nothing is written, the counts of the writer stay, as it was not called. With `Full` the text of a run may
 -- be written, so it is left out here
@@ -86,29 +90,36 @@ LeavesWriter (Err x.Write) failed fruitless failed' fruitless' = Unit {0}
 LeavesWriter (Err _) failed fruitless failed' fruitless' = (failed' ≡ failed) × (fruitless' ≡ fruitless)
 
 -- the reading ended before the input did, and nothing was written
-abbrev pub EndsUnwritten : RunError → List ℕ → ℕ → ℕ → Option (List ℕ) → Option (List ℕ) → Option (List ℕ) → Option (List ℕ) → Type 0
+abbrev pub EndsUnwritten : ReadingError → List ℕ → ℕ → ℕ → Option (List ℕ) → Option (List ℕ) → Option (List ℕ) → Option (List ℕ) → Type 0
 EndsUnwritten e text workers limit input left old new =
     (calls : List Planned) × IsAccepted text calls workers limit × EndsReading e limit input left × Keeps old new
 
 -- all of the input was read, and a pool ran over it
-abbrev pub RunsAll : Result Report RunError → List ℕ → ℕ → ℕ → Option (List ℕ) → Option (List ℕ) → Option (List ℕ) → Option (List ℕ) → Type 0
+abbrev pub RunsAll : Result Report PoolStop → List ℕ → ℕ → ℕ → Option (List ℕ) → Option (List ℕ) → Option (List ℕ) → Option (List ℕ) → Type 0
 RunsAll result text workers limit input left old new =
     (calls : List Planned) × IsAccepted text calls workers limit
     × (moments : List ℕ) × AreAllClocks limit input left moments × PoolWrote result calls workers limit moments old new
 
+-- what a caller is told of a pool that did not end well
+abbrev pub told_of_stop : PoolStop → RunError
+told_of_stop p.Full = x.Full
+told_of_stop p.Write = x.Write
+told_of_stop p.Lost = x.Lost
+told_of_stop p.Memory = x.Memory
+
 -- what a run by a pool did: it refused, with nothing read or written; or the reading ended early, and nothing was written; or all
 -- was read, and the pool ran
 abbrev pub PoolRan : Result Report RunError → List ℕ → ℕ → ℕ → Option (List ℕ) → Option (List ℕ) → Option (List ℕ) → Option (List ℕ) → Type 0
-PoolRan (Ok r) text workers limit input left old new = RunsAll (Ok r) text workers limit input left old new
-PoolRan (Err (x.Plan fault)) text workers limit input left old new = RefusesToRun (x.Plan fault) text workers limit × IsUntouched input left old new
-PoolRan (Err x.Workers) text workers limit input left old new = RefusesToRun x.Workers text workers limit × IsUntouched input left old new
-PoolRan (Err x.Limit) text workers limit input left old new = RefusesToRun x.Limit text workers limit × IsUntouched input left old new
-PoolRan (Err (x.EventLine n)) text workers limit input left old new = EndsUnwritten (x.EventLine n) text workers limit input left old new
+PoolRan (Ok report) text workers limit input left old new = RunsAll (Ok report) text workers limit input left old new
+PoolRan (Err (x.Plan fault)) text workers limit input left old new = IsRefusedRun (o.Plan fault) text workers limit input left old new
+PoolRan (Err x.Workers) text workers limit input left old new = IsRefusedRun o.Workers text workers limit input left old new
+PoolRan (Err x.Limit) text workers limit input left old new = IsRefusedRun o.Limit text workers limit input left old new
+PoolRan (Err (x.EventLine n)) text workers limit input left old new = EndsUnwritten (r.EventLine n) text workers limit input left old new
 PoolRan (Err x.Full) text workers limit input left old new =
-    EndsUnwritten x.Full text workers limit input left old new ⊎ RunsAll (Err x.Full) text workers limit input left old new
-PoolRan (Err x.Read) text workers limit input left old new = EndsUnwritten x.Read text workers limit input left old new
-PoolRan (Err x.Write) text workers limit input left old new = RunsAll (Err x.Write) text workers limit input left old new
-PoolRan (Err x.Lost) text workers limit input left old new = RunsAll (Err x.Lost) text workers limit input left old new
+    EndsUnwritten r.Full text workers limit input left old new ⊎ RunsAll (Err p.Full) text workers limit input left old new
+PoolRan (Err x.Read) text workers limit input left old new = EndsUnwritten r.Read text workers limit input left old new
+PoolRan (Err x.Write) text workers limit input left old new = RunsAll (Err p.Write) text workers limit input left old new
+PoolRan (Err x.Lost) text workers limit input left old new = RunsAll (Err p.Lost) text workers limit input left old new
 PoolRan (Err x.Memory) text workers limit input left old new =
-    (RefusesToRun x.Memory text workers limit × IsUntouched input left old new)
-    ⊎ (EndsUnwritten x.Memory text workers limit input left old new ⊎ RunsAll (Err x.Memory) text workers limit input left old new)
+    IsRefusedRun o.Memory text workers limit input left old new
+    ⊎ (EndsUnwritten r.Memory text workers limit input left old new ⊎ RunsAll (Err p.Memory) text workers limit input left old new)

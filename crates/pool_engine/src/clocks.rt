@@ -1,14 +1,13 @@
 //! The reading of clock lines, all of which stand in the input of a run by a pool.
 ghost use Rattle.std.specs.Prelude.{◌≡◌, ◌≤◌, IfErr, IfOk, MatchOption, MatchResult, drop, vec_len};
 ghost use Rattle.sched_engine.specs.Inputs.{IsRefused};
-ghost use Rattle.sched_engine.specs.Running.{CountsReader};
 ghost use Rattle.pool_engine.specs.ClockLines.{AreAllClocks, EndsReading};
-ghost use Rattle.pool_engine.specs.own.ClockLines.{IsClockRead, IsNoClockEnd, IsOther, StopsAt, TakesClocks};
+ghost use Rattle.pool_engine.specs.own.ClockLines.{CountsReading, IsClockRead, IsNoClockEnd, IsOther, StopsAt, TakesClocks};
 
-use executor_core::Event;
 use byte_ends::{Filled, Held, Source};
+use executor_core::Event;
 use sched_engine::RunError;
-use std::alloc::Allocator;
+use std::alloc::{AllocError, Allocator};
 use trace_text::{is_part, split_event};
 
 /// Why no further clock was taken of the bytes at hand.
@@ -24,20 +23,60 @@ pub enum ClocksEnd {
     Memory,
 }
 
+/// Why the clock lines are not all of the input, or could not be kept.
+#[derive(Clone, Copy, Debug)]
+pub enum ReadingError {
+    /// This line, counted from 1, is no clock's.
+    EventLine(u64),
+    /// A further clock line follows as many as the limit allows.
+    Full,
+    /// The reader was at fault.
+    Read,
+    /// Memory ran out.
+    Memory,
+}
+
+impl From<AllocError> for ReadingError {
+    ghost use Rattle.std.specs.Prelude.{◌≡◌};
+    ghost use Rattle.pool_engine.specs.declared.clocks.ReadingError.TheVariants.{Memory};
+
+    ghost from_gives = { λ _ e. e ≡ Memory };
+
+    fn from(_: AllocError) -> ReadingError {
+        ReadingError::Memory
+    }
+}
+
+impl From<ReadingError> for RunError {
+    ghost use Rattle.std.specs.Prelude.{◌≡◌};
+    ghost use Rattle.pool_engine.specs.ClockLines.{told_of_reading};
+
+    ghost from_gives = { λ error e. e ≡ told_of_reading error };
+
+    fn from(error: ReadingError) -> RunError {
+        match error {
+            ReadingError::EventLine(line) => RunError::EventLine(line),
+            ReadingError::Full => RunError::Full,
+            ReadingError::Read => RunError::Read,
+            ReadingError::Memory => RunError::Memory,
+        }
+    }
+}
+
 /// The moments of the clock lines, which are all of the input. There are no more of them than events may be.
 ///
 /// # Errors
 ///
-/// [`RunError::EventLine`] at the first line that is no clock's, [`RunError::Full`] at a clock line past the limit,
-/// [`RunError::Read`], and [`RunError::Memory`].
+/// [`ReadingError::EventLine`] at the first line that is no clock's, [`ReadingError::Full`] at a clock line past the limit,
+/// [`ReadingError::Read`], and [`ReadingError::Memory`].
 pub fn read_clocks<A: Allocator + Copy, S: Source>(
     alloc: A,
     limit: u32,
     reader: &mut S,
-) -> Result<Vec<u64, A>, RunError>
+) -> Result<Vec<u64, A>, ReadingError>
     ensures all { IfOk result (λ moments. AreAllClocks limit (S.remaining reader.old) (S.remaining reader.new) moments.items) }
     ensures ends { IfErr result (λ e. EndsReading e limit (S.remaining reader.old) (S.remaining reader.new)) }
-    ensures read { CountsReader result (S.failed reader.old) (S.fruitless reader.old) (S.failed reader.new) (S.fruitless reader.new) }
+    ensures read { CountsReading result (S.failed reader.old) (S.fruitless reader.old) (S.failed reader.new) (S.fruitless reader.new) }
 {
     let mut held = Held::new(alloc)?;
     let mut moments = Vec::new(alloc);
@@ -48,17 +87,17 @@ pub fn read_clocks<A: Allocator + Copy, S: Source>(
                 if held.bytes().is_empty() {
                     return Ok(moments);
                 }
-                return Err(RunError::EventLine(moments.len() as u64 + 1));
+                return Err(ReadingError::EventLine(moments.len() as u64 + 1));
             }
-            Filled::Fault => return Err(RunError::Read),
+            Filled::Fault => return Err(ReadingError::Read),
         }
         let (taken, end) = take_clocks(held.bytes(), limit as usize, &mut moments);
         held.skip(taken);
         match end {
             ClocksEnd::Part => {}
-            ClocksEnd::Refused => return Err(RunError::EventLine(moments.len() as u64 + 1)),
-            ClocksEnd::Full => return Err(RunError::Full),
-            ClocksEnd::Memory => return Err(RunError::Memory),
+            ClocksEnd::Refused => return Err(ReadingError::EventLine(moments.len() as u64 + 1)),
+            ClocksEnd::Full => return Err(ReadingError::Full),
+            ClocksEnd::Memory => return Err(ReadingError::Memory),
         }
     }
 }

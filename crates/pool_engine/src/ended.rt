@@ -6,8 +6,8 @@ ghost use Rattle.byte_ends.specs.Ends.{CountsTries};
 ghost use Rattle.pool_engine.specs.PoolRuns.{clocks_of, event_count};
 ghost use Rattle.pool_engine.specs.own.Ended.{TextWritten};
 
-use executor_core::{Happening, KeptHappening, Line};
 use byte_ends::{Sink, write_text};
+use executor_core::{Happening, KeptHappening, Line};
 use sched_engine::Draft;
 use sched_time::Ending;
 use std::alloc::Allocator;

@@ -60,8 +60,11 @@ mod clocks;
 mod ended;
 mod laws;
 mod pooled;
+mod stops;
 #[cfg(test)]
 mod tests;
 
+pub use clocks::ReadingError;
 pub use laws::pool_runs_conform;
 pub use pooled::run_pool;
+pub use stops::PoolStop;

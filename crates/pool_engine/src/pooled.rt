@@ -1,18 +1,19 @@
 //! A run by a pool: it reads all of its input, runs the plan, and writes the trace.
-ghost use Rattle.std.specs.Prelude.{◌≡◌, ◌<◌, ◌≤◌, ◌↔◌, ◌⊎◌, [], Ok, Err, IfErr, IsErrOf, MatchResult};
+ghost use Rattle.std.specs.Prelude.{◌≡◌, ◌<◌, ◌≤◌, ◌↔◌, [], Ok, Err, IsErrOf, MatchResult};
 ghost use Rattle.queue_code.specs.Calls.{task_count};
 ghost use Rattle.queue_code.specs.Codes.{calls_of};
 ghost use Rattle.task_word.specs.Views.{new_core};
 ghost use Rattle.executor_core.specs.Counts.{IsWorkerCount};
 ghost use Rattle.sched_engine.specs.Running.{CountsReader, CountsWriter};
 ghost use Rattle.pool_engine.specs.PoolRuns.{LeavesWriter, PoolRan, PoolWrote, event_count};
-ghost use Rattle.pool_engine.specs.own.Ended.{IsRested};
+ghost use Rattle.pool_engine.specs.own.Ended.{CountsLast, CountsStop, IsRested, StopLeaves, stop_of_last};
 
 use crate::clocks::read_clocks;
 use crate::ended::{look_back, write_lines};
+use crate::stops::{LastError, PoolStop};
+use byte_ends::{Sink, Source};
 use executor_core::MOST_WORKERS;
 use queue_code::Code;
-use byte_ends::{Sink, Source};
 use sched_engine::{Draft, HeapAllocator, Report, RunError, code_of};
 use sched_time::Ending;
 use std::alloc::Allocator;
@@ -86,7 +87,10 @@ pub fn run_pool<A: HeapAllocator + Send + Sync, R: Threads + Wait + Sync, S: Sou
         limit,
         moments: &moments,
     };
-    run_named::<Brand, A, R, W>(rt, alloc, &shared, seat, code, &asked, &mut draft, writer)
+    let report = run_named::<Brand, A, R, W>(
+        rt, alloc, &shared, seat, code, &asked, &mut draft, writer,
+    )?;
+    Ok(report)
 }
 
 /// Runs a code by a pool of these names, and writes the trace.
@@ -104,28 +108,34 @@ fn run_named<
     asked: &Asked<'_>,
     draft: &mut Draft<A>,
     writer: &mut W,
-) -> Result<Report, RunError>
+) -> Result<Report, PoolStop>
     requires shared { (shared.now.table ≡ N.table) × (shared.now.cells ≡ N.cells) }
     requires seat { (seat.table ≡ shared.now.table) × (seat.view ≡ new_core shared.now.tasks) }
     requires tasks { shared.now.tasks ≡ task_count (calls_of code) }
     requires named { (calls_of code ≡ N.calls) × (asked.now.workers ≡ N.workers) }
     requires draft { draft.old ≡ [] }
     ensures wrote { PoolWrote result N.calls N.workers asked.now.limit asked.now.moments.now (W.contents writer.old) (W.contents writer.new) }
-    ensures write { CountsWriter result (W.failed writer.old) (W.fruitless writer.old) (W.failed writer.new) (W.fruitless writer.new) }
-    ensures uncalled { LeavesWriter result (W.failed writer.old) (W.fruitless writer.old) (W.failed writer.new) (W.fruitless writer.new) }
+    ensures write { CountsStop result (W.failed writer.old) (W.fruitless writer.old) (W.failed writer.new) (W.fruitless writer.new) }
+    ensures uncalled { StopLeaves result (W.failed writer.old) (W.fruitless writer.old) (W.failed writer.new) (W.fruitless writer.new) }
 {
     let made = Pool::<N, A>::new(alloc, shared, seat, code, asked.workers, asked.limit);
     let Ok(pool) = made else {
         // The numbers are in range, so this is want of memory.
-        return Err(RunError::Memory);
+        return Err(PoolStop::Memory);
     };
     let ran = pool.run(rt, &RunNumber, asked.moments);
     let book = pool.end();
     match ran {
-        Ok(()) => write_rested(&book, asked, draft, writer),
-        Err(PoolError::Full) => write_full(&book, asked, draft, writer),
-        Err(PoolError::Memory) => Err(RunError::Memory),
-        Err(_) => Err(RunError::Lost),
+        Ok(()) => match write_rested(&book, asked, draft, writer) {
+            Ok(report) => Ok(report),
+            Err(error) => Err(error.stop()),
+        },
+        Err(PoolError::Full) => match write_full(&book, asked, draft, writer) {
+            Ok(()) => Err(PoolStop::Full),
+            Err(error) => Err(error.stop()),
+        },
+        Err(PoolError::Memory) => Err(PoolStop::Memory),
+        Err(_) => Err(PoolStop::Lost),
     }
 }
 
@@ -135,21 +145,22 @@ fn write_rested<N: Named, A: Allocator, W: Sink>(
     asked: &Asked<'_>,
     draft: &mut Draft<A>,
     writer: &mut W,
-) -> Result<Report, RunError>
+) -> Result<Report, LastError>
     requires draft { draft.old ≡ [] }
-    ensures wrote { PoolWrote result N.calls N.workers asked.now.limit asked.now.moments.now (W.contents writer.old) (W.contents writer.new) }
-    ensures write { CountsWriter result (W.failed writer.old) (W.fruitless writer.old) (W.failed writer.new) (W.fruitless writer.new) }
-    ensures uncalled { LeavesWriter result (W.failed writer.old) (W.fruitless writer.old) (W.failed writer.new) (W.fruitless writer.new) }
-    ensures lost { IsErrOf result RunError.Lost ↔ ¬ (IsRested book.now asked.now.moments.now × (event_count book.now.happened ≤ asked.now.limit)) }
-    ensures others { IfErr result (λ e. (e ≡ RunError.Lost) ⊎ (e ≡ RunError.Write)) }
+    ensures wrote { MatchResult result
+        (λ report. PoolWrote (Ok report) N.calls N.workers asked.now.limit asked.now.moments.now (W.contents writer.old) (W.contents writer.new))
+        (λ e. PoolWrote (Err (stop_of_last e)) N.calls N.workers asked.now.limit asked.now.moments.now (W.contents writer.old) (W.contents writer.new)) }
+    ensures write { CountsLast result (W.failed writer.old) (W.fruitless writer.old) (W.failed writer.new) (W.fruitless writer.new) }
+    ensures uncalled { IsErrOf result LastError.Lost → (W.failed writer.new ≡ W.failed writer.old) × (W.fruitless writer.new ≡ W.fruitless writer.old) }
+    ensures lost { IsErrOf result LastError.Lost ↔ ¬ (IsRested book.now asked.now.moments.now × (event_count book.now.happened ≤ asked.now.limit)) }
 {
     let told = look_back(book.happenings(), asked.moments);
     if !told.shows_moments || book.ripe() || told.events > asked.limit as usize {
-        return Err(RunError::Lost);
+        return Err(LastError::Lost);
     }
     let lines = book.lines();
     if !write_lines(draft, lines, writer) {
-        return Err(RunError::Write);
+        return Err(LastError::Write);
     }
     Ok(Report {
         events: told.events as u32,
@@ -163,22 +174,23 @@ fn write_full<N: Named, A: Allocator, W: Sink>(
     asked: &Asked<'_>,
     draft: &mut Draft<A>,
     writer: &mut W,
-) -> Result<Report, RunError>
+) -> Result<(), LastError>
     requires draft { draft.old ≡ [] }
-    ensures wrote { PoolWrote result N.calls N.workers asked.now.limit asked.now.moments.now (W.contents writer.old) (W.contents writer.new) }
-    ensures write { CountsWriter result (W.failed writer.old) (W.fruitless writer.old) (W.failed writer.new) (W.fruitless writer.new) }
-    ensures uncalled { LeavesWriter result (W.failed writer.old) (W.fruitless writer.old) (W.failed writer.new) (W.fruitless writer.new) }
-    ensures lost { IsErrOf result RunError.Lost ↔ ¬ (event_count book.now.happened ≡ asked.now.limit) }
-    ensures others { MatchResult result (λ _. ⊥) (λ e. (e ≡ RunError.Lost) ⊎ ((e ≡ RunError.Write) ⊎ (e ≡ RunError.Full))) }
+    ensures wrote { MatchResult result
+        (λ _. PoolWrote (Err PoolStop.Full) N.calls N.workers asked.now.limit asked.now.moments.now (W.contents writer.old) (W.contents writer.new))
+        (λ e. PoolWrote (Err (stop_of_last e)) N.calls N.workers asked.now.limit asked.now.moments.now (W.contents writer.old) (W.contents writer.new)) }
+    ensures write { CountsLast result (W.failed writer.old) (W.fruitless writer.old) (W.failed writer.new) (W.fruitless writer.new) }
+    ensures uncalled { IsErrOf result LastError.Lost → (W.failed writer.new ≡ W.failed writer.old) × (W.fruitless writer.new ≡ W.fruitless writer.old) }
+    ensures lost { IsErrOf result LastError.Lost ↔ ¬ (event_count book.now.happened ≡ asked.now.limit) }
 {
     let told = look_back(book.happenings(), asked.moments);
     if told.events != asked.limit as usize {
-        return Err(RunError::Lost);
+        return Err(LastError::Lost);
     }
     if !write_lines(draft, book.lines(), writer) {
-        return Err(RunError::Write);
+        return Err(LastError::Write);
     }
-    Err(RunError::Full)
+    Ok(())
 }
 
 #[cfg(test)]

@@ -4,8 +4,8 @@ mod example;
 mod growths;
 
 use crate::run_pool;
-use plan_read::{PlanFault, PlanFaultKind, read_plan};
 use byte_ends::{Pieces, Writing};
+use plan_read::{PlanFault, PlanFaultKind, read_plan};
 use sched_engine::{Report, RunError};
 use std::alloc::Global;
 use std::process::Abort;

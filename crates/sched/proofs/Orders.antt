@@ -18,6 +18,9 @@ use Rattle.sched_engine.specs.Running.{IsAccepted, IsUntouched, Ran, RefusesToRu
 use Rattle.sched_engine.specs.CodeTexts.{Listed}
 use Rattle.task_list.specs.Writing.{TasksWritten}
 use Rattle.sched_engine.specs.declared.report.Report.{Report}
+use Rattle.sched_engine.specs.Stages.{told_of_opening}
+use Rattle.sched_engine.specs.declared.report.OpenError.{OpenError}
+use Rattle.sched_engine.specs.declared.report.OpenError.TheVariants as o
 use Rattle.sched_engine.specs.declared.report.RunError.{RunError}
 use Rattle.sched_engine.specs.declared.report.RunError.TheVariants as x
 use Rattle.sched.specs.declared.error.ProgramError.{ProgramError}
@@ -218,12 +221,12 @@ code_read text answer IsPlan old new read all = go all.ended all.listed all.told
       | inr first ↦ inr (Some text, read, inl (told.0, inr (plan_there text, inl first), told.2, listed.1))
     ]
     go (Err x.Memory) listed told = inl (told.2 ∙ ap Err told.1, listed.1)
-    go (Err x.Workers) listed told = absurd listed.0
-    go (Err x.Limit) listed told = absurd listed.0
-    go (Err (x.EventLine n)) listed told = absurd listed.0
-    go (Err x.Full) listed told = absurd listed.0
-    go (Err x.Read) listed told = absurd listed.0
-    go (Err x.Lost) listed told = absurd listed.0
+    go (Err x.Workers) listed told = absurd listed
+    go (Err x.Limit) listed told = absurd listed
+    go (Err (x.EventLine n)) listed told = absurd listed
+    go (Err x.Full) listed told = absurd listed
+    go (Err x.Read) listed told = absurd listed
+    go (Err x.Lost) listed told = absurd listed
 
 -- ---- the tasks
 
@@ -240,12 +243,12 @@ tasks_read text answer IsPlan old new read all = go all.ended all.written all.to
       | inr first ↦ inr (Some text, read, inl (told.0, inr (plan_there text, inl first), told.2, written.1))
     ]
     go (Err x.Memory) written told = inl (told.2 ∙ ap Err told.1, written.1)
-    go (Err x.Workers) written told = absurd written.0
-    go (Err x.Limit) written told = absurd written.0
-    go (Err (x.EventLine n)) written told = absurd written.0
-    go (Err x.Full) written told = absurd written.0
-    go (Err x.Read) written told = absurd written.0
-    go (Err x.Lost) written told = absurd written.0
+    go (Err x.Workers) written told = absurd written
+    go (Err x.Limit) written told = absurd written
+    go (Err (x.EventLine n)) written told = absurd written
+    go (Err x.Full) written told = absurd written
+    go (Err x.Read) written told = absurd written
+    go (Err x.Lost) written told = absurd written
 
 -- ---- a migration
 
@@ -291,24 +294,19 @@ accepted : (text : List ℕ) (answer : Result ℕ ProgramError) (IsPlan : Option
 accepted text answer IsPlan asked untouched Done calls read a done = inr (Some text, read, inr (no_run_fault text a.plan asked.workers asked.limit a.reads a.counted a.positive, done))
 
 -- the plan's file was read, and a run was refused
-refused : (text : List ℕ) (answer : Result ℕ ProgramError) (IsPlan : Option (List ℕ) → Type 0) (asked : RunArguments) (untouched : Type 0) (Done : List ℕ → Type 0) (e : RunError)
-    → IsPlan (Some text) → RefusesToRun e text asked.workers asked.limit → untouched → TellsEnd {T = Report} (Err e) answer → AnswersToPlan answer IsPlan asked untouched Done
-refused text answer IsPlan asked untouched Done (x.Plan fault) read why same told = elim (told_plan text fault told.0 why told.1) [
+refused : (text : List ℕ) (answer : Result ℕ ProgramError) (IsPlan : Option (List ℕ) → Type 0) (asked : RunArguments) (untouched : Type 0) (Done : List ℕ → Type 0) (e : OpenError)
+    → IsPlan (Some text) → RefusesToRun e text asked.workers asked.limit → untouched → TellsEnd {T = Report} (Err (told_of_opening e)) answer → AnswersToPlan answer IsPlan asked untouched Done
+refused text answer IsPlan asked untouched Done (o.Plan fault) read why same told = elim (told_plan text fault told.0 why told.1) [
   | inl memory ↦ inl (told.2 ∙ ap Err memory, same)
   | inr first ↦ inr (Some text, read, inl (told.0, inr (plan_there text, inl first), told.2, same))
 ]
-refused text answer IsPlan asked untouched Done x.Workers read why same told =
+refused text answer IsPlan asked untouched Done o.Workers read why same told =
     inr (Some text, read, inl (Run x.Workers, inr (plan_there text, inr (no_plan_fault text why.0 why.1, inl (not_counted asked.workers why.2, refl))), told.2 ∙ ap Err told.1, same))
-refused text answer IsPlan asked untouched Done x.Limit read why same told =
+refused text answer IsPlan asked untouched Done o.Limit read why same told =
     let all = silent (Run x.Workers) (is_worker_count asked.workers) (counted asked.workers why.2) in
     let none : nat_lt 0 asked.limit ≡ false = rw why.3 refl in
     inr (Some text, read, inl (Run x.Limit, inr (plan_there text, inr (no_plan_fault text why.0 why.1, inr (all, inl (none, refl)))), told.2 ∙ ap Err told.1, same))
-refused text answer IsPlan asked untouched Done x.Memory read why same told = inl (told.2 ∙ ap Err told.1, same)
-refused text answer IsPlan asked untouched Done (x.EventLine n) read why same told = absurd why
-refused text answer IsPlan asked untouched Done x.Full read why same told = absurd why
-refused text answer IsPlan asked untouched Done x.Read read why same told = absurd why
-refused text answer IsPlan asked untouched Done x.Write read why same told = absurd why
-refused text answer IsPlan asked untouched Done x.Lost read why same told = absurd why
+refused text answer IsPlan asked untouched Done o.Memory read why same told = inl (told.2 ∙ ap Err told.1, same)
 
 -- a run of a plan whose file was read
 pub run_read : (text : List ℕ) (answer : Result ℕ ProgramError) (IsPlan : Option (List ℕ) → Type 0) (asked : RunArguments) (input left old new : Option (List ℕ))
@@ -321,21 +319,21 @@ run_read text answer IsPlan asked input left old new read all = go all.ended all
     over : (calls : _) → IsAccepted text calls asked.workers asked.limit → AnswersRun answer IsPlan asked input left old new
     over calls a = accepted text answer IsPlan asked (IsUntouched input left old new) Done calls read a all
 
-    no : (e : RunError) → RefusesToRun e text asked.workers asked.limit → IsUntouched input left old new → TellsEnd {T = Report} (Err e) answer → AnswersRun answer IsPlan asked input left old new
+    no : (e : OpenError) → RefusesToRun e text asked.workers asked.limit → IsUntouched input left old new → TellsEnd {T = Report} (Err (told_of_opening e)) answer → AnswersRun answer IsPlan asked input left old new
     no e why same told = refused text answer IsPlan asked (IsUntouched input left old new) Done e read why same told
 
     go : (ended : Result Report RunError) → Ran ended text asked.workers asked.limit input left old new → TellsEnd ended answer → AnswersRun answer IsPlan asked input left old new
     go (Ok report) ran told = over ran.0 ran.1
-    go (Err (x.Plan fault)) ran told = no (x.Plan fault) ran.0 ran.1 told
-    go (Err x.Workers) ran told = no x.Workers ran.0 ran.1 told
-    go (Err x.Limit) ran told = no x.Limit ran.0 ran.1 told
-    go (Err x.Memory) (inl refused) told = no x.Memory refused.0 refused.1 told
+    go (Err (x.Plan fault)) ran told = no (o.Plan fault) ran.0 ran.1 told
+    go (Err x.Workers) ran told = no o.Workers ran.0 ran.1 told
+    go (Err x.Limit) ran told = no o.Limit ran.0 ran.1 told
+    go (Err x.Memory) (inl refused) told = no o.Memory refused.0 refused.1 told
     go (Err x.Memory) (inr ran) told = over ran.0 ran.1
     go (Err (x.EventLine n)) ran told = over ran.0 ran.1
     go (Err x.Full) ran told = over ran.0 ran.1
     go (Err x.Read) ran told = over ran.0 ran.1
     go (Err x.Write) ran told = over ran.0 ran.1
-    go (Err x.Lost) ran told = absurd ran.2
+    go (Err x.Lost) ran told = absurd ran
 
 -- a run by a pool of a plan whose file was read
 pub pool_read : (text : List ℕ) (answer : Result ℕ ProgramError) (IsPlan : Option (List ℕ) → Type 0) (asked : RunArguments) (input left old new : Option (List ℕ))
@@ -348,15 +346,15 @@ pool_read text answer IsPlan asked input left old new read all = go all.ended al
     over : (calls : _) → IsAccepted text calls asked.workers asked.limit → AnswersPool answer IsPlan asked input left old new
     over calls a = accepted text answer IsPlan asked (IsUntouched input left old new) Done calls read a all
 
-    no : (e : RunError) → RefusesToRun e text asked.workers asked.limit → IsUntouched input left old new → TellsEnd {T = Report} (Err e) answer → AnswersPool answer IsPlan asked input left old new
+    no : (e : OpenError) → RefusesToRun e text asked.workers asked.limit → IsUntouched input left old new → TellsEnd {T = Report} (Err (told_of_opening e)) answer → AnswersPool answer IsPlan asked input left old new
     no e why same told = refused text answer IsPlan asked (IsUntouched input left old new) Done e read why same told
 
     go : (ended : Result Report RunError) → PoolRan ended text asked.workers asked.limit input left old new → TellsEnd ended answer → AnswersPool answer IsPlan asked input left old new
     go (Ok report) ran told = over ran.0 ran.1
-    go (Err (x.Plan fault)) ran told = no (x.Plan fault) ran.0 ran.1 told
-    go (Err x.Workers) ran told = no x.Workers ran.0 ran.1 told
-    go (Err x.Limit) ran told = no x.Limit ran.0 ran.1 told
-    go (Err x.Memory) (inl refused) told = no x.Memory refused.0 refused.1 told
+    go (Err (x.Plan fault)) ran told = no (o.Plan fault) ran.0 ran.1 told
+    go (Err x.Workers) ran told = no o.Workers ran.0 ran.1 told
+    go (Err x.Limit) ran told = no o.Limit ran.0 ran.1 told
+    go (Err x.Memory) (inl refused) told = no o.Memory refused.0 refused.1 told
     go (Err x.Memory) (inr (inl ran)) told = over ran.0 ran.1
     go (Err x.Memory) (inr (inr ran)) told = over ran.0 ran.1
     go (Err (x.EventLine n)) ran told = over ran.0 ran.1

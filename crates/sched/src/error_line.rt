@@ -9,9 +9,9 @@ ghost use Rattle.sched.specs.Lines.{error_line, kind_name, plan_fault_text, reas
 use crate::answer::Answer;
 use crate::error::ProgramError;
 use arrayvec::ArrayString;
+use byte_ends::{Sink, write_text};
 use itoa::Buffer;
 use plan_read::{PlanFault, PlanFaultKind};
-use byte_ends::{Sink, write_text};
 use sched_engine::RunError;
 
 /// How many bytes a reason has at most.

@@ -11,8 +11,8 @@ ghost use Rattle.sched_engine.specs.declared.report.RunError.TheVariants.{Memory
 ghost use Rattle.trace_check.specs.Standing.{most_bytes};
 
 use crate::error::ProgramError;
-use plan_read::LONGEST_TEXT;
 use byte_ends::{Source, read_some};
+use plan_read::LONGEST_TEXT;
 use std::alloc::{AllocError, Allocator};
 use std::io;
 use trace_check::MOST_BYTES;

@@ -8,8 +8,8 @@ ghost use Rattle.sched.specs.Findings.{IsCheckedAsAsked, IsFindingTold, finding_
 ghost use Rattle.trace_check.specs.Standing.{most_bytes};
 
 use crate::error::ProgramError;
-use plan_read::Plan;
 use byte_ends::{Sink, write_text};
+use plan_read::Plan;
 use sched_engine::RunError;
 use std::alloc::{AllocError, Allocator};
 use trace_check::{CheckError, Finding, check};

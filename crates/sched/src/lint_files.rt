@@ -8,8 +8,8 @@ ghost use Rattle.sched_engine.specs.declared.report.RunError.TheVariants.{Memory
 use crate::error::ProgramError;
 use crate::files::front_of;
 use crate::refusal::Refusal;
-use line_reasons::FileName;
 use byte_ends::Source;
+use line_reasons::FileName;
 use sched_engine::RunError;
 use std::alloc::{AllocError, Global};
 use std::io;

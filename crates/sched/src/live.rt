@@ -7,10 +7,10 @@ ghost use Rattle.sched.specs.Live.{AnswersLive, IsWrittenTo, PlanAsAsked, PlanWr
 
 use crate::arguments::LiveArguments;
 use crate::error::ProgramError;
+use byte_ends::{Sink, Source, write_text};
 use call_journal::{Journal, plan_text};
 use live_engine::run;
 use plan_read::{PlanFault, PlanFaultKind};
-use byte_ends::{Sink, Source, write_text};
 use sched_engine::{HeapAllocator, RunError};
 use std::io;
 

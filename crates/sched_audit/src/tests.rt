@@ -5,8 +5,8 @@ mod units;
 
 use crate::audit::{Audit, run_and_check};
 use crate::error::AuditError;
-use plan_read::{PlanFault, PlanFaultKind, migrate};
 use byte_ends::Writing;
+use plan_read::{PlanFault, PlanFaultKind, migrate};
 use sched_engine::{Report, RunError, write_listing};
 use std::process::Abort;
 use std::test::Fail;

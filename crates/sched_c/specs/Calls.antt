@@ -22,8 +22,8 @@ use Rattle.line_copy.specs.declared.copied.Copied.{Copied}
 use Rattle.line_copy.specs.Copying.{IsCopied}
 use Rattle.sched_engine.specs.Cores.{Opens}
 use Rattle.sched_engine.specs.Running.{RefusesToRun}
-use Rattle.sched_engine.specs.declared.report.RunError.{RunError}
-use Rattle.sched_engine.specs.declared.report.RunError.TheVariants as x
+use Rattle.sched_engine.specs.declared.report.OpenError.{OpenError}
+use Rattle.sched_engine.specs.declared.report.OpenError.TheVariants as x
 use Rattle.sched_c.specs.declared.fault.Fault.{Fault}
 use Rattle.sched_c.specs.declared.status.Status.{Status}
 use Rattle.sched_c.specs.declared.status.Status.TheVariants as s
@@ -50,7 +50,7 @@ abbrev pub IsNoLimit : ℕ → Type 0
 IsNoLimit limit = (limit ≡ 0) ⊎ (2 ^ 32 ≤ limit)
 
 -- why there is no executor for a text and these numbers, the plan first, then the workers, then the limit
-abbrev pub Refuses : RunError → List ℕ → ℕ → ℕ → Type 0
+abbrev pub Refuses : OpenError → List ℕ → ℕ → ℕ → Type 0
 Refuses x.Limit text workers limit = (plan : PlanTree) × TextWrites text plan × IsWorkerCount workers × IsNoLimit limit
 Refuses error text workers limit = RefusesToRun error text workers limit
 

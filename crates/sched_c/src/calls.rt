@@ -12,7 +12,7 @@ use crate::status::Status;
 use executor_core::Event;
 use line_copy::{Copied, put_lines};
 use plan_read::PlanFaultKind;
-use sched_engine::RunError;
+use sched_engine::OpenError;
 use sched_time::Ending;
 use std::alloc::Global;
 
@@ -47,15 +47,15 @@ pub fn new(
 }
 
 /// The status of an error at the making of an executor, and the fault of the text where it is one.
-fn refusal(error: RunError) -> (Status, Fault)
+fn refusal(error: OpenError) -> (Status, Fault)
     ensures { (text : List ℕ) (workers limit : ℕ) → Refuses error text workers limit → Makes result.0 text workers limit result.1 None None }
 {
     match error {
-        RunError::Plan(fault) if fault.kind != PlanFaultKind::Memory => {
+        OpenError::Plan(fault) if fault.kind != PlanFaultKind::Memory => {
             (Status::NoPlan, Fault::of(fault))
         }
-        RunError::Workers => (Status::Workers, Fault::none()),
-        RunError::Limit => (Status::Limit, Fault::none()),
+        OpenError::Workers => (Status::Workers, Fault::none()),
+        OpenError::Limit => (Status::Limit, Fault::none()),
         _ => (Status::NoMemory, Fault::none()),
     }
 }

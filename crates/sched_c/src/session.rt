@@ -10,7 +10,7 @@ ghost use Rattle.sched_c.specs.Calls.{Refuses};
 ghost use Rattle.sched_c.specs.own.Told.{IsToldAs};
 
 use executor_core::{Core, Event, Line};
-use sched_engine::{RunError, core_of};
+use sched_engine::{OpenError, core_of};
 use std::alloc::Global;
 use std::marker::Model;
 use task_word::Word;
@@ -42,7 +42,7 @@ impl Session {
         plan_text: &[u8],
         workers: u32,
         limit: u64,
-    ) -> Result<Session, RunError>
+    ) -> Result<Session, OpenError>
         ensures opens { IfOk result (λ session. Opens session.core plan_text.now workers limit) }
         ensures lines { IfOk result (λ session. session.lines ≡ []) }
         ensures refuses { IfErr result (λ e. Refuses e plan_text.now workers limit) }

@@ -31,7 +31,7 @@ known (Err x.Limit) text workers limit input left output counts ran = (left, ran
 known (Err (x.EventLine n)) text workers limit input left output counts ran = (left, ran)
 known (Err x.Full) text workers limit input left output counts ran = (left, ran)
 known (Err x.Write) text workers limit input left output counts ran = (left, ran)
-known (Err x.Lost) text workers limit input left output counts ran = (left, ran)
+known (Err x.Lost) text workers limit input left output counts ran = absurd ran
 known (Err x.Memory) text workers limit input left output counts ran = (left, ran)
 
 -- a run from a source whose bytes are known to a sink that has none

@@ -11,8 +11,9 @@ use Rattle.trace_text.specs.Spelling.{IsLine, event_line, lines_text, FitsEvent}
 use Rattle.sched_engine.specs.declared.report.Report.{Report}
 use Rattle.sched_engine.specs.declared.engine.Turn.{Turn}
 use Rattle.sched_engine.specs.declared.engine.Turn.TheVariants as t
-use Rattle.sched_engine.specs.declared.report.RunError.{RunError}
-use Rattle.sched_engine.specs.declared.report.RunError.TheVariants as x
+use Rattle.sched_engine.specs.declared.report.StopError.{StopError}
+use Rattle.sched_engine.specs.declared.report.StopError.TheVariants as s
+use Rattle.sched_engine.specs.Stages.{told_of_stop}
 use Rattle.sched_engine.specs.Inputs.{AreEvents, input_of, IsRefused, BeginsWithEvent}
 use Rattle.byte_ends.specs.Refills.{piece}
 use Rattle.sched_engine.specs.Running.{IsAccepted, IsNoEventLine, IsTrace, Ran, Runs, Taken, text_of}
@@ -208,21 +209,21 @@ begins_whatever_follows held more begins = (begins.0, begins.1 ++ more, begins.2
 
 -- want of memory for the answer to a further event, below the limit
 pub out_of_memory : (run : Setting) (at : Progress) → Done run at → at.text ≡ [] → length at.held ≤ piece → at.core.taken < at.core.limit → BeginsWithEvent at.held →
-    Runs (Err x.Memory) run.calls run.workers run.limit run.input at.left run.contents at.contents
+    Runs (Err s.Memory) run.calls run.workers run.limit run.input at.left run.contents at.contents
 out_of_memory run at done none near below begins =
     taken_so_far run at BeginsWithEvent BeginsWithEvent (λ events lines trace. (events < run.limit) × Appends run.contents at.contents trace) done near begins
     (λ more. begins_whatever_follows at.held more begins) (omega (arith, below, done.limit, done.taken), all_written run at done none)
 
 -- a rest that is refused
 pub refused : (run : Setting) (at : Progress) (n : ℕ) → Done run at → at.text ≡ [] → length at.held ≤ piece → IsFront front.Refused at.held → n ≡ at.core.taken + 1 →
-    Runs (Err (x.EventLine n)) run.calls run.workers run.limit run.input at.left run.contents at.contents
+    Runs (Err (s.EventLine n)) run.calls run.workers run.limit run.input at.left run.contents at.contents
 refused run at n done none near stop is =
     taken_so_far run at (IsNoEventLine at.left) (λ rest. IsRefused rest × (0 < length rest)) (λ events lines trace. (n ≡ events + 1) × Appends run.contents at.contents trace) done near (inl stop)
     (λ more. (unread_whatever_follows at.held stop.0 stop.1 more, omega (arith, some_bytes at.held stop.1, length-append at.held more))) (omega (arith, is, done.taken), all_written run at done none)
 
 -- a further event at the limit
 pub full : (run : Setting) (at : Progress) → Done run at → at.text ≡ [] → length at.held ≤ piece → at.core.taken ≡ at.core.limit → BeginsWithEvent at.held →
-    Runs (Err x.Full) run.calls run.workers run.limit run.input at.left run.contents at.contents
+    Runs (Err s.Full) run.calls run.workers run.limit run.input at.left run.contents at.contents
 full run at done none near reached begins =
     taken_so_far run at BeginsWithEvent BeginsWithEvent (λ events lines trace. (events ≡ run.limit) × Appends run.contents at.contents trace) done near begins
     (λ more. begins_whatever_follows at.held more begins) (omega (arith, reached, done.limit, done.taken), all_written run at done none)
@@ -237,13 +238,13 @@ ended run at report done blank end none is =
 
 -- the end of the input, with a part of a line held
 pub cut_off : (run : Setting) (at : Progress) (n : ℕ) → Done run at → at.text ≡ [] → IsAtEnd at.left → IsLine at.held → length at.held < most_event_bytes → 0 < length at.held → n ≡ at.core.taken + 1 →
-    Runs (Err (x.EventLine n)) run.calls run.workers run.limit run.input at.left run.contents at.contents
+    Runs (Err (s.EventLine n)) run.calls run.workers run.limit run.input at.left run.contents at.contents
 cut_off run at n done none end part short some is =
     taken_at_end run at (IsNoEventLine at.left) (λ rest. IsRefused rest × (0 < length rest)) (λ events lines trace. (n ≡ events + 1) × Appends run.contents at.contents trace) done end
     (omega (arith, short)) (inr ((part, short), some, end)) (unread_part at.held part, some) (omega (arith, is, done.taken), all_written run at done none)
 
 -- a fault of the reader
-pub faulted : (run : Setting) (at : Progress) (left : Option (List ℕ)) → IsBetweenTurns run at → Keeps at.left left → Runs (Err x.Read) run.calls run.workers run.limit run.input left run.contents at.contents
+pub faulted : (run : Setting) (at : Progress) (left : Option (List ℕ)) → IsBetweenTurns run at → Keeps at.left left → Runs (Err s.Read) run.calls run.workers run.limit run.input left run.contents at.contents
 faulted run at left between keeps =
     let here : Progress = record at { left = left } in
     let done = filled run at left at.held [] between.done (kept_none at.left left keeps) (sym (append-nil at.held)) in
@@ -252,14 +253,14 @@ faulted run at left between keeps =
 
 -- a fault of the writer, after a front of the text at hand
 pub unwritten : (run : Setting) (at : Progress) (contents : Option (List ℕ)) (n : ℕ) → Done run at → length at.held ≤ piece → Appends at.contents contents (take n at.text) →
-    Runs (Err x.Write) run.calls run.workers run.limit run.input at.left run.contents contents
+    Runs (Err s.Write) run.calls run.workers run.limit run.input at.left run.contents contents
 unwritten run at contents n done near appends =
     taken_so_far run at (λ ahead. Unit {0}) (λ rest. Unit {0}) (λ events lines trace. (k : ℕ) × Appends run.contents contents (take k trace)) done near tt (λ more. tt)
     (length done.before + n, subst (λ (l : List ℕ). Appends run.contents contents (take (length done.before + n) l)) (sym done.says) (gave_front run.contents at.contents contents done.before at.text n done.written appends))
 
 -- a fault of the writer, after a front of the text at hand and of the text of one event more
 cut_in : (run : Setting) (at : Progress) (contents : Option (List ℕ)) (event : Event) (rest : List ℕ) → Done run at → length at.held ≤ piece → at.core.taken < at.core.limit → FitsEvent event → at.held ≡ event_line event ++ rest →
-    CutsSteps at.core (part_of at.core.calls at.core.made at.core.moment event) (record { contents = at.contents; text = at.text }) contents → Runs (Err x.Write) run.calls run.workers run.limit run.input at.left run.contents contents
+    CutsSteps at.core (part_of at.core.calls at.core.made at.core.moment event) (record { contents = at.contents; text = at.text }) contents → Runs (Err s.Write) run.calls run.workers run.limit run.input at.left run.contents contents
 cut_in run at contents event rest done near below fits further cut =
     let events = event ∷ done.events in
     let text = lines_text (answers_to at.core (part_of at.core.calls at.core.made at.core.moment event)) in
@@ -277,7 +278,7 @@ cut_in run at contents event rest done near below fits further cut =
 
 -- a fault of the writer, after a front of the text at hand and of the text of more events
 pub cut_short : (run : Setting) (at : Progress) (contents : Option (List ℕ)) → Done run at → length at.held ≤ piece → IsCut at.core at.held (record { contents = at.contents; text = at.text }) contents →
-    Runs (Err x.Write) run.calls run.workers run.limit run.input at.left run.contents contents
+    Runs (Err s.Write) run.calls run.workers run.limit run.input at.left run.contents contents
 cut_short run at contents done near cut =
     let whole : Progress = record { left = at.left; held = drop cut.taken at.held; text = cut.after.text; contents = cut.after.contents; core = cut.core; count = at.count + cut.count } in
     cut_in run whole contents cut.event cut.rest (answered run at cut.core cut.taken cut.count cut.after done cut.answered (omega (arith, cut.below))) (omega (arith, near, length-drop cut.taken at.held)) cut.below cut.fits cut.further cut.front
@@ -302,10 +303,10 @@ nothing_taken old new held taken before after count a same = by a.more a.front a
     by (e ∷ more) front is = absurd (omega (arith, is, same))
 
 -- the end of the input
-pub at_the_end : (run : Setting) (at : Progress) (left : Option (List ℕ)) (held : List ℕ) (result : Result Turn RunError) → IsBetweenTurns run at → Consumes at.left left [] → IsAtEnd left → held ≡ at.held →
+pub at_the_end : (run : Setting) (at : Progress) (left : Option (List ℕ)) (held : List ℕ) (result : Result Turn StopError) → IsBetweenTurns run at → Consumes at.left left [] → IsAtEnd left → held ≡ at.held →
     MatchResult result
     (λ turn. (turn ≡ t.Ended (record { events = at.core.taken; lines = at.count })) × (held ≡ []))
-    (λ e. (e ≡ x.EventLine (at.core.taken + 1)) × (0 < length held))
+    (λ e. (e ≡ s.EventLine (at.core.taken + 1)) × (0 < length held))
     → Turns result run at (record at { left = left; held = held })
 at_the_end run at left held (Ok turn) between none end same is =
     let next : Progress = record at { left = left; held = held } in
@@ -314,17 +315,13 @@ at_the_end run at left held (Ok turn) between none end same is =
 at_the_end run at left held (Err e) between none end same is =
     let next : Progress = record at { left = left; held = held } in
     let done = filled run at left held [] between.done none (same ∙ sym (append-nil at.held)) in
-    subst (λ (e : RunError). Turns (Err e) run at next) (sym is.0) (cut_off run next (at.core.taken + 1) done between.none end (subst IsLine (sym same) between.part) (omega (arith, ap length same, between.short)) is.1 refl)
+    subst (λ (e : StopError). Turns (Err e) run at next) (sym is.0) (cut_off run next (at.core.taken + 1) done between.none end (subst IsLine (sym same) between.part) (omega (arith, ap length same, between.short)) is.1 refl)
 
--- a run that ended with a fault, once its plan was accepted
-pub ran_to_a_fault : (run : Setting) (e : RunError) (text : List ℕ) (left contents : Option (List ℕ)) → IsAccepted text run.calls run.workers run.limit → Runs (Err e) run.calls run.workers run.limit run.input left run.contents contents →
-    Ran (Err e) text run.workers run.limit run.input left run.contents contents
-ran_to_a_fault run (x.Plan fault) text left contents accepted runs = absurd runs
-ran_to_a_fault run x.Workers text left contents accepted runs = absurd runs
-ran_to_a_fault run x.Limit text left contents accepted runs = absurd runs
-ran_to_a_fault run x.Lost text left contents accepted runs = absurd runs
-ran_to_a_fault run (x.EventLine n) text left contents accepted runs = (run.calls, accepted, runs)
-ran_to_a_fault run x.Full text left contents accepted runs = (run.calls, accepted, runs)
-ran_to_a_fault run x.Read text left contents accepted runs = (run.calls, accepted, runs)
-ran_to_a_fault run x.Write text left contents accepted runs = (run.calls, accepted, runs)
-ran_to_a_fault run x.Memory text left contents accepted runs = inr (run.calls, accepted, runs)
+-- a run that stopped, once its plan was accepted
+pub ran_to_a_stop : (run : Setting) (e : StopError) (text : List ℕ) (left contents : Option (List ℕ)) → IsAccepted text run.calls run.workers run.limit → Runs (Err e) run.calls run.workers run.limit run.input left run.contents contents →
+    Ran (Err (told_of_stop e)) text run.workers run.limit run.input left run.contents contents
+ran_to_a_stop run (s.EventLine n) text left contents accepted runs = (run.calls, accepted, runs)
+ran_to_a_stop run s.Full text left contents accepted runs = (run.calls, accepted, runs)
+ran_to_a_stop run s.Read text left contents accepted runs = (run.calls, accepted, runs)
+ran_to_a_stop run s.Write text left contents accepted runs = (run.calls, accepted, runs)
+ran_to_a_stop run s.Memory text left contents accepted runs = inr (run.calls, accepted, runs)

@@ -1,6 +1,6 @@
 -- The code of the plan that a text writes, and its listing.
 -- All of it is this project's rule.
-use Rattle.std.specs.Prelude.{◌≡◌, ℕ, List, ◌⊎◌, Option, Some, Result, Ok, Err, take}
+use Rattle.std.specs.Prelude.{◌≡◌, ℕ, List, ◌⊎◌, Option, Result, Ok, Err, take}
 use Rattle.std.specs.Io.KnownBytes.{Appends, Keeps}
 use Rattle.queue_code.specs.declared.instr.Instr.{Instr}
 use Rattle.queue_code.specs.Codes.{calls_of as code_calls}
@@ -10,6 +10,8 @@ use Rattle.plan_read.specs.Reads.{out_of_memory}
 use Rattle.plan_read.specs.Texts.{TextWrites, TextFails}
 use Rattle.plan_compile.specs.PlanCalls.{calls_of_plan}
 use Rattle.plan_compile.specs.PlanCode.{instrs_of}
+use Rattle.sched_engine.specs.declared.report.CodeError.{CodeError}
+use Rattle.sched_engine.specs.declared.report.CodeError.TheVariants as c
 use Rattle.sched_engine.specs.declared.report.RunError.{RunError}
 use Rattle.sched_engine.specs.declared.report.RunError.TheVariants as x
 use Rattle.byte_ends.specs.Ends.{AllGood, LastBad, NoneFailed}
@@ -28,16 +30,17 @@ pub record IsListingOfText (text listing : List ℕ) : Type 0 where
   pub lines : listing ≡ listing_of (instrs_of plan)
 
 -- why there is no code for a text
-abbrev pub RefusesText : List ℕ → RunError → Type 0
-RefusesText text (x.Plan fault) = TextFails text fault ⊎ (fault ≡ out_of_memory)
-RefusesText text x.Memory = (plan : PlanTree) × TextWrites text plan
-RefusesText text _ = ⊥
+abbrev pub RefusesText : List ℕ → CodeError → Type 0
+RefusesText text (c.Plan fault) = TextFails text fault ⊎ (fault ≡ out_of_memory)
+RefusesText text c.Memory = (plan : PlanTree) × TextWrites text plan
 
 -- what the writing of a listing did: the whole of it was written, or nothing, or a front of it where the writer was at fault
 abbrev pub Listed : Result (Unit {0}) RunError → List ℕ → Option (List ℕ) → Option (List ℕ) → Type 0
 Listed (Ok done) text old new = (listing : List ℕ) × IsListingOfText text listing × Appends old new listing
 Listed (Err x.Write) text old new = (listing : List ℕ) × IsListingOfText text listing × (n : ℕ) × Appends old new (take n listing)
-Listed (Err e) text old new = RefusesText text e × Keeps old new
+Listed (Err (x.Plan fault)) text old new = RefusesText text (c.Plan fault) × Keeps old new
+Listed (Err x.Memory) text old new = RefusesText text c.Memory × Keeps old new
+Listed (Err _) text old new = ⊥
 
 -- what the calls of the writer of a listing count: what good tries do, the last of which was bad at `Write`; nothing where there is
 -- no code

@@ -18,4 +18,5 @@ pub mod Cores
 pub mod Inputs
 pub mod Pieces
 pub mod Running
+pub mod Stages
 pub mod own

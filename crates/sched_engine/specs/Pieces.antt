@@ -1,10 +1,7 @@
 -- Pieces: what a refill of the bytes at hand did, and what was given out.
 -- All of it is this project's rule.
-use Rattle.std.specs.Prelude.{◌≡◌, ℕ, ◌<◌, Bool, true, false, List, [], ◌++◌, Option, length, take}
-use Rattle.std.specs.Io.KnownBytes.{Appends, Consumes, IsAtEnd, Keeps}
-use Rattle.byte_ends.specs.declared.held.Filled.{Filled}
-use Rattle.byte_ends.specs.declared.held.Filled.TheVariants.{More, End, Fault}
-use Rattle.byte_ends.specs.Ends.{IsBadTry, IsGoodTry}
+use Rattle.std.specs.Prelude.{◌≡◌, ℕ, Bool, true, false, List, ◌++◌, Option, take}
+use Rattle.std.specs.Io.KnownBytes.{Appends}
 
 -- what was given out: what the writer has, and the text behind it that was not written yet
 pub record Output : Type 0 where

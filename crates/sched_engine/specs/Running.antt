@@ -8,6 +8,10 @@ use Rattle.queue_code.specs.Calls.{Planned}
 use Rattle.executor_core.specs.Histories.{HistoryEntry, happenings, IsHistoryOf}
 use Rattle.executor_core.specs.Flows.{flow, lines_of}
 use Rattle.sched_engine.specs.declared.report.Report.{Report}
+use Rattle.sched_engine.specs.declared.report.OpenError.{OpenError}
+use Rattle.sched_engine.specs.declared.report.OpenError.TheVariants as o
+use Rattle.sched_engine.specs.declared.report.StopError.{StopError}
+use Rattle.sched_engine.specs.declared.report.StopError.TheVariants as s
 use Rattle.sched_engine.specs.declared.report.RunError.{RunError}
 use Rattle.sched_engine.specs.declared.report.RunError.TheVariants as x
 use Rattle.byte_ends.specs.Ends.{AllGood, LastBad, NoneFailed}
@@ -71,42 +75,49 @@ abbrev pub IsNoEventLine : Option (List ℕ) → List ℕ → Type 0
 IsNoEventLine left ahead = IsFront front.Refused ahead ⊎ (IsFront front.Part ahead × (0 < length ahead) × IsAtEnd left)
 
 -- what a run over these calls did, which stand for a plan
-abbrev pub Runs : Result Report RunError → List Planned → ℕ → ℕ → Option (List ℕ) → Option (List ℕ) → Option (List ℕ) → Option (List ℕ) → Type 0
+abbrev pub Runs : Result Report StopError → List Planned → ℕ → ℕ → Option (List ℕ) → Option (List ℕ) → Option (List ℕ) → Option (List ℕ) → Type 0
 Runs (Ok r) calls workers limit input left old new =
     Taken calls workers limit input left (λ ahead. ahead ≡ []) (λ rest. rest ≡ []) (λ events lines trace. (events ≡ r.events) × (lines ≡ r.lines) × Appends old new trace)
-Runs (Err (x.EventLine n)) calls workers limit input left old new =
+Runs (Err (s.EventLine n)) calls workers limit input left old new =
     Taken calls workers limit input left (IsNoEventLine left) (λ rest. IsRefused rest × (0 < length rest)) (λ events lines trace. (n ≡ events + 1) × Appends old new trace)
-Runs (Err x.Full) calls workers limit input left old new =
+Runs (Err s.Full) calls workers limit input left old new =
     Taken calls workers limit input left BeginsWithEvent BeginsWithEvent (λ events lines trace. (events ≡ limit) × Appends old new trace)
-Runs (Err x.Read) calls workers limit input left old new =
+Runs (Err s.Read) calls workers limit input left old new =
     Taken calls workers limit input left (λ ahead. IsLine ahead × (length ahead < most_event_bytes)) (λ rest. Unit {0}) (λ events lines trace. Appends old new trace)
-Runs (Err x.Write) calls workers limit input left old new =
+Runs (Err s.Write) calls workers limit input left old new =
     Taken calls workers limit input left (λ ahead. Unit {0}) (λ rest. Unit {0}) (λ events lines trace. (n : ℕ) × Appends old new (take n trace))
-Runs (Err x.Memory) calls workers limit input left old new =
+Runs (Err s.Memory) calls workers limit input left old new =
     Taken calls workers limit input left BeginsWithEvent BeginsWithEvent (λ events lines trace. (events < limit) × Appends old new trace)
-Runs (Err (x.Plan fault)) calls workers limit input left old new = ⊥
-Runs (Err x.Workers) calls workers limit input left old new = ⊥
-Runs (Err x.Limit) calls workers limit input left old new = ⊥
-Runs (Err x.Lost) calls workers limit input left old new = ⊥
 
 -- why there is no core for a text and these numbers, the plan first, then the workers, then the limit
-abbrev pub RefusesToRun : RunError → List ℕ → ℕ → ℕ → Type 0
-RefusesToRun (x.Plan fault) text workers limit = TextFails text fault ⊎ (fault ≡ out_of_memory)
-RefusesToRun x.Workers text workers limit = (plan : PlanTree) × TextWrites text plan × (IsWorkerCount workers → ⊥)
-RefusesToRun x.Limit text workers limit = (plan : PlanTree) × TextWrites text plan × IsWorkerCount workers × (limit ≡ 0)
-RefusesToRun x.Memory text workers limit = (plan : PlanTree) × TextWrites text plan
-RefusesToRun _ text workers limit = ⊥
+abbrev pub RefusesToRun : OpenError → List ℕ → ℕ → ℕ → Type 0
+RefusesToRun (o.Plan fault) text workers limit = TextFails text fault ⊎ (fault ≡ out_of_memory)
+RefusesToRun o.Workers text workers limit = (plan : PlanTree) × TextWrites text plan × (IsWorkerCount workers → ⊥)
+RefusesToRun o.Limit text workers limit = (plan : PlanTree) × TextWrites text plan × IsWorkerCount workers × (limit ≡ 0)
+RefusesToRun o.Memory text workers limit = (plan : PlanTree) × TextWrites text plan
 
--- what a run did: it refused, with nothing read or written, or it ran over the calls of the plan that the text writes
-abbrev pub Ran : Result Report RunError → List ℕ → ℕ → ℕ → Option (List ℕ) → Option (List ℕ) → Option (List ℕ) → Option (List ℕ) → Type 0
-Ran (Err (x.Plan fault)) text workers limit input left old new = RefusesToRun (x.Plan fault) text workers limit × IsUntouched input left old new
-Ran (Err x.Workers) text workers limit input left old new = RefusesToRun x.Workers text workers limit × IsUntouched input left old new
-Ran (Err x.Limit) text workers limit input left old new = RefusesToRun x.Limit text workers limit × IsUntouched input left old new
-Ran (Err x.Memory) text workers limit input left old new =
-    (RefusesToRun x.Memory text workers limit × IsUntouched input left old new)
-    ⊎ ((calls : List Planned) × IsAccepted text calls workers limit × Runs (Err x.Memory) calls workers limit input left old new)
-Ran result text workers limit input left old new =
+-- a run was refused, with nothing read or written
+abbrev pub IsRefusedRun : OpenError → List ℕ → ℕ → ℕ → Option (List ℕ) → Option (List ℕ) → Option (List ℕ) → Option (List ℕ) → Type 0
+IsRefusedRun e text workers limit input left old new = RefusesToRun e text workers limit × IsUntouched input left old new
+
+-- a run over the calls of the plan that the text writes
+abbrev pub RunsPlan : Result Report StopError → List ℕ → ℕ → ℕ → Option (List ℕ) → Option (List ℕ) → Option (List ℕ) → Option (List ℕ) → Type 0
+RunsPlan result text workers limit input left old new =
     (calls : List Planned) × IsAccepted text calls workers limit × Runs result calls workers limit input left old new
+
+-- what a run did, by what its caller is told
+abbrev pub Ran : Result Report RunError → List ℕ → ℕ → ℕ → Option (List ℕ) → Option (List ℕ) → Option (List ℕ) → Option (List ℕ) → Type 0
+Ran (Ok r) text workers limit input left old new = RunsPlan (Ok r) text workers limit input left old new
+Ran (Err (x.Plan fault)) text workers limit input left old new = IsRefusedRun (o.Plan fault) text workers limit input left old new
+Ran (Err x.Workers) text workers limit input left old new = IsRefusedRun o.Workers text workers limit input left old new
+Ran (Err x.Limit) text workers limit input left old new = IsRefusedRun o.Limit text workers limit input left old new
+Ran (Err (x.EventLine n)) text workers limit input left old new = RunsPlan (Err (s.EventLine n)) text workers limit input left old new
+Ran (Err x.Full) text workers limit input left old new = RunsPlan (Err s.Full) text workers limit input left old new
+Ran (Err x.Read) text workers limit input left old new = RunsPlan (Err s.Read) text workers limit input left old new
+Ran (Err x.Write) text workers limit input left old new = RunsPlan (Err s.Write) text workers limit input left old new
+Ran (Err x.Memory) text workers limit input left old new =
+    IsRefusedRun o.Memory text workers limit input left old new ⊎ RunsPlan (Err s.Memory) text workers limit input left old new
+Ran (Err x.Lost) text workers limit input left old new = ⊥
 
 -- what the calls of the reader count: nothing where the plan or a number is refused, and else what good tries do, the last of
 -- which was bad at `Read`
@@ -125,6 +136,16 @@ CountsWriter (Err x.Workers) failed fruitless failed' fruitless' = NoneFailed 0 
 CountsWriter (Err x.Limit) failed fruitless failed' fruitless' = NoneFailed 0 failed fruitless failed' fruitless'
 CountsWriter (Err x.Write) failed fruitless failed' fruitless' = LastBad failed fruitless failed' fruitless'
 CountsWriter _ failed fruitless failed' fruitless' = AllGood failed fruitless failed' fruitless'
+
+-- what the tries of the reader count of a run that stopped so, or went on: the last was bad at `Read`, and all others were good
+abbrev pub CountsReads : {T : Type 0} → Result T StopError → ℕ → ℕ → ℕ → ℕ → Type 0
+CountsReads (Err s.Read) failed fruitless failed' fruitless' = LastBad failed fruitless failed' fruitless'
+CountsReads _ failed fruitless failed' fruitless' = AllGood failed fruitless failed' fruitless'
+
+-- what the tries of the writer count: the last was bad at `Write`, and all others were good
+abbrev pub CountsWrites : {T : Type 0} → Result T StopError → ℕ → ℕ → ℕ → ℕ → Type 0
+CountsWrites (Err s.Write) failed fruitless failed' fruitless' = LastBad failed fruitless failed' fruitless'
+CountsWrites _ failed fruitless failed' fruitless' = AllGood failed fruitless failed' fruitless'
 
 -- ---- a run over memory
 

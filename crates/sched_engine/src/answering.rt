@@ -1,13 +1,12 @@
 //! The answering: events in, the text of the lines that answer them out. It knows of no reader.
-ghost use Rattle.std.specs.Prelude.{◌≡◌, ◌≤◌, [], IfErr, IfOk, IsTrue, drop, vec_capacity};
+ghost use Rattle.std.specs.Prelude.{◌≡◌, ◌≤◌, [], IfSome, IsNone, IsTrue, is_some, drop, vec_capacity};
 ghost use Rattle.executor_core.specs.CoreView.{CoreView};
 ghost use Rattle.sched_engine.specs.Inputs.{IsRefused};
-ghost use Rattle.sched_engine.specs.Running.{CountsWriter};
+ghost use Rattle.byte_ends.specs.Ends.{CountsTries};
 ghost use Rattle.sched_engine.specs.own.Turns.{IsAnswered, IsCut, IsPieceEnd, StandsAfterEvents, WantsRoom};
 
 use crate::draft::Draft;
 use crate::one_event::answer_event;
-use crate::report::RunError;
 use byte_ends::Sink;
 use executor_core::{Core, Line};
 use std::alloc::Allocator;
@@ -50,7 +49,7 @@ fn make_room<A: Allocator>(lines: &mut Vec<Line, A>, count: usize) -> bool
 /// that is cut off, refused, past the limit or without memory for its lines, and gives out the text
 /// of the answers: what of it does not fit into the draft is written.
 ///
-/// An `Err` is [`RunError::Write`], after a front of that text was written, and leaves the core
+/// `None` is a fault of the writer, after a front of that text was written, and leaves the core
 /// somewhere on the way.
 pub fn answer_events<A: Allocator, W: Sink>(
     core: &mut Core<A>,
@@ -58,14 +57,14 @@ pub fn answer_events<A: Allocator, W: Sink>(
     lines: &mut Vec<Line, A>,
     draft: &mut Draft<A>,
     writer: &mut W,
-) -> Result<Answered, RunError>
+) -> Option<Answered>
     requires { StandsAfterEvents core.old }
-    ensures answered { IfOk result (λ a. IsAnswered core.old core.new held.now a.bytes (record { contents = W.contents writer.old; text = draft.old }) (record { contents = W.contents writer.new; text = draft.new }) a.lines) }
-    ensures within { IfOk result (λ _. core.new.taken ≤ core.new.limit) }
-    ensures end { IfOk result (λ a. IsPieceEnd a.end core.new (drop a.bytes held.now)) }
-    ensures memory { IfOk result (λ a. a.end ≡ PieceEnd.Memory → WantsRoom core.old held.now (record { contents = W.contents writer.old; text = draft.old }) (vec_capacity lines.old)) }
-    ensures cut { IfErr result (λ e. (e ≡ RunError.Write) × IsCut core.old held.now (record { contents = W.contents writer.old; text = draft.old }) (W.contents writer.new)) }
-    ensures write { CountsWriter result (W.failed writer.old) (W.fruitless writer.old) (W.failed writer.new) (W.fruitless writer.new) }
+    ensures answered { IfSome result (λ a. IsAnswered core.old core.new held.now a.bytes (record { contents = W.contents writer.old; text = draft.old }) (record { contents = W.contents writer.new; text = draft.new }) a.lines) }
+    ensures within { IfSome result (λ _. core.new.taken ≤ core.new.limit) }
+    ensures end { IfSome result (λ a. IsPieceEnd a.end core.new (drop a.bytes held.now)) }
+    ensures memory { IfSome result (λ a. a.end ≡ PieceEnd.Memory → WantsRoom core.old held.now (record { contents = W.contents writer.old; text = draft.old }) (vec_capacity lines.old)) }
+    ensures cut { IsNone result → IsCut core.old held.now (record { contents = W.contents writer.old; text = draft.old }) (W.contents writer.new) }
+    ensures write { CountsTries (is_some result) (W.failed writer.old) (W.fruitless writer.old) (W.failed writer.new) (W.fruitless writer.new) }
 {
     let mut rest = held;
     let mut count = 0;
@@ -79,13 +78,11 @@ pub fn answer_events<A: Allocator, W: Sink>(
         if !make_room(lines, core.room()) {
             break PieceEnd::Memory;
         }
-        let Some(more) = answer_event(core, event, lines, draft, writer) else {
-            return Err(RunError::Write);
-        };
+        let more = answer_event(core, event, lines, draft, writer)?;
         rest = behind;
         count += more;
     };
-    Ok(Answered {
+    Some(Answered {
         bytes: held.len() - rest.len(),
         lines: count,
         end,

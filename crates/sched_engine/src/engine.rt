@@ -1,6 +1,7 @@
 //! The engine: it reads a piece, answers it and writes the answers, turn by turn.
-ghost use Rattle.std.specs.Prelude.{◌≡◌, ℕ, ◌+◌, ◌^◌, ◌<◌, ◌≤◌, List, [], Option, IfOk, IfErr, MatchResult, OnOk, length};
-ghost use Rattle.sched_engine.specs.Running.{RefusesToRun, Ran, CountsReader, CountsWriter};
+ghost use Rattle.std.specs.Prelude.{◌≡◌, ℕ, ◌+◌, ◌^◌, ◌<◌, ◌≤◌, List, [], Option, IfOk, IfErr, IfSome, IsNone, IsSome, MatchResult, is_some, length};
+ghost use Rattle.byte_ends.specs.Ends.{CountsTries};
+ghost use Rattle.sched_engine.specs.Running.{CountsReader, CountsReads, CountsWriter, CountsWrites, Ran, RefusesToRun};
 ghost use Rattle.sched_engine.specs.Cores.{Opens};
 ghost use Rattle.sched_engine.specs.CodeTexts.{IsCodeOfText, RefusesText};
 ghost use Rattle.sched_engine.specs.own.Turns.{Done, IsBetweenTurns, IsCut, IsPieceEnd, StandsAfterEvents, Progress, Setting, Turns};
@@ -8,7 +9,7 @@ ghost use Rattle.sched_engine.specs.declared.engine.Turn.TheVariants as t;
 
 use crate::answering::{PieceEnd, answer_events};
 use crate::draft::Draft;
-use crate::report::{Report, RunError};
+use crate::report::{CodeError, OpenError, Report, RunError, StopError};
 use byte_ends::{Filled, Held, Sink, Source, write_text};
 use executor_core::{Core, CoreError, Line};
 use plan_compile::{CompileFault, compile};
@@ -55,40 +56,40 @@ pub fn run<A: HeapAllocator, S: Source, W: Sink>(
 }
 
 /// The code of the plan that a text writes.
-pub fn code_of<A: HeapAllocator>(alloc: A, plan_text: &[u8]) -> Result<Code<A>, RunError>
+pub fn code_of<A: HeapAllocator>(alloc: A, plan_text: &[u8]) -> Result<Code<A>, CodeError>
     ensures code { IfOk result (IsCodeOfText plan_text.now) }
     ensures refuses { IfErr result (RefusesText plan_text.now) }
 {
     let plan = match read_plan(alloc, plan_text) {
         Ok(plan) => plan,
-        Err(fault) => return Err(RunError::Plan(fault)),
+        Err(fault) => return Err(CodeError::Plan(fault)),
     };
     match compile(alloc, &plan) {
         Ok(code) => Ok(code),
-        Err(CompileFault::Memory) => Err(RunError::Memory),
+        Err(CompileFault::Memory) => Err(CodeError::Memory),
     }
 }
 
 /// The core of the plan that a text writes, before anything happened.
 ///
-/// The numbers are those of [`run`]. The errors are [`RunError::Plan`], [`RunError::Workers`] and [`RunError::Limit`], found in
-/// this order, and [`RunError::Memory`].
+/// The numbers are those of [`run`]. The errors are [`OpenError::Plan`], [`OpenError::Workers`] and [`OpenError::Limit`], found in
+/// this order, and [`OpenError::Memory`].
 pub fn core_of<A: HeapAllocator>(
     alloc: A,
     plan_text: &[u8],
     workers: u8,
     limit: u32,
-) -> Result<Core<A>, RunError>
+) -> Result<Core<A>, OpenError>
     ensures opens { IfOk result (λ core. Opens core plan_text.now workers limit) }
     ensures refuses { IfErr result (λ e. RefusesToRun e plan_text.now workers limit) }
 {
     let code = code_of(alloc, plan_text)?;
     match Core::new(alloc, code, workers, limit) {
         Ok(core) => Ok(core),
-        Err(CoreError::Workers) => Err(RunError::Workers),
-        Err(CoreError::Limit) => Err(RunError::Limit),
+        Err(CoreError::Workers) => Err(OpenError::Workers),
+        Err(CoreError::Limit) => Err(OpenError::Limit),
         Err(CoreError::Full) => unreachable!(),
-        Err(CoreError::Memory) => Err(RunError::Memory),
+        Err(CoreError::Memory) => Err(OpenError::Memory),
     }
 }
 
@@ -116,7 +117,7 @@ pub struct Engine<A: Allocator> {
 
 impl<A: Allocator> Engine<A> {
     /// A run of the plan that a text writes, before anything was read.
-    pub fn open(alloc: A, plan_text: &[u8], workers: u8, limit: u32) -> Result<Engine<A>, RunError>
+    pub fn open(alloc: A, plan_text: &[u8], workers: u8, limit: u32) -> Result<Engine<A>, OpenError>
     where
         A: HeapAllocator,
         ensures opens { IfOk result (λ engine. Opens engine.core plan_text.now workers limit) }
@@ -142,46 +143,47 @@ impl<A: Allocator> Engine<A> {
         &mut self,
         reader: &mut S,
         writer: &mut W,
-    ) -> Result<Turn, RunError>
+    ) -> Result<Turn, StopError>
         requires { (run : Setting) × IsBetweenTurns run (record { left = S.remaining reader.old; held = self.old.held; text = self.old.draft; contents = W.contents writer.old; core = self.old.core; count = self.old.count }) }
         ensures turns { (run : Setting) → let old : Progress = record { left = S.remaining reader.old; held = self.old.held; text = self.old.draft; contents = W.contents writer.old; core = self.old.core; count = self.old.count } in
             IsBetweenTurns run old → Turns result run old (record { left = S.remaining reader.new; held = self.new.held; text = self.new.draft; contents = W.contents writer.new; core = self.new.core; count = self.new.count }) }
-        ensures read { CountsReader result (S.failed reader.old) (S.fruitless reader.old) (S.failed reader.new) (S.fruitless reader.new) }
-        ensures write { CountsWriter result (W.failed writer.old) (W.fruitless writer.old) (W.failed writer.new) (W.fruitless writer.new) }
+        ensures read { CountsReads result (S.failed reader.old) (S.fruitless reader.old) (S.failed reader.new) (S.fruitless reader.new) }
+        ensures write { CountsWrites result (W.failed writer.old) (W.fruitless writer.old) (W.failed writer.new) (W.fruitless writer.new) }
     {
         match self.held.fill(reader) {
             Filled::More => {}
             Filled::End => return self.end(),
-            Filled::Fault => return Err(RunError::Read),
+            Filled::Fault => return Err(StopError::Read),
         }
-        let end = self.answer_held(writer)?;
+        let Some(end) = self.answer_held(writer) else {
+            return Err(StopError::Write);
+        };
         if !write_text(writer, self.draft.bytes()) {
-            return Err(RunError::Write);
+            return Err(StopError::Write);
         }
         self.draft.clear();
         match end {
             PieceEnd::Part => Ok(Turn::More),
             PieceEnd::Refused => Err(self.refused_line()),
-            PieceEnd::Full => Err(RunError::Full),
-            PieceEnd::Memory => Err(RunError::Memory),
+            PieceEnd::Full => Err(StopError::Full),
+            PieceEnd::Memory => Err(StopError::Memory),
         }
     }
 
     /// Answers each event line that is held, and lets go of these lines. What of the text does not
-    /// fit into the draft is written; an `Err` is a fault of that.
-    fn answer_held<W: Sink>(&mut self, writer: &mut W) -> Result<PieceEnd, RunError>
+    /// fit into the draft is written; `None` is a fault of that.
+    fn answer_held<W: Sink>(&mut self, writer: &mut W) -> Option<PieceEnd>
         requires standing { StandsAfterEvents self.old.core }
         requires few { self.old.count < 2 ^ 34 }
-        ensures done { OnOk result ((run : Setting) (left : Option (List ℕ)) →
+        ensures done { IsSome result → ((run : Setting) (left : Option (List ℕ)) →
             Done run (record { left = left; held = self.old.held; text = self.old.draft; contents = W.contents writer.old; core = self.old.core; count = self.old.count }) →
             Done run (record { left = left; held = self.new.held; text = self.new.draft; contents = W.contents writer.new; core = self.new.core; count = self.new.count })) }
-        ensures end { IfOk result (λ end. IsPieceEnd end self.new.core self.new.held) }
-        ensures cut { IfErr result (λ e. (e ≡ RunError.Write)
-            × IsCut self.old.core self.old.held (record { contents = W.contents writer.old; text = self.old.draft }) (W.contents writer.new)) }
-        ensures write { CountsWriter result (W.failed writer.old) (W.fruitless writer.old) (W.failed writer.new) (W.fruitless writer.new) }
-        ensures fewer { OnOk result (length self.new.held ≤ length self.old.held) }
-        ensures rises { OnOk result (self.old.core.taken ≤ self.new.core.taken) }
-        ensures same { OnOk result (self.new.core.taken ≡ self.old.core.taken → self.new.held ≡ self.old.held) }
+        ensures end { IfSome result (λ end. IsPieceEnd end self.new.core self.new.held) }
+        ensures cut { IsNone result → IsCut self.old.core self.old.held (record { contents = W.contents writer.old; text = self.old.draft }) (W.contents writer.new) }
+        ensures write { CountsTries (is_some result) (W.failed writer.old) (W.fruitless writer.old) (W.failed writer.new) (W.fruitless writer.new) }
+        ensures fewer { IsSome result → (length self.new.held ≤ length self.old.held) }
+        ensures rises { IsSome result → (self.old.core.taken ≤ self.new.core.taken) }
+        ensures same { IsSome result → (self.new.core.taken ≡ self.old.core.taken → self.new.held ≡ self.old.held) }
     {
         let answered = answer_events(
             &mut self.core,
@@ -192,14 +194,14 @@ impl<A: Allocator> Engine<A> {
         )?;
         self.held.skip(answered.bytes);
         self.count += answered.lines;
-        Ok(answered.end)
+        Some(answered.end)
     }
 
     /// What the run comes to at the end of the input: a part of a line is no event line.
-    fn end(&self) -> Result<Turn, RunError>
+    fn end(&self) -> Result<Turn, StopError>
         ensures { MatchResult result
             (λ turn. (turn ≡ t.Ended (record { events = self.now.core.taken; lines = self.now.count })) × (self.now.held ≡ []))
-            (λ e. (e ≡ RunError.EventLine (self.now.core.taken + 1)) × (0 < length self.now.held)) }
+            (λ e. (e ≡ StopError.EventLine (self.now.core.taken + 1)) × (0 < length self.now.held)) }
     {
         if !self.held.bytes().is_empty() {
             return Err(self.refused_line());
@@ -211,9 +213,9 @@ impl<A: Allocator> Engine<A> {
     }
 
     /// The next line is no event line.
-    fn refused_line(&self) -> RunError
-        ensures { result ≡ RunError.EventLine (self.now.core.taken + 1) }
+    fn refused_line(&self) -> StopError
+        ensures { result ≡ StopError.EventLine (self.now.core.taken + 1) }
     {
-        RunError::EventLine(u64::from(self.core.taken()) + 1)
+        StopError::EventLine(u64::from(self.core.taken()) + 1)
     }
 }

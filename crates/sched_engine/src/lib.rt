@@ -74,4 +74,4 @@ pub use in_memory::run_in_memory;
 pub use laws::{events_are_one, front_is_one, report_equality_tells, run_error_equality_tells};
 pub use listing::write_listing;
 pub use plan_read::HeapAllocator;
-pub use report::{Report, RunError};
+pub use report::{CodeError, OpenError, Report, RunError, StopError};

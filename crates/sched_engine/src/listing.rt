@@ -3,7 +3,7 @@ ghost use Rattle.std.specs.Prelude.{IfErr, IfOk, string_bytes};
 ghost use Rattle.sched_engine.specs.CodeTexts.{CountsListing, IsListingOfText, Listed, RefusesText};
 
 use crate::engine::code_of;
-use crate::report::RunError;
+use crate::report::{CodeError, RunError};
 use byte_ends::{Sink, write_text};
 use plan_read::HeapAllocator;
 use queue_code::listing;
@@ -30,13 +30,13 @@ pub fn write_listing<A: HeapAllocator, W: Sink>(
 }
 
 /// The listing of the code of the plan that a text writes.
-fn listing_of<A: HeapAllocator>(alloc: A, plan_text: &[u8]) -> Result<String<A>, RunError>
+fn listing_of<A: HeapAllocator>(alloc: A, plan_text: &[u8]) -> Result<String<A>, CodeError>
     ensures listing { IfOk result (λ text. IsListingOfText plan_text.now (string_bytes text)) }
     ensures refuses { IfErr result (RefusesText plan_text.now) }
 {
     let code = code_of(alloc, plan_text)?;
     match listing(alloc, &code) {
         Ok(text) => Ok(text),
-        Err(_) => Err(RunError::Memory),
+        Err(_) => Err(CodeError::Memory),
     }
 }

@@ -4,6 +4,7 @@ use Rattle.std.specs.Prelude.{◌≡◌, ℕ, List, Option, Result, Ok, Err, tak
 use Rattle.std.specs.Io.KnownBytes.{Appends, Keeps}
 use Rattle.plan_read.specs.Plans.{PlanTree}
 use Rattle.plan_read.specs.Texts.{TextWrites}
+use Rattle.sched_engine.specs.declared.report.CodeError.TheVariants as c
 use Rattle.sched_engine.specs.declared.report.RunError.{RunError}
 use Rattle.sched_engine.specs.declared.report.RunError.TheVariants as x
 use Rattle.sched_engine.specs.CodeTexts.{RefusesText}
@@ -19,4 +20,6 @@ pub record AreTasksOfText (text tasks : List ℕ) : Type 0 where
 abbrev pub TasksWritten : Result (Unit {0}) RunError → List ℕ → Option (List ℕ) → Option (List ℕ) → Type 0
 TasksWritten (Ok done) text old new = (lines : List ℕ) × AreTasksOfText text lines × Appends old new lines
 TasksWritten (Err x.Write) text old new = (lines : List ℕ) × AreTasksOfText text lines × (n : ℕ) × Appends old new (take n lines)
-TasksWritten (Err e) text old new = RefusesText text e × Keeps old new
+TasksWritten (Err (x.Plan fault)) text old new = RefusesText text (c.Plan fault) × Keeps old new
+TasksWritten (Err x.Memory) text old new = RefusesText text c.Memory × Keeps old new
+TasksWritten (Err _) text old new = ⊥

@@ -10,9 +10,9 @@ ghost use Rattle.task_list.specs.own.Pages.{MakesRoom};
 
 use crate::page::Page;
 use crate::submissions::Submissions;
-use plan_read::{HeapAllocator, Plan, read_plan};
 use byte_ends::{Sink, write_text};
-use sched_engine::RunError;
+use plan_read::{HeapAllocator, Plan, read_plan};
+use sched_engine::{CodeError, RunError};
 use std::alloc::Allocator;
 
 /// Writes a line for each submission of a plan, in ascending number.
@@ -38,13 +38,13 @@ pub fn write_tasks<A: HeapAllocator, W: Sink>(
 }
 
 /// The plan that a text writes.
-fn plan_of<A: HeapAllocator>(alloc: A, plan_text: &[u8]) -> Result<Plan<A>, RunError>
+fn plan_of<A: HeapAllocator>(alloc: A, plan_text: &[u8]) -> Result<Plan<A>, CodeError>
     ensures plan { IfOk result (TextWrites plan_text.now) }
     ensures refuses { IfErr result (RefusesText plan_text.now) }
 {
     match read_plan(alloc, plan_text) {
         Ok(plan) => Ok(plan),
-        Err(fault) => Err(RunError::Plan(fault)),
+        Err(fault) => Err(CodeError::Plan(fault)),
     }
 }
 

@@ -11,9 +11,9 @@ ghost use Rattle.trace_svg.specs.Drawing.{CountsDrawing, Draws, IsPictureOf, Ref
 use crate::picture::picture_text;
 use crate::report::{DrawError, Drawn};
 use crate::view::View;
+use byte_ends::{Sink, write_text};
 use executor_core::Line;
 use plan_read::Plan;
-use byte_ends::{Sink, write_text};
 use std::alloc::{AllocError, Allocator};
 use task_list::names_of_tasks;
 use trace_check::{Finding, check};
@@ -26,7 +26,7 @@ use trace_draw::{LinesError, lines_of, picture};
 /// where the number of workers is not 1 to 64; for a trace of the plan [`DrawError::Window`] where the view ends before it begins, and
 /// [`DrawError::Crowded`] where it would show more marks, or else more bars, than it may. [`DrawError::Memory`] may come in place of
 /// any answer but the first. At each of them, and at that, nothing is written; at [`DrawError::Write`] a front of the picture. A
-/// write is tried again as by [`run`](sched_engine::run). Nothing is flushed.
+/// write is tried again as by [`write_text`]. Nothing is flushed.
 pub fn draw<A: Allocator + Copy, B: Allocator, W: Sink>(
     alloc: A,
     plan: &Plan<B>,

@@ -4,9 +4,9 @@ mod piles;
 mod stacks;
 
 use crate::{DrawError, Drawn, View, draw, picture_text};
+use byte_ends::Writing;
 use linked_list_allocator::LocalHeap;
 use plan_read::{Plan, read_plan};
-use byte_ends::Writing;
 use scripted_ends::{Script, Taking, Trouble};
 use std::alloc::Global;
 use std::io::ErrorKind;

@@ -8,8 +8,8 @@ use Rattle.call_text.specs.declared.live.LiveFront.TheVariants as front
 use Rattle.call_text.specs.Reading.{IsLiveFront}
 use Rattle.call_journal.specs.Journals.{JournalView}
 use Rattle.live_core.specs.Lives.{LiveView}
-use Rattle.sched_engine.specs.declared.report.RunError.{RunError}
-use Rattle.sched_engine.specs.declared.report.RunError.TheVariants as x
+use Rattle.sched_engine.specs.declared.report.StopError.{StopError}
+use Rattle.sched_engine.specs.declared.report.StopError.TheVariants as s
 use Rattle.live_engine.specs.declared.live_line.LiveLine.{LiveLine}
 use Rattle.live_engine.specs.declared.stops.PieceEnd.{PieceEnd}
 use Rattle.live_engine.specs.declared.stops.PieceEnd.TheVariants as e
@@ -98,14 +98,14 @@ abbrev pub still_to_come : Progress → ℕ
 still_to_come at = (most_lines - at.counts.read) * (most_event_bytes + 1) + (most_event_bytes - length at.held)
 
 -- what a turn did: the run goes on, or it ended so
-abbrev pub Turns : Result Turn RunError → Setting → Progress → Progress → LiveView → Type 0
+abbrev pub Turns : Result Turn StopError → Setting → Progress → Progress → LiveView → Type 0
 Turns (Ok t.More) run old new m = IsBetweenTurns run new m × (still_to_come new < still_to_come old)
 Turns (Ok (t.Ended report)) run old new m = Runs (Ok report) run.workers run.first new.ends
 Turns (Err error) run old new m = Runs (Err error) run.workers run.first new.ends
 
 -- how a run ends at a line that is none, where so many were taken
-abbrev pub EndsAtLine : RunError → ℕ → Type 0
-EndsAtLine error read = error ≡ x.EventLine (read + 1)
+abbrev pub EndsAtLine : StopError → ℕ → Type 0
+EndsAtLine error read = error ≡ s.EventLine (read + 1)
 
 -- why no line stands at the front of some bytes
 abbrev pub IsFrontEnd : PieceEnd → List ℕ → Type 0

@@ -1,12 +1,15 @@
 -- Beside `specs/ClockLines`: what only private contracts and proofs cite.
 -- All of it is this project's rule.
-use Rattle.std.specs.Prelude.{◌≡◌, ◌≢◌, ℕ, ◌≤◌, List, ◌++◌, Option, take, length}
+use Rattle.std.specs.Prelude.{◌≡◌, ◌≢◌, ℕ, ◌≤◌, List, ◌++◌, Option, Result, Err, take, length}
 use Rattle.std.specs.Io.KnownBytes.{Consumes, prepend_known}
 use Rattle.executor_core.specs.declared.Event.{Event}
 use Rattle.executor_core.specs.declared.Event.TheVariants as v
 use Rattle.trace_text.specs.Reading.{IsPart}
 use Rattle.trace_text.specs.Spelling.{FitsEvent, event_line}
 use Rattle.sched_engine.specs.Inputs.{AreEvents, input_of}
+use Rattle.byte_ends.specs.Ends.{AllGood, LastBad}
+use Rattle.pool_engine.specs.declared.clocks.ReadingError.{ReadingError}
+use Rattle.pool_engine.specs.declared.clocks.ReadingError.TheVariants as r
 use Rattle.pool_engine.specs.declared.clocks.ClocksEnd.{ClocksEnd}
 use Rattle.pool_engine.specs.declared.clocks.ClocksEnd.TheVariants as e
 use Rattle.pool_engine.specs.ClockLines.{BeginsWithClock, IsNoClock, clock_events}
@@ -50,3 +53,8 @@ pub record HasRead (limit : ℕ) (input left : Option (List ℕ)) (held moments 
   pub fit : AreEvents (clock_events moments)
   pub read : Consumes input (prepend_known held left) (input_of (clock_events moments))
   pub within : length moments ≤ limit
+
+-- what the tries of the reading count: the last was bad at `Read`, and all others were good
+abbrev pub CountsReading : {T : Type 0} → Result T ReadingError → ℕ → ℕ → ℕ → ℕ → Type 0
+CountsReading (Err r.Read) failed fruitless failed' fruitless' = LastBad failed fruitless failed' fruitless'
+CountsReading _ failed fruitless failed' fruitless' = AllGood failed fruitless failed' fruitless'

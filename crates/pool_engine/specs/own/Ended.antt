@@ -1,11 +1,17 @@
 -- Beside `specs/PoolRuns`: what an ended book tells, and its text.
 -- All of it is this project's rule.
-use Rattle.std.specs.Prelude.{◌≡◌, ◌≢◌, ℕ, List, ◌++◌, Option, Bool, true, false, take}
+use Rattle.std.specs.Prelude.{◌≡◌, ◌≢◌, ℕ, List, ◌++◌, Option, Result, Err, Bool, true, false, take}
 use Rattle.std.specs.Io.KnownBytes.{Appends}
 use Rattle.executor_core.specs.CoreView.{state_of}
 use Rattle.executor_core.specs.Needs.{IsRipe}
 use Rattle.executor_core.specs.State.{view_of_state}
 use Rattle.worker_pool.specs.Books.{BookView}
+use Rattle.byte_ends.specs.Ends.{AllGood, LastBad}
+use Rattle.pool_engine.specs.declared.stops.LastError.{LastError}
+use Rattle.pool_engine.specs.declared.stops.LastError.TheVariants as l
+use Rattle.pool_engine.specs.declared.stops.PoolStop.{PoolStop}
+use Rattle.pool_engine.specs.declared.stops.PoolStop.TheVariants as p
+use Rattle.sched_engine.specs.declared.report.Report.{Report}
 use Rattle.pool_engine.specs.PoolRuns.{clocks_of}
 
 -- the clocks of a book show these moments, and no task that waits or is kept is due in it
@@ -23,3 +29,23 @@ ShowsSoFar false so_far left moments = (later : List ℕ) → so_far ++ later �
 abbrev pub TextWritten : Bool → Option (List ℕ) → Option (List ℕ) → List ℕ → Type 0
 TextWritten true old new text = Appends old new text
 TextWritten false old new text = (n : ℕ) × Appends old new (take n text)
+
+-- a pool whose text was not written whole
+abbrev pub stop_of_last : LastError → PoolStop
+stop_of_last l.Lost = p.Lost
+stop_of_last l.Write = p.Write
+
+-- what the tries of the writer count: the last was bad at `Write`, and all others were good
+abbrev pub CountsLast : {T : Type 0} → Result T LastError → ℕ → ℕ → ℕ → ℕ → Type 0
+CountsLast (Err l.Write) failed fruitless failed' fruitless' = LastBad failed fruitless failed' fruitless'
+CountsLast _ failed fruitless failed' fruitless' = AllGood failed fruitless failed' fruitless'
+
+abbrev pub CountsStop : Result Report PoolStop → ℕ → ℕ → ℕ → ℕ → Type 0
+CountsStop (Err p.Write) failed fruitless failed' fruitless' = LastBad failed fruitless failed' fruitless'
+CountsStop _ failed fruitless failed' fruitless' = AllGood failed fruitless failed' fruitless'
+
+-- where nothing is written, the counts of the writer stay, as it was not called
+abbrev pub StopLeaves : Result Report PoolStop → ℕ → ℕ → ℕ → ℕ → Type 0
+StopLeaves (Err p.Lost) failed fruitless failed' fruitless' = (failed' ≡ failed) × (fruitless' ≡ fruitless)
+StopLeaves (Err p.Memory) failed fruitless failed' fruitless' = (failed' ≡ failed) × (fruitless' ≡ fruitless)
+StopLeaves _ failed fruitless failed' fruitless' = Unit {0}

@@ -5,9 +5,9 @@ ghost use Rattle.queue_code.specs.Codes.{calls_of};
 ghost use Rattle.task_word.specs.Views.{new_core};
 
 use super::{Asked, write_full, write_rested};
+use byte_ends::Writing;
 use executor_core::Event;
 use queue_code::{Code, Instr};
-use byte_ends::Writing;
 use sched_engine::{Draft, Report, RunError};
 use sched_time::{Ending, Timing};
 use std::alloc::Global;

@@ -2,9 +2,9 @@
 //! asked for.
 use super::{CLOCKS, ONE_DELAY, REPORT, TRACE, is_same};
 use crate::run_pool;
+use byte_ends::{Pieces, Writing};
 use plan_read::{PlanFault, PlanFaultKind};
 use refusing_allocator::Refusing;
-use byte_ends::{Pieces, Writing};
 use sched_engine::{Report, RunError};
 use std::alloc::Global;
 use std::process::Abort;

@@ -6,8 +6,8 @@ use crate::arguments::{
 };
 use crate::error::ProgramError;
 use crate::serving::answer_alone;
-use refusing_allocator::Refusing;
 use byte_ends::{Pieces, Writing};
+use refusing_allocator::Refusing;
 use sched_engine::RunError;
 use std::alloc::Global;
 use std::io;

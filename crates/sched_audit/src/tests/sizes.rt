@@ -1,8 +1,8 @@
 //! Sizes of real use: an answer of want of memory where memory is, and a limit that no page names, are met here.
 
 use crate::audit::{Audit, run_and_check};
-use plan_read::read_plan;
 use byte_ends::Writing;
+use plan_read::read_plan;
 use sched_engine::{Report, RunError, run_in_memory, write_listing};
 use std::alloc::Global;
 use std::process::Abort;

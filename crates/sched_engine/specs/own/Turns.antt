@@ -16,10 +16,10 @@ use Rattle.sched_engine.specs.declared.answering.PieceEnd.{PieceEnd}
 use Rattle.sched_engine.specs.declared.answering.PieceEnd.TheVariants as e
 use Rattle.sched_engine.specs.declared.engine.Turn.{Turn}
 use Rattle.sched_engine.specs.declared.engine.Turn.TheVariants as t
-use Rattle.sched_engine.specs.declared.report.RunError.{RunError}
+use Rattle.sched_engine.specs.declared.report.StopError.{StopError}
 use Rattle.sched_engine.specs.Inputs.{input_of, AreEvents, BeginsWithEvent}
 use Rattle.sched_engine.specs.Pieces.{Gives, Output}
-use Rattle.sched_engine.specs.Running.{IsAccepted, Runs, text_of}
+use Rattle.sched_engine.specs.Running.{Runs, text_of}
 
 -- ---- some happenings
 
@@ -163,7 +163,7 @@ abbrev pub still_to_come : Setting → Progress → ℕ
 still_to_come run at = (run.limit - at.core.taken) * (most_event_bytes + 1) + (most_event_bytes - length at.held)
 
 -- what a turn did: the run goes on, or it ended so
-abbrev pub Turns : Result Turn RunError → Setting → Progress → Progress → Type 0
+abbrev pub Turns : Result Turn StopError → Setting → Progress → Progress → Type 0
 Turns (Ok t.More) run old new = IsBetweenTurns run new × (still_to_come run new < still_to_come run old)
 Turns (Ok (t.Ended report)) run old new = Runs (Ok report) run.calls run.workers run.limit run.input new.left run.contents new.contents
 Turns (Err e) run old new = Runs (Err e) run.calls run.workers run.limit run.input new.left run.contents new.contents

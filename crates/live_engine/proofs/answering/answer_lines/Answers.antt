@@ -1,4 +1,4 @@
-use Rattle.std.proofs.Common.{◌≡◌, ℕ, ◌+◌, List, ◌∷◌, ◌++◌, length, refl, ap, sym, subst, arith, length-append}
+use Rattle.std.proofs.Common.{◌≡◌, ℕ, ◌+◌, List, ◌∷◌, ◌++◌, length, ap, sym, subst, arith, length-append}
 use Rattle.executor_core.specs.declared.Line.{Line}
 use Rattle.call_journal.specs.Journals.{JournalView}
 use Rattle.sched_engine.specs.Pieces.{Output}
@@ -14,22 +14,19 @@ use Rattle.live_engine.proofs.answering.answer_lines.Goals as goal
 use Rattle.live_engine.proofs.answering.answer_lines.Goals.{in-Err, in-Ok+in-Err-answer_line}
 
 pub returns-then-not-give-clause-cut : goal.returns-then-not-give-clause-cut
-returns-then-not-give-clause-cut g c = (
-  refl,
-  λ run left before d.
-      let kept = c.loop-next.invariant in
-      let so = kept.done run left before d in
-      let line = c.in-Ok.next.0 in
-      let told = c.in-Ok-answer_line.told in
-      let lines = lines_told told c.deref.result.now in
-      let after = c.answer_line.new in
-      let at : Progress = record { ends = record { left = left; contents = g.W.Sink.contents c.loop-next.writer; journal = c.loop-next.journal }; held = c.loop-next.rest.now; text = c.loop-next.draft; counts = c.loop-next.counts } in
-      let contents = g.W.Sink.contents c.give.new.writer in
-      let answers = subst (λ (l : List Line). Answers c.loop-next.executor after.executor line (lines_told told l) c.loop-next.counts after.counts c.loop-next.journal after.journal) (sym c.deref.ensures.value) c.in-Ok-answer_line.ensures.answers in
-      let text = c.if-not-give.ensures.text in
-      cut_within run left contents c.loop-next.rest.now c.args.held.now after.journal
-      (cut run at c.loop-next.executor after.executor line so.0 lines c.in-Ok.next.1.now after.counts after.journal contents text.0 so.1 answers c.in-Ok.ensures.line.1 text.1) kept.bound,
-)
+returns-then-not-give-clause-cut g c = λ none run left before d.
+    let kept = c.loop-next.invariant in
+    let so = kept.done run left before d in
+    let line = c.in-Ok.next.0 in
+    let told = c.in-Ok-answer_line.told in
+    let lines = lines_told told c.deref.result.now in
+    let after = c.answer_line.new in
+    let at : Progress = record { ends = record { left = left; contents = g.W.Sink.contents c.loop-next.writer; journal = c.loop-next.journal }; held = c.loop-next.rest.now; text = c.loop-next.draft; counts = c.loop-next.counts } in
+    let contents = g.W.Sink.contents c.give.new.writer in
+    let answers = subst (λ (l : List Line). Answers c.loop-next.executor after.executor line (lines_told told l) c.loop-next.counts after.counts c.loop-next.journal after.journal) (sym c.deref.ensures.value) c.in-Ok-answer_line.ensures.answers in
+    let text = c.if-not-give.ensures.text in
+    cut_within run left contents c.loop-next.rest.now c.args.held.now after.journal
+    (cut run at c.loop-next.executor after.executor line so.0 lines c.in-Ok.next.1.now after.counts after.journal contents text.0 so.1 answers c.in-Ok.ensures.line.1 text.1) kept.bound
 
 pub returns-then-not-give-clause-write : goal.returns-then-not-give-clause-write
 returns-then-not-give-clause-write g c = good_then_bad _ _ _ _ _ _ c.loop-next.invariant.tries c.if-not-give.ensures.counts

@@ -1,5 +1,5 @@
-use Rattle.std.proofs.Common.{◌≡◌, ℕ, ◌+◌, ◌-◌, ◌<◌, ◌≤◌, List, ◌++◌, length, drop, inl, refl, ap, sym, subst, ◌∙◌, arith}
-use Rattle.std.specs.Prelude.{vec_capacity}
+use Rattle.std.proofs.Common.{◌≡◌, ℕ, ◌+◌, ◌-◌, ◌<◌, ◌≤◌, List, ◌++◌, length, drop, inl, refl, rules, ap, sym, subst, ◌∙◌, arith}
+use Rattle.std.specs.Prelude.{Option, None, is_some, vec_capacity}
 use Rattle.std.proofs.lemmas.Bool.{false≢true}
 use Rattle.trace_text.specs.Spelling.{event_line}
 use Rattle.sched_engine.specs.Inputs.{BeginsWithEvent}
@@ -7,6 +7,8 @@ use Rattle.sched_engine.specs.Pieces.{Output}
 use Rattle.executor_core.specs.CoreView.{CoreView}
 use Rattle.sched_engine.specs.declared.answering.PieceEnd.{PieceEnd}
 use Rattle.sched_engine.specs.declared.answering.PieceEnd.TheVariants as e
+use Rattle.sched_engine.specs.declared.answering.Answered.{Answered}
+use Rattle.byte_ends.specs.Ends.{CountsTries}
 use Rattle.sched_engine.specs.own.Turns.{IsAnswered, IsPieceEnd}
 use Rattle.sched_engine.proofs.Inputs.{answered_none, answered_on, count_fits, fewer_left, left_more}
 use Rattle.sched_engine.proofs.Rooms.{still_kept, wanted}
@@ -46,11 +48,11 @@ overflow_add-count g c =
     let mid = c.loop-event.core in
     let new = c.answer_event.new.core in
     let event = c.in-Some.event in
-    let more = c.in-Some-answer_event.more in
+    let more = c.in_ok-more.more in
     let out : Output = record { contents = g.W.Sink.contents c.args.writer.now; text = c.args.draft.now } in
     let here : Output = record { contents = g.W.Sink.contents c.loop-event.writer; text = c.loop-event.draft } in
     let there : Output = record { contents = g.W.Sink.contents c.answer_event.new.writer; text = c.answer_event.new.draft } in
-    let takes = c.in-Some-answer_event.ensures.takes in
+    let takes = c.in_ok-more.ensures.takes in
     let below = c.if-full.ensures.room refl in
     let after = answered_on old mid new held rest next out here there c.loop-event.count more event kept.answered kept.behind kept.bound c.in-Some.ensures.0 c.in-Some.ensures.1 takes in
     let all = count_fits old new held out there (length held - length next) (c.loop-event.count + more) c.requires after (within_still mid.taken mid.limit new.taken new.limit below takes.taken takes.limit) in
@@ -66,13 +68,13 @@ loop-event-preserved g c =
     let mid = c.loop-event.core in
     let new = c.answer_event.new.core in
     let event = c.in-Some.event in
-    let more = c.in-Some-answer_event.more in
+    let more = c.in_ok-more.more in
     let fits = c.in-Some.ensures.0 in
     let front : rest ≡ event_line event ++ next = c.in-Some.ensures.1 in
     let out : Output = record { contents = g.W.Sink.contents c.args.writer.now; text = c.args.draft.now } in
     let here : Output = record { contents = g.W.Sink.contents c.loop-event.writer; text = c.loop-event.draft } in
     let there : Output = record { contents = g.W.Sink.contents c.answer_event.new.writer; text = c.answer_event.new.draft } in
-    let takes = c.in-Some-answer_event.ensures.takes in
+    let takes = c.in_ok-more.ensures.takes in
     let below = c.if-full.ensures.room refl in
     let begins = subst BeginsWithEvent kept.behind (event, next, fits, front) in
     record {
@@ -81,13 +83,19 @@ loop-event-preserved g c =
       bound = omega (arith, fewer_left event rest next front, kept.bound);
       within = within_still mid.taken mid.limit new.taken new.limit below takes.taken takes.limit;
       capacity = still_kept old mid held out here (length held - length rest) c.loop-event.count (vec_capacity c.args.lines.now) (vec_capacity c.loop-event.lines) (vec_capacity c.answer_event.new.lines)
-          kept.answered begins below (λ enough. c.in-Some-answer_event.ensures.capacity ∙ (c.if-not-make_room.ensures.enough (omega (arith, enough, c.room.ensures))).1) kept.capacity;
-      counts = good_then_good _ _ _ _ _ _ kept.counts c.in-Some-answer_event.ensures.counts;
+          kept.answered begins below (λ enough. c.in_ok-more.ensures.capacity ∙ (c.if-not-make_room.ensures.enough (omega (arith, enough, c.room.ensures))).1) kept.capacity;
+      counts = good_then_good _ _ _ _ _ _ kept.counts c.in_ok-more.ensures.counts;
     }
 
 -- the last try was bad
-pub returns-in_default-answer_event-clause-write : goal.returns-in_default-answer_event-clause-write
-returns-in_default-answer_event-clause-write g c = good_then_bad _ _ _ _ _ _ c.loop-event.invariant.counts c.in_default-answer_event.ensures.counts
+pub returns-in_err-more-clause-write : goal.returns-in_err-more-clause-write
+returns-in_err-more-clause-write g c =
+    let first = c.args.writer.now in
+    let after = c.answer_event.new.writer in
+    let nothing : Option Answered = None in
+    let told : nothing ≡ c.from_residual.result = search rules in
+    subst (λ (r : Option Answered). CountsTries (is_some r) (g.W.Sink.failed first) (g.W.Sink.fruitless first) (g.W.Sink.failed after) (g.W.Sink.fruitless after)) told
+    (good_then_bad _ _ _ _ _ _ c.loop-event.invariant.counts c.in_err-more.ensures.counts)
 
 -- why the events ended is one thing
 not_full : (end : PieceEnd) → end ≡ e.Full → end ≡ e.Memory → ⊥

@@ -3,8 +3,9 @@ use Rattle.sched_engine.specs.Running.{CountsReader, CountsWriter, Ran}
 use Rattle.sched_engine.specs.declared.engine.Turn.{Turn}
 use Rattle.sched_engine.specs.declared.report.Report.{Report}
 use Rattle.sched_engine.specs.declared.report.RunError.{RunError}
+use Rattle.sched_engine.specs.Stages.{told_of_opening, told_of_stop}
 use Rattle.sched_engine.specs.own.Turns.{Progress, Setting, Turns}
-use Rattle.sched_engine.proofs.Turns.{first, ran_to_a_fault}
+use Rattle.sched_engine.proofs.Turns.{first, ran_to_a_stop}
 use Rattle.byte_ends.proofs.Tries.{good_then_good, no_try}
 use Rattle.sched_engine.proofs.Tries.{reads_refused, reads_then, writes_refused, writes_then}
 use Rattle.sched_engine.proofs.engine.run.Goals as goal
@@ -22,10 +23,10 @@ returns-in_err-report-clause-ran g c =
     let left = g.S.Source.remaining c.turn.new.reader in
     let contents = g.W.Sink.contents c.turn.new.writer in
     let e = c.in_err-report.field-0.0 in
-    let fault : Result Report RunError = Err e in
+    let fault : Result Report RunError = Err (told_of_stop e) in
     let told : fault ≡ c.from_residual-in_err-report.result = search rules in
     subst (λ (r : Result Report RunError). Ran r c.args.plan_text.now c.args.workers c.args.limit run.input left run.contents contents) told
-    (ran_to_a_fault run e c.args.plan_text.now left contents c.in_ok-engine.ensures.opens.accepted (c.in_err-report.ensures.turns run c.loop-engine.invariant.between))
+    (ran_to_a_stop run e c.args.plan_text.now left contents c.in_ok-engine.ensures.opens.accepted (c.in_err-report.ensures.turns run c.loop-engine.invariant.between))
 
 pub returns-in-Ended-clause-ran : goal.returns-in-Ended-clause-ran
 returns-in-Ended-clause-ran g c =
@@ -68,9 +69,9 @@ returns-in_err-engine-clause-read g c =
     let failed = g.S.Source.failed source in
     let fruitless = g.S.Source.fruitless source in
     let e = c.in_err-engine.field-0.0 in
-    let fault : Result Report RunError = Err e in
+    let fault : Result Report RunError = Err (told_of_opening e) in
     let told : fault ≡ c.from_residual.result = search rules in
-    subst (λ (r : Result Report RunError). CountsReader r failed fruitless failed fruitless) told (reads_refused e c.args.plan_text.now c.args.workers c.args.limit failed fruitless c.in_err-engine.ensures.refuses)
+    subst (λ (r : Result Report RunError). CountsReader r failed fruitless failed fruitless) told (reads_refused e failed fruitless)
 
 pub returns-in_err-engine-clause-write : goal.returns-in_err-engine-clause-write
 returns-in_err-engine-clause-write g c =
@@ -78,9 +79,9 @@ returns-in_err-engine-clause-write g c =
     let failed = g.W.Sink.failed sink in
     let fruitless = g.W.Sink.fruitless sink in
     let e = c.in_err-engine.field-0.0 in
-    let fault : Result Report RunError = Err e in
+    let fault : Result Report RunError = Err (told_of_opening e) in
     let told : fault ≡ c.from_residual.result = search rules in
-    subst (λ (r : Result Report RunError). CountsWriter r failed fruitless failed fruitless) told (writes_refused e c.args.plan_text.now c.args.workers c.args.limit failed fruitless c.in_err-engine.ensures.refuses)
+    subst (λ (r : Result Report RunError). CountsWriter r failed fruitless failed fruitless) told (writes_refused e failed fruitless)
 
 pub returns-in_err-report-clause-read : goal.returns-in_err-report-clause-read
 returns-in_err-report-clause-read g c =
@@ -88,15 +89,13 @@ returns-in_err-report-clause-read g c =
     let left = g.S.Source.remaining c.turn.new.reader in
     let contents = g.W.Sink.contents c.turn.new.writer in
     let e = c.in_err-report.field-0.0 in
-    let fault : Result Report RunError = Err e in
+    let fault : Result Report RunError = Err (told_of_stop e) in
     let told : fault ≡ c.from_residual-in_err-report.result = search rules in
     let first = c.args.reader.now in
     let here = c.loop-engine.reader in
     let after = c.turn.new.reader in
     subst (λ (r : Result Report RunError). CountsReader r (g.S.Source.failed first) (g.S.Source.fruitless first) (g.S.Source.failed after) (g.S.Source.fruitless after)) told
-    (reads_then e run.calls run.workers run.limit run.input left run.contents contents
-    (g.S.Source.failed first) (g.S.Source.fruitless first) (g.S.Source.failed here) (g.S.Source.fruitless here) (g.S.Source.failed after) (g.S.Source.fruitless after)
-    (c.in_err-report.ensures.turns run c.loop-engine.invariant.between) c.loop-engine.invariant.reads c.in_err-report.ensures.read)
+    (reads_then Turn Report e (g.S.Source.failed first) (g.S.Source.fruitless first) (g.S.Source.failed here) (g.S.Source.fruitless here) (g.S.Source.failed after) (g.S.Source.fruitless after) c.loop-engine.invariant.reads c.in_err-report.ensures.read)
 
 pub returns-in_err-report-clause-write : goal.returns-in_err-report-clause-write
 returns-in_err-report-clause-write g c =
@@ -104,15 +103,13 @@ returns-in_err-report-clause-write g c =
     let left = g.S.Source.remaining c.turn.new.reader in
     let contents = g.W.Sink.contents c.turn.new.writer in
     let e = c.in_err-report.field-0.0 in
-    let fault : Result Report RunError = Err e in
+    let fault : Result Report RunError = Err (told_of_stop e) in
     let told : fault ≡ c.from_residual-in_err-report.result = search rules in
     let first = c.args.writer.now in
     let here = c.loop-engine.writer in
     let after = c.turn.new.writer in
     subst (λ (r : Result Report RunError). CountsWriter r (g.W.Sink.failed first) (g.W.Sink.fruitless first) (g.W.Sink.failed after) (g.W.Sink.fruitless after)) told
-    (writes_then e run.calls run.workers run.limit run.input left run.contents contents
-    (g.W.Sink.failed first) (g.W.Sink.fruitless first) (g.W.Sink.failed here) (g.W.Sink.fruitless here) (g.W.Sink.failed after) (g.W.Sink.fruitless after)
-    (c.in_err-report.ensures.turns run c.loop-engine.invariant.between) c.loop-engine.invariant.writes c.in_err-report.ensures.write)
+    (writes_then Turn Report e (g.W.Sink.failed first) (g.W.Sink.fruitless first) (g.W.Sink.failed here) (g.W.Sink.fruitless here) (g.W.Sink.failed after) (g.W.Sink.fruitless after) c.loop-engine.invariant.writes c.in_err-report.ensures.write)
 
 pub returns-in-Ended-clause-read : goal.returns-in-Ended-clause-read
 returns-in-Ended-clause-read g c = good_then_good _ _ _ _ _ _ c.loop-engine.invariant.reads c.in_ok-report.ensures.read

@@ -16,7 +16,7 @@ overflow_add-self g c =
     omega (arith, c.requires.few, count_fits old.core new.core c.bytes.result.now before after stop.bytes stop.lines c.requires.standing answer.answered answer.within)
 
 pub returns-clause-done : goal.returns-clause-done
-returns-clause-done g c = λ run left done.
+returns-clause-done g c = λ some run left done.
     let old = c.args.self.now in
     let contents = g.W.Sink.contents c.args.writer.now in
     let at : Progress = record { left = left; held = old.held; text = old.draft; contents = contents; core = old.core; count = old.count } in
@@ -30,7 +30,7 @@ returns-clause-done g c = λ run left done.
     subst (λ (held : List ℕ). Done run (record { left = left; held = held; text = new.draft; contents = after.contents; core = new.core; count = old.count + stop.lines })) (sym c.skip.ensures) next
 
 pub returns-clause-same : goal.returns-clause-same
-returns-clause-same g c = λ same.
+returns-clause-same g c = λ some same.
     let stop = c.in_ok-answered.answered in
     let old = c.args.self.now in
     let new = c.answer_events.new in

@@ -1,12 +1,11 @@
-use Rattle.std.proofs.Common.{◌≡◌, ℕ, ◌+◌, ◌≤◌, List, Result, Err, length, take, refl, sym, subst, arith, rules}
+use Rattle.std.proofs.Common.{ℕ, ◌+◌, ◌≤◌, List, Err, length, take, refl, sym, subst, arith}
 use Rattle.std.specs.Io.KnownBytes.{Appends}
 use Rattle.sched_engine.specs.declared.answering.PieceEnd.{PieceEnd}
-use Rattle.sched_engine.specs.declared.report.RunError.{RunError}
-use Rattle.sched_engine.specs.declared.report.RunError.TheVariants.{Write}
+use Rattle.sched_engine.specs.declared.report.StopError.{StopError}
 use Rattle.sched_engine.specs.declared.engine.Turn.{Turn}
 use Rattle.byte_ends.specs.Refills.{piece}
-use Rattle.sched_engine.specs.Running.{CountsReader, CountsWriter, Runs}
-use Rattle.sched_engine.specs.own.Turns.{IsPieceEnd, Progress, Turns}
+use Rattle.sched_engine.specs.Running.{CountsReads, CountsWrites, Runs}
+use Rattle.sched_engine.specs.own.Turns.{IsPieceEnd, Progress}
 use Rattle.sched_engine.proofs.Turns.{at_the_end, cut_short, faulted, few_lines, filled, full, out_of_memory, refused, smaller, unwritten, wrote}
 use Rattle.byte_ends.proofs.Tries.{bad_try, good_then_bad, good_then_good, good_try, no_try}
 use Rattle.sched_engine.proofs.Tries.{reads_ended, writes_ended}
@@ -33,22 +32,16 @@ returns-in-Fault-clause-turns g c = λ run between.
 pub answer_held-requires-clause-few : goal.answer_held-requires-clause-few
 answer_held-requires-clause-few g c = few_lines c.requires.0 _ c.requires.1.done
 
-pub returns-in_err-end-clause-turns : goal.returns-in_err-end-clause-turns
-returns-in_err-end-clause-turns g c = λ run between.
+pub returns-in_default-clause-turns : goal.returns-in_default-clause-turns
+returns-in_default-clause-turns g c = λ run between.
     let reader = g.S.Source.remaining c.fill.new.source in
     let writer = g.W.Sink.contents c.args.writer.now in
-    let new = c.answer_held.new.self in
     let more = c.in-More.ensures.bytes in
     let old = c.args.self.now in
     let at : Progress = record { left = g.S.Source.remaining c.args.reader.now; held = old.held; text = old.draft; contents = writer; core = old.core; count = old.count } in
     let read = filled run at reader c.fill.new.self more.0 between.done more.1 more.2 in
     let read_on : Progress = record { left = reader; held = c.fill.new.self; text = old.draft; contents = writer; core = old.core; count = old.count } in
-    let after = g.W.Sink.contents c.answer_held.new.writer in
-    let cut = c.in_err-end.ensures.cut in
-    let fault : Result Turn RunError = Err Write in
-    let told : fault ≡ c.from_residual.result = search (rules, cut.0) in
-    subst (λ (r : Result Turn RunError). Turns r run at (record { left = reader; held = new.held; text = new.draft; contents = after; core = new.core; count = new.count })) told
-    (cut_short run read_on after read c.fill.ensures.few cut.1)
+    cut_short run read_on (g.W.Sink.contents c.answer_held.new.writer) read c.fill.ensures.few (c.in_default.ensures.cut refl)
 
 pub returns-then-not-write_text-clause-turns : goal.returns-then-not-write_text-clause-turns
 returns-then-not-write_text-clause-turns g c = λ run between.
@@ -59,11 +52,11 @@ returns-then-not-write_text-clause-turns g c = λ run between.
     let old = c.args.self.now in
     let at : Progress = record { left = g.S.Source.remaining c.args.reader.now; held = old.held; text = old.draft; contents = writer; core = old.core; count = old.count } in
     let read = filled run at reader c.fill.new.self more.0 between.done more.1 more.2 in
-    let ok = c.in_ok-end.ensures in
-    let done = ok.done run reader read in
+    let ok = c.in-Some.ensures in
+    let done = ok.done refl run reader read in
     let given = g.W.Sink.contents c.answer_held.new.writer in
     let answered : Progress = record { left = reader; held = new.held; text = new.draft; contents = given; core = new.core; count = new.count } in
-    let near : length new.held ≤ piece = omega (arith, ok.fewer, c.fill.ensures.few) in
+    let near : length new.held ≤ piece = omega (arith, ok.fewer refl, c.fill.ensures.few) in
     let after = g.W.Sink.contents c.write_text.new.sink in
     let written = c.if-not-write_text.ensures.bytes in
     unwritten run answered after written.0 done near (subst (λ (l : List ℕ). Appends given after (take written.0 l)) c.bytes.ensures written.2)
@@ -77,17 +70,17 @@ returns-in-Part-clause-turns g c = λ run between.
     let old = c.args.self.now in
     let at : Progress = record { left = g.S.Source.remaining c.args.reader.now; held = old.held; text = old.draft; contents = writer; core = old.core; count = old.count } in
     let read = filled run at reader c.fill.new.self more.0 between.done more.1 more.2 in
-    let ok = c.in_ok-end.ensures in
-    let done = ok.done run reader read in
+    let ok = c.in-Some.ensures in
+    let done = ok.done refl run reader read in
     let given = g.W.Sink.contents c.answer_held.new.writer in
     let answered : Progress = record { left = reader; held = new.held; text = new.draft; contents = given; core = new.core; count = new.count } in
-    let near : length new.held ≤ piece = omega (arith, ok.fewer, c.fill.ensures.few) in
+    let near : length new.held ≤ piece = omega (arith, ok.fewer refl, c.fill.ensures.few) in
     let after = g.W.Sink.contents c.write_text.new.sink in
     let finished = wrote run answered after c.clear.new.self done (subst (Appends given after) c.bytes.ensures c.if-not-write_text.ensures.bytes) c.clear.ensures in
     let here : Progress = record { left = reader; held = new.held; text = c.clear.new.self; contents = after; core = new.core; count = new.count } in
     let stop = subst (λ (end : PieceEnd). IsPieceEnd end new.core new.held) c.in-Part.is ok.end in (
       record { done = finished; none = c.clear.ensures; part = stop.0; short = stop.1 },
-      smaller run.limit old.core.taken new.core.taken old.held more.0 c.fill.new.self new.held more.2 more.3 ok.rises done.within ok.same stop.1 between.short,
+      smaller run.limit old.core.taken new.core.taken old.held more.0 c.fill.new.self new.held more.2 more.3 (ok.rises refl) done.within (ok.same refl) stop.1 between.short,
     )
 
 pub returns-in-Refused-clause-turns : goal.returns-in-Refused-clause-turns
@@ -99,16 +92,16 @@ returns-in-Refused-clause-turns g c = λ run between.
     let old = c.args.self.now in
     let at : Progress = record { left = g.S.Source.remaining c.args.reader.now; held = old.held; text = old.draft; contents = writer; core = old.core; count = old.count } in
     let read = filled run at reader c.fill.new.self more.0 between.done more.1 more.2 in
-    let ok = c.in_ok-end.ensures in
-    let done = ok.done run reader read in
+    let ok = c.in-Some.ensures in
+    let done = ok.done refl run reader read in
     let given = g.W.Sink.contents c.answer_held.new.writer in
     let answered : Progress = record { left = reader; held = new.held; text = new.draft; contents = given; core = new.core; count = new.count } in
-    let near : length new.held ≤ piece = omega (arith, ok.fewer, c.fill.ensures.few) in
+    let near : length new.held ≤ piece = omega (arith, ok.fewer refl, c.fill.ensures.few) in
     let after = g.W.Sink.contents c.write_text.new.sink in
     let finished = wrote run answered after c.clear.new.self done (subst (Appends given after) c.bytes.ensures c.if-not-write_text.ensures.bytes) c.clear.ensures in
     let here : Progress = record { left = reader; held = new.held; text = c.clear.new.self; contents = after; core = new.core; count = new.count } in
     let stop = subst (λ (end : PieceEnd). IsPieceEnd end new.core new.held) c.in-Refused.is ok.end in
-    subst (λ (e : RunError). Runs (Err e) run.calls run.workers run.limit run.input reader run.contents after) (sym c.refused_line.ensures) (refused run here (new.core.taken + 1) finished c.clear.ensures near stop refl)
+    subst (λ (e : StopError). Runs (Err e) run.calls run.workers run.limit run.input reader run.contents after) (sym c.refused_line.ensures) (refused run here (new.core.taken + 1) finished c.clear.ensures near stop refl)
 
 pub returns-in-Full-clause-turns : goal.returns-in-Full-clause-turns
 returns-in-Full-clause-turns g c = λ run between.
@@ -119,11 +112,11 @@ returns-in-Full-clause-turns g c = λ run between.
     let old = c.args.self.now in
     let at : Progress = record { left = g.S.Source.remaining c.args.reader.now; held = old.held; text = old.draft; contents = writer; core = old.core; count = old.count } in
     let read = filled run at reader c.fill.new.self more.0 between.done more.1 more.2 in
-    let ok = c.in_ok-end.ensures in
-    let done = ok.done run reader read in
+    let ok = c.in-Some.ensures in
+    let done = ok.done refl run reader read in
     let given = g.W.Sink.contents c.answer_held.new.writer in
     let answered : Progress = record { left = reader; held = new.held; text = new.draft; contents = given; core = new.core; count = new.count } in
-    let near : length new.held ≤ piece = omega (arith, ok.fewer, c.fill.ensures.few) in
+    let near : length new.held ≤ piece = omega (arith, ok.fewer refl, c.fill.ensures.few) in
     let after = g.W.Sink.contents c.write_text.new.sink in
     let finished = wrote run answered after c.clear.new.self done (subst (Appends given after) c.bytes.ensures c.if-not-write_text.ensures.bytes) c.clear.ensures in
     let here : Progress = record { left = reader; held = new.held; text = c.clear.new.self; contents = after; core = new.core; count = new.count } in
@@ -139,11 +132,11 @@ returns-in-Memory-clause-turns g c = λ run between.
     let old = c.args.self.now in
     let at : Progress = record { left = g.S.Source.remaining c.args.reader.now; held = old.held; text = old.draft; contents = writer; core = old.core; count = old.count } in
     let read = filled run at reader c.fill.new.self more.0 between.done more.1 more.2 in
-    let ok = c.in_ok-end.ensures in
-    let done = ok.done run reader read in
+    let ok = c.in-Some.ensures in
+    let done = ok.done refl run reader read in
     let given = g.W.Sink.contents c.answer_held.new.writer in
     let answered : Progress = record { left = reader; held = new.held; text = new.draft; contents = given; core = new.core; count = new.count } in
-    let near : length new.held ≤ piece = omega (arith, ok.fewer, c.fill.ensures.few) in
+    let near : length new.held ≤ piece = omega (arith, ok.fewer refl, c.fill.ensures.few) in
     let after = g.W.Sink.contents c.write_text.new.sink in
     let finished = wrote run answered after c.clear.new.self done (subst (Appends given after) c.bytes.ensures c.if-not-write_text.ensures.bytes) c.clear.ensures in
     let here : Progress = record { left = reader; held = new.held; text = c.clear.new.self; contents = after; core = new.core; count = new.count } in
@@ -163,13 +156,8 @@ returns-in-End-clause-read g c =
 pub returns-in-Fault-clause-read : goal.returns-in-Fault-clause-read
 returns-in-Fault-clause-read g c = bad_try _ _ _ _ c.in-Fault.ensures.counts
 
-pub returns-in_err-end-clause-read : goal.returns-in_err-end-clause-read
-returns-in_err-end-clause-read g c =
-    let source = c.args.reader.now in
-    let after = c.fill.new.source in
-    let fault : Result Turn RunError = Err Write in
-    let told : fault ≡ c.from_residual.result = search (rules, c.in_err-end.ensures.cut.0) in
-    subst (λ (r : Result Turn RunError). CountsReader r (g.S.Source.failed source) (g.S.Source.fruitless source) (g.S.Source.failed after) (g.S.Source.fruitless after)) told (good_try _ _ _ _ c.in-More.ensures.counts)
+pub returns-in_default-clause-read : goal.returns-in_default-clause-read
+returns-in_default-clause-read g c = good_try _ _ _ _ c.in-More.ensures.counts
 
 pub returns-then-not-write_text-clause-read : goal.returns-then-not-write_text-clause-read
 returns-then-not-write_text-clause-read g c = good_try _ _ _ _ c.in-More.ensures.counts
@@ -181,7 +169,7 @@ pub returns-in-Refused-clause-read : goal.returns-in-Refused-clause-read
 returns-in-Refused-clause-read g c =
     let source = c.args.reader.now in
     let after = c.fill.new.source in
-    subst (λ (e : RunError). CountsReader {T = Turn} (Err e) (g.S.Source.failed source) (g.S.Source.fruitless source) (g.S.Source.failed after) (g.S.Source.fruitless after)) (sym c.refused_line.ensures) (good_try _ _ _ _ c.in-More.ensures.counts)
+    subst (λ (e : StopError). CountsReads {T = Turn} (Err e) (g.S.Source.failed source) (g.S.Source.fruitless source) (g.S.Source.failed after) (g.S.Source.fruitless after)) (sym c.refused_line.ensures) (good_try _ _ _ _ c.in-More.ensures.counts)
 
 pub returns-in-Full-clause-read : goal.returns-in-Full-clause-read
 returns-in-Full-clause-read g c = good_try _ _ _ _ c.in-More.ensures.counts
@@ -202,20 +190,20 @@ pub returns-in-Fault-clause-write : goal.returns-in-Fault-clause-write
 returns-in-Fault-clause-write g c = no_try (g.W.Sink.failed c.args.writer.now) (g.W.Sink.fruitless c.args.writer.now)
 
 pub returns-then-not-write_text-clause-write : goal.returns-then-not-write_text-clause-write
-returns-then-not-write_text-clause-write g c = good_then_bad _ _ _ _ _ _ c.in_ok-end.ensures.write c.if-not-write_text.ensures.counts
+returns-then-not-write_text-clause-write g c = good_then_bad _ _ _ _ _ _ c.in-Some.ensures.write c.if-not-write_text.ensures.counts
 
 pub returns-in-Part-clause-write : goal.returns-in-Part-clause-write
-returns-in-Part-clause-write g c = good_then_good _ _ _ _ _ _ c.in_ok-end.ensures.write c.if-not-write_text.ensures.counts
+returns-in-Part-clause-write g c = good_then_good _ _ _ _ _ _ c.in-Some.ensures.write c.if-not-write_text.ensures.counts
 
 pub returns-in-Refused-clause-write : goal.returns-in-Refused-clause-write
 returns-in-Refused-clause-write g c =
     let sink = c.args.writer.now in
     let after = c.write_text.new.sink in
-    subst (λ (e : RunError). CountsWriter {T = Turn} (Err e) (g.W.Sink.failed sink) (g.W.Sink.fruitless sink) (g.W.Sink.failed after) (g.W.Sink.fruitless after)) (sym c.refused_line.ensures)
-    (good_then_good _ _ _ _ _ _ c.in_ok-end.ensures.write c.if-not-write_text.ensures.counts)
+    subst (λ (e : StopError). CountsWrites {T = Turn} (Err e) (g.W.Sink.failed sink) (g.W.Sink.fruitless sink) (g.W.Sink.failed after) (g.W.Sink.fruitless after)) (sym c.refused_line.ensures)
+    (good_then_good _ _ _ _ _ _ c.in-Some.ensures.write c.if-not-write_text.ensures.counts)
 
 pub returns-in-Full-clause-write : goal.returns-in-Full-clause-write
-returns-in-Full-clause-write g c = good_then_good _ _ _ _ _ _ c.in_ok-end.ensures.write c.if-not-write_text.ensures.counts
+returns-in-Full-clause-write g c = good_then_good _ _ _ _ _ _ c.in-Some.ensures.write c.if-not-write_text.ensures.counts
 
 pub returns-in-Memory-clause-write : goal.returns-in-Memory-clause-write
-returns-in-Memory-clause-write g c = good_then_good _ _ _ _ _ _ c.in_ok-end.ensures.write c.if-not-write_text.ensures.counts
+returns-in-Memory-clause-write g c = good_then_good _ _ _ _ _ _ c.in-Some.ensures.write c.if-not-write_text.ensures.counts
