@@ -8,6 +8,8 @@ from pathlib import Path
 RULES = Path(__file__).resolve().parents[2] / "docs" / "RULES.md"
 PLAN_CRATES = ("`plan_read`", "`task_name`", "`sched_time`")
 LAW = re.compile(r" \(the law [^)]*\)")
+# The ops of a call, and the keys of their own.
+OPS = re.compile(r"((?:`\w+`, )*`\w+`): ((?:`\w+`, )*`\w+`|none)")
 
 
 class RulesError(Exception):
@@ -17,10 +19,10 @@ class RulesError(Exception):
 def table(heading: str) -> list[dict[str, str]]:
     """The rows of the first table below a heading, each by the names of its columns."""
     found = re.search(rf"^## {re.escape(heading)}\n(.*?)(?=^## |\Z)", RULES.read_text(), re.MULTILINE | re.DOTALL)
-    lines = [line for line in found[1].split("\n") if line.startswith("|")] if found else []
+    lines = [line for line in found[1].split("\n") if line.startswith("---|") or " | " in line] if found else []
     if len(lines) < 3:
         raise RulesError(f"{RULES.name} has no table below '{heading}'")
-    columns, _, *rows = ([cell.strip() for cell in line.strip("|").split("|")] for line in lines)
+    columns, _, *rows = ([cell.strip() for cell in line.split("|")] for line in lines)
     return [dict(zip(columns, row, strict=True)) for row in rows]
 
 
@@ -31,15 +33,15 @@ def of_plan_texts() -> list[str]:
 
 def keys_of_calls() -> list[tuple[str, str]]:
     """The keys of its own that a call of each `op` has."""
-    return [(row["`op`"], row["Its own keys"]) for row in table("Calls of a plan")]
+    return [pair for row in table("Calls of a plan") for pair in OPS.findall(row["Rule"])]
 
 
 def limits() -> list[tuple[str, str]]:
     """What has a limit, and which."""
-    return [(row["What"], row["Limit"]) for row in table("Limits")]
+    return [(what, limit) for row in table("Limits") for what, limit in [row["Rule"].split(": ", 1)]]
 
 
 def limits_of_plans() -> list[tuple[str, str]]:
     """The limits of what a plan says."""
-    return [(row["What"], row["Limit"]) for row in table("Limits")
+    return [(what, limit) for row in table("Limits") for what, limit in [row["Rule"].split(": ", 1)]
             if any(crate in row["Definition"] + row["Code"] for crate in PLAN_CRATES)]
