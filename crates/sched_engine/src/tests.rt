@@ -1,6 +1,6 @@
 use crate::engine::run;
 use crate::in_memory::run_in_memory;
-use crate::report::{Report, RunError};
+use crate::report::{OpenError, Report, RunError};
 use byte_ends::{Pieces, Reading, Writing};
 use plan_read::{PlanFault, PlanFaultKind};
 use std::alloc::Global;

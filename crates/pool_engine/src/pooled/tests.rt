@@ -39,7 +39,10 @@ fn told_rested<N: Named>(
     };
     let mut draft = Draft::new(alloc)?;
     let mut writer = Writing::new(Vec::new(alloc));
-    let told = write_rested(book, &asked, &mut draft, &mut writer);
+    let told = match write_rested(book, &asked, &mut draft, &mut writer) {
+        Ok(report) => Ok(report),
+        Err(error) => Err(RunError::from(error.stop())),
+    };
     Ok((told, writer.into_inner()))
 }
 
@@ -56,7 +59,10 @@ fn told_full<N: Named>(
     };
     let mut draft = Draft::new(alloc)?;
     let mut writer = Writing::new(Vec::new(alloc));
-    let told = write_full(book, &asked, &mut draft, &mut writer);
+    let told = match write_full(book, &asked, &mut draft, &mut writer) {
+        Ok(()) => Err(RunError::Full),
+        Err(error) => Err(RunError::from(error.stop())),
+    };
     Ok((told, writer.into_inner()))
 }
 
